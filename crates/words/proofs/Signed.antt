@@ -1,0 +1,101 @@
+-- Words read as signed numbers, and signed numbers as words, as the code does both. Assumes nothing.
+use mathlib.Core.Path.{_≡_, refl, sym, ap, _∙_, subst}
+use mathlib.Core.Bool.{Bool, true, false, cond, true≢false, false≢true}
+use Prim.Native.Nat.{ℕ, zero, suc, _-_, _*_, _/_, _%_, _^_, _≤_, _<_, zero-le, suc-le-suc}
+use native.Mathlib.Nat.{zero-add, pow-suc, sub-add-cancel, div-lt-iff-lt-mul, div-eq-of-lt, lt-of-lt-of-le, one-mul}
+use native.Mathlib.Numerals.{add-one}
+use native.Mathlib.Omega.{arith}
+use borrow.Author.Tests.{lt-ltb, le-ltb, le-leb}
+use lib.Dec.{T}
+use lib.Pow.{pow-pos, pow-mono}
+use lib.IntN.{ℤ, pos, negsuc, _-ℤ_, natAbs}
+use lib.Signed.{leZ, nonNeg}
+use mir.Syntax.{w64}
+use mir.Val.{Fits, SFits, toZ, ofZ}
+use mir.Facts.{toZ-pos, toZ-ofZ, fits-natAbs}
+use Rattle.words.specs.Word.{Width, flip, signed, signedAs, word}
+
+-- ---- the sign bit
+
+-- half the words of width w
+pub half : (w : ℕ) → 1 ≤ w → 2 ^ w ≡ 2 ^ (w - 1) * 2
+half w h = ap (λ (n : ℕ). 2 ^ n) (sym (sub-add-cancel h) ∙ add-one (w - 1)) ∙ pow-suc 2 (w - 1)
+
+pub half-le : {w : ℕ} → Width w → 2 ^ (w - 1) ≤ 2 ^ 63
+half-le {w} k = pow-mono {i = w - 1} {j = 63} (omega arith)
+
+-- `a >> (w - 1) == 0`, and not
+pub sign-clear : (w a : ℕ) → a / 2 ^ (w - 1) ≡ 0 → a < 2 ^ (w - 1)
+sign-clear w a e = subst (λ (n : ℕ). a < n) (one-mul (2 ^ (w - 1))) (div-lt-iff-lt-mul (pow-pos (w - 1)) .0 (omega arith))
+
+pub sign-set : (w a : ℕ) → (a / 2 ^ (w - 1) ≡ 0 → ⊥) → 2 ^ (w - 1) ≤ a
+sign-set w a f = let g : ¬ (a < 2 ^ (w - 1)) = λ l. f (div-eq-of-lt l) in omega arith
+
+pub signed-low : (w a : ℕ) → a < 2 ^ (w - 1) → signed w a ≡ pos a
+signed-low w a h = ap (λ (t : Bool). signedAs t w a) (lt-ltb a (2 ^ (w - 1)) h)
+
+pub signed-high : (w a : ℕ) → 2 ^ (w - 1) ≤ a → signed w a ≡ negsuc (2 ^ w - suc a)
+signed-high w a h = ap (λ (t : Bool). signedAs t w a) (le-ltb a (2 ^ (w - 1)) h)
+
+-- ---- `-1 - z`
+
+pub down-pos : (n : ℕ) → negsuc 0 -ℤ pos n ≡ negsuc n
+down-pos zero = refl
+down-pos (suc n) = ap (λ (k : ℕ). negsuc (suc k)) (zero-add n)
+
+pub down-neg : (n : ℕ) → negsuc 0 -ℤ negsuc n ≡ pos n
+down-neg n = ap (λ (t : Bool). cond t (negsuc (1 - suc (suc n))) (pos (suc n - 1))) (le-ltb (suc n) 1 (suc-le-suc zero-le)) ∙ ap pos (omega arith)
+
+-- `-1 - (n as i64)`
+pub minus : (n : ℕ) → n < 2 ^ 63 → negsuc 0 -ℤ toZ w64 n ≡ negsuc n
+minus n h = ap (λ (z : ℤ). negsuc 0 -ℤ z) (toZ-pos w64 h) ∙ down-pos n
+
+-- ---- by the test `z >= 0`
+
+-- `z as u64` where z is not negative
+pub cast-ok : (z : ℤ) → SFits w64 z → leZ (pos 0) z ≡ true → T (nonNeg z) × Fits w64 (natAbs z)
+cast-ok (pos n) f e = (tt, fits-natAbs tt f)
+cast-ok (negsuc n) f e = absurd (false≢true e)
+
+-- `-1 - z` where z is negative
+pub down-fits : (z : ℤ) → SFits w64 z → leZ (pos 0) z ≡ false → SFits w64 (negsuc 0 -ℤ z)
+down-fits (pos n) f e = absurd (true≢false (sym (le-leb 0 n zero-le) ∙ e))
+down-fits (negsuc n) f e = subst (λ (y : ℤ). SFits w64 y) (sym (down-neg n)) (record { sfits = f .sfits })
+
+pub down-test : (z : ℤ) → leZ (pos 0) z ≡ false → leZ (pos 0) (negsuc 0 -ℤ z) ≡ true
+down-test (pos n) e = absurd (true≢false (sym (le-leb 0 n zero-le) ∙ e))
+down-test (negsuc n) e = ap (λ (y : ℤ). leZ (pos 0) y) (down-neg n) ∙ le-leb 0 n zero-le
+
+pub word-up : (w : ℕ) (z : ℤ) → leZ (pos 0) z ≡ true → natAbs z % 2 ^ w ≡ word w z
+word-up w (pos n) e = refl
+word-up w (negsuc n) e = absurd (false≢true e)
+
+pub word-down : (w : ℕ) (z : ℤ) → leZ (pos 0) z ≡ false → flip w (natAbs (negsuc 0 -ℤ z) % 2 ^ w) ≡ word w z
+word-down w (pos n) e = absurd (true≢false (sym (le-leb 0 n zero-le) ∙ e))
+word-down w (negsuc n) e = ap (λ (y : ℤ). flip w (natAbs y % 2 ^ w)) (down-neg n)
+
+-- ---- `to_signed` and `from_signed`, as laws of numbers
+
+-- the sign bit is clear
+pub clear-fits : (w a : ℕ) → Width w → a / 2 ^ (w - 1) ≡ 0 → a < 2 ^ 63
+clear-fits w a k e = lt-of-lt-of-le (sign-clear w a e) (half-le k)
+
+pub clear-law : (w a : ℕ) → Width w → a / 2 ^ (w - 1) ≡ 0 → toZ w64 a ≡ signed w a
+clear-law w a k e = toZ-pos w64 (clear-fits w a k e) ∙ sym (signed-low w a (sign-clear w a e))
+
+-- the sign bit is set; m is the mask
+pub set-fits : (w a m : ℕ) → Width w → m ≡ 2 ^ w - 1 → (a / 2 ^ (w - 1) ≡ 0 → ⊥) → m - a < 2 ^ 63
+set-fits w a m k e f = lt-of-lt-of-le below (half-le k)
+  where
+    below : m - a < 2 ^ (w - 1)
+    below = omega (arith, half w (k .least), pow-pos (w - 1), sign-set w a f)
+
+pub set-down : (w a m : ℕ) → Width w → m ≡ 2 ^ w - 1 → (a / 2 ^ (w - 1) ≡ 0 → ⊥) → SFits w64 (negsuc 0 -ℤ toZ w64 (m - a))
+set-down w a m k e f = subst (λ (z : ℤ). SFits w64 z) (sym (minus (m - a) (set-fits w a m k e f))) (record { sfits = set-fits w a m k e f })
+
+pub set-law : (w a m : ℕ) → Width w → a < 2 ^ w → m ≡ 2 ^ w - 1 → (a / 2 ^ (w - 1) ≡ 0 → ⊥) → toZ w64 (ofZ w64 (negsuc 0 -ℤ toZ w64 (m - a))) ≡ signed w a
+set-law w a m k h e f =
+    toZ-ofZ (set-down w a m k e f) ∙ minus (m - a) (set-fits w a m k e f) ∙ ap negsuc same ∙ sym (signed-high w a (sign-set w a f))
+  where
+    same : m - a ≡ 2 ^ w - suc a
+    same = omega arith
