@@ -1,0 +1,46 @@
+-- What it takes for a record to keep the rules. Assumes nothing.
+use Prim.Native.Nat.{ℕ, _≤_}
+use mathlib.Core.Path.{_≡_, refl, sym, ap, _∙_, subst}
+use mathlib.Core.Bool.{Bool, true, false, _&&_, _||_}
+use mathlib.Core.List.{List}
+use native.Mathlib.Omega.{arith}
+use lib.Dec.{eqb, leb}
+use borrow.Author.Tests.{eqb-true, eq-eqb, ne-eqb}
+use Rattle.tables.specs.declared.Ty.{Ty}
+use Rattle.tables.specs.Pick.{all, inside}
+use Rattle.tables.specs.Kinds.{rowOf}
+use Rattle.tables.specs.Lines.{kindIn}
+use Rattle.tables.specs.Rules.{fault}
+use Rattle.tables.specs.Tables.{known, tidy, keeps}
+use Rattle.tables.proofs.Shapes.{range}
+
+pub no-yes : _≡_ {A = Bool} false true → ⊥
+no-yes z = let q : _≡_ {A = ℕ} 0 1 = cc in omega arith
+
+-- the parts of a conjunction
+pub both : (a b : Bool) → (a && b) ≡ true → (a ≡ true) × (b ≡ true)
+both true b e = (refl, e)
+both false b e = absurd (no-yes e)
+
+either : (a b : Bool) {P : Type 0} → (a || b) ≡ true → (a ≡ true → P) → (b ≡ true → P) → P
+either true b e f g = f refl
+either false b e f g = g e
+
+-- a kind that is known has a row
+pub known-range : (p : Bool) (k : ℕ) → known p k ≡ true → (1 ≤ k) × (k ≤ 56)
+known-range false k e = let h = range 1 55 k e in (h .0, omega arith)
+known-range true k e =
+    either (inside 3 53 k) (eqb k 56) e (λ q. let h = range 3 53 k q in (omega arith, omega arith)) (λ q. let h = eqb-true k 56 q in (omega arith, omega arith))
+
+module _ (p : Bool) (L : ℕ → Ty) (G : Bool → ℕ → Bool) (r row : List ℕ) where
+  pub breaks-kind : known p (kindIn r) ≡ false → false ≡ keeps p L G r
+  breaks-kind e = rw e
+
+  pub breaks-place : known p (kindIn r) ≡ true → row ≡ rowOf (kindIn r) → all (tidy row r) ≡ false → false ≡ keeps p L G r
+  breaks-place e q f = let g : all (tidy (rowOf (kindIn r)) r) ≡ false = subst (λ (x : List ℕ). all (tidy x r) ≡ false) q f in rw (e, g)
+
+  pub breaks-rule : known p (kindIn r) ≡ true → row ≡ rowOf (kindIn r) → all (tidy row r) ≡ true → (fault p L G r ≡ 0 → ⊥) → false ≡ keeps p L G r
+  breaks-rule e q f n = let g : all (tidy (rowOf (kindIn r)) r) ≡ true = subst (λ (x : List ℕ). all (tidy x r) ≡ true) q f in rw (e, g, ne-eqb (fault p L G r) 0 n)
+
+  pub keeps-all : known p (kindIn r) ≡ true → row ≡ rowOf (kindIn r) → all (tidy row r) ≡ true → fault p L G r ≡ 0 → true ≡ keeps p L G r
+  keeps-all e q f n = let g : all (tidy (rowOf (kindIn r)) r) ≡ true = subst (λ (x : List ℕ). all (tidy x r) ≡ true) q f in rw (e, g, eq-eqb (fault p L G r) 0 n)

@@ -1,0 +1,56 @@
+-- Laws of tests. Assumes nothing.
+use Prim.Native.Nat.{ℕ, suc, _+_, _*_, _/_, _%_, _<_, _≤_}
+use mathlib.Core.Path.{_≡_, refl, sym, ap, _∙_, subst}
+use mathlib.Core.List.{List, [], _∷_}
+use lib.ListN.{length, getD, take, drop}
+use lib.Seq.{drop-cons}
+use mathlib.Core.Bool.{Bool, true, false, _&&_, _||_}
+use native.Mathlib.Nat.{div-eq-of-lt, mod-lt, div-add-mod'}
+use native.Mathlib.Omega.{arith}
+use lib.Arith.{lt-of-le-ne}
+use lib.Dec.{eqb, ltb}
+use borrow.Author.Tests.{eq-eqb, ne-eqb, ltb-true, ltb-false}
+
+pub and-true : (b : Bool) → (b && true) ≡ b
+and-true true = refl
+and-true false = refl
+
+pub or-true : (b : Bool) → (b || true) ≡ true
+or-true true = refl
+or-true false = refl
+
+pub or-false : (b : Bool) → (b || false) ≡ b
+or-false true = refl
+or-false false = refl
+
+-- what is left of v is nothing just where v is below m
+pub shifted-out : (v m : ℕ) → 0 < m → eqb (v / m) 0 ≡ ltb v m
+shifted-out v m h = go (ltb v m) refl
+  where
+    empty : v / m ≡ 0 → v < m
+    empty e = let q : v / m * m + v % m ≡ v = div-add-mod' v m in let r : v % m < m = mod-lt v h in omega (arith, subst (λ (n : ℕ). n * m + v % m ≡ v) e q)
+
+    go : (b : Bool) → ltb v m ≡ b → eqb (v / m) 0 ≡ b
+    go true e = eq-eqb (v / m) 0 (div-eq-of-lt (ltb-true v m e))
+    go false e = ne-eqb (v / m) 0 (λ z. omega (arith, ltb-false v m e, empty z))
+
+-- ---- a record is five words of a table
+
+part-cons : (t : List ℕ) (k n m : ℕ) → suc n ≡ m → n < length t → take (suc k) (drop n t) ≡ getD t n 0 ∷ take k (drop m t)
+part-cons t k n m e h = ap (take (suc k)) (drop-cons t n 0 h) ∙ ap (λ (j : ℕ). getD t n 0 ∷ take k (drop j t)) e
+
+pub five-at : (t : List ℕ) (n : ℕ) → n + 5 ≤ length t
+    → take 5 (drop n t) ≡ getD t n 0 ∷ getD t (n + 1) 0 ∷ getD t (n + 2) 0 ∷ getD t (n + 3) 0 ∷ getD t (n + 4) 0 ∷ []
+five-at t n h =
+    part-cons t 4 n (n + 1) (omega arith) (omega arith) ∙ ap (λ (l : List ℕ). getD t n 0 ∷ l)
+    (part-cons t 3 (n + 1) (n + 2) (omega arith) (omega arith) ∙ ap (λ (l : List ℕ). getD t (n + 1) 0 ∷ l)
+    (part-cons t 2 (n + 2) (n + 3) (omega arith) (omega arith) ∙ ap (λ (l : List ℕ). getD t (n + 2) 0 ∷ l)
+    (part-cons t 1 (n + 3) (n + 4) (omega arith) (omega arith) ∙ ap (λ (l : List ℕ). getD t (n + 3) 0 ∷ l)
+    (part-cons t 0 (n + 4) (n + 5) (omega arith) (omega arith)))))
+
+-- past one number more
+pub past : {n k : ℕ} → n ≤ k → (k ≡ n → ⊥) → suc n ≤ k
+past h f = lt-of-le-ne h (λ e. f (sym e))
+
+pub within : {n k : ℕ} → k < suc n → k ≤ n
+within h = omega arith

@@ -1,0 +1,5 @@
+pub mod Laws
+pub mod Every
+pub mod Shapes
+pub mod Answers
+pub mod Kept

@@ -1,0 +1,194 @@
+-- The line of a record, by the kind's number. Assumes nothing.
+use Prim.Native.Nat.{ℕ, suc, _-_, _≤_, _<_}
+use mathlib.Core.Path.{_≡_, refl, sym, ap, _∙_, subst}
+use mathlib.Core.Logic.{_⊎_, inl, inr}
+use mathlib.Core.Bool.{Bool, true, false, not, _&&_}
+use mathlib.Core.List.{List}
+use lib.Dec.{T, T-not, leb, eqb, leb→le}
+use Rattle.tables.proofs.Every.{at-each}
+use mir.Facts.{and-yes}
+use borrow.Author.Tests.{le-leb, lt-leb, ne-eqb, eqb-true}
+use native.Mathlib.Omega.{arith}
+use Rattle.tables.specs.declared.Ty.{Ty}
+use Rattle.tables.specs.Pick.{pick, inside, all}
+use Rattle.tables.specs.Lines.{Line, Shape, isBitvec, isArray, isConst, isInput, isState, isOutput, isOne, isTwo, isIte, isRead, isWrite, isJunk, isGive, isMark, isCmp, giveKind, markKind, cmpKind, shapeOf, build, lineOf, kindIn, sortIn, firstIn, secondIn, thirdIn}
+use Rattle.tables.specs.Types.{ty, noTy, isFixed, typeOf}
+use Rattle.tables.specs.Rules.{fits, onceRules}
+
+pub line-as : (r : List ℕ) (S : Shape) → shapeOf (kindIn r) ≡ S → lineOf r ≡ build S (kindIn r) (sortIn r) (firstIn r) (secondIn r) (thirdIn r)
+line-as r S e = ap (λ (s : Shape). build s (kindIn r) (sortIn r) (firstIn r) (secondIn r) (thirdIn r)) e
+
+pub shape-one : (k : ℕ) → 11 ≤ k → k ≤ 20 → shapeOf k ≡ isOne
+shape-one k h l = rw (le-leb 11 k h, le-leb k 20 l)
+
+pub shape-two : (k : ℕ) → 23 ≤ k → k ≤ 52 → shapeOf k ≡ isTwo
+shape-two k h l = rw (le-leb 11 k (omega arith), lt-leb k 20 (omega arith), le-leb 23 k h, le-leb k 52 l)
+
+-- a number that no kind has
+pub shape-zero : (k : ℕ) → k < 1 → shapeOf k ≡ isJunk
+shape-zero k h = let e : k ≡ 0 = omega arith in ap shapeOf e
+
+pub shape-past : (k : ℕ) → 56 < k → shapeOf k ≡ isJunk
+shape-past k h =
+    let ne : (n : ℕ) → n ≤ 56 → eqb k n ≡ false = λ n l. ne-eqb k n (λ e. omega arith) in
+    rw (lt-leb k 20 (omega arith), le-leb 11 k (omega arith), lt-leb k 52 (omega arith), le-leb 23 k (omega arith), ne 1 (omega arith), ne 2 (omega arith), ne 3 (omega arith), ne 4 (omega arith), ne 5 (omega arith), ne 6 (omega arith), ne 7 (omega arith), ne 8 (omega arith), ne 9 (omega arith), ne 10 (omega arith), ne 21 (omega arith), ne 22 (omega arith), ne 53 (omega arith), ne 54 (omega arith), ne 55 (omega arith), ne 56 (omega arith))
+
+-- what the rules say of a record's line, they say of the line of its shape
+module _ (r : List ℕ) (S : Shape) (e : shapeOf (kindIn r) ≡ S) where
+  pub fits-as : (t a b c : Ty) {x : Bool} → x ≡ all (fits (build S (kindIn r) (sortIn r) (firstIn r) (secondIn r) (thirdIn r)) t a b c) → x ≡ all (fits (lineOf r) t a b c)
+  fits-as t a b c h = h ∙ ap (λ (l : Line). all (fits l t a b c)) (sym (line-as r S e))
+
+  pub once-as : (G : Bool → ℕ → Bool) (b : Ty) {x : Bool} → x ≡ all (onceRules (build S (kindIn r) (sortIn r) (firstIn r) (secondIn r) (thirdIn r)) G b)
+      → x ≡ all (onceRules (lineOf r) G b)
+  once-as G b h = h ∙ ap (λ (l : Line). all (onceRules l G b)) (sym (line-as r S e))
+
+-- ---- the kinds of a shape
+
+-- what is known of a kind by its shape
+abbrev pub KindOf : Shape → ℕ → Type 0
+KindOf isBitvec k = k ≡ 1
+KindOf isArray k = k ≡ 2
+KindOf isConst k = k ≡ 3
+KindOf isInput k = k ≡ 4
+KindOf isState k = k ≡ 5
+KindOf isOutput k = k ≡ 10
+KindOf isOne k = ((11 ≤ k) × (k ≤ 20)) ⊎ (k ≡ 56)
+KindOf isTwo k = (23 ≤ k) × (k ≤ 52)
+KindOf isIte k = k ≡ 53
+KindOf isRead k = k ≡ 54
+KindOf isWrite k = k ≡ 55
+KindOf isJunk k = Unit {0}
+KindOf (isGive m) k = k ≡ giveKind m
+KindOf (isMark m) k = k ≡ markKind m
+KindOf (isCmp e) k = k ≡ cmpKind e
+
+by-pick : (P : Shape → Type 0) (b : Bool) {x y : Shape} → (b ≡ true → P x) → (b ≡ false → P y) → P (pick b x y)
+by-pick P true f g = f refl
+by-pick P false f g = g refl
+
+pub range : (i j k : ℕ) → inside i j k ≡ true → (i ≤ k) × (k ≤ j)
+range i j k e = let h = and-yes (leb i k) (leb k j) (subst T (sym e) tt) in (leb→le i k (h .0), leb→le k j (h .1))
+
+pub kind-of : (k : ℕ) → KindOf (shapeOf k) k
+kind-of k =
+    by-pick P (inside 11 20 k) (λ e. inl (range 11 20 k e)) (λ _.
+    by-pick P (inside 23 52 k) (range 23 52 k) (λ _.
+    by-pick P (eqb k 1) (eqb-true k 1) (λ _.
+    by-pick P (eqb k 2) (eqb-true k 2) (λ _.
+    by-pick P (eqb k 3) (eqb-true k 3) (λ _.
+    by-pick P (eqb k 4) (eqb-true k 4) (λ _.
+    by-pick P (eqb k 5) (eqb-true k 5) (λ _.
+    by-pick P (eqb k 6) (eqb-true k 6) (λ _.
+    by-pick P (eqb k 7) (eqb-true k 7) (λ _.
+    by-pick P (eqb k 8) (eqb-true k 8) (λ _.
+    by-pick P (eqb k 9) (eqb-true k 9) (λ _.
+    by-pick P (eqb k 10) (eqb-true k 10) (λ _.
+    by-pick P (eqb k 21) (eqb-true k 21) (λ _.
+    by-pick P (eqb k 22) (eqb-true k 22) (λ _.
+    by-pick P (eqb k 53) (eqb-true k 53) (λ _.
+    by-pick P (eqb k 54) (eqb-true k 54) (λ _.
+    by-pick P (eqb k 55) (eqb-true k 55) (λ _.
+    by-pick P (eqb k 56) (λ e. inr (eqb-true k 56 e)) (λ _. tt))))))))))))))))))
+  where
+    P : Shape → Type 0
+    P S = KindOf S k
+
+-- only init and next lines can break rule 10
+pub no-once : (r : List ℕ) (G : Bool → ℕ → Bool) (b : Ty) → (kindIn r ≡ 6 → ⊥) → (kindIn r ≡ 7 → ⊥) → true ≡ all (onceRules (lineOf r) G b)
+no-once r G b f g = go (shapeOf (kindIn r)) refl (kind-of (kindIn r))
+  where
+    go : (S : Shape) → shapeOf (kindIn r) ≡ S → KindOf S (kindIn r) → true ≡ all (onceRules (lineOf r) G b)
+    go isBitvec e h = once-as r isBitvec e G b refl
+    go isArray e h = once-as r isArray e G b refl
+    go isConst e h = once-as r isConst e G b refl
+    go isInput e h = once-as r isInput e G b refl
+    go isState e h = once-as r isState e G b refl
+    go isOutput e h = once-as r isOutput e G b refl
+    go isOne e h = once-as r isOne e G b refl
+    go isTwo e h = once-as r isTwo e G b refl
+    go isIte e h = once-as r isIte e G b refl
+    go isRead e h = once-as r isRead e G b refl
+    go isWrite e h = once-as r isWrite e G b refl
+    go isJunk e h = once-as r isJunk e G b refl
+    go (isGive true) e h = absurd (f h)
+    go (isGive false) e h = absurd (g h)
+    go (isMark m) e h = once-as r (isMark m) e G b refl
+    go (isCmp q) e h = once-as r (isCmp q) e G b refl
+
+-- every number from 1 to 56 is a kind: one computed test
+abbrev isJunk? : Shape → Bool
+isJunk? isBitvec = false
+isJunk? isArray = false
+isJunk? isConst = false
+isJunk? isInput = false
+isJunk? isState = false
+isJunk? isOutput = false
+isJunk? isOne = false
+isJunk? isTwo = false
+isJunk? isIte = false
+isJunk? isRead = false
+isJunk? isWrite = false
+isJunk? isJunk = true
+isJunk? (isGive m) = false
+isJunk? (isMark m) = false
+isJunk? (isCmp e) = false
+
+no-junk : (k : ℕ) → 1 ≤ k → k ≤ 56 → shapeOf k ≡ isJunk → ⊥
+no-junk k h l e =
+    let n : ℕ = k - 1 in
+    let q : suc n ≡ k = omega arith in
+    T-not (isJunk? isJunk) (subst (λ (S : Shape). T (not (isJunk? S))) (ap shapeOf q ∙ e) (at-each (λ m. not (isJunk? (shapeOf (suc m)))) 56 tt n (omega arith))) tt
+
+-- ---- the types of lines
+
+module _ (r : List ℕ) (t a b c : Ty) where
+  pub type-as : (S : Shape) → shapeOf (kindIn r) ≡ S → {x : Ty} → x ≡ typeOf (build S (kindIn r) (sortIn r) (firstIn r) (secondIn r) (thirdIn r)) t a b c → x ≡ typeOf (lineOf r) t a b c
+  type-as S e h = h ∙ ap (λ (l : Line). typeOf l t a b c) (sym (line-as r S e))
+
+  -- init, next, bad, constraint and output have no type
+  pub no-type : 6 ≤ kindIn r → kindIn r ≤ 10 → noTy ≡ typeOf (lineOf r) t a b c
+  no-type h l = go (shapeOf (kindIn r)) refl (kind-of (kindIn r))
+    where
+      go : (S : Shape) → shapeOf (kindIn r) ≡ S → KindOf S (kindIn r) → noTy ≡ typeOf (lineOf r) t a b c
+      go isBitvec e k = absurd (omega arith)
+      go isArray e k = absurd (omega arith)
+      go isConst e k = absurd (omega arith)
+      go isInput e k = absurd (omega arith)
+      go isState e k = absurd (omega arith)
+      go isOutput e k = type-as isOutput e refl
+      go isOne e (inl k) = absurd (omega arith)
+      go isOne e (inr k) = absurd (omega arith)
+      go isTwo e k = absurd (omega arith)
+      go isIte e k = absurd (omega arith)
+      go isRead e k = absurd (omega arith)
+      go isWrite e k = absurd (omega arith)
+      go isJunk e k = type-as isJunk e refl
+      go (isGive m) e k = type-as (isGive m) e refl
+      go (isMark m) e k = type-as (isMark m) e refl
+      go (isCmp true) e k = absurd (omega arith)
+      go (isCmp false) e k = absurd (omega arith)
+
+  -- of two operands: comparisons, operators of two words, read
+  pub two-type : 20 < kindIn r → kindIn r ≤ 56 → (kindIn r ≡ 53 → ⊥) → (kindIn r ≡ 55 → ⊥) → (kindIn r ≡ 56 → ⊥)
+      → ty (pick (isFixed a && isFixed b) 2 3) (t .iw) (t .w) ≡ typeOf (lineOf r) t a b c
+  two-type h l n₁ n₂ n₃ = go (shapeOf (kindIn r)) refl (kind-of (kindIn r))
+    where
+      go : (S : Shape) → shapeOf (kindIn r) ≡ S → KindOf S (kindIn r) → ty (pick (isFixed a && isFixed b) 2 3) (t .iw) (t .w) ≡ typeOf (lineOf r) t a b c
+      go isBitvec e k = absurd (omega arith)
+      go isArray e k = absurd (omega arith)
+      go isConst e k = absurd (omega arith)
+      go isInput e k = absurd (omega arith)
+      go isState e k = absurd (omega arith)
+      go isOutput e k = absurd (omega arith)
+      go isOne e (inl k) = absurd (omega arith)
+      go isOne e (inr k) = absurd (n₃ k)
+      go isTwo e k = type-as isTwo e refl
+      go isIte e k = absurd (n₁ k)
+      go isRead e k = type-as isRead e refl
+      go isWrite e k = absurd (n₂ k)
+      go isJunk e k = absurd (no-junk (kindIn r) (omega arith) l e)
+      go (isGive true) e k = absurd (omega arith)
+      go (isGive false) e k = absurd (omega arith)
+      go (isMark true) e k = absurd (omega arith)
+      go (isMark false) e k = absurd (omega arith)
+      go (isCmp q) e k = type-as (isCmp q) e refl

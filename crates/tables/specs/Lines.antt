@@ -1,0 +1,168 @@
+-- A circuit, or a program, is a list of lines. A table holds a record of five words for each: kind, sort line (in a program the width), and three operands.
+-- `decode` reads the lines of a table and `encode` writes them back: nothing else knows how a table is laid out. A line is named by its number, from 1.
+-- Assumes nothing.
+use Prim.Native.Nat.{ℕ, _+_, _*_}
+use mathlib.Core.Bool.{Bool, true, false}
+use mathlib.Core.List.{List, [], _∷_, _++_, map}
+use lib.Dec.{eqb}
+use lib.ListN.{getD, take, drop}
+use lib.Seq.{paste}
+use Rattle.tables.specs.Pick.{pick, inside}
+
+-- what the lines that only have a value compute
+pub data Expr : Type 0 where
+  const : (v : ℕ) → Expr
+  -- a word operator of the kind k: of one line and two numbers (11 to 20, and 56), 0 where it has none; of two lines (23 to 52)
+  one : (k a x y : ℕ) → Expr
+  two : (k a b : ℕ) → Expr
+  -- eq (true) and neq (false), of words or of arrays
+  cmp : (e : Bool) (a b : ℕ) → Expr
+  ite : (c a b : ℕ) → Expr
+  read : (a i : ℕ) → Expr
+  write : (a i v : ℕ) → Expr
+
+pub data Line : Type 0 where
+  bitvec : (w : ℕ) → Line
+  array : (i e : ℕ) → Line
+  input : (s : ℕ) → Line
+  state : (s : ℕ) → Line
+  val : (s : ℕ) (e : Expr) → Line
+  -- init (true) and next (false): the value v for the state q
+  give : (m : Bool) (s q v : ℕ) → Line
+  -- bad (true) and constraint (false)
+  mark : (m : Bool) (a : ℕ) → Line
+  output : (a : ℕ) → Line
+  -- a record whose kind is none
+  junk : Line
+
+-- ---- the kinds' numbers
+
+pub data Shape : Type 0 where
+  isBitvec isArray isConst isInput isState isOutput isOne isTwo isIte isRead isWrite isJunk : Shape
+  isGive isMark isCmp : Bool → Shape
+
+-- the ranges first, so that a test of the code settles a chain
+abbrev pub shapeOf : ℕ → Shape
+shapeOf k =
+    pick (inside 11 20 k) isOne (
+    pick (inside 23 52 k) isTwo (
+    pick (eqb k 1) isBitvec (
+    pick (eqb k 2) isArray (
+    pick (eqb k 3) isConst (
+    pick (eqb k 4) isInput (
+    pick (eqb k 5) isState (
+    pick (eqb k 6) (isGive true) (
+    pick (eqb k 7) (isGive false) (
+    pick (eqb k 8) (isMark true) (
+    pick (eqb k 9) (isMark false) (
+    pick (eqb k 10) isOutput (
+    pick (eqb k 21) (isCmp true) (
+    pick (eqb k 22) (isCmp false) (
+    pick (eqb k 53) isIte (
+    pick (eqb k 54) isRead (
+    pick (eqb k 55) isWrite (
+    pick (eqb k 56) isOne (
+    isJunk))))))))))))))))))
+
+abbrev pub build : Shape → (k s a b c : ℕ) → Line
+build isBitvec k s a b c = Line.bitvec a
+build isArray k s a b c = Line.array a b
+build isConst k s a b c = Line.val s (Expr.const a)
+build isInput k s a b c = Line.input s
+build isState k s a b c = Line.state s
+build isOutput k s a b c = Line.output a
+build isOne k s a b c = Line.val s (Expr.one k a b c)
+build isTwo k s a b c = Line.val s (Expr.two k a b)
+build isIte k s a b c = Line.val s (Expr.ite a b c)
+build isRead k s a b c = Line.val s (Expr.read a b)
+build isWrite k s a b c = Line.val s (Expr.write a b c)
+build isJunk k s a b c = Line.junk
+build (isGive m) k s a b c = Line.give m s a b
+build (isMark m) k s a b c = Line.mark m a
+build (isCmp e) k s a b c = Line.val s (Expr.cmp e a b)
+
+-- ---- a record's words
+
+abbrev pub kindIn : List ℕ → ℕ
+kindIn r = getD r 0 0
+
+abbrev pub sortIn : List ℕ → ℕ
+sortIn r = getD r 1 0
+
+abbrev pub firstIn : List ℕ → ℕ
+firstIn r = getD r 2 0
+
+abbrev pub secondIn : List ℕ → ℕ
+secondIn r = getD r 3 0
+
+abbrev pub thirdIn : List ℕ → ℕ
+thirdIn r = getD r 4 0
+
+-- the line of a record
+abbrev pub lineOf : List ℕ → Line
+lineOf r = build (shapeOf (kindIn r)) (kindIn r) (sortIn r) (firstIn r) (secondIn r) (thirdIn r)
+
+-- the record of a line: unused words are 0
+abbrev pub giveKind : Bool → ℕ
+giveKind true = 6
+giveKind false = 7
+
+abbrev pub markKind : Bool → ℕ
+markKind true = 8
+markKind false = 9
+
+abbrev pub cmpKind : Bool → ℕ
+cmpKind true = 21
+cmpKind false = 22
+
+abbrev pub five : (k s a b c : ℕ) → List ℕ
+five k s a b c = k ∷ s ∷ a ∷ b ∷ c ∷ []
+
+abbrev pub exprWords : ℕ → Expr → List ℕ
+exprWords s (Expr.const v) = five 3 s v 0 0
+exprWords s (Expr.one k a x y) = five k s a x y
+exprWords s (Expr.two k a b) = five k s a b 0
+exprWords s (Expr.cmp e a b) = five (cmpKind e) s a b 0
+exprWords s (Expr.ite c a b) = five 53 s c a b
+exprWords s (Expr.read a i) = five 54 s a i 0
+exprWords s (Expr.write a i v) = five 55 s a i v
+
+abbrev pub wordsOf : Line → List ℕ
+wordsOf (Line.bitvec w) = five 1 0 w 0 0
+wordsOf (Line.array i e) = five 2 0 i e 0
+wordsOf (Line.input s) = five 4 s 0 0 0
+wordsOf (Line.state s) = five 5 s 0 0 0
+wordsOf (Line.val s e) = exprWords s e
+wordsOf (Line.give m s q v) = five (giveKind m) s q v 0
+wordsOf (Line.mark m a) = five (markKind m) 0 a 0 0
+wordsOf (Line.output a) = five 10 0 a 0 0
+wordsOf Line.junk = five 0 0 0 0 0
+
+-- ---- tables
+
+-- the records of a table
+abbrev pub records : List ℕ → List (List ℕ)
+records [] = []
+records (k ∷ []) = []
+records (k ∷ s ∷ []) = []
+records (k ∷ s ∷ a ∷ []) = []
+records (k ∷ s ∷ a ∷ b ∷ []) = []
+records (k ∷ s ∷ a ∷ b ∷ c ∷ t) = five k s a b c ∷ records t
+
+abbrev pub decode : List ℕ → List Line
+decode t = map lineOf (records t)
+
+abbrev pub encode : List Line → List ℕ
+encode [] = []
+encode (l ∷ ls) = wordsOf l ++ encode ls
+
+-- the record at the place i, from 0, and the first n records
+abbrev pub recordAt : List ℕ → ℕ → List ℕ
+recordAt t i = take 5 (drop (5 * i) t)
+
+abbrev pub counted : List ℕ → ℕ → List ℕ
+counted t n = take (5 * n) t
+
+-- a table with the record r at the place i
+abbrev pub recorded : List ℕ → ℕ → List ℕ → List ℕ
+recorded t i r = paste t (5 * i) r 5

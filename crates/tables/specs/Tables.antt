@@ -1,0 +1,61 @@
+-- When a table with its count is accepted: circuits (1, 11) and programs (1, 20). Assumes nothing.
+use Prim.Native.Nat.{ℕ, _/_, _%_, min}
+use mathlib.Core.Bool.{Bool, true, false, not, _&&_, _||_}
+use mathlib.Core.List.{List, [], _∷_}
+use lib.Dec.{leb, eqb}
+use lib.ListN.{length}
+use Rattle.tables.specs.declared.Ty.{Ty}
+use Rattle.tables.specs.declared.Refusal.{Refusal}
+use Rattle.tables.specs.declared.Refusal.the-variants.{NotATable, BadTable, BadProgram}
+use Rattle.tables.specs.declared.Checked.{Checked}
+use Rattle.tables.specs.declared.Checked.the-variants.{Accepted, Refused}
+use Rattle.tables.specs.Pick.{pick, inside, all}
+use Rattle.tables.specs.Kinds.{rowOf, sortClass, firstClass, secondClass, thirdClass}
+use Rattle.tables.specs.Lines.{lineOf, records, counted, kindIn, sortIn, firstIn, secondIn, thirdIn}
+use Rattle.tables.specs.Types.{Ctx, tyAt, given, grow, noCtx}
+use Rattle.tables.specs.Rules.{fault}
+
+-- a list whose length is no multiple of five is no table
+abbrev pub whole : ℕ → Bool
+whole len = eqb (len % 5) 0
+
+-- the records that a list of so many words holds; at most 16,384 count
+abbrev pub room : ℕ → ℕ
+room len = min (len / 5) 16384
+
+-- the kinds of a circuit, 1 to 55, and of a program, 3 to 53 and 56
+abbrev pub known : Bool → ℕ → Bool
+known false k = inside 1 55 k
+known true k = inside 3 53 k || eqb k 56
+
+-- a place that the line does not have holds 0
+abbrev pub unused : ℕ → ℕ → Bool
+unused k x = not (eqb k 0) || eqb x 0
+
+abbrev pub tidy : List ℕ → List ℕ → List Bool
+tidy row r =
+    unused (sortClass row) (sortIn r) ∷ unused (firstClass row) (firstIn r) ∷ unused (secondClass row) (secondIn r) ∷ unused (thirdClass row) (thirdIn r) ∷ []
+
+-- a record that keeps the rules of its own words
+abbrev pub formed : Bool → List ℕ → Bool
+formed p r = known p (kindIn r) && all (tidy (rowOf (kindIn r)) r)
+
+-- a record breaks no rule, after lines whose types are L
+abbrev pub keeps : Bool → (ℕ → Ty) → (Bool → ℕ → Bool) → List ℕ → Bool
+keeps p L G r = formed p r && eqb (fault p L G r) 0
+
+-- every record breaks no rule, after those before it
+abbrev pub lawful : Bool → Ctx → List (List ℕ) → Bool
+lawful p c [] = true
+lawful p c (r ∷ rs) = keeps p (tyAt c) (given c) r && lawful p (grow p c (lineOf r)) rs
+
+-- what is answered where the count exceeds the table or 16,384, or a record breaks a rule: 11, for a program 20
+abbrev pub broken : Bool → Refusal
+broken false = BadTable
+broken true = BadProgram
+
+unfoldable pub checked : Bool → List ℕ → ℕ → Checked
+checked p t n =
+    pick (whole (length t))
+    (pick (leb n (room (length t)) && lawful p noCtx (records (counted t n))) Accepted (Refused (broken p)))
+    (Refused NotATable)

@@ -1,0 +1,122 @@
+-- What is known of a line before anything is computed: its type. The types of the lines so far, with the states that have an init or a next line, are the
+-- context in which the rules judge the next line. A list's index is the line's number: entry 0 stands for no line, and so does whatever lies past the end.
+-- Assumes nothing.
+use Prim.Native.Nat.{ℕ}
+use mathlib.Core.Bool.{Bool, true, false, _&&_}
+use mathlib.Core.List.{List, [], _∷_, _++_}
+use lib.Dec.{leb, ltb, eqb}
+use lib.ListN.{getD}
+use Rattle.tables.specs.declared.Ty.{Ty}
+use Rattle.tables.specs.Pick.{pick, inside, among, alike}
+use Rattle.tables.specs.Lines.{Line, Expr, wordsOf, sortIn, firstIn, secondIn, thirdIn}
+
+-- A type is a class, an index width and a width. A word's index width is 0, so that a value of any sort has 2 ^ iw cells of w bits.
+-- Classes: 0 none, 1 a sort, 2 a value whose cone holds no input and no state, 3 any other value but 4 a state.
+abbrev pub ty : ℕ → ℕ → ℕ → Ty
+ty c i w = record { cls = c; iw = i; w = w }
+
+abbrev pub noTy : Ty
+noTy = ty 0 0 0
+
+abbrev pub isSort : Ty → Bool
+isSort t = eqb (t .cls) 1
+
+abbrev pub isValue : Ty → Bool
+isValue t = leb 2 (t .cls)
+
+abbrev pub isFixed : Ty → Bool
+isFixed t = eqb (t .cls) 2
+
+abbrev pub isState : Ty → Bool
+isState t = eqb (t .cls) 4
+
+abbrev pub isWord : Ty → Bool
+isWord t = isValue t && eqb (t .iw) 0
+
+abbrev pub isArray : Ty → Bool
+isArray t = isValue t && ltb 0 (t .iw)
+
+abbrev pub isWordSort : Ty → Bool
+isWordSort t = isSort t && eqb (t .iw) 0
+
+abbrev pub isArraySort : Ty → Bool
+isArraySort t = isSort t && ltb 0 (t .iw)
+
+-- the sort that a line's second word names: a circuit's line names a sort line, a program's (p) holds the width itself
+abbrev pub sortAt : Bool → (ℕ → Ty) → ℕ → Ty
+sortAt false L s = L s
+sortAt true L s = pick (inside 1 64 s) (ty 1 0 s) noTy
+
+-- The cone of a value holds no input and no state: those of its operands don't. a, b and c are the types of the operands as they are written.
+abbrev pub fixedExpr : Expr → (a b c : Ty) → Bool
+fixedExpr (Expr.const v) a b c = true
+fixedExpr (Expr.one k x m n) a b c = isFixed a
+fixedExpr (Expr.two k x y) a b c = isFixed a && isFixed b
+fixedExpr (Expr.cmp e x y) a b c = isFixed a && isFixed b
+fixedExpr (Expr.ite d x y) a b c = isFixed a && (isFixed b && isFixed c)
+fixedExpr (Expr.read x i) a b c = isFixed a && isFixed b
+fixedExpr (Expr.write x i v) a b c = isFixed a && (isFixed b && isFixed c)
+
+-- the type of a line, from the types of its sort, t, and of its operands
+abbrev pub typeOf : Line → (t a b c : Ty) → Ty
+typeOf (Line.bitvec w) t a b c = ty 1 0 w
+typeOf (Line.array i e) t a b c = ty 1 (a .w) (b .w)
+typeOf (Line.input s) t a b c = ty 3 (t .iw) (t .w)
+typeOf (Line.state s) t a b c = ty 4 (t .iw) (t .w)
+typeOf (Line.val s e) t a b c = ty (pick (fixedExpr e a b c) 2 3) (t .iw) (t .w)
+typeOf (Line.give m s q v) t a b c = noTy
+typeOf (Line.mark m x) t a b c = noTy
+typeOf (Line.output x) t a b c = noTy
+typeOf Line.junk t a b c = noTy
+
+-- the type of a record's line after lines whose types are L, and of a line
+abbrev pub recordType : Bool → (ℕ → Ty) → List ℕ → Line → Ty
+recordType p L r l = typeOf l (sortAt p L (sortIn r)) (L (firstIn r)) (L (secondIn r)) (L (thirdIn r))
+
+abbrev pub lineType : Bool → (ℕ → Ty) → Line → Ty
+lineType p L l = recordType p L (wordsOf l) l
+
+-- ---- the context
+
+pub record Ctx : Type 0 where
+  pub tys : List Ty
+  -- the states that have an init line, and those that have a next line
+  pub inits : List ℕ
+  pub nexts : List ℕ
+
+abbrev pub tyAt : Ctx → ℕ → Ty
+tyAt c a = getD (c .tys) a noTy
+
+abbrev pub givenBy : Bool → Ctx → List ℕ
+givenBy true c = c .inits
+givenBy false c = c .nexts
+
+-- the state q has an init (true) or a next (false) line
+abbrev pub given : Ctx → Bool → ℕ → Bool
+given c m q = among q (givenBy m c)
+
+abbrev pub givenAfter : Bool → Ctx → Line → List ℕ
+givenAfter m c (Line.bitvec w) = givenBy m c
+givenAfter m c (Line.array i e) = givenBy m c
+givenAfter m c (Line.input s) = givenBy m c
+givenAfter m c (Line.state s) = givenBy m c
+givenAfter m c (Line.val s e) = givenBy m c
+givenAfter m c (Line.give n s q v) = pick (alike m n) (givenBy m c ++ (q ∷ [])) (givenBy m c)
+givenAfter m c (Line.mark n a) = givenBy m c
+givenAfter m c (Line.output a) = givenBy m c
+givenAfter m c Line.junk = givenBy m c
+
+abbrev pub noCtx : Ctx
+noCtx = record { tys = noTy ∷ []; inits = []; nexts = [] }
+
+-- the context after one line more
+abbrev pub grow : Bool → Ctx → Line → Ctx
+grow p c l = record { tys = c .tys ++ (lineType p (tyAt c) l ∷ []); inits = givenAfter true c l; nexts = givenAfter false c l }
+
+abbrev pub growAll : Bool → Ctx → List Line → Ctx
+growAll p c [] = c
+growAll p c (l ∷ ls) = growAll p (grow p c l) ls
+
+-- the context after all lines of a circuit (false) or of a program (true)
+unfoldable pub context : Bool → List Line → Ctx
+context p ls = growAll p noCtx ls

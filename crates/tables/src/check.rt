@@ -1,0 +1,147 @@
+// The check of a table with its count: a circuit's (1, 11) and a program's (1, 20).
+use crate::Checked;
+use crate::Refusal;
+use crate::kinds;
+use crate::records;
+use crate::rules;
+use crate::types;
+ghost use mathlib.Core.Path.{_≡_};
+ghost use mathlib.Core.Bool.{Bool, true, false};
+ghost use mathlib.Core.List.{List, [], _∷_};
+ghost use Prim.Native.Nat.{_+_, _*_, _≤_, _<_};
+ghost use lib.ListN.{length, set, replicate};
+ghost use Rattle.tables.specs.Pick.{all};
+ghost use Rattle.tables.specs.Kinds.{rowOf};
+ghost use Rattle.tables.specs.Lines.{lineOf, kindIn, firstIn, decode, counted};
+ghost use Rattle.tables.specs.Types.{context, typeOf, sortAt};
+ghost use Rattle.tables.specs.Lists.{lookIn, givenIn, Shows, Ample, Noted, markedBy};
+ghost use Rattle.tables.specs.Tables.{known as knownOf, unused as unusedOf, tidy as tidyOf, formed as formedOf, keeps, checked, broken};
+
+// The kind is one of a circuit, or of a program.
+pub fn known(program: bool, k: u64) -> bool
+    ensures { λ r. ⌜ r ≡ knownOf program k ⌝ }
+{
+    if !program {
+        if k < 1 {
+            return false;
+        }
+        return k <= 55;
+    }
+    if k == 56 {
+        return true;
+    }
+    if k < 3 {
+        return false;
+    }
+    k <= 53
+}
+
+// A place that the line does not have holds 0.
+pub fn unused(k: u8, x: u64) -> bool
+    ensures { λ r. ⌜ r ≡ unusedOf k x ⌝ }
+{
+    if k != 0 {
+        return true;
+    }
+    x == 0
+}
+
+// The places that the row lacks hold 0.
+pub fn tidy(row: [u8; 16], rec: [u64; 5]) -> bool
+    ensures { λ r. ⌜ r ≡ all (tidyOf row rec) ⌝ }
+{
+    if !unused(row[11], rec[1]) {
+        return false;
+    }
+    if !unused(row[13], rec[2]) {
+        return false;
+    }
+    if !unused(row[14], rec[3]) {
+        return false;
+    }
+    unused(row[15], rec[4])
+}
+
+// An entry of a list; a place past the end is left.
+pub fn put(xs: &mut [u8], n: u64, v: u8)
+    ensures { λ _. ⌜ now (xs .exit) ≡ set (now (xs .entry)) n v ⌝ }
+{
+    if n < xs.len() as u64 {
+        let i = n as usize;
+        xs[i] = v;
+    }
+}
+
+// What is known of the line n, whose record keeps the rules, goes to the lists.
+pub fn note(
+    program: bool,
+    rec: [u64; 5],
+    n: u64,
+    cls: &mut [u8],
+    idx: &mut [u8],
+    wid: &mut [u8],
+    ini: &mut [u8],
+    nxt: &mut [u8],
+)
+    requires { ⌜ (kindIn rec ≡ 1 → firstIn rec ≤ 64) ⌝ }
+    ensures { λ _. ⌜ Noted program rec n (now (cls .entry)) (now (idx .entry)) (now (wid .entry)) (now (ini .entry)) (now (nxt .entry)) (now (cls .exit)) (now (idx .exit)) (now (wid .exit)) (now (ini .exit)) (now (nxt .exit)) ⌝ }
+{
+    let t = types::sort_at(program, cls, idx, wid, rec[1]);
+    let a = types::look(cls, idx, wid, rec[2]);
+    let b = types::look(cls, idx, wid, rec[3]);
+    let c = types::look(cls, idx, wid, rec[4]);
+    let y = types::type_of(rec, t, a, b, c);
+    put(cls, n, y.cls);
+    put(idx, n, y.iw);
+    put(wid, n, y.w);
+    mark(6, rec, ini);
+    mark(7, rec, nxt);
+}
+
+// A record of the kind k marks its state.
+fn mark(k: u64, rec: [u64; 5], xs: &mut [u8])
+    ensures { λ _. ⌜ now (xs .exit) ≡ markedBy k rec (now (xs .entry)) ⌝ }
+{
+    if rec[0] == k {
+        put(xs, rec[2], 1);
+    }
+}
+
+// Every entry is 0.
+pub fn clear(xs: &mut [u8])
+    ensures { λ _. ⌜ now (xs .exit) ≡ replicate (length (now (xs .entry))) 0 ⌝ }
+{
+    let mut i: usize = 0;
+    while i < xs.len() {
+        xs[i] = 0;
+        i += 1;
+    }
+}
+
+// The record of the line n breaks no rule after the lines that the lists hold; then they hold it too.
+pub fn take_record(
+    program: bool,
+    rec: [u64; 5],
+    n: u64,
+    cls: &mut [u8],
+    idx: &mut [u8],
+    wid: &mut [u8],
+    ini: &mut [u8],
+    nxt: &mut [u8],
+) -> bool
+    ensures { λ r. ⌜ (r ≡ keeps program (lookIn (now (cls .entry)) (now (idx .entry)) (now (wid .entry))) (givenIn (now (ini .entry)) (now (nxt .entry))) rec) × (r ≡ true → Noted program rec n (now (cls .entry)) (now (idx .entry)) (now (wid .entry)) (now (ini .entry)) (now (nxt .entry)) (now (cls .exit)) (now (idx .exit)) (now (wid .exit)) (now (ini .exit)) (now (nxt .exit))) ⌝ }
+{
+    let k = rec[0];
+    if !known(program, k) {
+        return false;
+    }
+    let row = kinds::row(k);
+    if !tidy(row, rec) {
+        return false;
+    }
+    if rules::fault(program, row, rec, cls, idx, wid, ini, nxt) != 0 {
+        return false;
+    }
+    note(program, rec, n, cls, idx, wid, ini, nxt);
+    true
+}
