@@ -3,3 +3,8 @@ pub mod Every
 pub mod Shapes
 pub mod Answers
 pub mod Kept
+pub mod Formed
+pub mod Showing
+pub mod Counted
+pub mod Sofar
+pub mod Checking

@@ -133,7 +133,7 @@ isJunk? (isGive m) = false
 isJunk? (isMark m) = false
 isJunk? (isCmp e) = false
 
-no-junk : (k : ℕ) → 1 ≤ k → k ≤ 56 → shapeOf k ≡ isJunk → ⊥
+pub no-junk : (k : ℕ) → 1 ≤ k → k ≤ 56 → shapeOf k ≡ isJunk → ⊥
 no-junk k h l e =
     let n : ℕ = k - 1 in
     let q : suc n ≡ k = omega arith in

@@ -11,11 +11,10 @@ ghost use mathlib.Core.List.{List, [], _∷_};
 ghost use Prim.Native.Nat.{_+_, _*_, _≤_, _<_};
 ghost use lib.ListN.{length, set, replicate};
 ghost use Rattle.tables.specs.Pick.{all};
-ghost use Rattle.tables.specs.Kinds.{rowOf};
-ghost use Rattle.tables.specs.Lines.{lineOf, kindIn, firstIn, decode, counted};
-ghost use Rattle.tables.specs.Types.{context, typeOf, sortAt};
+ghost use Rattle.tables.specs.Lines.{kindIn, firstIn, records, decode, counted};
+ghost use Rattle.tables.specs.Types.{noCtx, context};
 ghost use Rattle.tables.specs.Lists.{lookIn, givenIn, Shows, Ample, Noted, markedBy};
-ghost use Rattle.tables.specs.Tables.{known as knownOf, unused as unusedOf, tidy as tidyOf, formed as formedOf, keeps, checked, broken};
+ghost use Rattle.tables.specs.Tables.{known as knownOf, unused as unusedOf, tidy as tidyOf, keeps, lawful, checked, broken};
 
 // The kind is one of a circuit, or of a program.
 pub fn known(program: bool, k: u64) -> bool
@@ -144,4 +143,70 @@ pub fn take_record(
     }
     note(program, rec, n, cls, idx, wid, ini, nxt);
     true
+}
+
+// Every record breaks no rule, after those before it; then the lists, which are zero at the start, hold them all.
+fn lines(
+    program: bool,
+    table: &[u64],
+    count: usize,
+    cls: &mut [u8],
+    idx: &mut [u8],
+    wid: &mut [u8],
+    ini: &mut [u8],
+    nxt: &mut [u8],
+) -> bool
+    requires { ⌜ (count ≤ 16384) × ((5 * count ≤ length (now table)) × (Ample (now cls) (now idx) (now wid) (now ini) (now nxt) × Shows (now cls) (now idx) (now wid) (now ini) (now nxt) noCtx)) ⌝ }
+    ensures { λ r. ⌜ (r ≡ lawful program noCtx (records (counted (now (table .entry)) count))) × (r ≡ true → Shows (now (cls .exit)) (now (idx .exit)) (now (wid .exit)) (now (ini .exit)) (now (nxt .exit)) (context program (decode (counted (now (table .entry)) count)))) ⌝ }
+{
+    let mut i: usize = 0;
+    while i < count {
+        let rec = records::record(table, i);
+        if !take_record(program, rec, (i + 1) as u64, cls, idx, wid, ini, nxt) {
+            return false;
+        }
+        i += 1;
+    }
+    true
+}
+
+// The check of a table with its count. Where it is accepted the lists hold its context.
+pub fn check(
+    program: bool,
+    table: &[u64],
+    count: usize,
+    cls: &mut [u8],
+    idx: &mut [u8],
+    wid: &mut [u8],
+    ini: &mut [u8],
+    nxt: &mut [u8],
+) -> Checked
+    requires { ⌜ Ample (now cls) (now idx) (now wid) (now ini) (now nxt) ⌝ }
+    ensures { λ r. ⌜ (r ≡ checked program (now (table .entry)) count) × (r ≡ Checked.Accepted → Shows (now (cls .exit)) (now (idx .exit)) (now (wid .exit)) (now (ini .exit)) (now (nxt .exit)) (context program (decode (counted (now (table .entry)) count)))) ⌝ }
+{
+    clear(cls);
+    clear(idx);
+    clear(wid);
+    clear(ini);
+    clear(nxt);
+    if !records::is_table(table.len()) {
+        return Checked::Refused(Refusal::NotATable);
+    }
+    if records::room_of(table.len()) < count {
+        return refused(program);
+    }
+    if !lines(program, table, count, cls, idx, wid, ini, nxt) {
+        return refused(program);
+    }
+    Checked::Accepted
+}
+
+// 11, for a program 20.
+fn refused(program: bool) -> Checked
+    ensures { λ r. ⌜ r ≡ Checked.Refused (broken program) ⌝ }
+{
+    if program {
+        return Checked::Refused(Refusal::BadProgram);
+    }
+    Checked::Refused(Refusal::BadTable)
 }

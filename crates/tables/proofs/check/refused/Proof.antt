@@ -1,0 +1,14 @@
+use mathlib.Core.Path.{_≡_}
+use Rattle.tables.proofs.check.refused.Statement.{statement}
+use Rattle.tables.proofs.check.refused.Tie as tie
+use Rattle.tables.proofs.check.refused.Reads as reads
+use Rattle.tables.proofs.check.refused.Lts as lts
+
+returns : tie.Need-returns
+returns c = rw (c .if1 .taken)
+
+returns-2 : tie.Need-returns-2
+returns-2 c = rw (c .if1 .left)
+
+pub refused-spec : {M : Type 1} → statement M
+refused-spec = tie.close (tie.spec returns returns-2)
