@@ -8,3 +8,4 @@ pub mod Showing
 pub mod Counted
 pub mod Sofar
 pub mod Checking
+pub mod Facts

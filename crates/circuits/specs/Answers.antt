@@ -1,0 +1,53 @@
+-- The answers of a run: 1, 11 (20 for a program), 13, 14, 15, 16, 17, the first that holds; else the first counted bad. Assumes nothing.
+use Prim.Native.Nat.{ℕ, _+_, _*_}
+use mathlib.Core.Bool.{Bool}
+use mathlib.Core.List.{List}
+use lib.Dec.{leb, eqb}
+use lib.ListN.{length, replicate}
+use Rattle.tables.specs.declared.Refusal.the-variants.{TooManySteps, StartWords, InputWords, SignalBytes, WorkArea}
+use Rattle.tables.specs.declared.Checked.{Checked}
+use Rattle.tables.specs.declared.Checked.the-variants.{Accepted, Refused}
+use Rattle.tables.specs.Pick.{pick}
+use Rattle.tables.specs.Lines.{Line, decode, counted}
+use Rattle.tables.specs.Tables.{checked}
+use Rattle.circuits.specs.declared.Ran.{Ran}
+use Rattle.circuits.specs.declared.Ran.the-variants.{Refused as RefusedRun}
+use Rattle.circuits.specs.Layout.{Counts, layout}
+use Rattle.circuits.specs.Run.{run, bytes, firstBad}
+
+-- the lines that a table with its count holds
+abbrev pub linesOf : List ℕ → ℕ → List Line
+linesOf t n = decode (counted t n)
+
+-- the tests after the table's: s start words, i input words, g signal bytes and w words of work area are lent for k steps
+abbrev pub lent : Counts → (k s i g w : ℕ) → Checked
+lent c k s i g w =
+    pick (leb k 4096) (
+    pick (eqb s (c .states)) (
+    pick (eqb i (k * c .inputs)) (
+    pick (eqb g (k * c .signals)) (
+    pick (leb (c .cells + c .states) w) Accepted
+    (Refused WorkArea)) (Refused SignalBytes)) (Refused InputWords)) (Refused StartWords)) (Refused TooManySteps)
+
+abbrev pub andThen : Checked → Checked → Checked
+andThen Accepted d = d
+andThen (Refused r) d = Refused r
+
+-- may a run start
+unfoldable pub ready : Bool → (t : List ℕ) (n k : ℕ) (S I : List ℕ) (g w : ℕ) → Checked
+ready p t n k S I g w = andThen (checked p t n) (lent (layout p (linesOf t n) .counts) k (length S) (length I) g w)
+
+abbrev pub answerOf : Checked → Ran → Ran
+answerOf Accepted r = r
+answerOf (Refused r) x = RefusedRun r
+
+abbrev pub leftOf : Checked → ℕ → List ℕ → List ℕ
+leftOf Accepted g x = x
+leftOf (Refused r) g x = replicate g 0
+
+-- what a run answers, and the signal bytes that it leaves; the work area is zero after any call
+unfoldable pub ran : Bool → (t : List ℕ) (n k : ℕ) (S I : List ℕ) (g w : ℕ) → Ran
+ran p t n k S I g w = answerOf (ready p t n k S I g w) (firstBad 0 (run p (linesOf t n) k S I))
+
+unfoldable pub signalsLeft : Bool → (t : List ℕ) (n k : ℕ) (S I : List ℕ) (g w : ℕ) → List ℕ
+signalsLeft p t n k S I g w = leftOf (ready p t n k S I g w) g (bytes (run p (linesOf t n) k S I))

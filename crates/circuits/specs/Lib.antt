@@ -1,0 +1,6 @@
+pub mod Cells
+pub mod Layout
+pub mod Meaning
+pub mod Run
+pub mod Answers
+pub mod Examples
