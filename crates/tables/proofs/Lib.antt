@@ -9,3 +9,8 @@ pub mod Counted
 pub mod Sofar
 pub mod Checking
 pub mod Facts
+pub mod Sound
+pub mod Complete
+pub mod Encoding
+pub mod Values
+pub mod Wide

@@ -1,0 +1,41 @@
+-- The type of a value line: its sort's widths, and a class of values. Assumes nothing.
+use Prim.Native.Nat.{ℕ, _≤_}
+use mathlib.Core.Path.{_≡_, refl}
+use mathlib.Core.Bool.{Bool, true, false}
+use native.Mathlib.Omega.{arith}
+use Rattle.tables.specs.declared.Ty.{Ty}
+use Rattle.tables.specs.Pick.{pick}
+use Rattle.tables.specs.Lines.{Line, Expr, wordsOf, sortIn}
+use Rattle.tables.specs.Types.{sortAt, lineType}
+
+module _ (p : Bool) (L : ℕ → Ty) (s : ℕ) where
+  pub val-iw : (e : Expr) → lineType p L (Line.val s e) .iw ≡ sortAt p L s .iw
+  val-iw (Expr.const v) = refl
+  val-iw (Expr.one k a x y) = refl
+  val-iw (Expr.two k a b) = refl
+  val-iw (Expr.cmp e a b) = refl
+  val-iw (Expr.ite c a b) = refl
+  val-iw (Expr.read a i) = refl
+  val-iw (Expr.write a i v) = refl
+
+  pub val-w : (e : Expr) → lineType p L (Line.val s e) .w ≡ sortAt p L s .w
+  val-w (Expr.const v) = refl
+  val-w (Expr.one k a x y) = refl
+  val-w (Expr.two k a b) = refl
+  val-w (Expr.cmp e a b) = refl
+  val-w (Expr.ite c a b) = refl
+  val-w (Expr.read a i) = refl
+  val-w (Expr.write a i v) = refl
+
+  two-three : (b : Bool) → 2 ≤ pick b 2 3
+  two-three true = omega arith
+  two-three false = omega arith
+
+  pub val-value : (e : Expr) → 2 ≤ lineType p L (Line.val s e) .cls
+  val-value (Expr.const v) = omega arith
+  val-value (Expr.one k a x y) = two-three _
+  val-value (Expr.two k a b) = two-three _
+  val-value (Expr.cmp e a b) = two-three _
+  val-value (Expr.ite c a b) = two-three _
+  val-value (Expr.read a i) = two-three _
+  val-value (Expr.write a i v) = two-three _
