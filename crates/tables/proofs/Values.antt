@@ -5,8 +5,8 @@ use mathlib.Core.Bool.{Bool, true, false}
 use native.Mathlib.Omega.{arith}
 use Rattle.tables.specs.declared.Ty.{Ty}
 use Rattle.tables.specs.Pick.{pick}
-use Rattle.tables.specs.Lines.{Line, Expr, wordsOf, sortIn}
-use Rattle.tables.specs.Types.{sortAt, lineType}
+use Rattle.tables.specs.Lines.{Line, Expr}
+use Rattle.tables.specs.Types.{sortAt, lineType, fixedExpr}
 
 module _ (p : Bool) (L : ℕ → Ty) (s : ℕ) where
   pub val-iw : (e : Expr) → lineType p L (Line.val s e) .iw ≡ sortAt p L s .iw
@@ -33,9 +33,9 @@ module _ (p : Bool) (L : ℕ → Ty) (s : ℕ) where
 
   pub val-value : (e : Expr) → 2 ≤ lineType p L (Line.val s e) .cls
   val-value (Expr.const v) = omega arith
-  val-value (Expr.one k a x y) = two-three _
-  val-value (Expr.two k a b) = two-three _
-  val-value (Expr.cmp e a b) = two-three _
-  val-value (Expr.ite c a b) = two-three _
-  val-value (Expr.read a i) = two-three _
-  val-value (Expr.write a i v) = two-three _
+  val-value (Expr.one k a x y) = two-three (fixedExpr (Expr.one k a x y) (L a) (L x) (L y))
+  val-value (Expr.two k a b) = two-three (fixedExpr (Expr.two k a b) (L a) (L b) (L 0))
+  val-value (Expr.cmp e a b) = two-three (fixedExpr (Expr.cmp e a b) (L a) (L b) (L 0))
+  val-value (Expr.ite c a b) = two-three (fixedExpr (Expr.ite c a b) (L c) (L a) (L b))
+  val-value (Expr.read a i) = two-three (fixedExpr (Expr.read a i) (L a) (L i) (L 0))
+  val-value (Expr.write a i v) = two-three (fixedExpr (Expr.write a i v) (L a) (L i) (L v))
