@@ -69,8 +69,11 @@ rows =
     ∷ []
 
 -- A kind's row. A mask, kind 56, stands in programs alone and has no word; it takes what `not`, kind 11, takes.
+abbrev pub placeOf : ℕ → ℕ
+placeOf k = pick (eqb k 56) 10 (k - 1)
+
 unfoldable pub rowOf : ℕ → List ℕ
-rowOf k = getD rows (pick (eqb k 56) 10 (k - 1)) []
+rowOf k = getD rows (placeOf k) []
 
 -- the parts of a row
 abbrev pub wordOf : List ℕ → List ℕ

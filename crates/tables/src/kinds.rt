@@ -1,7 +1,7 @@
 // The kinds: one constant table of their words, operand counts and operand classes, which reader, checker and writer index by kind.
 ghost use mathlib.Core.Path.{_≡_};
-ghost use Prim.Native.Nat.{_≤_};
-ghost use Rattle.tables.specs.Kinds.{rowOf};
+ghost use Prim.Native.Nat.{_≤_, _<_};
+ghost use Rattle.tables.specs.Kinds.{placeOf, rowOf};
 
 // A row: the word's length, its letters, the class of the sort, the number of operands, their classes.
 pub const KINDS: [[u8; 16]; 55] = [
@@ -79,17 +79,22 @@ pub const KINDS: [[u8; 16]; 55] = [
     [5, 119, 114, 105, 116, 101, 0, 0, 0, 0, 0, 6, 3, 2, 1, 1],
 ];
 
-// The row of a kind; a mask has that of not.
+// Where the row of a kind stands; a mask has that of not.
+fn place(k: u64) -> usize
+    requires { ⌜ (1 ≤ k) × (k ≤ 56) ⌝ }
+    ensures { λ r. ⌜ (r ≡ placeOf k) × (r < 55) ⌝ }
+{
+    if k == 56 {
+        return 10;
+    }
+    (k - 1) as usize
+}
+
+// The row of a kind.
 pub fn row(k: u64) -> [u8; 16]
     requires { ⌜ (1 ≤ k) × (k ≤ 56) ⌝ }
     ensures { λ r. ⌜ r ≡ rowOf k ⌝ }
 {
-    if k == 56 {
-        return KINDS[10];
-    }
-    if k < 56 {
-        let i = (k - 1) as usize;
-        return KINDS[i];
-    }
-    [0; 16]
+    let i = place(k);
+    KINDS[i]
 }

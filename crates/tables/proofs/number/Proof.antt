@@ -179,3 +179,5 @@ number-spec =
     returns-19
     returns-20
     returns-21)
+
+-- x

@@ -157,3 +157,5 @@ check-spec =
     same-length-19
     same-length-20
     returns-4)
+
+-- x

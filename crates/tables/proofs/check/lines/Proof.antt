@@ -105,3 +105,5 @@ lines-spec =
     same-length-9
     same-length-10
     returns-2)
+
+-- x

@@ -106,3 +106,5 @@ note-spec =
     same-length-4
     same-length-5
     returns)
+
+-- x

@@ -102,3 +102,5 @@ take-record-spec =
     same-length-9
     same-length-10
     returns-4)
+
+-- x

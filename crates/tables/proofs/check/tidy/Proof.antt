@@ -76,3 +76,5 @@ tidy-spec =
     array-read-unused-8
     unused-requires-4
     returns-4)
+
+-- x

@@ -1,44 +1,27 @@
-use borrow.Author.Tests.{eq-eqb, ne-eqb}
-use native.Mathlib.Omega.{arith}
-use Rattle.tables.specs.Kinds.{rowOf}
-use mathlib.Core.Path.{sym, ap}
+use Prim.Native.Nat.{ℕ}
+use mathlib.Core.Path.{ap}
+use mathlib.Core.List.{[]}
+use lib.ListN.{getD}
+use Rattle.tables.specs.Kinds.{rows, rowOf}
 use borrow.Author.Needs.{needs}
 use Rattle.tables.proofs.kinds.row.Statement.{statement}
 use Rattle.tables.proofs.kinds.row.Tie as tie
 use Rattle.tables.proofs.kinds.row.Reads as reads
 use Rattle.tables.proofs.kinds.row.Lts as lts
+use Rattle.tables.proofs.kinds.place.Reads as place-reads
+
+place-requires : tie.Need-place-requires
+place-requires c κs = search needs
+
+mul-result : tie.Need-mul-result
+mul-result c = search needs
 
 array-copy-out-result : tie.Need-array-copy-out-result
 array-copy-out-result c = search needs
 
 returns : tie.Need-returns
 unfolding rowOf
-returns c = ap rowOf (sym (c .before .if1 .taken))
-
-sub-i : tie.Need-sub-i
-sub-i c = search needs
-
-mul-result : tie.Need-mul-result
-mul-result c = search needs
-
-array-copy-out-result-2 : tie.Need-array-copy-out-result-2
-array-copy-out-result-2 c = search needs
-
-returns-2 : tie.Need-returns-2
-unfolding rowOf
-returns-2 c = rw (ne-eqb (c .before .before .before .args .k) 56 (c .before .before .if1 .left))
-
-returns-3 : tie.Need-returns-3
-returns-3 c = absurd (omega arith)
+returns c = ap (λ (n : ℕ). getD rows n []) (c .before .place .ensures .0)
 
 pub row-spec : {M : Type 1} → statement M
-row-spec =
-    tie.close
-    (tie.spec
-    array-copy-out-result
-    returns
-    sub-i
-    mul-result
-    array-copy-out-result-2
-    returns-2
-    returns-3)
+row-spec = tie.close (tie.spec place-requires mul-result array-copy-out-result returns)

@@ -75,3 +75,5 @@ record-spec =
     mul-t20
     shared-slice-read-t22
     returns)
+
+-- x

@@ -60,3 +60,5 @@ classed-spec =
     array-read-suits-4
     suits-requires-4
     returns-4)
+
+-- x

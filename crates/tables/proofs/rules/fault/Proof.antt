@@ -77,3 +77,5 @@ fault-spec =
     once-requires
     returns-3
     returns-4)
+
+-- x

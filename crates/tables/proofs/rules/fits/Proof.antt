@@ -185,3 +185,5 @@ fits-spec =
     returns-18
     returns-19
     returns-20)
+
+-- x

@@ -57,3 +57,5 @@ fits-one-spec =
     returns-7
     add-result-3
     returns-8)
+
+-- x

@@ -58,3 +58,5 @@ once-spec =
     returns-3
     returns-4
     returns-5)
+
+-- x

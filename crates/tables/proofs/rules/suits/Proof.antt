@@ -71,3 +71,5 @@ suits-spec =
     returns-6
     returns-7
     returns-8)
+
+-- x

@@ -71,3 +71,5 @@ type-of-spec =
     returns-6
     returns-7
     returns-8)
+
+-- x

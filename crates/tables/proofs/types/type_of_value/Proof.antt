@@ -79,3 +79,5 @@ type-of-value-spec =
     returns-4
     returns-5
     returns-6)
+
+-- x
