@@ -14,3 +14,5 @@ pub mod Complete
 pub mod Encoding
 pub mod Values
 pub mod Wide
+pub mod Entries
+pub mod Cones

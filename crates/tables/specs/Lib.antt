@@ -2,7 +2,9 @@ pub mod Pick
 pub mod Kinds
 pub mod Lines
 pub mod Types
+pub mod Cone
 pub mod Rules
 pub mod Lists
 pub mod Tables
 pub mod Refusals
+pub mod Examples

@@ -1,0 +1,173 @@
+-- Lists of cells: what a write's and a read's chains of ites come to, and an eq's chain of ands; cells stay words. Assumes nothing.
+use Prim.Native.Nat.{ℕ, zero, suc, _+_, _%_, _^_, _≤_, _<_}
+use mathlib.Core.Path.{_≡_, refl, sym, ap, ap₂, _∙_, subst}
+use mathlib.Core.Logic.{_≢_}
+use mathlib.Core.Bool.{Bool, true, false, _&&_, not}
+use mathlib.Core.List.{List, [], _∷_, _++_}
+use native.Mathlib.Nat.{mod-lt, le-of-suc-le-suc, not-suc-le-zero}
+use native.Mathlib.Omega.{arith}
+use lib.Dec.{T, eqb, eqb→eq, eqb-refl}
+use lib.Pow.{pow-pos}
+use lib.ListN.{length, getD, set, take, drop, replicate}
+use lib.Seq.{drop-cons}
+use Rattle.words.specs.Word.{bit}
+use Rattle.circuits.specs.Cells.{choose, say, same, lows, part}
+use Rattle.circuits.specs.Meaning.{Acc, stateWords}
+use Rattle.flattening.specs.Flat.{from}
+use Rattle.flattening.proofs.Walk.{Word, Holds, none, more, Small}
+use Rattle.flattening.proofs.Chains.{hit, writes, picks, chooses, cmpVals, joinVal, joinVals}
+
+T-true : (b : Bool) → T b → b ≡ true
+T-true true t = refl
+T-true false t = absurd t
+
+hit-same : (k : ℕ) → hit k k ≡ 1
+hit-same k = ap (λ (b : Bool). bit (b && true)) (T-true (eqb k k) (eqb-refl k))
+
+hit-other : (i k : ℕ) → i ≢ k → hit i k ≡ 0
+hit-other i k h = go (eqb i k) refl
+  where
+    go : (b : Bool) → eqb i k ≡ b → bit (b && true) ≡ 0
+    go true e = absurd (h (eqb→eq i k (subst T (sym e) tt)))
+    go false e = refl
+
+-- ---- write
+
+writes-past : (i k : ℕ) (v : ℕ) (cs : List ℕ) → i < k → writes i (from k (length cs)) v cs ≡ cs
+writes-past i k v [] h = refl
+writes-past i k v (c ∷ cs) h = ap₂ (λ (x : ℕ) (xs : List ℕ). x ∷ xs) (rw (hit-other i k (omega arith))) (writes-past i (suc k) v cs (omega arith))
+
+writes-at : (i k j : ℕ) (v : ℕ) (cs : List ℕ) → i ≡ k + j → writes i (from k (length cs)) v cs ≡ set cs j v
+writes-at i k j v [] e = refl
+writes-at i k zero v (c ∷ cs) e =
+    let z : i ≡ k = omega arith in
+    ap₂ (λ (x : ℕ) (xs : List ℕ). x ∷ xs) (rw (z, hit-same k)) (writes-past i (suc k) v cs (omega arith))
+writes-at i k (suc j) v (c ∷ cs) e =
+    ap₂ (λ (x : ℕ) (xs : List ℕ). x ∷ xs) (rw (hit-other i k (omega arith))) (writes-at i (suc k) j v cs (omega arith))
+
+pub writes-set : (i : ℕ) (v : ℕ) (cs : List ℕ) → writes i (from 0 (length cs)) v cs ≡ set cs i v
+writes-set i v cs = writes-at i 0 i v cs (omega arith)
+
+-- ---- read
+
+picks-at : (i k j : ℕ) (c : ℕ) (cs : List ℕ) → i ≡ k + j → j < suc (length cs) → picks i (from k (suc (length cs))) c cs ≡ getD (c ∷ cs) j 0
+picks-at i k zero c [] e h = refl
+picks-at i k (suc j) c [] e h = absurd (not-suc-le-zero (le-of-suc-le-suc h))
+picks-at i k zero c (d ∷ cs) e h =
+    let z : i ≡ k = omega arith in
+    rw (z, hit-same k)
+picks-at i k (suc j) c (d ∷ cs) e h = rw (hit-other i k (omega arith)) (picks-at i (suc k) j d cs (omega arith) (le-of-suc-le-suc h))
+
+pub picks-get : (i : ℕ) (c : ℕ) (cs : List ℕ) → i < suc (length cs) → picks i (from 0 (suc (length cs))) c cs ≡ getD (c ∷ cs) i 0
+picks-get i c cs h = picks-at i 0 i c cs (omega arith) h
+
+-- ---- eq and neq
+
+join-bit : (e u q : Bool) → joinVal e (bit (say e u)) (bit (say e (q && true))) ≡ bit (say e (u && q))
+join-bit true true true = refl
+join-bit true true false = refl
+join-bit true false true = refl
+join-bit true false false = refl
+join-bit false true true = refl
+join-bit false true false = refl
+join-bit false false true = refl
+join-bit false false false = refl
+
+and-assoc : (a b c : Bool) → (a && b) && c ≡ a && (b && c)
+and-assoc true b c = refl
+and-assoc false b c = refl
+
+joins-from : (e u : Bool) (xs ys : List ℕ) → length xs ≡ length ys → joinVals e (bit (say e u)) (cmpVals e xs ys) ≡ bit (say e (u && same xs ys))
+joins-from e true [] ys n = refl
+joins-from e false [] ys n = refl
+joins-from e u (x ∷ xs) [] n = absurd (omega arith)
+joins-from e u (x ∷ xs) (y ∷ ys) n =
+    ap (λ (v : ℕ). joinVals e v (cmpVals e xs ys)) (join-bit e u (eqb x y))
+    ∙ joins-from e (u && eqb x y) xs ys (omega arith)
+    ∙ ap (λ (b : Bool). bit (say e b)) (and-assoc u (eqb x y) (same xs ys))
+
+pub joins-agree : (e : Bool) (x y : ℕ) (xs ys : List ℕ) → length xs ≡ length ys
+    → joinVals e (bit (say e (same (x ∷ []) (y ∷ [])))) (cmpVals e xs ys) ≡ bit (say e (same (x ∷ xs) (y ∷ ys)))
+joins-agree e x y xs ys n = joins-from e (eqb x y && true) xs ys n ∙ ap (λ (b : Bool). bit (say e b)) (and-assoc (eqb x y) true (same xs ys))
+
+-- ---- lengths
+
+pub length-from : (b n : ℕ) → length (from b n) ≡ n
+length-from b zero = refl
+length-from b (suc n) = ap suc (length-from (suc b) n)
+
+-- ---- ite
+
+pub chooses-choose : (d : ℕ) (xs ys : List ℕ) → length xs ≡ length ys → chooses d xs ys ≡ choose d xs ys
+chooses-choose zero [] [] n = refl
+chooses-choose (suc d) [] ys n = refl
+chooses-choose zero [] (y ∷ ys) n = absurd (omega arith)
+chooses-choose d (x ∷ xs) [] n = absurd (omega arith)
+chooses-choose zero (x ∷ xs) (y ∷ ys) n = ap (λ (l : List ℕ). y ∷ l) (chooses-choose zero xs ys (omega arith))
+chooses-choose (suc d) (x ∷ xs) (y ∷ ys) n = ap (λ (l : List ℕ). x ∷ l) (chooses-choose (suc d) xs ys (omega arith))
+
+-- what holds of both lists holds of the one chosen
+pub choose-has : (P : List ℕ → Type 0) (d : ℕ) {xs ys : List ℕ} → P xs → P ys → P (choose d xs ys)
+choose-has P zero x y = y
+choose-has P (suc d) x y = x
+
+-- ---- state words
+
+-- n of them from the place a on, modulo 2 ^ w
+abbrev pub taken : List ℕ → (a n w : ℕ) → List ℕ
+taken σ a zero w = []
+taken σ a (suc n) w = getD σ a 0 % 2 ^ w ∷ taken σ (suc a) n w
+
+pub lows-taken : (σ : List ℕ) (a n w : ℕ) → a + n ≤ length σ → lows w (part σ a n) ≡ taken σ a n w
+lows-taken σ a zero w h = refl
+lows-taken σ a (suc n) w h =
+    ap (λ (l : List ℕ). lows w (take (suc n) l)) (drop-cons σ a 0 (omega arith)) ∙ ap (λ (l : List ℕ). getD σ a 0 % 2 ^ w ∷ l) (lows-taken σ (suc a) n w (omega arith))
+
+-- in a circuit state words are always taken modulo 2 ^ w
+pub state-lows : (f : Bool) (w : ℕ) (xs : List ℕ) → stateWords false f w xs ≡ lows w xs
+state-lows true w xs = refl
+state-lows false w xs = refl
+
+pub length-taken : (σ : List ℕ) (a n w : ℕ) → length (taken σ a n w) ≡ n
+length-taken σ a zero w = refl
+length-taken σ a (suc n) w = ap suc (length-taken σ (suc a) n w)
+
+-- ---- cells stay words
+
+pub small-at : (w : ℕ) (cs : List ℕ) (j : ℕ) → Small w cs → getD cs j 0 < 2 ^ w
+small-at w [] j s = pow-pos w
+small-at w (c ∷ cs) zero s = s .0
+small-at w (c ∷ cs) (suc j) s = small-at w cs j (s .1)
+
+pub small-set : (w : ℕ) (cs : List ℕ) (j v : ℕ) → Small w cs → v < 2 ^ w → Small w (set cs j v)
+small-set w [] j v s h = tt
+small-set w (c ∷ cs) zero v s h = (h, s .1)
+small-set w (c ∷ cs) (suc j) v s h = (s .0, small-set w cs j v (s .1) h)
+
+pub small-taken : (σ : List ℕ) (a n w : ℕ) → Small w (taken σ a n w)
+small-taken σ a zero w = tt
+small-taken σ a (suc n) w = (mod-lt (getD σ a 0) (pow-pos w), small-taken σ (suc a) n w)
+
+pub small-from : (w k n : ℕ) → k + n ≤ 2 ^ w → Small w (from k n)
+small-from w k zero h = tt
+small-from w k (suc n) h = (omega arith, small-from w (suc k) n (omega arith))
+
+pub small-bit : (b : Bool) → bit b < 2
+small-bit true = omega arith
+small-bit false = omega arith
+
+-- ---- a constant index
+
+pub holds-at : {u : Bool} {A : Acc} {w : ℕ} {ps cs : List ℕ} (j : ℕ) → Holds A u w ps cs → j < length cs → Word A u (getD ps j 0) w (getD cs j 0)
+holds-at j none h = absurd (not-suc-le-zero h)
+holds-at zero (more x r) h = x
+holds-at (suc j) (more x r) h = holds-at j r (le-of-suc-le-suc h)
+
+pub holds-set : {u : Bool} {A : Acc} {w p v : ℕ} {ps cs : List ℕ} (j : ℕ) → Holds A u w ps cs → Word A u p w v → Holds A u w (set ps j p) (set cs j v)
+holds-set j none h = none
+holds-set zero (more x r) h = more h r
+holds-set (suc j) (more x r) h = more x (holds-set j r h)
+
+pub holds-replicate : {u : Bool} {A : Acc} {w p v : ℕ} (n : ℕ) → Word A u p w v → Holds A u w (replicate n p) (replicate n v)
+holds-replicate zero h = none
+holds-replicate (suc n) h = more h (holds-replicate n h)

@@ -1,0 +1,14 @@
+pub mod Walk
+pub mod Chains
+pub mod CellLaws
+pub mod Stores
+pub mod Effects
+pub mod Rel
+pub mod Fitting
+pub mod SimWords
+pub mod SimStates
+pub mod SimArrays
+pub mod Alike
+pub mod Arrayless
+pub mod Leaves
+pub mod Sample

@@ -1,0 +1,88 @@
+-- The request's example read and written, and a text for each refusal 3 to 10. Assumes nothing.
+use Prim.Native.Nat.{ℕ, zero, suc, _^_, _<_}
+use Prim.Native.Char.{code}
+use Prim.Native.String.{String, [] as end, _∷_ as _then_}
+use mathlib.Core.Path.{_≡_, refl}
+use mathlib.Core.Bool.{Bool, true, false, _&&_}
+use mathlib.Core.List.{List, [], _∷_, map}
+use lib.Dec.{T, leb, ltb, ltb→lt, leb→le, lit<}
+use lib.ListN.{length, getD}
+use mir.Facts.{and-yes}
+use Rattle.tables.specs.declared.Refusal.{Refusal}
+use Rattle.tables.specs.declared.Refusal.the-variants.{WrongId, NoRecordLeft, UnknownWord, BadOperand, NumberTooLarge, WrongClass, Misfit, InitOrNext}
+use Rattle.tables.specs.declared.Checked.the-variants.{Accepted}
+use Rattle.tables.specs.Kinds.{rowOf}
+use Rattle.tables.specs.Lines.{counted}
+use Rattle.tables.specs.Rules.{suits, fault}
+use Rattle.tables.specs.Tables.{checked}
+use Rattle.texts.specs.Forms.{formRow}
+use Rattle.texts.specs.Split.{split, upTo, tokens}
+use Rattle.texts.specs.Decimal.{digit, allIn, valueFrom, valued, scanned, decimal, digitsIn, digits, digitsF}
+use Rattle.texts.specs.Reading.{findIn, wordIn, operands, ruled, settled, judged, large, readLine, readLines, readText, Text, done, refused}
+use Rattle.texts.specs.Writing.{writeFrom, writeText}
+use Rattle.texts.proofs.Round.{Words, round-trip}
+
+pub bytes : String → List ℕ
+bytes end = []
+bytes (c then s) = code c ∷ bytes s
+
+-- ---- the worked example
+
+abbrev sample : String
+sample = "1 sort bitvec 1\n2 sort bitvec 3\n3 sort array 1 2\n4 state 3\n5 input 1\n6 constd 2 5\n7 write 3 4 5 6\n8 next 3 4 7\n9 read 2 4 5\n10 eq 1 9 6\n11 bad 10\n"
+
+abbrev table : List ℕ
+table = 1 ∷ 0 ∷ 1 ∷ 0 ∷ 0 ∷ 1 ∷ 0 ∷ 3 ∷ 0 ∷ 0 ∷ 2 ∷ 0 ∷ 1 ∷ 2 ∷ 0 ∷ 5 ∷ 3 ∷ 0 ∷ 0 ∷ 0 ∷ 4 ∷ 1 ∷ 0 ∷ 0 ∷ 0 ∷ 3 ∷ 2 ∷ 5 ∷ 0 ∷ 0 ∷ 55 ∷ 3 ∷ 4 ∷ 5 ∷ 6 ∷ 7 ∷ 3 ∷ 4 ∷ 7 ∷ 0 ∷ 54 ∷ 2 ∷ 4 ∷ 5 ∷ 0 ∷ 21 ∷ 1 ∷ 9 ∷ 6 ∷ 0 ∷ 8 ∷ 0 ∷ 10 ∷ 0 ∷ 0 ∷ []
+
+pub sample-read : readText 100 (bytes sample) ≡ done 11 table
+unfolding bytes readText readLines readLine large ruled judged settled operands wordIn findIn formRow rowOf fault suits split upTo tokens decimal scanned valued digitsIn allIn valueFrom digit
+sample-read = refl
+
+pub sample-written : writeText table ≡ bytes sample
+unfolding bytes writeText writeFrom digits digitsF rowOf
+sample-written = refl
+
+-- it meets the premises of the round trip
+pub sample-accepted : checked false table 11 ≡ Accepted
+unfolding checked fault suits rowOf
+sample-accepted = refl
+
+below : List ℕ → Bool
+below [] = true
+below (x ∷ t) = ltb x (2 ^ 64) && below t
+
+words-below : (t : List ℕ) → T (below t) → Words t
+unfolding below
+words-below [] h j = lit< tt
+words-below (x ∷ t) h zero = ltb→lt x (2 ^ 64) (and-yes (ltb x (2 ^ 64)) (below t) h .0)
+words-below (x ∷ t) h (suc j) = words-below t (and-yes (ltb x (2 ^ 64)) (below t) h .1) j
+
+sample-words : Words table
+unfolding below
+sample-words = words-below table tt
+
+sample-short : T (leb (length (writeText table)) 65536)
+unfolding writeText writeFrom digits digitsF rowOf
+sample-short = tt
+
+pub sample-trip : readText 100 (writeText (counted table 11)) ≡ done 11 (counted table 11)
+sample-trip = round-trip table 11 100 sample-words sample-accepted (leb→le (length (writeText table)) 65536 sample-short) refl (leb→le 11 20 tt)
+
+-- ---- a text for each refusal, with its text line; there is room for five records
+
+pub answers : List String → List Text
+answers ts = map (λ s. readText 25 (bytes s)) ts
+
+pub refusals : answers (
+    "\n1 sort bitvec 1\n03 input 1\n"
+    ∷ "1 sort bitvec 1\n2 input 1\n3 input 1\n4 input 1\n5 input 1 ; the last\n\n6 inputs\n"
+    ∷ "; no name stands here\n1 sort float 8\n"
+    ∷ "1 sort bitvec 1\n2 input 1\n3 add 1 18446744073709551616 02\n"
+    ∷ "1 sort bitvec 65\n"
+    ∷ "1 sort bitvec 1\n2 sort bitvec 2\n3 not 2 1\n"
+    ∷ "1 sort bitvec 1\n2 const 1 10 a-name\n"
+    ∷ "1 sort bitvec 1\n2 state 1\n3 next 1 2 2\n4 next 1 2 2\n"
+    ∷ [])
+    ≡ refused WrongId 3 ∷ refused NoRecordLeft 7 ∷ refused UnknownWord 2 ∷ refused BadOperand 3 ∷ refused NumberTooLarge 1 ∷ refused WrongClass 3 ∷ refused Misfit 2 ∷ refused InitOrNext 4 ∷ []
+unfolding answers bytes readText readLines readLine large ruled judged settled operands wordIn findIn formRow rowOf fault suits split upTo tokens decimal scanned valued digitsIn allIn valueFrom digit
+refusals = refl

@@ -1,0 +1,11 @@
+pub mod Splitting
+pub mod Decimals
+pub mod Words
+pub mod Scan
+pub mod Places
+pub mod Steps
+pub mod Kept
+pub mod Reached
+pub mod Round
+pub mod Examples
+pub mod Printed

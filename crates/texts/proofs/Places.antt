@@ -1,0 +1,91 @@
+-- The bridge between the places of a line and its tokens, and between those of a text and its lines. Assumes nothing.
+use mathlib.Core.Path.{_≡_, refl, sym, ap, _∙_}
+use mathlib.Core.Bool.{Bool, true, false}
+use mathlib.Core.List.{List, [], _∷_}
+use Prim.Native.Nat.{ℕ, suc, _+_, _-_, _≤_, _<_}
+use native.Mathlib.Omega.{arith}
+use lib.Dec.{eqb}
+use lib.ListN.{length, take, drop, getD, drop-of-length-le, length-drop}
+use lib.Seq.{drop-drop, getD-drop, take-take}
+use borrow.Author.Tests.{ne-eqb}
+use Rattle.texts.specs.Split.{split, upTo, filled, tokens}
+use Rattle.texts.specs.Stages.{several}
+
+-- ---- from a place to the first part
+
+-- what follows the first part
+abbrev pub tail : ℕ → List ℕ → List (List ℕ)
+tail b [] = []
+tail b (c ∷ t) = split b t
+
+pub split-first : (b : ℕ) (x : List ℕ) → split b x ≡ take (length (upTo b x)) x ∷ tail b (drop (length (upTo b x)) x)
+unfolding split upTo
+split-first b [] = refl
+split-first b (c ∷ t) = go (eqb c b) refl (split-first b t)
+  where
+    go : (q : Bool) → eqb c b ≡ q → split b t ≡ take (length (upTo b t)) t ∷ tail b (drop (length (upTo b t)) t)
+        → split b (c ∷ t) ≡ take (length (upTo b (c ∷ t))) (c ∷ t) ∷ tail b (drop (length (upTo b (c ∷ t))) (c ∷ t))
+    go true e h = rw (e, split, upTo) refl
+    go false e h = rw (e, split, upTo) (rw h refl)
+
+tail-tokens : (x : List ℕ) → filled (tail 32 (drop (length (upTo 32 x)) x)) ≡ tokens (drop (length (upTo 32 x)) x)
+unfolding split upTo tokens
+tail-tokens [] = refl
+tail-tokens (c ∷ t) = go (eqb c 32) refl (tail-tokens t)
+  where
+    go : (q : Bool) → eqb c 32 ≡ q → filled (tail 32 (drop (length (upTo 32 t)) t)) ≡ tokens (drop (length (upTo 32 t)) t)
+        → filled (tail 32 (drop (length (upTo 32 (c ∷ t))) (c ∷ t))) ≡ tokens (drop (length (upTo 32 (c ∷ t))) (c ∷ t))
+    go true e h = rw (e, upTo) (rw (e, split) refl)
+    go false e h = rw (e, upTo) h
+
+filled-first : (x : List ℕ) (c : ℕ) (y : List ℕ) (r : List (List ℕ)) → x ≡ c ∷ y → filled (x ∷ r) ≡ x ∷ filled r
+filled-first x c y r e = rw e refl
+
+upTo-cons : (c : ℕ) (t : List ℕ) → eqb c 32 ≡ false → upTo 32 (c ∷ t) ≡ c ∷ upTo 32 t
+unfolding upTo
+upTo-cons c t e = rw (e, upTo) refl
+
+tokens-first : (c : ℕ) (t : List ℕ) → eqb c 32 ≡ false
+    → tokens (c ∷ t) ≡ take (length (upTo 32 (c ∷ t))) (c ∷ t) ∷ tokens (drop (length (upTo 32 (c ∷ t))) (c ∷ t))
+unfolding tokens
+tokens-first c t e =
+    let k : ℕ = length (upTo 32 (c ∷ t)) in
+    ap (λ (p : List (List ℕ)). filled p) (split-first 32 (c ∷ t))
+    ∙ (filled-first (take k (c ∷ t)) c (take (length (upTo 32 t)) t) (tail 32 (drop k (c ∷ t))) (ap (λ (u : List ℕ). take (length u) (c ∷ t)) (upTo-cons c t e))
+    ∙ ap (λ (p : List (List ℕ)). take k (c ∷ t) ∷ p) (tail-tokens (c ∷ t)))
+
+tokens-head : (x : List ℕ) → 0 < length x → (getD x 0 0 ≡ 32 → ⊥) → tokens x ≡ take (length (upTo 32 x)) x ∷ tokens (drop (length (upTo 32 x)) x)
+tokens-head [] h n = absurd (omega arith)
+tokens-head (c ∷ t) h n = tokens-first c t (ne-eqb c 32 n)
+
+module _ (l : List ℕ) (a : ℕ) where
+  pub no-token : length l ≤ a → tokens (drop a l) ≡ []
+  unfolding tokens split
+  no-token h = rw (drop-of-length-le l h) refl
+
+  pub next-token : (z : ℕ) → a < length l → (getD l a 0 ≡ 32 → ⊥) → z ≡ a + length (upTo 32 (drop a l))
+      → tokens (drop a l) ≡ take (z - a) (drop a l) ∷ tokens (drop z l)
+  next-token z h n e =
+      let k : ℕ = length (upTo 32 (drop a l)) in
+      let q : k ≡ z - a = omega arith in
+      let f : getD (drop a l) 0 0 ≡ getD l a 0 = getD-drop a l 0 0 ∙ ap (λ (i : ℕ). getD l i 0) (omega arith) in
+      tokens-head (drop a l) (omega (arith, length-drop a l)) (λ x. n (sym f ∙ x))
+      ∙ (ap (λ (m : ℕ). take m (drop a l) ∷ tokens (drop k (drop a l))) q
+      ∙ ap (λ (p : List ℕ). take (z - a) (drop a l) ∷ tokens p) (drop-drop k a l ∙ ap (λ (m : ℕ). drop m l) (sym e)))
+
+pub several-more : (l : List ℕ) (b : ℕ) (t : List ℕ) → b < length l → (getD l b 0 ≡ 32 → ⊥) → several (t ∷ tokens (drop b l)) ≡ true
+several-more l b t h n = ap (λ (x : List (List ℕ)). several (t ∷ x)) (next-token l b (b + length (upTo 32 (drop b l))) h n refl)
+
+-- ---- where a comment starts
+
+take-upTo : (b : ℕ) (y : List ℕ) → take (length (upTo b y)) y ≡ upTo b y
+unfolding upTo
+take-upTo b [] = refl
+take-upTo b (c ∷ t) = go (eqb c b) refl (take-upTo b t)
+  where
+    go : (q : Bool) → eqb c b ≡ q → take (length (upTo b t)) t ≡ upTo b t → take (length (upTo b (c ∷ t))) (c ∷ t) ≡ upTo b (c ∷ t)
+    go true x h = rw (x, upTo) refl
+    go false x h = rw (x, upTo) (ap (λ (r : List ℕ). c ∷ r) h)
+
+pub cut-at : (x : List ℕ) (m k : ℕ) → k ≤ m → k ≡ length (upTo 59 (take m x)) → take k x ≡ upTo 59 (take m x)
+cut-at x m k h e = sym (take-take k m x h) ∙ (ap (λ (j : ℕ). take j (take m x)) e ∙ take-upTo 59 (take m x))

@@ -1,0 +1,278 @@
+-- The round trip: an accepted table, written as text and read again, gives the same records and the same count. Assumes nothing.
+use Prim.Native.Nat.{ℕ, zero, suc, _+_, _-_, _*_, _%_, _^_, _≤_, _<_}
+use mathlib.Core.Path.{_≡_, refl, sym, ap, _∙_, subst}
+use mathlib.Core.Bool.{Bool, true, false, not, _&&_, _||_}
+use mathlib.Core.List.{List, [], _∷_, _++_, append-nil, append-assoc}
+use native.Mathlib.Omega.{arith}
+use lib.Dec.{T, eqb, leb, ltb, eqb→eq, leb→le, lit<}
+use lib.ListN.{length, getD, set, take, replicate, length-append}
+use lib.Seq.{length-take-le}
+use mir.Facts.{and-yes}
+use borrow.Author.Tests.{eqb-true, eqb-false, eq-eqb, ne-eqb, le-leb, lt-ltb, ltb-true, leb-true, leb-false}
+use Rattle.tables.specs.declared.Ty.{Ty}
+use Rattle.tables.specs.declared.Refusal.the-variants.{TextBuffer}
+use Rattle.tables.specs.declared.Checked.{Checked}
+use Rattle.tables.specs.declared.Checked.the-variants.{Accepted, Refused}
+use Rattle.tables.specs.Pick.{pick, all, inside}
+use Rattle.tables.specs.Kinds.{rowOf, sortClass, countOf, firstClass, secondClass, thirdClass}
+use Rattle.tables.specs.Lines.{isBitvec, shapeOf, lineOf, five, kindIn, sortIn, firstIn, secondIn, thirdIn, records, counted}
+use Rattle.tables.specs.Types.{Ctx, noCtx, tyAt, given, grow}
+use Rattle.tables.specs.Rules.{fault}
+use Rattle.tables.specs.Tables.{whole, room, known, unused, tidy, formed, keeps, lawful, checked}
+use Rattle.tables.proofs.Every.{every, at-each}
+use Rattle.tables.proofs.Laws.{and-true}
+use Rattle.tables.proofs.Shapes.{fits-as, range}
+use Rattle.tables.proofs.Answers.{passed}
+use Rattle.tables.proofs.Kept.{both}
+use Rattle.tables.proofs.Counted.{length-records}
+use Rattle.tables.proofs.Checking.{no-table, too-many, unlawful, not-accepted, roomy}
+use Rattle.texts.specs.declared.Num.{Num}
+use Rattle.texts.specs.declared.Num.the-variants.{Bad, Big, Is}
+use Rattle.texts.specs.declared.ReadOutcome.{ReadOutcome}
+use Rattle.texts.specs.declared.ReadOutcome.the-variants.{Done}
+use Rattle.texts.specs.Forms.{formRow, kindOf, sorted, firstOf, numbersOf}
+use Rattle.texts.specs.Split.{split, join}
+use Rattle.texts.specs.Decimal.{decimal, digits}
+use Rattle.texts.specs.Reading.{Word, word, wordIn, numberAt, Took, took, operands, fresh, Reply, got, settled, judged, large, isId, readLine, Text, done, lineTokens, readLines, readText, answerOf, tableOf}
+use Rattle.texts.specs.Writing.{numbers, kindTokens, tokensOf, writeFrom, writeText, Out, wrote, refuse, fitted, writtenBy, writeTable}
+use Rattle.texts.proofs.Splitting.{Toks, toks-append, tokens-join, lines-join}
+use Rattle.texts.proofs.Decimals.{digits-tok, decimal-digits}
+use Rattle.texts.proofs.Words.{word-found, word-toks, row-kind, kind-low}
+use Rattle.texts.proofs.Scan.{number-other}
+use Rattle.texts.proofs.Steps.{ruled-got, settled-other, judged-other, large-fits, large-other}
+use Rattle.texts.proofs.Reached.{step-got, lines-end, text-lines}
+
+-- ---- a record's numbers, printed and read, are its words
+
+-- m words of rec, from the place j on, put into d
+abbrev copied : (m j : ℕ) → List ℕ → List ℕ → List ℕ
+copied zero j rec d = d
+copied (suc m) j rec d = copied m (suc j) rec (set d j (getD rec j 0))
+
+module _ (k : ℕ) (low : k ≤ 55) (rec : List ℕ) (words : (j : ℕ) → getD rec j 0 < 2 ^ 64) where
+  number-read : (j : ℕ) → numberAt k j (digits (getD rec j 0)) ≡ Is (getD rec j 0)
+  number-read j = number-other k j (digits (getD rec j 0)) (λ e. omega arith) (λ e. omega arith) ∙ decimal-digits (getD rec j 0) (words j)
+
+  numbers-read : (m j : ℕ) (d : List ℕ) (l : ℕ) → (l′ : ℕ) × (operands k m j d false l (numbers m j rec) ≡ took (copied m j rec d) false l′ [])
+  unfolding operands
+  numbers-read zero j d l = (l, refl)
+  numbers-read (suc m) j d l =
+      let r = numbers-read m (suc j) (set d j (getD rec j 0)) (length (digits (getD rec j 0))) in
+      (r .0, rw (number-read j, operands) (r .1))
+
+-- ---- the words that a line does not use are 0, so nothing of a formed record is lost
+
+five-eq : {k s a b c s₁ a₁ b₁ c₁ : ℕ} → s₁ ≡ s → a₁ ≡ a → b₁ ≡ b → c₁ ≡ c → five k s₁ a₁ b₁ c₁ ≡ five k s a b c
+five-eq {k} es ea eb ec = λ i. five k (es i) (ea i) (eb i) (ec i)
+
+by-count : (q : Bool) (n k s a b c : ℕ) → n ≤ 3 → (q ≡ true → s ≡ 0) → (n ≤ 0 → a ≡ 0) → (n ≤ 1 → b ≡ 0) → (n ≤ 2 → c ≡ 0)
+    → copied (pick q 0 1 + n) (2 - pick q 0 1) (five k s a b c) (fresh k) ≡ five k s a b c
+by-count true zero k s a b c l z₁ z₂ z₃ z₄ = five-eq (sym (z₁ refl)) (sym (z₂ (omega arith))) (sym (z₃ (omega arith))) (sym (z₄ (omega arith)))
+by-count true (suc zero) k s a b c l z₁ z₂ z₃ z₄ = five-eq (sym (z₁ refl)) refl (sym (z₃ (omega arith))) (sym (z₄ (omega arith)))
+by-count true (suc (suc zero)) k s a b c l z₁ z₂ z₃ z₄ = five-eq (sym (z₁ refl)) refl refl (sym (z₄ (omega arith)))
+by-count true (suc (suc (suc zero))) k s a b c l z₁ z₂ z₃ z₄ = five-eq (sym (z₁ refl)) refl refl refl
+by-count true (suc (suc (suc (suc n)))) k s a b c l z₁ z₂ z₃ z₄ = absurd (omega arith)
+by-count false zero k s a b c l z₁ z₂ z₃ z₄ = five-eq refl (sym (z₂ (omega arith))) (sym (z₃ (omega arith))) (sym (z₄ (omega arith)))
+by-count false (suc zero) k s a b c l z₁ z₂ z₃ z₄ = five-eq refl refl (sym (z₃ (omega arith))) (sym (z₄ (omega arith)))
+by-count false (suc (suc zero)) k s a b c l z₁ z₂ z₃ z₄ = five-eq refl refl refl (sym (z₄ (omega arith)))
+by-count false (suc (suc (suc zero))) k s a b c l z₁ z₂ z₃ z₄ = refl
+by-count false (suc (suc (suc (suc n)))) k s a b c l z₁ z₂ z₃ z₄ = absurd (omega arith)
+
+-- a row has a class for each of its operands and for no more: one computed test
+abbrev counts : List ℕ → Bool
+counts row = leb (countOf row) 3 && ((ltb 0 (countOf row) || eqb (firstClass row) 0) && ((ltb 1 (countOf row) || eqb (secondClass row) 0) && (ltb 2 (countOf row) || eqb (thirdClass row) 0)))
+
+test : ℕ → Bool
+test i = counts (rowOf (suc i))
+
+all-count : T (every test 55)
+unfolding test rowOf
+all-count = tt
+
+count-at : (k : ℕ) → 1 ≤ k → k ≤ 55 → T (counts (rowOf k))
+unfolding test
+count-at zero a b = absurd (omega arith)
+count-at (suc i) a b = at-each test 55 all-count i (omega arith)
+
+no-class : (n m c x : ℕ) → T (ltb m n || eqb c 0) → unused c x ≡ true → n ≤ m → x ≡ 0
+no-class n m c x t u h = go (ltb m n) refl t
+  where
+    go : (q : Bool) → ltb m n ≡ q → T (q || eqb c 0) → x ≡ 0
+    go true e y = absurd (omega (arith, ltb-true m n e))
+    go false e y = eqb-true x 0 (subst (λ (d : ℕ). unused d x ≡ true) (eqb→eq c 0 y) u)
+
+copied-five : (k s a b c : ℕ) → formed false (five k s a b c) ≡ true → copied (numbersOf (rowOf k)) (firstOf (rowOf k)) (five k s a b c) (fresh k) ≡ five k s a b c
+copied-five k s a b c h =
+    let row : List ℕ = rowOf k in
+    let f = both (known false k) _ h in
+    let g = range 1 55 k (f .0) in
+    let u₁ = both (unused (sortClass (rowOf k)) s) _ (f .1) in
+    let u₂ = both (unused (firstClass (rowOf k)) a) _ (u₁ .1) in
+    let u₃ = both (unused (secondClass (rowOf k)) b) _ (u₂ .1) in
+    let u₄ = both (unused (thirdClass (rowOf k)) c) _ (u₃ .1) in
+    let t = count-at k (g .0) (g .1) in
+    let t₁ = and-yes (leb (countOf (rowOf k)) 3) _ t in
+    let t₂ = and-yes (ltb 0 (countOf (rowOf k)) || eqb (firstClass (rowOf k)) 0) _ (t₁ .1) in
+    let t₃ = and-yes (ltb 1 (countOf (rowOf k)) || eqb (secondClass (rowOf k)) 0) _ (t₂ .1) in
+    by-count (eqb (sortClass (rowOf k)) 0) (countOf (rowOf k)) k s a b c (leb→le (countOf (rowOf k)) 3 (t₁ .0))
+    (λ e. eqb-true s 0 (subst (λ (d : ℕ). unused d s ≡ true) (eqb-true (sortClass (rowOf k)) 0 e) (u₁ .0)))
+    (no-class (countOf (rowOf k)) 0 (firstClass (rowOf k)) a (t₂ .0) (u₂ .0))
+    (no-class (countOf (rowOf k)) 1 (secondClass (rowOf k)) b (t₃ .0) (u₃ .0))
+    (no-class (countOf (rowOf k)) 2 (thirdClass (rowOf k)) c (t₃ .1) (u₄ .0))
+
+copied-back : (r : List ℕ) → length r ≡ 5 → formed false r ≡ true → copied (numbersOf (rowOf (kindIn r))) (firstOf (rowOf (kindIn r))) r (fresh (kindIn r)) ≡ r
+copied-back [] l h = absurd (omega arith)
+copied-back (k ∷ []) l h = absurd (omega arith)
+copied-back (k ∷ s ∷ []) l h = absurd (omega arith)
+copied-back (k ∷ s ∷ a ∷ []) l h = absurd (omega arith)
+copied-back (k ∷ s ∷ a ∷ b ∷ []) l h = absurd (omega arith)
+copied-back (k ∷ s ∷ a ∷ b ∷ c ∷ []) l h = copied-five k s a b c h
+copied-back (k ∷ s ∷ a ∷ b ∷ c ∷ x ∷ r) l h = absurd (omega arith)
+
+-- ---- a line
+
+numbers-toks : (m j : ℕ) (rec : List ℕ) → Toks (numbers m j rec)
+numbers-toks zero j rec = tt
+numbers-toks (suc m) j rec = (digits-tok (getD rec j 0), numbers-toks m (suc j) rec)
+
+kind-word : (k : ℕ) → 1 ≤ k → k ≤ 55 → (rest : List (List ℕ)) → wordIn (kindTokens k ++ rest) ≡ word k rest
+kind-word zero a b rest = absurd (omega arith)
+kind-word (suc i) a b rest = word-found i (omega arith) rest
+
+kind-toks : (k : ℕ) → 1 ≤ k → k ≤ 55 → Toks (kindTokens k)
+kind-toks zero a b = absurd (omega arith)
+kind-toks (suc i) a b = word-toks i (omega arith)
+
+module _ (L : ℕ → Ty) (G : Bool → ℕ → Bool) (r : List ℕ) (five-long : length r ≡ 5) (words : (j : ℕ) → getD r j 0 < 2 ^ 64) (kp : keeps false L G r ≡ true) where
+  well : formed false r ≡ true
+  well = both (formed false r) _ kp .0
+
+  free : fault false L G r ≡ 0
+  free = eqb-true (fault false L G r) 0 (both (formed false r) _ kp .1)
+
+  least : 1 ≤ kindIn r
+  least = range 1 55 (kindIn r) (both (known false (kindIn r)) _ well .0) .0
+
+  most : kindIn r ≤ 55
+  most = range 1 55 (kindIn r) (both (known false (kindIn r)) _ well .0) .1
+
+  line-toks : (n : ℕ) → Toks (tokensOf n r)
+  line-toks n = (digits-tok n, toks-append (kindTokens (kindIn r)) _ (kind-toks (kindIn r) least most) (numbers-toks (numbersOf (rowOf (kindIn r))) (firstOf (rowOf (kindIn r))) r))
+
+  judged-got : (l : ℕ) → judged L G (kindIn r) l r ≡ got r
+  judged-got l =
+      judged-other L G (kindIn r) r l (λ e. omega (arith, free)) (λ e. omega (arith, most)) ∙ ruled-got (fault false L G r) r free
+
+  settled-same : settled (L (sortIn r) .w) (kindIn r) r ≡ r
+  settled-same = settled-other (L (sortIn r) .w) (kindIn r) r (λ e. omega (arith, most)) (λ e. omega (arith, most))
+
+  -- the width of a sort
+  width-fits : kindIn r ≡ 1 → inside 1 64 (firstIn r) ≡ true
+  width-fits k = sym (and-true (inside 1 64 (firstIn r))) ∙ (fits-as r isBitvec (ap shapeOf k) (L (sortIn r)) (L (firstIn r)) (L (secondIn r)) (L (thirdIn r)) refl ∙ passed false L G r free .width)
+
+  large-got : (l : ℕ) → large L G (kindIn r) r false l ≡ got r
+  large-got l = go (eqb (kindIn r) 1) refl
+    where
+      go : (q : Bool) → eqb (kindIn r) 1 ≡ q → large L G (kindIn r) r false l ≡ got r
+      go true e = let k = eqb-true (kindIn r) 1 e in large-fits L G (kindIn r) r l false refl k (width-fits k) ∙ (ap (judged L G (kindIn r) l) settled-same ∙ judged-got l)
+      go false e = large-other L G (kindIn r) r l false refl (eqb-false (kindIn r) 1 e) ∙ (ap (judged L G (kindIn r) l) settled-same ∙ judged-got l)
+
+  pub line-read : (m n : ℕ) → n < m → suc n < 2 ^ 64 → readLine L G m n (tokensOf (suc n) r) ≡ got r
+  unfolding readLine
+  line-read m n h s =
+      let k : ℕ = kindIn r in
+      let ns : List (List ℕ) = numbers (numbersOf (rowOf (kindIn r))) (firstOf (rowOf (kindIn r))) r in
+      let x = numbers-read (kindIn r) most r words (numbersOf (rowOf (kindIn r))) (firstOf (rowOf (kindIn r))) (fresh (kindIn r)) 0 in
+      rw (decimal-digits (suc n) s, eq-eqb (suc n) (suc n) refl, lt-ltb n m h, readLine)
+      (rw (kind-word (kindIn r) least most ns, row-kind (kindIn r) most, kind-low (kindIn r) most, x .1, copied-back r five-long well) (large-got (x .0)))
+
+-- ---- the lines, the text
+
+abbrev concat : List (List ℕ) → List ℕ
+concat [] = []
+concat (r ∷ rs) = r ++ concat rs
+
+joined : (t : List ℕ) → length t % 5 ≡ 0 → concat (records t) ≡ t
+joined [] h = refl
+joined (k ∷ []) h = absurd (omega arith)
+joined (k ∷ s ∷ []) h = absurd (omega arith)
+joined (k ∷ s ∷ a ∷ []) h = absurd (omega arith)
+joined (k ∷ s ∷ a ∷ b ∷ []) h = absurd (omega arith)
+joined (k ∷ s ∷ a ∷ b ∷ c ∷ t) h = ap (λ (x : List ℕ). k ∷ s ∷ a ∷ b ∷ c ∷ x) (joined t (omega arith))
+
+-- the words of a table are u64
+abbrev pub Words : List ℕ → Type 0
+Words t = (j : ℕ) → getD t j 0 < 2 ^ 64
+
+pub words-take : (m : ℕ) (t : List ℕ) → Words t → Words (take m t)
+words-take zero t h j = lit< tt
+words-take (suc m) [] h j = lit< tt
+words-take (suc m) (x ∷ t) h zero = h 0
+words-take (suc m) (x ∷ t) h (suc j) = words-take m t (λ i. h (suc i)) j
+
+abbrev pub Good : List (List ℕ) → Type 0
+Good [] = Unit {0}
+Good (r ∷ rs) = ((length r ≡ 5) × Words r) × Good rs
+
+pub good-records : (t : List ℕ) → Words t → Good (records t)
+good-records [] h = tt
+good-records (k ∷ []) h = tt
+good-records (k ∷ s ∷ []) h = tt
+good-records (k ∷ s ∷ a ∷ []) h = tt
+good-records (k ∷ s ∷ a ∷ b ∷ []) h = tt
+good-records (k ∷ s ∷ a ∷ b ∷ c ∷ t) h = ((refl, words-take 5 (k ∷ s ∷ a ∷ b ∷ c ∷ t) h), good-records t (λ j. h (suc (suc (suc (suc (suc j)))))))
+
+lines-read : (m l n : ℕ) (c : Ctx) (e : List ℕ) (rs : List (List ℕ)) → n + length rs ≤ m → m ≤ 16384 → Good rs → lawful false c rs ≡ true
+    → readLines m l n c e (split 10 (writeFrom (suc n) rs)) ≡ done (n + length rs) (e ++ concat rs)
+unfolding writeFrom
+lines-read m l n c e [] h b g w = lines-end m l n c e ∙ rw (append-nil e) (ap (λ (x : ℕ). done x e) (omega arith))
+lines-read m l n c e (r ∷ rs) h b g w =
+    let k = both (keeps false (tyAt c) (given c) r) _ w in
+    let ts = line-toks (tyAt c) (given c) r (g .0 .0) (g .0 .1) (k .0) (suc n) in
+    let q : lineTokens (join (tokensOf (suc n) r)) ≡ tokensOf (suc n) r = tokens-join (digits (suc n)) _ (ts .0) (ts .1) in
+    let big : suc n < 2 ^ 64 = omega arith in
+    ap (readLines m l n c e) (lines-join (tokensOf (suc n) r) (writeFrom (suc (suc n)) rs) ts)
+    ∙ (step-got m l n c e (join (tokensOf (suc n) r)) (split 10 (writeFrom (suc (suc n)) rs)) r (rw q (line-read (tyAt c) (given c) r (g .0 .0) (g .0 .1) (k .0) m n (omega arith) big))
+    ∙ (lines-read m (suc l) (suc n) (grow false c (lineOf r)) (e ++ r) rs (omega arith) b (g .1) (k .1)
+    ∙ rw (append-assoc e r (concat rs)) (ap (λ (x : ℕ). done x (e ++ (r ++ concat rs))) (omega arith))))
+
+-- what is known of an accepted table
+pub record Held (t : List ℕ) (n : ℕ) : Type 0 where
+  pub fits : n ≤ room (length t)
+  pub law : lawful false noCtx (records (counted t n)) ≡ true
+
+pub held : (t : List ℕ) (n : ℕ) → checked false t n ≡ Accepted → Held t n
+held t n e = go (whole (length t)) (leb n (room (length t))) (lawful false noCtx (records (counted t n))) refl refl refl
+  where
+    go : (x y z : Bool) → whole (length t) ≡ x → leb n (room (length t)) ≡ y → lawful false noCtx (records (counted t n)) ≡ z → Held t n
+    go true true true p q r = record { fits = leb-true n (room (length t)) q; law = r }
+    go true true false p q r = absurd (not-accepted _ (unlawful false t n p (leb-true n (room (length t)) q) (sym r) ∙ e))
+    go true false z p q r = absurd (not-accepted _ (too-many false t n p (leb-false n (room (length t)) q) ∙ e))
+    go false y z p q r = absurd (not-accepted _ (no-table false t n p ∙ e))
+
+-- For every accepted table and count whose written text has at most 65,536 bytes: reading that text into any table with room gives the same records and the same count.
+pub round-trip : (t : List ℕ) (n len : ℕ) → Words t → checked false t n ≡ Accepted → length (writeText (counted t n)) ≤ 65536 → whole len ≡ true → n ≤ room len
+    → readText len (writeText (counted t n)) ≡ done n (counted t n)
+unfolding writeText
+round-trip t n len w a b d l =
+    let k = held t n a in
+    let f = roomy (length t) n (k .fits) in
+    let c : length (counted t n) ≡ 5 * n = length-take-le (5 * n) t (f .1) in
+    let z : length (records (counted t n)) ≡ n = length-records n t (f .1) in
+    text-lines len (writeFrom 1 (records (counted t n))) d b
+    ∙ (lines-read (room len) 1 0 noCtx [] (records (counted t n)) (omega arith) (omega arith) (good-records (counted t n) (words-take (5 * n) t w)) (k .law)
+    ∙ (rw (joined (counted t n) (omega arith)) (ap (λ (x : ℕ). done x (counted t n)) (omega arith))))
+
+-- what writing leaves, reading takes
+pub written-read : (t : List ℕ) (n size len : ℕ) (s : List ℕ) → Words t → writeTable t n size ≡ wrote s → length s ≤ 65536 → whole len ≡ true → n ≤ room len
+    → readText len s ≡ done n (counted t n)
+unfolding writeTable
+written-read t n size len s w e b d l = go (checked false t n) refl (leb (length (writeText (counted t n))) size) refl
+  where
+    go : (x : Checked) → checked false t n ≡ x → (y : Bool) → leb (length (writeText (counted t n))) size ≡ y → readText len s ≡ done n (counted t n)
+    go Accepted p true q =
+        let z : wrote (writeText (counted t n)) ≡ wrote s = sym (rw (p, q, fitted) refl) ∙ e in
+        let v : writeText (counted t n) ≡ s = cc in
+        subst (λ (u : List ℕ). readText len u ≡ done n (counted t n)) v (round-trip t n len w p (subst (λ (u : List ℕ). length u ≤ 65536) (sym v) b) d l)
+    go Accepted p false q = let z : refuse TextBuffer ≡ wrote s = sym (rw (p, q, fitted) refl) ∙ e in let y : _≡_ {A = ℕ} 0 1 = cc in absurd (omega arith)
+    go (Refused r) p y q = let z : refuse r ≡ wrote s = sym (rw p refl) ∙ e in let y : _≡_ {A = ℕ} 0 1 = cc in absurd (omega arith)

@@ -1,0 +1,229 @@
+-- The stages of reading a line, one law for each case. Assumes nothing.
+use mathlib.Core.Path.{_≡_, refl, sym, ap, _∙_, subst}
+use mathlib.Core.Bool.{Bool, true, false, _&&_, not}
+use mathlib.Core.List.{List, [], _∷_, _++_}
+use Prim.Native.Nat.{ℕ, zero, suc, _+_, _-_, _^_, _≤_, _<_}
+use native.Mathlib.Omega.{arith}
+use native.Mathlib.Numerals.{add-one}
+use lib.Dec.{eqb, leb, ltb}
+use lib.ListN.{length, drop, getD, set}
+use borrow.Author.Tests.{eq-eqb, ne-eqb, lt-ltb, le-ltb}
+use Rattle.tables.specs.declared.Ty.{Ty}
+use Rattle.tables.specs.declared.Refusal.{Refusal}
+use Rattle.tables.specs.declared.Refusal.the-variants.{WrongId, NoRecordLeft, UnknownWord, BadOperand, NumberTooLarge, WrongClass, Misfit, InitOrNext}
+use Rattle.tables.specs.Pick.{inside}
+use Rattle.tables.specs.Lines.{kindIn, sortIn, firstIn}
+use Rattle.tables.specs.Rules.{fault}
+use Rattle.texts.specs.declared.Num.{Num}
+use Rattle.texts.specs.declared.Num.the-variants.{Bad, Big, Is}
+use Rattle.tables.specs.Kinds.{countOf}
+use Rattle.texts.specs.Forms.{formRow, kindOf, sorted, firstOf, numbersOf}
+use Rattle.texts.specs.Split.{tokens}
+use Rattle.texts.specs.Decimal.{decimal}
+use Rattle.texts.specs.Reading.{wordIn, numberAt, Took, took, malformed, operands, numbersIn, fresh, Reply, no, got, skip, ruled, settled, judged, large, ended, worded, readLine, isId}
+use Rattle.texts.specs.declared.Readout.{Readout}
+use Rattle.texts.specs.declared.Taken.{Taken}
+use Rattle.texts.specs.declared.Form.{Form}
+use Rattle.texts.specs.Stages.{wordAt, asWord, tookAt, asTook, asRead, several}
+
+-- ---- operands
+
+module _ (f e p : ℕ) (rec : List ℕ) (big : Bool) (len : ℕ) where
+  pub op-end : (ts : List (List ℕ)) → e ≤ p → operands f (e - p) p rec big len ts ≡ took rec big len ts
+  unfolding operands
+  op-end ts h = let q : e - p ≡ 0 = omega arith in ap (λ (m : ℕ). operands f m p rec big len ts) q
+
+  pub op-none : p < e → operands f (e - p) p rec big len [] ≡ malformed
+  unfolding operands
+  op-none h = let q : e - p ≡ suc (e - (p + 1)) = omega arith in ap (λ (m : ℕ). operands f m p rec big len []) q
+
+  module _ (t : List ℕ) (ts : List (List ℕ)) (h : p < e) where
+    op-step : operands f (e - p) p rec big len (t ∷ ts) ≡ operands f (suc (e - (p + 1))) p rec big len (t ∷ ts)
+    op-step = let q : e - p ≡ suc (e - (p + 1)) = omega arith in ap (λ (m : ℕ). operands f m p rec big len (t ∷ ts)) q
+
+    pub op-bad : numberAt f p t ≡ Bad → operands f (e - p) p rec big len (t ∷ ts) ≡ malformed
+    unfolding operands
+    op-bad k = op-step ∙ rw (k, operands) refl
+
+    pub op-big : numberAt f p t ≡ Big → operands f (e - p) p rec big len (t ∷ ts) ≡ operands f (e - (p + 1)) (p + 1) rec true (length t) ts
+    unfolding operands
+    op-big k = op-step ∙ rw (k, operands) (ap (λ (x : ℕ). operands f (e - (p + 1)) x rec true (length t) ts) (sym (add-one p)))
+
+    pub op-is : (v : ℕ) → numberAt f p t ≡ Is v → operands f (e - p) p rec big len (t ∷ ts) ≡ operands f (e - (p + 1)) (p + 1) (set rec p v) big (length t) ts
+    unfolding operands
+    op-is v k = op-step ∙ rw (k, operands) (ap (λ (x : ℕ). operands f (e - (p + 1)) x (set rec p v) big (length t) ts) (sym (add-one p)))
+
+-- ---- the rules
+
+module _ (a : ℕ) (rec : List ℕ) where
+  pub ruled-got : a ≡ 0 → ruled a rec ≡ got rec
+  unfolding ruled
+  ruled-got h = rw (eq-eqb a 0 h, ruled) refl
+
+  pub ruled-9 : a ≡ 9 → ruled a rec ≡ no Misfit
+  unfolding ruled
+  ruled-9 h = rw (ne-eqb a 0 (λ e. omega arith), eq-eqb a 9 h, ruled) refl
+
+  pub ruled-10 : (a ≡ 0 → ⊥) → (a ≡ 9 → ⊥) → ruled a rec ≡ no InitOrNext
+  unfolding ruled
+  ruled-10 h k = rw (ne-eqb a 0 h, ne-eqb a 9 k, ruled) refl
+
+module _ (w f : ℕ) (rec : List ℕ) where
+  pub settled-one : f ≡ 59 → settled w f rec ≡ set rec 2 1
+  unfolding settled
+  settled-one h = rw (eq-eqb f 59 h, settled) refl
+
+  pub settled-ones : f ≡ 60 → settled w f rec ≡ set rec 2 (2 ^ w - 1)
+  unfolding settled
+  settled-ones h = rw (ne-eqb f 59 (λ x. omega arith), eq-eqb f 60 h, settled) refl
+
+  pub settled-other : (f ≡ 59 → ⊥) → (f ≡ 60 → ⊥) → settled w f rec ≡ rec
+  unfolding settled
+  settled-other h k = rw (ne-eqb f 59 h, ne-eqb f 60 k, settled) refl
+
+  -- a value is no kind
+  pub settled-kind : kindIn (settled w f rec) ≡ kindIn rec
+  unfolding settled
+  settled-kind = go (eqb f 59) (eqb f 60) refl refl
+    where
+      after-set : (v : ℕ) (r : List ℕ) → getD (set r 2 v) 0 0 ≡ getD r 0 0
+      after-set v [] = refl
+      after-set v (x ∷ r) = refl
+
+      go : (p q : Bool) → eqb f 59 ≡ p → eqb f 60 ≡ q → kindIn (settled w f rec) ≡ kindIn rec
+      go true q x y = rw (x, settled) (after-set 1 rec)
+      go false true x y = rw (x, y, settled) (after-set (2 ^ w - 1) rec)
+      go false false x y = rw (x, y, settled) refl
+
+module _ (L : ℕ → Ty) (G : Bool → ℕ → Bool) (f : ℕ) (rec : List ℕ) (len : ℕ) where
+  pub judged-8 : fault false L G rec ≡ 8 → judged L G f len rec ≡ no WrongClass
+  unfolding judged
+  judged-8 h = rw (eq-eqb (fault false L G rec) 8 h, judged) refl
+
+  pub judged-9 : (fault false L G rec ≡ 8 → ⊥) → f ≡ 56 → (len ≡ L (sortIn rec) .w → ⊥) → judged L G f len rec ≡ no Misfit
+  unfolding judged
+  judged-9 h k n = rw (ne-eqb (fault false L G rec) 8 h, judged) (rw (eq-eqb f 56 k, ne-eqb len (L (sortIn rec) .w) n) refl)
+
+  pub judged-const : (fault false L G rec ≡ 8 → ⊥) → f ≡ 56 → len ≡ L (sortIn rec) .w → judged L G f len rec ≡ ruled (fault false L G rec) rec
+  unfolding judged
+  judged-const h k n = rw (ne-eqb (fault false L G rec) 8 h, judged) (rw (eq-eqb f 56 k, eq-eqb len (L (sortIn rec) .w) n) refl)
+
+  pub judged-other : (fault false L G rec ≡ 8 → ⊥) → (f ≡ 56 → ⊥) → judged L G f len rec ≡ ruled (fault false L G rec) rec
+  unfolding judged
+  judged-other h k = rw (ne-eqb (fault false L G rec) 8 h, judged) (rw (ne-eqb f 56 k) refl)
+
+  pub then-judged : {t : List ℕ} {w : ℕ} {x : Readout} → x ≡ asRead (judged L G f len t) → t ≡ settled w f rec → w ≡ L (sortIn rec) .w
+      → x ≡ asRead (judged L G f len (settled (L (sortIn rec) .w) f rec))
+  then-judged a b c = a ∙ ap (λ (r : List ℕ). asRead (judged L G f len r)) (b ∙ ap (λ (v : ℕ). settled v f rec) c)
+
+  pub large-big : (b : Bool) → b ≡ true → large L G f rec b len ≡ no NumberTooLarge
+  unfolding large
+  large-big b h = rw h refl
+
+  pub large-wide : (b : Bool) → b ≡ false → f ≡ 1 → inside 1 64 (firstIn rec) ≡ false → large L G f rec b len ≡ no NumberTooLarge
+  unfolding large
+  large-wide b z h k = rw z (rw (eq-eqb f 1 h, k, large) refl)
+
+  pub large-fits : (b : Bool) → b ≡ false → f ≡ 1 → inside 1 64 (firstIn rec) ≡ true → large L G f rec b len ≡ judged L G f len (settled (L (sortIn rec) .w) f rec)
+  unfolding large
+  large-fits b z h k = rw z (rw (eq-eqb f 1 h, k, large) refl)
+
+  pub large-other : (b : Bool) → b ≡ false → (f ≡ 1 → ⊥) → large L G f rec b len ≡ judged L G f len (settled (L (sortIn rec) .w) f rec)
+  unfolding large
+  large-other b z h = rw z (rw (ne-eqb f 1 h, large) refl)
+
+  module _ (b ok : Bool) (ts : List (List ℕ)) where
+    pub ended-bad : ok ≡ false → ended L G f (tookAt ok rec b len ts) ≡ no BadOperand
+    ended-bad h = rw h refl
+
+    pub ended-many : ok ≡ true → several ts ≡ true → ended L G f (tookAt ok rec b len ts) ≡ no BadOperand
+    ended-many h k = rw h (go ts k)
+      where
+        go : (ts : List (List ℕ)) → several ts ≡ true → ended L G f (took rec b len ts) ≡ no BadOperand
+        go [] k = let z : _≡_ {A = ℕ} 0 1 = cc in absurd (omega arith)
+        go (x ∷ []) k = let z : _≡_ {A = ℕ} 0 1 = cc in absurd (omega arith)
+        go (x ∷ y ∷ r) k = refl
+
+    pub ended-few : ok ≡ true → several ts ≡ false → ended L G f (tookAt ok rec b len ts) ≡ large L G f rec b len
+    ended-few h k = rw h (go ts k)
+      where
+        go : (ts : List (List ℕ)) → several ts ≡ false → ended L G f (took rec b len ts) ≡ large L G f rec b len
+        go [] k = refl
+        go (x ∷ []) k = refl
+        go (x ∷ y ∷ r) k = let z : _≡_ {A = ℕ} 0 1 = cc in absurd (omega arith)
+
+-- the stage that a Taken stands for
+module _ (L : ℕ → Ty) (G : Bool → ℕ → Bool) (f : ℕ) (l : List ℕ) (t : Taken) {x : Readout} where
+  pub taken-bad : x ≡ asRead (no BadOperand) → t .ok ≡ false → x ≡ asRead (ended L G f (asTook l t))
+  taken-bad e h = e ∙ ap asRead (sym (ended-bad L G f (t .rec) (t .len) (t .big) (t .ok) (tokens (drop (t .at) l)) h))
+
+  pub taken-many : x ≡ asRead (no BadOperand) → t .ok ≡ true → several (tokens (drop (t .at) l)) ≡ true → x ≡ asRead (ended L G f (asTook l t))
+  taken-many e h k = e ∙ ap asRead (sym (ended-many L G f (t .rec) (t .len) (t .big) (t .ok) (tokens (drop (t .at) l)) h k))
+
+  pub taken-few : x ≡ asRead (large L G f (t .rec) (t .big) (t .len)) → t .ok ≡ true → several (tokens (drop (t .at) l)) ≡ false → x ≡ asRead (ended L G f (asTook l t))
+  taken-few e h k = e ∙ ap asRead (sym (ended-few L G f (t .rec) (t .len) (t .big) (t .ok) (tokens (drop (t .at) l)) h k))
+
+  -- the numbers were taken from a line of the form f, whose row is row
+  pub taken-from : (row : List ℕ) (k s i : ℕ) → x ≡ asRead (ended L G f (asTook l t)) → operands f (s + countOf row) (2 - s) (fresh k) false 0 (tokens (drop i l)) ≡ asTook l t
+      → s ≡ sorted row → row ≡ formRow f → k ≡ kindOf f → x ≡ asRead (ended L G f (numbersIn f (tokens (drop i l))))
+  taken-from row k s i e o es er ek =
+      let ts : List (List ℕ) = tokens (drop i l) in
+      e
+      ∙ ap (λ (u : Took). asRead (ended L G f u))
+      (sym o
+      ∙ (ap (λ (m : ℕ). operands f (m + countOf row) (2 - m) (fresh k) false 0 ts) es
+      ∙ (ap (λ (r : List ℕ). operands f (sorted r + countOf r) (2 - sorted r) (fresh k) false 0 ts) er
+      ∙ ap (λ (m : ℕ). operands f (numbersOf (formRow f)) (firstOf (formRow f)) (fresh m) false 0 ts) ek)))
+
+-- ---- lines
+
+module _ (L : ℕ → Ty) (G : Bool → ℕ → Bool) (m n : ℕ) where
+  pub line-skip : readLine L G m n [] ≡ skip
+  unfolding readLine
+  line-skip = refl
+
+  module _ (t : List ℕ) (ts : List (List ℕ)) where
+    pub line-3 : isId (decimal t) (n + 1) ≡ false → readLine L G m n (t ∷ ts) ≡ no WrongId
+    unfolding readLine
+    line-3 h = rw (rw add-one at h, readLine) refl
+
+    pub line-4 : isId (decimal t) (n + 1) ≡ true → m ≤ n → readLine L G m n (t ∷ ts) ≡ no NoRecordLeft
+    unfolding readLine
+    line-4 h k = rw (rw add-one at h, le-ltb n m k, readLine) refl
+
+    pub line-word : isId (decimal t) (n + 1) ≡ true → n < m → readLine L G m n (t ∷ ts) ≡ worded L G (wordIn ts)
+    unfolding readLine
+    line-word h k = rw (rw add-one at h, lt-ltb n m k, readLine) refl
+
+module _ (L : ℕ → Ty) (G : Bool → ℕ → Bool) (l : List ℕ) (f z : ℕ) where
+  pub word-no : f ≡ 0 → worded L G (wordAt l f z) ≡ no UnknownWord
+  word-no h = rw h refl
+
+  pub word-form : (f ≡ 0 → ⊥) → worded L G (wordAt l f z) ≡ ended L G f (numbersIn f (tokens (drop z l)))
+  word-form h = go f h
+    where
+      go : (f : ℕ) → (f ≡ 0 → ⊥) → worded L G (wordAt l f z) ≡ ended L G f (numbersIn f (tokens (drop z l)))
+      go zero h = absurd (h refl)
+      go (suc f) h = refl
+
+-- a line whose tokens are known
+module _ (L : ℕ → Ty) (G : Bool → ℕ → Bool) (m n : ℕ) (l : List ℕ) {x : Readout} where
+  pub read-skip : tokens l ≡ [] → x ≡ asRead skip → x ≡ asRead (readLine L G m n (tokens l))
+  read-skip e h = h ∙ ap asRead (sym (ap (readLine L G m n) e ∙ line-skip L G m n))
+
+  module _ (t : List ℕ) (z : ℕ) (e : tokens l ≡ t ∷ tokens (drop z l)) where
+    pub read-3 : isId (decimal t) (n + 1) ≡ false → x ≡ asRead (no WrongId) → x ≡ asRead (readLine L G m n (tokens l))
+    read-3 a h = h ∙ ap asRead (sym (ap (readLine L G m n) e ∙ line-3 L G m n t (tokens (drop z l)) a))
+
+    pub read-4 : isId (decimal t) (n + 1) ≡ true → m ≤ n → x ≡ asRead (no NoRecordLeft) → x ≡ asRead (readLine L G m n (tokens l))
+    read-4 a b h = h ∙ ap asRead (sym (ap (readLine L G m n) e ∙ line-4 L G m n t (tokens (drop z l)) a b))
+
+    pub read-5 : isId (decimal t) (n + 1) ≡ true → n < m → (w : Form) → wordIn (tokens (drop z l)) ≡ asWord l w → w .form ≡ 0 → x ≡ asRead (no UnknownWord)
+        → x ≡ asRead (readLine L G m n (tokens l))
+    read-5 a b w k q h =
+        h ∙ ap asRead (sym (ap (readLine L G m n) e ∙ (line-word L G m n t (tokens (drop z l)) a b ∙ (ap (worded L G) k ∙ word-no L G l (w .form) (w .at) q))))
+
+    pub read-on : isId (decimal t) (n + 1) ≡ true → n < m → (w : Form) → wordIn (tokens (drop z l)) ≡ asWord l w → (w .form ≡ 0 → ⊥)
+        → x ≡ asRead (ended L G (w .form) (numbersIn (w .form) (tokens (drop (w .at) l)))) → x ≡ asRead (readLine L G m n (tokens l))
+    read-on a b w k q h =
+        h ∙ ap asRead (sym (ap (readLine L G m n) e ∙ (line-word L G m n t (tokens (drop z l)) a b ∙ (ap (worded L G) k ∙ word-form L G l (w .form) (w .at) q))))

@@ -1,0 +1,71 @@
+-- The numbers of a line, and what follows. Assumes nothing.
+use Prim.Native.Nat.{ℕ, _+_, _-_, _≤_}
+use native.Mathlib.Omega.{arith}
+use mathlib.Core.Path.{_≡_, sym, ap, _∙_, subst}
+use mathlib.Core.List.{List}
+use Rattle.tables.specs.Kinds.{rowOf, countOf}
+use Rattle.tables.specs.Lists.{lookIn, givenIn}
+use Rattle.texts.proofs.Words.{row-shape, sorted-most}
+use Rattle.texts.proofs.Steps.{taken-from}
+use borrow.Author.Needs.{needs}
+use Rattle.texts.proofs.reading.rest.Statement.{statement}
+use Rattle.texts.proofs.reading.rest.Tie as tie
+use Rattle.texts.proofs.reading.rest.Reads as reads
+use Rattle.texts.proofs.reading.rest.Lts as lts
+use Rattle.texts.proofs.forms.kind_of.Reads as kind-of-reads
+use Rattle.texts.proofs.forms.kind_row.Reads as kind-row-reads
+use Rattle.texts.proofs.forms.row.Reads as row-reads
+use Rattle.texts.proofs.forms.sorted.Reads as sorted-reads
+use Rattle.texts.proofs.reading.finish.Reads as finish-reads
+use Rattle.texts.proofs.reading.operands.Reads as operands-reads
+
+row-requires : tie.Need-row-requires
+row-requires c κs = search needs
+
+sorted-requires : tie.Need-sorted-requires
+sorted-requires c κs = search needs
+
+array-read-c : tie.Need-array-read-c
+array-read-c c = search needs
+
+cast-c : tie.Need-cast-c
+cast-c c = search needs
+
+kind-of-requires : tie.Need-kind-of-requires
+kind-of-requires c κs = search needs
+
+add-operands : tie.Need-add-operands
+add-operands c = let g = subst (λ (r : List ℕ). countOf r ≤ 3) (sym (c .before .before .row .ensures)) (row-shape (c .before .before .before .before .before .before .before .before .before .args .f) (omega arith) (omega arith) .1) in omega (arith, c .before .sorted .ensures, sorted-most (c .before .before .row .result))
+
+sub-operands : tie.Need-sub-operands
+sub-operands c = let g = subst (λ (r : List ℕ). countOf r ≤ 3) (sym (c .before .before .row .ensures)) (row-shape (c .before .before .before .before .before .before .before .before .before .args .f) (omega arith) (omega arith) .1) in omega (arith, c .before .sorted .ensures, sorted-most (c .before .before .row .result))
+
+operands-requires : tie.Need-operands-requires
+operands-requires c κs = let g = subst (λ (r : List ℕ). countOf r ≤ 3) (sym (c .before .before .row .ensures)) (row-shape (c .before .before .before .before .before .before .before .before .before .args .f) (omega arith) (omega arith) .1) in
+    let h = sorted-most (c .before .before .row .result) in
+    (c .before .before .before .before .before .before .before .before .before .pre .0, (omega (arith, c .before .sorted .ensures), omega (arith, c .before .sorted .ensures)))
+
+kind-row-requires : tie.Need-kind-row-requires
+kind-row-requires c κs = search needs
+
+finish-requires : tie.Need-finish-requires
+finish-requires c κs = (c .before .operands .ensures .0, (c .kind-row .ensures ∙ ap rowOf (sym (c .before .operands .ensures .1 .0 ∙ c .before .before .kind-of .ensures)), c .before .before .before .before .before .before .before .before .before .before .before .pre .1 .1 .1))
+
+returns : tie.Need-returns
+returns c = taken-from (lookIn (c .before .before .before .before .before .before .before .before .before .before .before .before .args .cls .now) (c .before .before .before .before .before .before .before .before .before .before .before .before .args .idx .now) (c .before .before .before .before .before .before .before .before .before .before .before .before .args .wid .now)) (givenIn (c .before .before .before .before .before .before .before .before .before .before .before .before .args .ini .now) (c .before .before .before .before .before .before .before .before .before .before .before .before .args .nxt .now)) (c .before .before .before .before .before .before .before .before .before .before .before .before .args .f) (c .before .before .before .before .before .before .before .before .before .before .before .before .args .l .now) (c .before .before .operands .result) (c .before .before .before .before .before .row .result) (c .before .before .before .kind-of .result) (c .before .before .before .before .sorted .result) (c .before .before .before .before .before .before .before .before .before .before .before .before .args .at) (c .finish .ensures) (c .before .before .operands .ensures .1 .1) (c .before .before .before .before .sorted .ensures) (c .before .before .before .before .before .row .ensures) (c .before .before .before .kind-of .ensures)
+
+pub rest-spec : {M : Type 1} → statement M
+rest-spec =
+    tie.close
+    (tie.spec
+    row-requires
+    sorted-requires
+    array-read-c
+    cast-c
+    kind-of-requires
+    add-operands
+    sub-operands
+    operands-requires
+    kind-row-requires
+    finish-requires
+    returns)

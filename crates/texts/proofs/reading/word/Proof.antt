@@ -1,0 +1,140 @@
+-- The line's word, token by token. Assumes nothing.
+use Prim.Native.Nat.{ℕ, suc, _+_, _-_, _*_, _/_, _%_, _^_, _<_, _≤_}
+use native.Mathlib.Omega.{arith}
+use native.Mathlib.Numerals.{add-one}
+use mathlib.Core.Path.{_≡_, refl, sym, ap, _∙_, subst}
+use mathlib.Core.Bool.{Bool, true, false}
+use mathlib.Core.List.{List, [], _∷_, _++_}
+use lib.ListN.{length, take, drop, getD, set, length-set}
+use Rattle.texts.specs.Forms.{sortWord}
+use Rattle.texts.specs.Split.{tokens, same}
+use Rattle.texts.specs.Reading.{wordIn, known, sortWords, findIn}
+use Rattle.texts.specs.Stages.{wordAt}
+use Rattle.texts.proofs.Places.{next-token, no-token}
+use Rattle.texts.proofs.Words.{word-none, word-sort, word-other, known-at, find-most}
+use borrow.Author.Needs.{needs}
+use Rattle.texts.proofs.reading.word.Statement.{statement}
+use Rattle.texts.proofs.reading.word.Tie as tie
+
+skip-requires : tie.Need-skip-requires
+skip-requires c κs = search needs
+
+returns : tie.Need-returns
+returns c =
+    let l : List ℕ = c .before .before .before .args .l .now in
+    let n : tokens (drop (c .before .before .before .args .i) l) ≡ [] = sym (c .before .skip .ensures .1 .1 .0) ∙ no-token l (c .before .skip .result) (omega arith) in
+    (search needs, (search needs, ap (λ (x : List (List ℕ)). wordIn x) n ∙ word-none))
+
+find-byte-requires : tie.Need-find-byte-requires
+find-byte-requires c κs = search needs
+
+sub-is-sort : tie.Need-sub-is-sort
+sub-is-sort c = search needs
+
+part-is-sort-start : tie.Need-part-is-sort-start
+part-is-sort-start c = search needs
+
+part-is-sort-end : tie.Need-part-is-sort-end
+part-is-sort-end c = search needs
+
+is-sort-requires : tie.Need-is-sort-requires
+is-sort-requires c κs = search needs
+
+skip-requires-2 : tie.Need-skip-requires-2
+skip-requires-2 c κs = search needs
+
+returns-2 : tie.Need-returns-2
+returns-2 c =
+    let l : List ℕ = c .before .before .before .before .before .before .before .before .before .args .l .now in
+    let a : ℕ = c .before .before .before .before .before .before .before .skip .result in
+    let z : ℕ = c .before .before .before .before .before .find-byte .result in
+    let n : tokens (drop (c .before .before .before .before .before .before .before .before .before .args .i) l) ≡ take (z - a) (drop a l) ∷ tokens (drop z l) =
+    sym (c .before .before .before .before .before .before .before .skip .ensures .1 .1 .0) ∙ next-token l a z (omega arith) (c .before .before .before .before .before .before .before .skip .ensures .1 .1 .1 (omega arith)) (c .before .before .before .before .before .find-byte .ensures .1 .1) in
+    let k : tokens (drop z l) ≡ [] = sym (c .before .skip2 .ensures .1 .1 .0) ∙ no-token l (c .before .skip2 .result) (omega arith) in
+    (search needs, (search needs, ap (λ (x : List (List ℕ)). wordIn x) n ∙ (word-sort (take (z - a) (drop a l)) (tokens (drop z l)) (sym (c .before .before .before .is-sort .ensures) ∙ c .before .before .if2 .taken) ∙ ap (λ (x : List (List ℕ)). sortWords x) k)))
+
+find-byte-requires-2 : tie.Need-find-byte-requires-2
+find-byte-requires-2 c κs = search needs
+
+sub-find-kind : tie.Need-sub-find-kind
+sub-find-kind c = search needs
+
+part-find-kind-start : tie.Need-part-find-kind-start
+part-find-kind-start c = search needs
+
+part-find-kind-end : tie.Need-part-find-kind-end
+part-find-kind-end c = search needs
+
+find-kind-requires : tie.Need-find-kind-requires
+find-kind-requires c κs = search needs
+
+returns-3 : tie.Need-returns-3
+returns-3 c =
+    let l : List ℕ = c .before .before .before .before .before .before .before .before .before .before .before .before .args .l .now in
+    let a : ℕ = c .before .before .before .before .before .before .before .before .before .before .skip .result in
+    let z : ℕ = c .before .before .before .before .before .before .before .before .find-byte .result in
+    let n : tokens (drop (c .before .before .before .before .before .before .before .before .before .before .before .before .args .i) l) ≡ take (z - a) (drop a l) ∷ tokens (drop z l) =
+    sym (c .before .before .before .before .before .before .before .before .before .before .skip .ensures .1 .1 .0) ∙ next-token l a z (omega arith) (c .before .before .before .before .before .before .before .before .before .before .skip .ensures .1 .1 .1 (omega arith)) (c .before .before .before .before .before .before .before .before .find-byte .ensures .1 .1) in
+    let b : ℕ = c .before .before .before .before .skip2 .result in
+    let y : ℕ = c .before .before .find-byte2 .result in
+    let k : tokens (drop z l) ≡ take (y - b) (drop b l) ∷ tokens (drop y l) =
+    sym (c .before .before .before .before .skip2 .ensures .1 .1 .0) ∙ next-token l b y (omega arith) (c .before .before .before .before .skip2 .ensures .1 .1 .1 (omega arith)) (c .before .before .find-byte2 .ensures .1 .1) in (
+      omega arith,
+      (
+        omega (arith, c .find-kind .ensures, find-most 1 2 (take (y - b) (drop b l))),
+        ap (λ (x : List (List ℕ)). wordIn x) n ∙ (word-sort (take (z - a) (drop a l)) (tokens (drop z l)) (sym (c .before .before .before .before .before .before .is-sort .ensures) ∙ c .before .before .before .before .before .if2 .taken)
+            ∙ (ap (λ (x : List (List ℕ)). sortWords x) k ∙ (ap (λ (f : ℕ). known f (tokens (drop y l))) (sym (c .find-kind .ensures)) ∙ known-at l (c .find-kind .result) y))),
+      ),
+    )
+
+sub-find : tie.Need-sub-find
+sub-find c = search needs
+
+part-find-start : tie.Need-part-find-start
+part-find-start c = search needs
+
+part-find-end : tie.Need-part-find-end
+part-find-end c = search needs
+
+find-requires : tie.Need-find-requires
+find-requires c κs = search needs
+
+returns-4 : tie.Need-returns-4
+returns-4 c =
+    let l : List ℕ = c .before .before .before .before .before .before .before .before .before .args .l .now in
+    let a : ℕ = c .before .before .before .before .before .before .before .skip .result in
+    let z : ℕ = c .before .before .before .before .before .find-byte .result in
+    let n : tokens (drop (c .before .before .before .before .before .before .before .before .before .args .i) l) ≡ take (z - a) (drop a l) ∷ tokens (drop z l) =
+    sym (c .before .before .before .before .before .before .before .skip .ensures .1 .1 .0) ∙ next-token l a z (omega arith) (c .before .before .before .before .before .before .before .skip .ensures .1 .1 .1 (omega arith)) (c .before .before .before .before .before .find-byte .ensures .1 .1) in (
+      omega arith,
+      (
+        omega (arith, c .find .ensures, find-most 3 58 (take (z - a) (drop a l))),
+        ap (λ (x : List (List ℕ)). wordIn x) n ∙ (word-other (take (z - a) (drop a l)) (tokens (drop z l)) (sym (c .before .before .before .is-sort .ensures) ∙ c .before .before .if2 .left)
+            ∙ (ap (λ (f : ℕ). known f (tokens (drop z l))) (sym (c .find .ensures)) ∙ known-at l (c .find .result) z)),
+      ),
+    )
+
+pub word-spec : {M : Type 1} → statement M
+word-spec =
+    tie.close
+    (tie.spec
+    skip-requires
+    returns
+    find-byte-requires
+    sub-is-sort
+    part-is-sort-start
+    part-is-sort-end
+    is-sort-requires
+    skip-requires-2
+    returns-2
+    find-byte-requires-2
+    sub-find-kind
+    part-find-kind-start
+    part-find-kind-end
+    find-kind-requires
+    returns-3
+    sub-find
+    part-find-start
+    part-find-end
+    find-requires
+    returns-4)

@@ -1,0 +1,75 @@
+-- Zero first, then the check, then the lines. Assumes nothing.
+use Prim.Native.Nat.{ℕ, _≤_}
+use native.Mathlib.Omega.{arith}
+use mathlib.Core.Path.{_≡_, sym, ap, _∙_, subst}
+use mathlib.Core.List.{List}
+use lib.ListN.{length, replicate, length-replicate}
+use lib.Seq.{sets, length-sets}
+use Rattle.tables.specs.Lines.{counted}
+use Rattle.tables.proofs.Checking.{roomy}
+use Rattle.texts.specs.Writing.{writeText}
+use Rattle.texts.proofs.Round.{held}
+use Rattle.texts.proofs.Printed.{out-not, out-short, out-written}
+use borrow.Author.Needs.{needs}
+use Rattle.texts.proofs.write.Statement.{statement}
+use Rattle.texts.proofs.write.Tie as tie
+use Rattle.texts.proofs.write.Reads as reads
+use Rattle.texts.proofs.write.Lts as lts
+use Rattle.tables.proofs.check.clear.Reads as clear-reads
+use Rattle.texts.proofs.writing.accept.Reads as accept-reads
+use Rattle.texts.proofs.writing.put_lines.Reads as put-lines-reads
+
+clear-requires : tie.Need-clear-requires
+clear-requires c κs = search needs
+
+accept-requires : tie.Need-accept-requires
+accept-requires c κs = search needs
+
+enum-known-c : tie.Need-enum-known-c
+enum-known-c c = search needs
+
+enum-told : tie.Need-enum-told
+enum-told c = search needs
+
+put-lines-requires : tie.Need-put-lines-requires
+put-lines-requires c κs = let h = held (c .before .before .before .before .before .before .before .before .before .before .args .table .now) (c .before .before .before .before .before .before .before .before .before .before .args .count) (sym (c .before .before .before .accept .ensures) ∙ c .before .enum-told .given .1) in let r = roomy _ _ (h .fits) in (r .0, (r .1, h .law))
+
+clear-requires-2 : tie.Need-clear-requires-2
+clear-requires-2 c κs = search needs
+
+same-length : tie.Need-same-length
+same-length c = search needs
+
+returns : tie.Need-returns
+returns c = let k : length (c .before .before .before .before .before .before .before .put-lines .last .0) ≡ length (c .before .before .before .before .before .before .before .before .before .before .before .before .before .before .before .before .before .before .args .text .now) = (ap length (c .before .before .before .before .before .before .before .put-lines .ensures .1) ∙ (length-sets (c .before .before .before .before .before .before .before .before .before .before .before .before .before .before .clear .last .0) 0 (writeText (counted (c .before .before .before .before .before .before .before .before .before .before .before .before .before .before .before .before .before .before .args .table .now) (c .before .before .before .before .before .before .before .before .before .before .before .before .before .before .before .before .before .before .args .count))) ∙ (ap length (c .before .before .before .before .before .before .before .before .before .before .before .before .before .before .clear .ensures) ∙ length-replicate {A = ℕ} (length (c .before .before .before .before .before .before .before .before .before .before .before .before .before .before .before .before .before .before .args .text .now)) 0))) in
+    out-short (c .before .before .before .before .before .before .before .before .before .before .before .before .before .before .before .before .before .before .args .table .now) (c .before .before .before .before .before .before .before .before .before .before .before .before .before .before .before .before .before .before .args .count) (length (c .before .before .before .before .before .before .before .before .before .before .before .before .before .before .before .before .before .before .args .text .now)) (c .before .before .before .before .before .before .before .before .before .before .before .accept .ensures) (c .before .before .before .before .before .before .before .before .before .enum-told .given .1) (omega (arith, k, c .before .before .before .before .if1 .taken, c .before .before .before .before .before .before .before .put-lines .ensures .0)) (c .before .before .clear2 .ensures ∙ ap (λ (n : ℕ). replicate {A = ℕ} n 0) k)
+
+same-length-2 : tie.Need-same-length-2
+same-length-2 c = search needs
+
+returns-2 : tie.Need-returns-2
+returns-2 c = out-not (c .before .before .before .before .before .before .before .before .before .before .args .table .now) (c .before .before .before .before .before .before .before .before .before .before .args .count) (length (c .before .before .before .before .before .before .before .before .before .before .args .text .now)) (c .before .before .before .accept .ensures) (c .before .c .given .1) (c .before .before .before .before .before .before .clear .ensures)
+
+same-length-3 : tie.Need-same-length-3
+same-length-3 c = search needs
+
+returns-3 : tie.Need-returns-3
+returns-3 c = let k : length (c .before .before .before .put-lines .last .0) ≡ length (c .before .before .before .before .before .before .before .before .before .before .before .before .before .before .args .text .now) = (ap length (c .before .before .before .put-lines .ensures .1) ∙ (length-sets (c .before .before .before .before .before .before .before .before .before .before .clear .last .0) 0 (writeText (counted (c .before .before .before .before .before .before .before .before .before .before .before .before .before .before .args .table .now) (c .before .before .before .before .before .before .before .before .before .before .before .before .before .before .args .count))) ∙ (ap length (c .before .before .before .before .before .before .before .before .before .before .clear .ensures) ∙ length-replicate {A = ℕ} (length (c .before .before .before .before .before .before .before .before .before .before .before .before .before .before .args .text .now)) 0))) in
+    out-written (c .before .before .before .before .before .before .before .before .before .before .before .before .before .before .args .table .now) (c .before .before .before .before .before .before .before .before .before .before .before .before .before .before .args .count) (length (c .before .before .before .before .before .before .before .before .before .before .before .before .before .before .args .text .now)) (c .before .before .before .put-lines .result) (c .before .before .before .before .before .before .before .accept .ensures) (c .before .before .before .before .before .enum-told .given .1) (c .before .before .before .put-lines .ensures .0) (omega (arith, k, c .if1 .left)) (c .before .before .before .put-lines .ensures .1 ∙ ap (λ (x : List ℕ). sets x 0 (writeText (counted (c .before .before .before .before .before .before .before .before .before .before .before .before .before .before .args .table .now) (c .before .before .before .before .before .before .before .before .before .before .before .before .before .before .args .count)))) (c .before .before .before .before .before .before .before .before .before .before .clear .ensures))
+
+pub write-spec : {M : Type 1} → statement M
+write-spec =
+    tie.close
+    (tie.spec
+    clear-requires
+    accept-requires
+    enum-known-c
+    enum-told
+    put-lines-requires
+    clear-requires-2
+    same-length
+    returns
+    same-length-2
+    returns-2
+    same-length-3
+    returns-3)

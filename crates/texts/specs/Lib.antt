@@ -1,0 +1,6 @@
+pub mod Forms
+pub mod Split
+pub mod Decimal
+pub mod Reading
+pub mod Writing
+pub mod Stages

@@ -1,0 +1,40 @@
+-- What the structs that the reader's functions hand on stand for. Assumes nothing.
+use Prim.Native.Nat.{ℕ, zero, suc}
+use mathlib.Core.Bool.{Bool, true, false}
+use mathlib.Core.List.{List, [], _∷_}
+use lib.ListN.{drop}
+use Rattle.tables.specs.declared.Refusal.{Refusal}
+use Rattle.tables.specs.declared.Refusal.the-variants.{NotATable}
+use Rattle.tables.specs.Lines.{five}
+use Rattle.texts.specs.declared.Form.{Form}
+use Rattle.texts.specs.declared.Taken.{Taken}
+use Rattle.texts.specs.declared.Readout.{Readout}
+use Rattle.texts.specs.Split.{tokens}
+use Rattle.texts.specs.Reading.{Word, word, unknown, Took, took, malformed, Reply, skip, no, got}
+
+-- a form and the place behind its word; 0 for an unknown word
+abbrev pub wordAt : List ℕ → ℕ → ℕ → Word
+wordAt l zero i = unknown
+wordAt l (suc f) i = word (suc f) (tokens (drop i l))
+
+abbrev pub asWord : List ℕ → Form → Word
+asWord l w = wordAt l (w .form) (w .at)
+
+abbrev pub tookAt : Bool → List ℕ → Bool → ℕ → List (List ℕ) → Took
+tookAt true rec big len ts = took rec big len ts
+tookAt false rec big len ts = malformed
+
+abbrev pub asTook : List ℕ → Taken → Took
+asTook l t = tookAt (t .ok) (t .rec) (t .big) (t .len) (tokens (drop (t .at) l))
+
+-- 0 and the record, 1 for a blank line, 2 and the refusal
+abbrev pub asRead : Reply → Readout
+asRead skip = record { what = 1; code = NotATable; rec = five 0 0 0 0 0 }
+asRead (no r) = record { what = 2; code = r; rec = five 0 0 0 0 0 }
+asRead (got rec) = record { what = 0; code = NotATable; rec = rec }
+
+-- two tokens or more
+abbrev pub several : List (List ℕ) → Bool
+several [] = false
+several (x ∷ []) = false
+several (x ∷ y ∷ r) = true
