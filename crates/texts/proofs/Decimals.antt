@@ -1,14 +1,12 @@
 -- The decimal digits of a number are a token whose number it is. Assumes nothing.
-use Prim.Native.Nat.{ℕ, zero, suc, _+_, _-_, _*_, _/_, _%_, _^_, _≤_, _<_}
-use mathlib.Core.Path.{_≡_, refl, sym, ap, _∙_, subst}
+use Prim.Native.Nat.{ℕ, zero, suc, _+_, _*_, _/_, _%_, _^_, _≤_, _<_}
+use mathlib.Core.Path.{_≡_, refl, sym, ap, _∙_}
 use mathlib.Core.Bool.{Bool, true, false, _&&_}
 use mathlib.Core.List.{List, [], _∷_, _++_}
 use native.Mathlib.Omega.{arith}
-use lib.Dec.{eqb, leb, ltb}
-use lib.ListN.{length}
-use borrow.Author.Tests.{eq-eqb, ne-eqb, le-leb, lt-ltb, le-ltb, ltb-true, ltb-false}
-use Rattle.texts.specs.declared.Num.{Num}
-use Rattle.texts.specs.declared.Num.the-variants.{Bad, Big, Is}
+use lib.Dec.{eqb, ltb}
+use borrow.Author.Tests.{ne-eqb, le-leb, lt-ltb, ltb-true, ltb-false}
+use Rattle.texts.specs.declared.Num.the-variants.{Is}
 use Rattle.texts.specs.Decimal.{digit, allIn, valueFrom, plain, valued, scanned, decimal, digitsF, digits}
 use Rattle.texts.proofs.Splitting.{CleanByte, Clean, Tok, clean-append}
 

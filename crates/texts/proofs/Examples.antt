@@ -1,14 +1,13 @@
--- The request's example read and written, and a text for each refusal 3 to 10. Assumes nothing.
-use Prim.Native.Nat.{ℕ, zero, suc, _^_, _<_}
+-- The worked example of the request read and written, a text for each refusal 3 to 10, and names. Assumes nothing.
+use Prim.Native.Nat.{ℕ, zero, suc, _^_}
 use Prim.Native.Char.{code}
 use Prim.Native.String.{String, [] as end, _∷_ as _then_}
 use mathlib.Core.Path.{_≡_, refl}
 use mathlib.Core.Bool.{Bool, true, false, _&&_}
 use mathlib.Core.List.{List, [], _∷_, map}
 use lib.Dec.{T, leb, ltb, ltb→lt, leb→le, lit<}
-use lib.ListN.{length, getD}
+use lib.ListN.{length}
 use mir.Facts.{and-yes}
-use Rattle.tables.specs.declared.Refusal.{Refusal}
 use Rattle.tables.specs.declared.Refusal.the-variants.{WrongId, NoRecordLeft, UnknownWord, BadOperand, NumberTooLarge, WrongClass, Misfit, InitOrNext}
 use Rattle.tables.specs.declared.Checked.the-variants.{Accepted}
 use Rattle.tables.specs.Kinds.{rowOf}
@@ -20,6 +19,7 @@ use Rattle.texts.specs.Split.{split, upTo, tokens}
 use Rattle.texts.specs.Decimal.{digit, allIn, valueFrom, valued, scanned, decimal, digitsIn, digits, digitsF}
 use Rattle.texts.specs.Reading.{findIn, wordIn, operands, ruled, settled, judged, large, readLine, readLines, readText, Text, done, refused}
 use Rattle.texts.specs.Writing.{writeFrom, writeText}
+use Rattle.texts.specs.Naming.{nameIn, nameOf}
 use Rattle.texts.proofs.Round.{Words, round-trip}
 
 pub bytes : String → List ℕ
@@ -86,3 +86,10 @@ pub refusals : answers (
     ≡ refused WrongId 3 ∷ refused NoRecordLeft 7 ∷ refused UnknownWord 2 ∷ refused BadOperand 3 ∷ refused NumberTooLarge 1 ∷ refused WrongClass 3 ∷ refused Misfit 2 ∷ refused InitOrNext 4 ∷ []
 unfolding answers bytes readText readLines readLine large ruled judged settled operands wordIn findIn formRow rowOf fault suits split upTo tokens decimal scanned valued digitsIn allIn valueFrom digit
 refusals = refl
+
+-- ---- names
+
+pub names : map (λ n. nameOf (bytes "1 sort bitvec 1 bit\n 2  input 1 a;b ; c\n2 input 1 later\n3 add x y z sum\n4 foo 1\n5 input 1 a b\n") n) (1 ∷ 2 ∷ 3 ∷ 4 ∷ 5 ∷ 6 ∷ [])
+    ≡ bytes "bit" ∷ bytes "a" ∷ bytes "sum" ∷ [] ∷ [] ∷ [] ∷ []
+unfolding bytes nameOf nameIn wordIn findIn formRow rowOf split upTo tokens decimal scanned valued allIn valueFrom digit
+names = refl

@@ -1,5 +1,5 @@
 -- A record that reading gives keeps the rules: its kind is known, the words that its line does not use are 0, and 8, 9 and 10 do not hold of it. Assumes nothing.
-use Prim.Native.Nat.{ℕ, zero, suc, _+_, _-_, _≤_, _<_, zero-le}
+use Prim.Native.Nat.{ℕ, zero, suc, _+_, _-_, _≤_, _<_}
 use mathlib.Core.Path.{_≡_, refl, sym, ap, _∙_, subst}
 use mathlib.Core.Bool.{Bool, true, false, not, _&&_, _||_}
 use mathlib.Core.List.{List, [], _∷_}
@@ -8,9 +8,8 @@ use lib.Dec.{T, eqb, leb, ltb}
 use lib.ListN.{length, getD, set, length-set}
 use lib.Seq.{getD-set-other}
 use mir.Facts.{and-yes}
-use borrow.Author.Tests.{eqb-true, eqb-false, eq-eqb, ltb-true, leb-true, ltb-false, leb-false}
+use borrow.Author.Tests.{eqb-true, eqb-false, eq-eqb, ltb-true, leb-true}
 use Rattle.tables.specs.declared.Ty.{Ty}
-use Rattle.tables.specs.declared.Refusal.{Refusal}
 use Rattle.tables.specs.declared.Refusal.the-variants.{WrongId, NoRecordLeft}
 use Rattle.tables.specs.Pick.{pick, all, inside}
 use Rattle.tables.specs.Kinds.{rowOf, sortClass, firstClass, secondClass, thirdClass}
@@ -23,9 +22,9 @@ use Rattle.texts.specs.declared.Num.the-variants.{Bad, Big, Is}
 use Rattle.texts.specs.Forms.{formRow, kindOf, firstOf, numbersOf, sortWord}
 use Rattle.texts.specs.Split.{same}
 use Rattle.texts.specs.Decimal.{decimal}
-use Rattle.texts.specs.Reading.{findIn, Word, word, unknown, known as knownWord, sortWords, wordIn, numberAt, Took, took, malformed, operands, numbersIn, fresh, Reply, skip, no, got, ruled, settled, judged, large, ended, worded, isId, readLine}
+use Rattle.texts.specs.Reading.{findIn, known as knownWord, sortWords, wordIn, numberAt, Took, took, malformed, operands, numbersIn, fresh, Reply, skip, no, got, ruled, settled, judged, large, ended, worded, isId, readLine}
 use Rattle.texts.proofs.Words.{find-most}
-use Rattle.texts.proofs.Steps.{ruled-got, ruled-9, ruled-10, settled-one, settled-ones, settled-other, settled-kind, judged-8, judged-9, judged-const, judged-other, large-big, large-wide, large-fits, large-other, line-3, line-4, line-word}
+use Rattle.texts.proofs.Steps.{ruled-got, ruled-9, ruled-10, settled-one, settled-ones, settled-other, settled-kind, judged-8, judged-9, judged-const, judged-other, large-big, large-wide, large-fits, large-other}
 
 -- ---- the places that a line's numbers do not fill
 

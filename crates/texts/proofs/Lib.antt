@@ -9,3 +9,4 @@ pub mod Reached
 pub mod Round
 pub mod Examples
 pub mod Printed
+pub mod Named

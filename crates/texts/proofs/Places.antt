@@ -2,7 +2,7 @@
 use mathlib.Core.Path.{_≡_, refl, sym, ap, _∙_}
 use mathlib.Core.Bool.{Bool, true, false}
 use mathlib.Core.List.{List, [], _∷_}
-use Prim.Native.Nat.{ℕ, suc, _+_, _-_, _≤_, _<_}
+use Prim.Native.Nat.{ℕ, _+_, _-_, _≤_, _<_}
 use native.Mathlib.Omega.{arith}
 use lib.Dec.{eqb}
 use lib.ListN.{length, take, drop, getD, drop-of-length-le, length-drop}
@@ -89,3 +89,13 @@ take-upTo b (c ∷ t) = go (eqb c b) refl (take-upTo b t)
 
 pub cut-at : (x : List ℕ) (m k : ℕ) → k ≤ m → k ≡ length (upTo 59 (take m x)) → take k x ≡ upTo 59 (take m x)
 cut-at x m k h e = sym (take-take k m x h) ∙ (ap (λ (j : ℕ). take j (take m x)) e ∙ take-upTo 59 (take m x))
+
+-- ---- the line that starts at a place
+
+pub line-first : (s : List ℕ) (i f : ℕ) → f ≡ i + length (upTo 10 (drop i s)) → split 10 (drop i s) ≡ take (f - i) (drop i s) ∷ tail 10 (drop f s)
+line-first s i f h =
+    let k : ℕ = length (upTo 10 (drop i s)) in
+    let q : k ≡ f - i = omega arith in
+    split-first 10 (drop i s)
+    ∙ (ap (λ (m : ℕ). take m (drop i s) ∷ tail 10 (drop k (drop i s))) q
+    ∙ ap (λ (p : List ℕ). take (f - i) (drop i s) ∷ tail 10 p) (drop-drop k i s ∙ ap (λ (m : ℕ). drop m s) (sym h)))

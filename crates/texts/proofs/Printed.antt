@@ -1,12 +1,12 @@
 -- Bytes that go to a text one after the other, and how long a text can be. Assumes nothing.
 use mathlib.Core.Path.{_≡_, refl, sym, ap, _∙_, subst}
-use mathlib.Core.Bool.{Bool, true, false, _&&_}
+use mathlib.Core.Bool.{Bool, true, false}
 use mathlib.Core.List.{List, [], _∷_, _++_, append-assoc, append-nil}
 use Prim.Native.Nat.{ℕ, zero, suc, _+_, _-_, _*_, _/_, _%_, _^_, _≤_, _<_, zero-le}
 use native.Mathlib.Omega.{arith}
 use native.Mathlib.Numerals.{add-one}
 use native.Mathlib.Nat.{div-lt-iff-lt-mul, pow-succ', mul-comm, le-trans}
-use lib.Dec.{T, eqb, leb, ltb, leb→le, lit<, lit≤}
+use lib.Dec.{leb, ltb, lit<, lit≤}
 use lib.ListN.{length, take, drop, getD, set, drop-of-length-le, length-append, length-drop, length-take, length-replicate, replicate}
 use lib.Seq.{drop-cons, sets, sets-eq, length-sets}
 use borrow.Author.Tests.{lt-ltb, le-ltb, ltb-false, le-leb, lt-leb, leb-true, leb-false}
@@ -21,13 +21,12 @@ use Rattle.tables.specs.Tables.{known, formed, keeps, lawful, checked}
 use Rattle.tables.proofs.Kept.{both}
 use Rattle.tables.proofs.Shapes.{range}
 use Rattle.tables.proofs.Counted.{length-records, record-at}
-use Rattle.texts.specs.declared.WriteOutcome.{WriteOutcome}
 use Rattle.texts.specs.declared.WriteOutcome.the-variants.{Done as Wrote, Refused as WriteRefused}
-use Rattle.texts.specs.Forms.{sorted, firstOf, numbersOf, sortWord}
+use Rattle.texts.specs.Forms.{sorted, firstOf, numbersOf}
 use Rattle.texts.specs.Split.{spaced, join}
 use Rattle.texts.specs.Decimal.{digits, digitsF}
-use Rattle.texts.specs.Writing.{numbers, kindTokens, tokensOf, writeFrom, writeText, Out, wrote, refuse, fitted, writtenBy, writeTable, writeAnswer, bufferOf}
-use Rattle.texts.proofs.Words.{word-at, word-length, row-shape, row-kind, sorted-most}
+use Rattle.texts.specs.Writing.{numbers, kindTokens, tokensOf, writeFrom, writeText, fitted, writeTable, writeAnswer, bufferOf}
+use Rattle.texts.proofs.Words.{row-shape, row-kind, sorted-most}
 use Rattle.texts.proofs.Reached.{drop-zeros}
 use Rattle.texts.proofs.Round.{Words, Good, words-take, good-records}
 

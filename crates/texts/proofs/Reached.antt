@@ -1,20 +1,20 @@
 -- Where reading stands before a line: the answer from the start is the answer from here, and the lists hold the context of the lines so far. Assumes nothing.
 use mathlib.Core.Path.{_≡_, refl, sym, ap, ap₂, _∙_, subst}
-use mathlib.Core.Bool.{Bool, true, false, _&&_}
-use mathlib.Core.List.{List, [], _∷_, _++_, append-nil, append-assoc}
-use Prim.Native.Nat.{ℕ, zero, suc, _+_, _-_, _*_, _/_, _%_, _≤_, _<_, min, zero-le}
+use mathlib.Core.Bool.{Bool, true, false}
+use mathlib.Core.List.{List, [], _∷_, _++_}
+use Prim.Native.Nat.{ℕ, zero, suc, _+_, _-_, _*_, _≤_, _<_, min, zero-le}
 use native.Mathlib.Omega.{arith}
 use native.Mathlib.Numerals.{add-one}
-use lib.Dec.{eqb, leb, ltb}
-use lib.ListN.{length, take, drop, getD, replicate, drop-of-length-le, length-append, length-replicate, replicate-append-replicate}
-use lib.Seq.{drop-cons, drop-drop, paste, take-all, take-at, drop-at, drop-append-add}
+use lib.Dec.{ltb}
+use lib.ListN.{length, take, drop, getD, replicate, drop-of-length-le, length-append, length-replicate}
+use lib.Seq.{drop-cons, take-all, take-at, drop-append-add}
 use borrow.Author.Tests.{eqb-true, ltb-true, ltb-false, le-leb, lt-leb}
 use Rattle.tables.specs.declared.Ty.{Ty}
 use Rattle.tables.specs.declared.Refusal.{Refusal}
 use Rattle.tables.specs.declared.Refusal.the-variants.{NotATable, TextTooLong}
-use Rattle.tables.specs.Pick.{pick, inside, all}
+use Rattle.tables.specs.Pick.{inside, all}
 use Rattle.tables.specs.Lines.{Line, exprWords, lineOf, kindIn, sortIn, firstIn, secondIn, thirdIn, recorded}
-use Rattle.tables.specs.Types.{noTy, typeOf, lineType, Ctx, noCtx, tyAt, given, grow}
+use Rattle.tables.specs.Types.{noTy, lineType, Ctx, noCtx, tyAt, given, grow}
 use Rattle.tables.specs.Lists.{lookIn, givenIn, Shows, Ample, Noted}
 use Rattle.tables.specs.Tables.{whole, room, formed, keeps}
 use Rattle.tables.specs.Rules.{fits, fault}
@@ -28,7 +28,7 @@ use Rattle.texts.specs.declared.Readout.{Readout}
 use Rattle.texts.specs.Split.{split, upTo, tokens}
 use Rattle.texts.specs.Reading.{Reply, skip, no, got, lineTokens, readLine, Text, done, refused, readLines, readText, answerOf, tableOf}
 use Rattle.texts.specs.Stages.{asRead}
-use Rattle.texts.proofs.Places.{tail, split-first}
+use Rattle.texts.proofs.Places.{tail, line-first}
 use Rattle.texts.proofs.Kept.{got-keeps, got-room}
 
 -- ---- one line, and the lines behind it
@@ -195,21 +195,13 @@ module _ {s table cls idx wid ini nxt e : List ℕ} {len i n line : ℕ} {c : Ct
   -- the line from i to f, without its comment from i to z; the next one starts at i′
   module _ (m f z i′ : ℕ) (em : m ≡ room len) (on : i < length s) (hf : f ≡ i + length (upTo 10 (drop i s))) (hz : take (z - i) (drop i s) ≡ upTo 59 (take (f - i) (drop i s))) (lf : f ≤ length s) (hi : i′ ≡ min (f + 1) (length s))
       (r : Readout) (er : r ≡ asRead (readLine (lookIn cls idx wid) (givenIn ini nxt) m n (tokens (take (z - i) (drop i s))))) where
-    first-line : split 10 (drop i s) ≡ take (f - i) (drop i s) ∷ tail 10 (drop f s)
-    first-line =
-        let k : ℕ = length (upTo 10 (drop i s)) in
-        let q : k ≡ f - i = omega arith in
-        split-first 10 (drop i s)
-        ∙ (ap (λ (m : ℕ). take m (drop i s) ∷ tail 10 (drop k (drop i s))) q
-        ∙ ap (λ (p : List ℕ). take (f - i) (drop i s) ∷ tail 10 p) (drop-drop k i s ∙ ap (λ (m : ℕ). drop m s) (sym hf)))
-
     as-line : readLine (lookIn cls idx wid) (givenIn ini nxt) m n (tokens (take (z - i) (drop i s))) ≡ readLine (tyAt c) (given c) (room len) n (lineTokens (take (f - i) (drop i s)))
     as-line =
         ap (λ (k : ℕ). readLine (lookIn cls idx wid) (givenIn ini nxt) k n (tokens (take (z - i) (drop i s)))) em
         ∙ as-lists (tokens (take (z - i) (drop i s))) ∙ ap (λ (x : List ℕ). readLine (tyAt c) (given c) (room len) n (tokens x)) hz
 
     begun : readLines (room len) 1 0 noCtx [] (split 10 s) ≡ readLines (room len) line n c e (take (f - i) (drop i s) ∷ tail 10 (drop f s))
-    begun = R .answer ∙ ap (readLines (room len) line n c e) first-line
+    begun = R .answer ∙ ap (readLines (room len) line n c e) (line-first s i f hf)
 
     pub at-no : r .what ≡ 2 → readLines (room len) 1 0 noCtx [] (split 10 s) ≡ refused (r .code) line
     at-no h =

@@ -1,24 +1,24 @@
 -- The round trip: an accepted table, written as text and read again, gives the same records and the same count. Assumes nothing.
 use Prim.Native.Nat.{ℕ, zero, suc, _+_, _-_, _*_, _%_, _^_, _≤_, _<_}
 use mathlib.Core.Path.{_≡_, refl, sym, ap, _∙_, subst}
-use mathlib.Core.Bool.{Bool, true, false, not, _&&_, _||_}
+use mathlib.Core.Bool.{Bool, true, false, _&&_, _||_}
 use mathlib.Core.List.{List, [], _∷_, _++_, append-nil, append-assoc}
 use native.Mathlib.Omega.{arith}
 use lib.Dec.{T, eqb, leb, ltb, eqb→eq, leb→le, lit<}
-use lib.ListN.{length, getD, set, take, replicate, length-append}
+use lib.ListN.{length, getD, set, take}
 use lib.Seq.{length-take-le}
 use mir.Facts.{and-yes}
-use borrow.Author.Tests.{eqb-true, eqb-false, eq-eqb, ne-eqb, le-leb, lt-ltb, ltb-true, leb-true, leb-false}
+use borrow.Author.Tests.{eqb-true, eqb-false, eq-eqb, lt-ltb, ltb-true, leb-true, leb-false}
 use Rattle.tables.specs.declared.Ty.{Ty}
 use Rattle.tables.specs.declared.Refusal.the-variants.{TextBuffer}
 use Rattle.tables.specs.declared.Checked.{Checked}
 use Rattle.tables.specs.declared.Checked.the-variants.{Accepted, Refused}
-use Rattle.tables.specs.Pick.{pick, all, inside}
+use Rattle.tables.specs.Pick.{pick, inside}
 use Rattle.tables.specs.Kinds.{rowOf, sortClass, countOf, firstClass, secondClass, thirdClass}
 use Rattle.tables.specs.Lines.{isBitvec, shapeOf, lineOf, five, kindIn, sortIn, firstIn, secondIn, thirdIn, records, counted}
 use Rattle.tables.specs.Types.{Ctx, noCtx, tyAt, given, grow}
 use Rattle.tables.specs.Rules.{fault}
-use Rattle.tables.specs.Tables.{whole, room, known, unused, tidy, formed, keeps, lawful, checked}
+use Rattle.tables.specs.Tables.{whole, room, known, unused, formed, keeps, lawful, checked}
 use Rattle.tables.proofs.Every.{every, at-each}
 use Rattle.tables.proofs.Laws.{and-true}
 use Rattle.tables.proofs.Shapes.{fits-as, range}
@@ -26,15 +26,12 @@ use Rattle.tables.proofs.Answers.{passed}
 use Rattle.tables.proofs.Kept.{both}
 use Rattle.tables.proofs.Counted.{length-records}
 use Rattle.tables.proofs.Checking.{no-table, too-many, unlawful, not-accepted, roomy}
-use Rattle.texts.specs.declared.Num.{Num}
-use Rattle.texts.specs.declared.Num.the-variants.{Bad, Big, Is}
-use Rattle.texts.specs.declared.ReadOutcome.{ReadOutcome}
-use Rattle.texts.specs.declared.ReadOutcome.the-variants.{Done}
-use Rattle.texts.specs.Forms.{formRow, kindOf, sorted, firstOf, numbersOf}
+use Rattle.texts.specs.declared.Num.the-variants.{Is}
+use Rattle.texts.specs.Forms.{firstOf, numbersOf}
 use Rattle.texts.specs.Split.{split, join}
-use Rattle.texts.specs.Decimal.{decimal, digits}
-use Rattle.texts.specs.Reading.{Word, word, wordIn, numberAt, Took, took, operands, fresh, Reply, got, settled, judged, large, isId, readLine, Text, done, lineTokens, readLines, readText, answerOf, tableOf}
-use Rattle.texts.specs.Writing.{numbers, kindTokens, tokensOf, writeFrom, writeText, Out, wrote, refuse, fitted, writtenBy, writeTable}
+use Rattle.texts.specs.Decimal.{digits}
+use Rattle.texts.specs.Reading.{word, wordIn, numberAt, took, operands, fresh, got, settled, judged, large, readLine, done, lineTokens, readLines, readText}
+use Rattle.texts.specs.Writing.{numbers, kindTokens, tokensOf, writeFrom, writeText, wrote, refuse, fitted, writeTable}
 use Rattle.texts.proofs.Splitting.{Toks, toks-append, tokens-join, lines-join}
 use Rattle.texts.proofs.Decimals.{digits-tok, decimal-digits}
 use Rattle.texts.proofs.Words.{word-found, word-toks, row-kind, kind-low}

@@ -1,19 +1,18 @@
 -- Bytes and digits from a place of a token or a line on. Assumes nothing.
-use mathlib.Core.Path.{_≡_, refl, sym, ap, _∙_, subst}
-use mathlib.Core.Bool.{Bool, true, false, _&&_, not}
-use mathlib.Core.List.{List, [], _∷_, _++_}
-use Prim.Native.Nat.{ℕ, zero, suc, _+_, _-_, _*_, _/_, _%_, _^_, _≤_, _<_}
+use mathlib.Core.Path.{_≡_, refl, sym, ap, _∙_}
+use mathlib.Core.Bool.{Bool, true, false, _&&_}
+use mathlib.Core.List.{List, [], _∷_}
+use Prim.Native.Nat.{ℕ, zero, suc, _+_, _-_, _*_, _/_, _^_, _≤_, _<_}
 use native.Mathlib.Omega.{arith}
 use native.Mathlib.Numerals.{add-one}
 use native.Mathlib.Nat.{le-refl, le-trans, mul-suc, suc-mul, mul-assoc, pow-zero, pow-succ', pow-le-pow-right, mul-le-mul-right, one-mul, le-div-iff-mul-le, div-lt-iff-lt-mul}
-use lib.Dec.{eqb, leb, ltb, lit≤}
+use lib.Dec.{eqb, ltb, lit≤}
 use lib.ListN.{length, drop, getD, drop-of-length-le}
 use lib.Seq.{drop-cons}
 use borrow.Author.Tests.{eq-eqb, ne-eqb, lt-ltb, le-ltb, le-leb, lt-leb, ltb-true}
-use Rattle.texts.specs.declared.Num.{Num}
 use Rattle.texts.specs.declared.Num.the-variants.{Bad, Big, Is}
 use Rattle.texts.specs.Split.{split, upTo, tokens}
-use Rattle.texts.specs.Decimal.{digit, allIn, valueFrom, valued, scanned, plain, decimal, digitsIn}
+use Rattle.texts.specs.Decimal.{digit, allIn, valueFrom, valued, scanned, decimal, digitsIn}
 use Rattle.texts.specs.Reading.{numberAt}
 
 module _ (b : ℕ) (s : List ℕ) (i : ℕ) where

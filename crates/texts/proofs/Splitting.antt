@@ -1,11 +1,11 @@
 -- Splitting what was joined. Assumes nothing.
-use Prim.Native.Nat.{ℕ, zero, suc, _+_, _<_}
-use mathlib.Core.Path.{_≡_, refl, sym, ap, _∙_}
-use mathlib.Core.Bool.{Bool, true, false}
+use Prim.Native.Nat.{ℕ}
+use mathlib.Core.Path.{_≡_, refl, ap, _∙_}
+use mathlib.Core.Bool.{false}
 use mathlib.Core.List.{List, [], _∷_, _++_, append-nil}
 use lib.Dec.{eqb}
 use borrow.Author.Tests.{eq-eqb}
-use Rattle.texts.specs.Split.{glue, split, upTo, filled, tokens, spaced, join}
+use Rattle.texts.specs.Split.{split, upTo, filled, tokens, spaced, join}
 
 -- no byte of it is b
 abbrev pub Lacks : ℕ → List ℕ → Type 0

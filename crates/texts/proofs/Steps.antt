@@ -1,26 +1,24 @@
 -- The stages of reading a line, one law for each case. Assumes nothing.
-use mathlib.Core.Path.{_≡_, refl, sym, ap, _∙_, subst}
-use mathlib.Core.Bool.{Bool, true, false, _&&_, not}
-use mathlib.Core.List.{List, [], _∷_, _++_}
+use mathlib.Core.Path.{_≡_, refl, sym, ap, _∙_}
+use mathlib.Core.Bool.{Bool, true, false}
+use mathlib.Core.List.{List, [], _∷_}
 use Prim.Native.Nat.{ℕ, zero, suc, _+_, _-_, _^_, _≤_, _<_}
 use native.Mathlib.Omega.{arith}
 use native.Mathlib.Numerals.{add-one}
-use lib.Dec.{eqb, leb, ltb}
+use lib.Dec.{eqb}
 use lib.ListN.{length, drop, getD, set}
 use borrow.Author.Tests.{eq-eqb, ne-eqb, lt-ltb, le-ltb}
 use Rattle.tables.specs.declared.Ty.{Ty}
-use Rattle.tables.specs.declared.Refusal.{Refusal}
 use Rattle.tables.specs.declared.Refusal.the-variants.{WrongId, NoRecordLeft, UnknownWord, BadOperand, NumberTooLarge, WrongClass, Misfit, InitOrNext}
 use Rattle.tables.specs.Pick.{inside}
 use Rattle.tables.specs.Lines.{kindIn, sortIn, firstIn}
 use Rattle.tables.specs.Rules.{fault}
-use Rattle.texts.specs.declared.Num.{Num}
 use Rattle.texts.specs.declared.Num.the-variants.{Bad, Big, Is}
 use Rattle.tables.specs.Kinds.{countOf}
 use Rattle.texts.specs.Forms.{formRow, kindOf, sorted, firstOf, numbersOf}
 use Rattle.texts.specs.Split.{tokens}
 use Rattle.texts.specs.Decimal.{decimal}
-use Rattle.texts.specs.Reading.{wordIn, numberAt, Took, took, malformed, operands, numbersIn, fresh, Reply, no, got, skip, ruled, settled, judged, large, ended, worded, readLine, isId}
+use Rattle.texts.specs.Reading.{wordIn, numberAt, Took, took, malformed, operands, numbersIn, fresh, no, got, skip, ruled, settled, judged, large, ended, worded, readLine, isId}
 use Rattle.texts.specs.declared.Readout.{Readout}
 use Rattle.texts.specs.declared.Taken.{Taken}
 use Rattle.texts.specs.declared.Form.{Form}

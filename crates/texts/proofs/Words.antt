@@ -1,12 +1,12 @@
 -- Words: a token against the word of a row, the search for a form, and what holds of all rows, each by one computed test. Assumes nothing.
-use mathlib.Core.Path.{_≡_, refl, sym, ap, _∙_, subst}
+use mathlib.Core.Path.{_≡_, refl, sym, ap, _∙_}
 use mathlib.Core.Bool.{Bool, true, false, _&&_, not}
 use mathlib.Core.List.{List, [], _∷_, _++_}
 use Prim.Native.Nat.{ℕ, zero, suc, _+_, _-_, _≤_, _<_, zero-le}
 use native.Mathlib.Omega.{arith}
 use native.Mathlib.Numerals.{add-one}
 use lib.Dec.{T, eqb, leb, leb→le, eqb→eq}
-use lib.ListN.{length, take, drop, getD, drop-of-length-le, length-drop}
+use lib.ListN.{length, drop, getD, drop-of-length-le, length-drop}
 use lib.Seq.{drop-cons, length-take-le, getD-take, getD-drop}
 use mir.Facts.{and-yes}
 use borrow.Author.Tests.{eq-eqb, ne-eqb, le-leb, lt-leb}
@@ -15,10 +15,10 @@ use Rattle.tables.specs.Kinds.{rows, rowOf, wordOf, countOf}
 use Rattle.tables.proofs.Every.{every, at-each}
 use Rattle.texts.specs.Forms.{extra, formRow, kindOf, sorted, sortWord}
 use Rattle.texts.specs.Split.{same, tokens}
-use Rattle.texts.specs.Reading.{findIn, Word, word, unknown, known, sortWords, wordIn}
+use Rattle.texts.specs.Reading.{findIn, word, unknown, known, sortWords, wordIn}
 use Rattle.texts.specs.Writing.{headed, kindTokens}
 use Rattle.texts.specs.Stages.{wordAt}
-use Rattle.texts.proofs.Splitting.{CleanByte, Clean, Tok, Toks}
+use Rattle.texts.proofs.Splitting.{Clean, Tok, Toks}
 
 -- ---- a token against a word
 

@@ -1,7 +1,7 @@
 -- The forms of a text's lines: a form is a word with what follows it. The forms 1 to 55 are the kinds, by their rows; the five other words for a constant are
 -- 56 const, 57 consth, 58 zero, 59 one and 60 ones. Assumes nothing.
 use Prim.Native.Nat.{ℕ, _+_, _-_}
-use mathlib.Core.Bool.{Bool, true, false}
+use mathlib.Core.Bool.{true, false}
 use mathlib.Core.List.{List, [], _∷_}
 use lib.Dec.{eqb, leb}
 use lib.ListN.{getD}

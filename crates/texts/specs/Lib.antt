@@ -4,3 +4,4 @@ pub mod Decimal
 pub mod Reading
 pub mod Writing
 pub mod Stages
+pub mod Naming

@@ -1,14 +1,14 @@
 -- Reading a text: its lines are parted at LF, cut at the first semicolon, and parted into tokens at spaces. Of a line the lowest refusal that holds is answered,
 -- of a text the first line's that has one. Assumes nothing.
-use Prim.Native.Nat.{ℕ, zero, suc, _+_, _-_, _^_}
+use Prim.Native.Nat.{ℕ, zero, suc, _-_, _^_}
 use mathlib.Core.Bool.{Bool, true, false, _&&_, not}
 use mathlib.Core.List.{List, [], _∷_, _++_}
 use lib.Dec.{eqb, leb, ltb}
-use lib.ListN.{length, getD, set, replicate}
+use lib.ListN.{length, set, replicate}
 use Rattle.tables.specs.declared.Ty.{Ty}
 use Rattle.tables.specs.declared.Refusal.{Refusal}
 use Rattle.tables.specs.declared.Refusal.the-variants.{NotATable, TextTooLong, WrongId, NoRecordLeft, UnknownWord, BadOperand, NumberTooLarge, WrongClass, Misfit, InitOrNext}
-use Rattle.tables.specs.Pick.{pick, inside}
+use Rattle.tables.specs.Pick.{inside}
 use Rattle.tables.specs.Kinds.{wordOf}
 use Rattle.tables.specs.Lines.{lineOf, five, sortIn, firstIn}
 use Rattle.tables.specs.Types.{Ctx, noCtx, tyAt, given, grow}

@@ -1,5 +1,6 @@
 // Texts: reading a text into a table, writing a table as text, and the names in a text.
 pub mod forms; // the words of lines and their rows
+pub mod naming; // the name of a line
 pub mod numbers; // numbers in digits
 pub mod reading; // reading, stage by stage
 pub mod tokens; // lines and tokens
@@ -13,6 +14,7 @@ ghost use mathlib.Core.Path.{_≡_};
 ghost use lib.ListN.{length};
 ghost use Rattle.texts.specs.Reading.{readText, answerOf, tableOf};
 ghost use Rattle.texts.specs.Writing.{writeTable, writeAnswer, bufferOf};
+ghost use Rattle.texts.specs.Naming.{nameOf};
 
 // A token as a number: malformed, above 2^64 - 1, or its value.
 pub enum Num {
@@ -53,6 +55,12 @@ pub struct Readout {
     what: u64,
     code: Refusal,
     rec: [u64; 5],
+}
+
+// A part of a text: from a place up to another.
+pub struct Part {
+    from: usize,
+    to: usize,
 }
 
 // Reads a text into a table.
@@ -99,4 +107,14 @@ pub fn write(table: &[u64], count: usize, text: &mut [u8]) -> WriteOutcome
             WriteOutcome::Done(n)
         }
     }
+}
+
+// The name of the first line whose id is the given number, as that part of the text; an empty part where it has none.
+pub fn name(text: &[u8], id: u64) -> &[u8]
+    ensures { λ r. ⌜ now r ≡ nameOf (now (text .entry)) id ⌝ }
+{
+    let p = naming::find(text, id);
+    let from = p.from;
+    let to = p.to;
+    &text[from..to]
 }

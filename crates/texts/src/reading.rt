@@ -13,8 +13,8 @@ use tables::records;
 use tables::rules;
 use tables::types;
 ghost use mathlib.Core.Path.{_≡_};
-ghost use mathlib.Core.List.{List, [], _∷_};
-ghost use mathlib.Core.Bool.{Bool, true, false};
+ghost use mathlib.Core.List.{[]};
+ghost use mathlib.Core.Bool.{true, false};
 ghost use Prim.Native.Nat.{ℕ, _+_, _-_, _*_, _^_, _≤_, _<_};
 ghost use lib.ListN.{length, drop, getD, replicate};
 ghost use Rattle.tables.specs.Kinds.{rowOf};
@@ -24,8 +24,7 @@ ghost use Rattle.tables.specs.Lists.{lookIn, givenIn, Shows, Ample, Noted};
 ghost use Rattle.tables.specs.Tables.{room as roomOf};
 ghost use Rattle.texts.specs.Split.{split, tokens as tokensIn};
 ghost use Rattle.texts.specs.Decimal.{decimal};
-ghost use Rattle.texts.specs.Forms.{formRow, kindOf, firstOf, numbersOf};
-ghost use Rattle.texts.specs.Reading.{wordIn, numberAt, operands as operandsOf, numbersIn, fresh, settled, judged, large as largeOf, ruled as ruledBy, ended, worded, isId, readLine, readLines, no, answerOf, tableOf};
+ghost use Rattle.texts.specs.Reading.{wordIn, numberAt, operands as operandsOf, numbersIn, settled, judged, large as largeOf, ruled as ruledBy, ended, isId, readLine, readLines, no, answerOf, tableOf};
 ghost use Rattle.texts.specs.Stages.{asWord, asTook, asRead};
 
 // The line's word, from the place i on.

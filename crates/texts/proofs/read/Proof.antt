@@ -1,22 +1,14 @@
 -- Zero first, then the refusals 1 and 2, then the lines. Assumes nothing.
 use Prim.Native.Nat.{ℕ}
-use mathlib.Core.Path.{_≡_, refl, sym, ap, _∙_, subst}
-use mathlib.Core.List.{List}
-use mathlib.Core.Bool.{Bool, true, false}
+use mathlib.Core.Path.{_≡_, refl, sym, ap, _∙_}
 use lib.ListN.{length, replicate, length-replicate}
 use borrow.Author.Tests.{not-true, not-false}
-use Rattle.tables.specs.Tables.{whole, room}
+use Rattle.tables.specs.Tables.{whole}
 use Rattle.tables.proofs.Checking.{shows-none}
-use Rattle.texts.specs.Reading.{Text, answerOf, tableOf}
 use Rattle.texts.proofs.Reached.{text-1, text-2, out-refused, out-lines}
 use borrow.Author.Needs.{needs}
 use Rattle.texts.proofs.read.Statement.{statement}
 use Rattle.texts.proofs.read.Tie as tie
-use Rattle.texts.proofs.read.Reads as reads
-use Rattle.texts.proofs.read.Lts as lts
-use Rattle.tables.proofs.records.clear.Reads as clear-reads
-use Rattle.tables.proofs.records.is_table.Reads as is-table-reads
-use Rattle.texts.proofs.reading.read_lines.Reads as read-lines-reads
 
 clear-requires : tie.Need-clear-requires
 clear-requires c κs = search needs

@@ -1,7 +1,7 @@
 -- Zero first, then the check, then the lines. Assumes nothing.
-use Prim.Native.Nat.{ℕ, _≤_}
+use Prim.Native.Nat.{ℕ}
 use native.Mathlib.Omega.{arith}
-use mathlib.Core.Path.{_≡_, sym, ap, _∙_, subst}
+use mathlib.Core.Path.{_≡_, sym, ap, _∙_}
 use mathlib.Core.List.{List}
 use lib.ListN.{length, replicate, length-replicate}
 use lib.Seq.{sets, length-sets}
@@ -13,11 +13,6 @@ use Rattle.texts.proofs.Printed.{out-not, out-short, out-written}
 use borrow.Author.Needs.{needs}
 use Rattle.texts.proofs.write.Statement.{statement}
 use Rattle.texts.proofs.write.Tie as tie
-use Rattle.texts.proofs.write.Reads as reads
-use Rattle.texts.proofs.write.Lts as lts
-use Rattle.tables.proofs.check.clear.Reads as clear-reads
-use Rattle.texts.proofs.writing.accept.Reads as accept-reads
-use Rattle.texts.proofs.writing.put_lines.Reads as put-lines-reads
 
 clear-requires : tie.Need-clear-requires
 clear-requires c κs = search needs

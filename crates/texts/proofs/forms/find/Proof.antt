@@ -1,14 +1,10 @@
 -- The kinds' words first, then the others. Assumes nothing.
-use mathlib.Core.Path.{_≡_, refl, sym, ap, _∙_}
+use mathlib.Core.Path.{refl, sym, _∙_}
 use native.Mathlib.Omega.{arith}
 use Rattle.texts.proofs.Words.{find-on, find-past}
 use borrow.Author.Needs.{needs}
 use Rattle.texts.proofs.forms.find.Statement.{statement}
 use Rattle.texts.proofs.forms.find.Tie as tie
-use Rattle.texts.proofs.forms.find.Reads as reads
-use Rattle.texts.proofs.forms.find.Lts as lts
-use Rattle.texts.proofs.forms.find_kind.Reads as find-kind-reads
-use Rattle.texts.proofs.forms.find_other.Reads as find-other-reads
 
 find-kind-requires : tie.Need-find-kind-requires
 find-kind-requires c κs = search needs

@@ -4,7 +4,7 @@ use Prim.Native.Nat.{ℕ, _+_, _-_, _≤_}
 use native.Mathlib.Omega.{arith}
 use mathlib.Core.Path.{_≡_, refl, sym, ap, _∙_, subst}
 use mathlib.Core.Bool.{true, false}
-use mathlib.Core.List.{List, []}
+use mathlib.Core.List.{List}
 use lib.ListN.{getD}
 use Rattle.tables.specs.Kinds.{rows as kindRows, wordOf}
 use Rattle.texts.specs.Split.{same}
@@ -13,10 +13,6 @@ use Rattle.texts.specs.Reading.{findIn}
 use Rattle.texts.proofs.Words.{find-hit, find-miss, find-done, listed-kind, row-shape}
 use Rattle.texts.proofs.forms.find_kind.Statement.{statement}
 use Rattle.texts.proofs.forms.find_kind.Tie as tie
-use Rattle.texts.proofs.forms.find_kind.Reads as reads
-use Rattle.texts.proofs.forms.find_kind.Lts as lts
-use Rattle.texts.proofs.forms.is_word.Reads as is-word-reads
-use Rattle.texts.proofs.forms.kinds.Reads as kinds-reads
 
 abbrev Inv-loop : tie.InvT-loop
 Inv-loop t k n rows e j₀ j = (k ≤ j) × ((j ≤ e) × ((e ≡ k + n) × ((rows ≡ kindRows) × (findIn k n t ≡ findIn j (e - j) t))))

@@ -4,7 +4,7 @@ use Prim.Native.Nat.{ℕ, _+_, _-_, _≤_}
 use native.Mathlib.Omega.{arith}
 use mathlib.Core.Path.{_≡_, refl, sym, ap, _∙_, subst}
 use mathlib.Core.Bool.{true, false}
-use mathlib.Core.List.{List, []}
+use mathlib.Core.List.{List}
 use lib.ListN.{getD}
 use Rattle.tables.specs.Kinds.{wordOf}
 use Rattle.texts.specs.Split.{same}
@@ -13,10 +13,6 @@ use Rattle.texts.specs.Reading.{findIn}
 use Rattle.texts.proofs.Words.{find-hit, find-miss, find-done, listed-other, row-shape}
 use Rattle.texts.proofs.forms.find_other.Statement.{statement}
 use Rattle.texts.proofs.forms.find_other.Tie as tie
-use Rattle.texts.proofs.forms.find_other.Reads as reads
-use Rattle.texts.proofs.forms.find_other.Lts as lts
-use Rattle.texts.proofs.forms.is_word.Reads as is-word-reads
-use Rattle.texts.proofs.forms.others.Reads as others-reads
 
 abbrev Inv-loop : tie.InvT-loop
 Inv-loop t rows j₀ j = (j ≤ 5) × ((rows ≡ extra) × (findIn 56 5 t ≡ findIn (j + 56) (61 - (j + 56)) t))

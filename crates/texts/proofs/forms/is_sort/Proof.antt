@@ -1,11 +1,6 @@
 -- Letter by letter. Assumes nothing.
-use Prim.Native.Nat.{ℕ, suc, _+_, _-_, _*_, _/_, _%_, _^_, _<_, _≤_}
 use native.Mathlib.Omega.{arith}
-use native.Mathlib.Numerals.{add-one}
-use mathlib.Core.Path.{_≡_, refl, sym, ap, _∙_, subst}
-use mathlib.Core.Bool.{Bool, true, false}
-use mathlib.Core.List.{List, [], _∷_, _++_}
-use lib.ListN.{length, take, drop, getD, set, length-set}
+use mathlib.Core.Path.{sym}
 use Rattle.texts.proofs.Words.{sort-length, sort-differs, sort-last}
 use borrow.Author.Needs.{needs}
 use Rattle.texts.proofs.forms.is_sort.Statement.{statement}

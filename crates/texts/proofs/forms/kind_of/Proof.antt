@@ -1,12 +1,6 @@
 -- A kind is its own, a constant's other words have kind 3. Assumes nothing.
-use borrow.Author.Needs.{needs}
-use Prim.Native.Nat.{ℕ, suc, _+_, _-_, _*_, _/_, _%_, _^_, _<_, _≤_}
 use native.Mathlib.Omega.{arith}
-use native.Mathlib.Numerals.{add-one}
-use mathlib.Core.Path.{_≡_, refl, sym, ap, _∙_, subst}
-use mathlib.Core.Bool.{Bool, true, false}
-use mathlib.Core.List.{List, [], _∷_, _++_}
-use lib.ListN.{length, take, drop, getD, set, length-set}
+use mathlib.Core.Path.{sym}
 use Rattle.texts.proofs.Words.{kind-low, kind-high}
 use Rattle.texts.proofs.forms.kind_of.Statement.{statement}
 use Rattle.texts.proofs.forms.kind_of.Tie as tie

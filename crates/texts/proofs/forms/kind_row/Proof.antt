@@ -1,14 +1,10 @@
 -- The row of a form's kind. Assumes nothing.
-use mathlib.Core.Path.{_≡_, refl, sym, ap, _∙_}
-use Prim.Native.Nat.{ℕ}
+use mathlib.Core.Path.{sym, ap, _∙_}
 use Rattle.tables.specs.Kinds.{rowOf}
 use Rattle.texts.proofs.Words.{row-kind, kind-low, kind-high}
 use borrow.Author.Needs.{needs}
 use Rattle.texts.proofs.forms.kind_row.Statement.{statement}
 use Rattle.texts.proofs.forms.kind_row.Tie as tie
-use Rattle.texts.proofs.forms.kind_row.Reads as reads
-use Rattle.texts.proofs.forms.kind_row.Lts as lts
-use Rattle.tables.proofs.kinds.row.Reads as row-reads
 
 returns : tie.Need-returns
 returns c = c .before .pre .1 ∙ row-kind _ (c .if1 .taken) ∙ ap rowOf (sym (kind-low _ (c .if1 .taken)))

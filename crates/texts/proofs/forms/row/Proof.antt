@@ -1,5 +1,5 @@
 -- The row of a form. Assumes nothing.
-use mathlib.Core.Path.{_≡_, refl, sym, ap, _∙_}
+use mathlib.Core.Path.{sym, ap, _∙_}
 use Prim.Native.Nat.{ℕ, _-_}
 use mathlib.Core.List.{List, []}
 use lib.ListN.{getD}
@@ -7,10 +7,6 @@ use Rattle.texts.proofs.Words.{row-kind, row-extra}
 use borrow.Author.Needs.{needs}
 use Rattle.texts.proofs.forms.row.Statement.{statement}
 use Rattle.texts.proofs.forms.row.Tie as tie
-use Rattle.texts.proofs.forms.row.Reads as reads
-use Rattle.texts.proofs.forms.row.Lts as lts
-use Rattle.tables.proofs.kinds.row.Reads as row-reads
-use Rattle.texts.proofs.forms.others.Reads as others-reads
 
 others-requires : tie.Need-others-requires
 others-requires c κs = search needs

@@ -3,8 +3,6 @@ use borrow.Author.Tests.{eq-eqb, ne-eqb}
 use borrow.Author.Needs.{needs}
 use Rattle.texts.proofs.forms.sorted.Statement.{statement}
 use Rattle.texts.proofs.forms.sorted.Tie as tie
-use Rattle.texts.proofs.forms.sorted.Reads as reads
-use Rattle.texts.proofs.forms.sorted.Lts as lts
 
 array-read-if1 : tie.Need-array-read-if1
 array-read-if1 c = search needs

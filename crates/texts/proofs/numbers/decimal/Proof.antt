@@ -1,10 +1,8 @@
 -- A decimal number, by its length and first digit. Assumes nothing.
-use Prim.Native.Nat.{ℕ, suc, _+_, _-_, _*_, _/_, _%_, _^_, _<_, _≤_}
+use Prim.Native.Nat.{ℕ}
 use native.Mathlib.Omega.{arith}
-use mathlib.Core.Path.{_≡_, refl, sym, ap, _∙_, subst}
-use mathlib.Core.Bool.{Bool, true, false}
-use mathlib.Core.List.{List, [], _∷_, _++_}
-use lib.ListN.{length, take, drop, getD, set, length-set}
+use mathlib.Core.Path.{sym, _∙_}
+use mathlib.Core.List.{List}
 use Rattle.texts.proofs.Scan.{decimal-none, decimal-one, decimal-lead, decimal-more}
 use borrow.Author.Needs.{needs}
 use Rattle.texts.proofs.numbers.decimal.Statement.{statement}

@@ -1,10 +1,5 @@
 -- A digit, by its range. Assumes nothing.
-use Prim.Native.Nat.{ℕ, suc, _+_, _-_, _*_, _/_, _%_, _^_, _<_, _≤_}
 use native.Mathlib.Omega.{arith}
-use mathlib.Core.Path.{_≡_, refl, sym, ap, _∙_, subst}
-use mathlib.Core.Bool.{Bool, true, false}
-use mathlib.Core.List.{List, [], _∷_, _++_}
-use lib.ListN.{length, take, drop, getD, set, length-set}
 use Rattle.texts.proofs.Scan.{digit-1, digit-2, digit-3, digit-4, digit-5, digit-6, digit-7}
 use borrow.Author.Needs.{needs}
 use Rattle.texts.proofs.numbers.digit.Statement.{statement}

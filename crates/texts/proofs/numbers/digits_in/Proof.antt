@@ -1,12 +1,7 @@
 -- Digits of another base, at most so many. Assumes nothing.
-use Prim.Native.Nat.{ℕ, suc, _+_, _-_, _*_, _/_, _%_, _^_, _<_, _≤_}
 use native.Mathlib.Omega.{arith}
 use borrow.Author.Tests.{not-true, not-false}
-use native.Mathlib.Numerals.{add-one}
-use mathlib.Core.Path.{_≡_, refl, sym, ap, _∙_, subst}
-use mathlib.Core.Bool.{Bool, true, false}
-use mathlib.Core.List.{List, [], _∷_, _++_}
-use lib.ListN.{length, take, drop, getD, set, length-set}
+use mathlib.Core.Path.{sym, _∙_}
 use Rattle.texts.proofs.Scan.{digits-none, digits-bad, digits-long, digits-ok}
 use borrow.Author.Needs.{needs}
 use Rattle.texts.proofs.numbers.digits_in.Statement.{statement}

@@ -1,10 +1,5 @@
 -- Digits only, and their value. Assumes nothing.
-use Prim.Native.Nat.{ℕ, suc, _+_, _-_, _*_, _/_, _%_, _^_, _<_, _≤_}
-use native.Mathlib.Omega.{arith}
-use mathlib.Core.Path.{_≡_, refl, sym, ap, _∙_, subst}
-use mathlib.Core.Bool.{Bool, true, false}
-use mathlib.Core.List.{List, [], _∷_, _++_}
-use lib.ListN.{length, take, drop, getD, set, length-set}
+use mathlib.Core.Path.{sym, _∙_}
 use Rattle.texts.proofs.Scan.{scan-true, scan-false}
 use borrow.Author.Needs.{needs}
 use Rattle.texts.proofs.numbers.scan.Statement.{statement}

@@ -1,12 +1,11 @@
 -- The digits passed have the value so far. Assumes nothing.
 use borrow.Author.Needs.{needs}
-use Prim.Native.Nat.{ℕ, suc, _+_, _-_, _*_, _/_, _%_, _^_, _<_, _≤_}
+use Prim.Native.Nat.{ℕ, _+_, _-_, _*_, _^_, _<_, _≤_}
 use native.Mathlib.Omega.{arith}
-use mathlib.Core.Path.{_≡_, refl, sym, ap, _∙_, subst}
-use mathlib.Core.Bool.{Bool, true, false}
-use mathlib.Core.List.{List, [], _∷_, _++_}
-use lib.ListN.{length, take, drop, getD, set, length-set}
-use Rattle.texts.specs.Decimal.{digit, valueFrom, valued}
+use mathlib.Core.Path.{_≡_, sym, ap, _∙_}
+use mathlib.Core.List.{List}
+use lib.ListN.{length, drop, getD}
+use Rattle.texts.specs.Decimal.{digit, valueFrom}
 use Rattle.texts.proofs.Scan.{value-more, value-end, value-least, value-big, value-small, room-of, over-of}
 use Rattle.texts.proofs.numbers.value.Statement.{statement}
 use Rattle.texts.proofs.numbers.value.Tie as tie

@@ -6,11 +6,6 @@ use Rattle.texts.proofs.Steps.{taken-bad, taken-many, taken-few}
 use borrow.Author.Needs.{needs}
 use Rattle.texts.proofs.reading.finish.Statement.{statement}
 use Rattle.texts.proofs.reading.finish.Tie as tie
-use Rattle.texts.proofs.reading.finish.Reads as reads
-use Rattle.texts.proofs.reading.finish.Lts as lts
-use Rattle.texts.proofs.reading.large.Reads as large-reads
-use Rattle.texts.proofs.reading.refuse.Reads as refuse-reads
-use Rattle.texts.proofs.tokens.crowded.Reads as crowded-reads
 
 refuse-requires : tie.Need-refuse-requires
 refuse-requires c κs = search needs

@@ -1,11 +1,5 @@
 -- A token against the next id. Assumes nothing.
-use Prim.Native.Nat.{ℕ, suc, _+_, _-_, _*_, _/_, _%_, _^_, _<_, _≤_}
-use native.Mathlib.Omega.{arith}
-use native.Mathlib.Numerals.{add-one}
-use mathlib.Core.Path.{_≡_, refl, sym, ap, _∙_, subst}
-use mathlib.Core.Bool.{Bool, true, false}
-use mathlib.Core.List.{List, [], _∷_, _++_}
-use lib.ListN.{length, take, drop, getD, set, length-set}
+use mathlib.Core.Path.{sym, ap, _∙_}
 use Rattle.texts.specs.declared.Num.{Num}
 use Rattle.texts.specs.Reading.{isId}
 use borrow.Author.Needs.{needs}

@@ -1,19 +1,12 @@
 -- The rules 8, 9 and 10. Assumes nothing.
-use mathlib.Core.Path.{_≡_, sym, ap, _∙_, subst}
+use mathlib.Core.Path.{sym, ap, _∙_}
 use Prim.Native.Nat.{ℕ}
-use mathlib.Core.List.{List}
 use Rattle.texts.specs.Reading.{ruled}
 use Rattle.texts.specs.Stages.{asRead}
 use Rattle.texts.proofs.Steps.{judged-8, judged-9, judged-const, judged-other}
 use borrow.Author.Needs.{needs}
 use Rattle.texts.proofs.reading.judge.Statement.{statement}
 use Rattle.texts.proofs.reading.judge.Tie as tie
-use Rattle.texts.proofs.reading.judge.Reads as reads
-use Rattle.texts.proofs.reading.judge.Lts as lts
-use Rattle.tables.proofs.rules.fault.Reads as fault-reads
-use Rattle.tables.proofs.types.at.Reads as at-reads
-use Rattle.texts.proofs.reading.refuse.Reads as refuse-reads
-use Rattle.texts.proofs.reading.ruled.Reads as ruled-reads
 
 fault-requires : tie.Need-fault-requires
 fault-requires c κs = search needs

@@ -1,7 +1,6 @@
 -- Rule 7, and then the others. Assumes nothing.
 use Prim.Native.Nat.{ℕ, _≤_}
-use mathlib.Core.Path.{_≡_, sym, ap, _∙_, subst}
-use mathlib.Core.List.{List}
+use mathlib.Core.Path.{sym, ap, _∙_, subst}
 use borrow.Author.Tests.{not-true, not-false}
 use Rattle.tables.specs.Kinds.{rowOf}
 use Rattle.tables.specs.Lines.{kindIn}
@@ -10,13 +9,6 @@ use Rattle.texts.proofs.Steps.{large-big, large-wide, large-fits, large
 use borrow.Author.Needs.{needs}
 use Rattle.texts.proofs.reading.large.Statement.{statement}
 use Rattle.texts.proofs.reading.large.Tie as tie
-use Rattle.texts.proofs.reading.large.Reads as reads
-use Rattle.texts.proofs.reading.large.Lts as lts
-use Rattle.tables.proofs.rules.is_width.Reads as is-width-reads
-use Rattle.tables.proofs.types.at.Reads as at-reads
-use Rattle.texts.proofs.reading.judge.Reads as judge-reads
-use Rattle.texts.proofs.reading.refuse.Reads as refuse-reads
-use Rattle.texts.proofs.reading.settle.Reads as settle-reads
 
 refuse-requires : tie.Need-refuse-requires
 refuse-requires c κs = search needs

@@ -1,11 +1,5 @@
 -- A number in the digits of its form. Assumes nothing.
-use Prim.Native.Nat.{ℕ, suc, _+_, _-_, _*_, _/_, _%_, _^_, _<_, _≤_}
-use native.Mathlib.Omega.{arith}
-use native.Mathlib.Numerals.{add-one}
-use mathlib.Core.Path.{_≡_, refl, sym, ap, _∙_, subst}
-use mathlib.Core.Bool.{Bool, true, false}
-use mathlib.Core.List.{List, [], _∷_, _++_}
-use lib.ListN.{length, take, drop, getD, set, length-set}
+use mathlib.Core.Path.{sym, _∙_}
 use Rattle.texts.proofs.Scan.{number-binary, number-hex, number-other, number-first}
 use borrow.Author.Needs.{needs}
 use Rattle.texts.proofs.reading.number.Statement.{statement}

@@ -6,8 +6,6 @@ use lib.Pow.{ones-split, high, ones-lt}
 use borrow.Author.Needs.{needs}
 use Rattle.texts.proofs.reading.ones.Statement.{statement}
 use Rattle.texts.proofs.reading.ones.Tie as tie
-use Rattle.texts.proofs.reading.ones.Reads as reads
-use Rattle.texts.proofs.reading.ones.Lts as lts
 
 returns : tie.Need-returns
 returns c = ap (λ (n : ℕ). 2 ^ n - 1) (sym (c .if1 .taken))

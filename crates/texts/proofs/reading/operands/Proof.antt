@@ -1,18 +1,15 @@
 -- The numbers passed are in the record. Assumes nothing.
 use borrow.Author.Needs.{needs}
-use Prim.Native.Nat.{ℕ, suc, _+_, _-_, _*_, _/_, _%_, _^_, _<_, _≤_}
+use Prim.Native.Nat.{ℕ, _+_, _-_, _≤_}
 use native.Mathlib.Omega.{arith}
-use native.Mathlib.Numerals.{add-one}
-use mathlib.Core.Path.{_≡_, refl, sym, ap, _∙_, subst}
-use mathlib.Core.Bool.{Bool, true, false}
-use mathlib.Core.List.{List, [], _∷_, _++_}
+use mathlib.Core.Path.{_≡_, refl, sym, ap, _∙_}
+use mathlib.Core.Bool.{true, false}
+use mathlib.Core.List.{List, [], _∷_}
 use lib.ListN.{length, take, drop, getD, set, length-set}
 use lib.ListN.{length-drop}
 use lib.Seq.{getD-set-other, length-take-le}
-use Rattle.texts.specs.declared.Num.{Num}
-use Rattle.texts.specs.declared.Num.the-variants.{Bad, Big, Is}
 use Rattle.texts.specs.Split.{tokens}
-use Rattle.texts.specs.Reading.{operands, numberAt, Took, took, malformed}
+use Rattle.texts.specs.Reading.{operands}
 use Rattle.texts.proofs.Places.{next-token, no-token}
 use Rattle.texts.proofs.Steps.{op-end, op-none, op-bad, op-big, op-is}
 use Rattle.texts.proofs.reading.operands.Statement.{statement}

@@ -1,24 +1,15 @@
 -- A line, refusal by refusal. Assumes nothing.
 use lib.ListN.{take, drop}
 use borrow.Author.Needs.{needs}
-use Prim.Native.Nat.{ℕ, _+_, _-_, _≤_}
+use Prim.Native.Nat.{_-_}
 use native.Mathlib.Omega.{arith}
-use mathlib.Core.Path.{_≡_, refl, sym, ap, _∙_, subst}
-use mathlib.Core.List.{List}
+use mathlib.Core.Path.{_≡_, refl, sym, _∙_}
 use borrow.Author.Tests.{not-true, not-false}
 use Rattle.tables.specs.Lists.{lookIn, givenIn}
 use Rattle.texts.proofs.Places.{no-token, next-token}
 use Rattle.texts.proofs.Steps.{read-skip, read-3, read-4, read-5, read-on}
 use Rattle.texts.proofs.reading.read_line.Statement.{statement}
 use Rattle.texts.proofs.reading.read_line.Tie as tie
-use Rattle.texts.proofs.reading.read_line.Reads as reads
-use Rattle.texts.proofs.reading.read_line.Lts as lts
-use Rattle.texts.proofs.reading.is_id.Reads as is-id-reads
-use Rattle.texts.proofs.reading.refuse.Reads as refuse-reads
-use Rattle.texts.proofs.reading.rest.Reads as rest-reads
-use Rattle.texts.proofs.reading.word.Reads as word-reads
-use Rattle.texts.proofs.tokens.find_byte.Reads as find-byte-reads
-use Rattle.texts.proofs.tokens.skip.Reads as skip-reads
 
 skip-requires : tie.Need-skip-requires
 skip-requires c κs = search needs

@@ -3,27 +3,17 @@ use mathlib.Core.Bool.{false}
 use lib.ListN.{replicate}
 use Rattle.texts.proofs.Reached.{table-size}
 use borrow.Author.Needs.{needs}
-use Prim.Native.Nat.{ℕ, _+_, _-_, _*_, _≤_, _<_}
+use Prim.Native.Nat.{ℕ, _-_}
 use native.Mathlib.Omega.{arith}
-use mathlib.Core.Path.{_≡_, refl, sym, ap, _∙_, subst}
+use mathlib.Core.Path.{_≡_, refl, sym, ap, _∙_}
 use mathlib.Core.List.{List, [], _++_}
 use lib.ListN.{length, length-replicate}
 use Rattle.tables.specs.Types.{Ctx, noCtx, grow}
 use Rattle.tables.specs.Lines.{lineOf}
-use Rattle.tables.specs.Lists.{Ample}
 use Rattle.tables.specs.Tables.{room as roomOf}
 use Rattle.texts.proofs.Reached.{Reached, at-start, at-end, at-no, at-skip, at-got, narrow-list, fits-record, sort-fits, out-refused, out-done}
 use Rattle.texts.proofs.reading.read_lines.Statement.{statement}
 use Rattle.texts.proofs.reading.read_lines.Tie as tie
-use Rattle.texts.proofs.reading.read_lines.Reads as reads
-use Rattle.texts.proofs.reading.read_lines.Lts as lts
-use Rattle.tables.proofs.records.clear.Reads as clear-reads
-use Rattle.tables.proofs.records.room_of.Reads as room-of-reads
-use Rattle.texts.proofs.reading.read_line.Reads as read-line-reads
-use Rattle.texts.proofs.reading.take.Reads as take-reads
-use Rattle.texts.proofs.tokens.after.Reads as after-reads
-use Rattle.texts.proofs.tokens.cut.Reads as cut-reads
-use Rattle.texts.proofs.tokens.find_byte.Reads as find-byte-reads
 
 abbrev Inv-loop : tie.InvT-loop
 Inv-loop text table₀ cls₀ idx₀ wid₀ ini₀ nxt₀ room i₀ n₀ line₀ table cls idx wid ini nxt i n line =

@@ -1,7 +1,7 @@
 -- The numbers of a line, and what follows. Assumes nothing.
-use Prim.Native.Nat.{ℕ, _+_, _-_, _≤_}
+use Prim.Native.Nat.{ℕ, _≤_}
 use native.Mathlib.Omega.{arith}
-use mathlib.Core.Path.{_≡_, sym, ap, _∙_, subst}
+use mathlib.Core.Path.{sym, ap, _∙_, subst}
 use mathlib.Core.List.{List}
 use Rattle.tables.specs.Kinds.{rowOf, countOf}
 use Rattle.tables.specs.Lists.{lookIn, givenIn}
@@ -10,14 +10,6 @@ use Rattle.texts.proofs.Steps.{taken-from}
 use borrow.Author.Needs.{needs}
 use Rattle.texts.proofs.reading.rest.Statement.{statement}
 use Rattle.texts.proofs.reading.rest.Tie as tie
-use Rattle.texts.proofs.reading.rest.Reads as reads
-use Rattle.texts.proofs.reading.rest.Lts as lts
-use Rattle.texts.proofs.forms.kind_of.Reads as kind-of-reads
-use Rattle.texts.proofs.forms.kind_row.Reads as kind-row-reads
-use Rattle.texts.proofs.forms.row.Reads as row-reads
-use Rattle.texts.proofs.forms.sorted.Reads as sorted-reads
-use Rattle.texts.proofs.reading.finish.Reads as finish-reads
-use Rattle.texts.proofs.reading.operands.Reads as operands-reads
 
 row-requires : tie.Need-row-requires
 row-requires c κs = search needs

@@ -1,13 +1,10 @@
 -- The record, or what the rules say. Assumes nothing.
-use mathlib.Core.Path.{_≡_, refl, sym, ap, _∙_}
+use mathlib.Core.Path.{sym, ap, _∙_}
 use Rattle.texts.specs.Stages.{asRead}
 use Rattle.texts.proofs.Steps.{ruled-got, ruled-9, ruled-10}
 use borrow.Author.Needs.{needs}
 use Rattle.texts.proofs.reading.ruled.Statement.{statement}
 use Rattle.texts.proofs.reading.ruled.Tie as tie
-use Rattle.texts.proofs.reading.ruled.Reads as reads
-use Rattle.texts.proofs.reading.ruled.Lts as lts
-use Rattle.texts.proofs.reading.refuse.Reads as refuse-reads
 
 returns : tie.Need-returns
 returns c = ap asRead (sym (ruled-got _ _ (c .if1 .taken)))

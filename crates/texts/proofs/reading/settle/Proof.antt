@@ -1,14 +1,11 @@
 -- The value that a word gives. Assumes nothing.
-use mathlib.Core.Path.{_≡_, refl, sym, ap, _∙_}
+use mathlib.Core.Path.{sym, ap, _∙_}
 use Prim.Native.Nat.{ℕ}
 use lib.ListN.{set}
 use Rattle.texts.proofs.Steps.{settled-one, settled-ones, settled-other}
 use borrow.Author.Needs.{needs}
 use Rattle.texts.proofs.reading.settle.Statement.{statement}
 use Rattle.texts.proofs.reading.settle.Tie as tie
-use Rattle.texts.proofs.reading.settle.Reads as reads
-use Rattle.texts.proofs.reading.settle.Lts as lts
-use Rattle.texts.proofs.reading.ones.Reads as ones-reads
 
 array-write-t : tie.Need-array-write-t
 array-write-t c = search needs

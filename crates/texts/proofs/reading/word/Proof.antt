@@ -1,15 +1,11 @@
 -- The line's word, token by token. Assumes nothing.
-use Prim.Native.Nat.{ℕ, suc, _+_, _-_, _*_, _/_, _%_, _^_, _<_, _≤_}
+use Prim.Native.Nat.{ℕ, _-_}
 use native.Mathlib.Omega.{arith}
-use native.Mathlib.Numerals.{add-one}
-use mathlib.Core.Path.{_≡_, refl, sym, ap, _∙_, subst}
-use mathlib.Core.Bool.{Bool, true, false}
-use mathlib.Core.List.{List, [], _∷_, _++_}
-use lib.ListN.{length, take, drop, getD, set, length-set}
-use Rattle.texts.specs.Forms.{sortWord}
-use Rattle.texts.specs.Split.{tokens, same}
-use Rattle.texts.specs.Reading.{wordIn, known, sortWords, findIn}
-use Rattle.texts.specs.Stages.{wordAt}
+use mathlib.Core.Path.{_≡_, sym, ap, _∙_}
+use mathlib.Core.List.{List, [], _∷_}
+use lib.ListN.{take, drop}
+use Rattle.texts.specs.Split.{tokens}
+use Rattle.texts.specs.Reading.{wordIn, known, sortWords}
 use Rattle.texts.proofs.Places.{next-token, no-token}
 use Rattle.texts.proofs.Words.{word-none, word-sort, word-other, known-at, find-most}
 use borrow.Author.Needs.{needs}

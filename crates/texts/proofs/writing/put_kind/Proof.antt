@@ -1,17 +1,14 @@
 -- The words of a kind, with their spaces. Assumes nothing.
-use Prim.Native.Nat.{ℕ, suc, _+_, _-_, _*_, _/_, _%_, _^_, _<_, _≤_}
+use Prim.Native.Nat.{ℕ, _+_}
 use native.Mathlib.Omega.{arith}
-use native.Mathlib.Numerals.{add-one}
-use mathlib.Core.Path.{_≡_, refl, sym, ap, _∙_, subst}
-use mathlib.Core.Bool.{Bool, true, false}
+use mathlib.Core.Path.{_≡_, sym, ap, _∙_, subst}
 use mathlib.Core.List.{List, [], _∷_, _++_}
-use lib.ListN.{length, take, drop, getD, set, length-set}
-use lib.Seq.{sets, length-sets}
-use Rattle.tables.specs.Kinds.{wordOf, rowOf}
+use lib.ListN.{length}
+use lib.Seq.{sets}
+use Rattle.tables.specs.Kinds.{wordOf}
 use Rattle.texts.specs.Forms.{sortWord}
-use Rattle.texts.specs.Split.{spaced, join}
-use Rattle.texts.specs.Decimal.{digits}
-use Rattle.texts.specs.Writing.{numbers, kindTokens, tokensOf}
+use Rattle.texts.specs.Split.{spaced}
+use Rattle.texts.specs.Writing.{kindTokens}
 use Rattle.texts.proofs.Printed.{kind-sort, kind-word, and-then}
 use Rattle.texts.proofs.Printed.{row-words}
 use borrow.Author.Needs.{needs}

@@ -1,7 +1,7 @@
 -- The parts of a line, one after the other. Assumes nothing.
-use Prim.Native.Nat.{ℕ, _+_, _-_, _≤_}
+use Prim.Native.Nat.{ℕ, _≤_}
 use native.Mathlib.Omega.{arith}
-use mathlib.Core.Path.{_≡_, sym, subst}
+use mathlib.Core.Path.{sym, subst}
 use mathlib.Core.List.{List}
 use Rattle.tables.specs.Kinds.{countOf}
 use Rattle.tables.specs.Lines.{kindIn}
@@ -10,14 +10,6 @@ use Rattle.texts.proofs.Printed.{row-fit, line-length, line-put}
 use borrow.Author.Needs.{needs}
 use Rattle.texts.proofs.writing.put_line.Statement.{statement}
 use Rattle.texts.proofs.writing.put_line.Tie as tie
-use Rattle.texts.proofs.writing.put_line.Reads as reads
-use Rattle.texts.proofs.writing.put_line.Lts as lts
-use Rattle.tables.proofs.kinds.row.Reads as row-reads
-use Rattle.texts.proofs.forms.sorted.Reads as sorted-reads
-use Rattle.texts.proofs.writing.put.Reads as put-reads
-use Rattle.texts.proofs.writing.put_kind.Reads as put-kind-reads
-use Rattle.texts.proofs.writing.put_number.Reads as put-number-reads
-use Rattle.texts.proofs.writing.put_numbers.Reads as put-numbers-reads
 
 array-read-k : tie.Need-array-read-k
 array-read-k c = search needs

@@ -5,10 +5,6 @@ use native.Mathlib.Omega.{arith}
 use Rattle.texts.proofs.Printed.{Before, before-all, after-all, this-kind, this-fits, next-record}
 use Rattle.texts.proofs.writing.put_lines.Statement.{statement}
 use Rattle.texts.proofs.writing.put_lines.Tie as tie
-use Rattle.texts.proofs.writing.put_lines.Reads as reads
-use Rattle.texts.proofs.writing.put_lines.Lts as lts
-use Rattle.tables.proofs.records.record.Reads as record-reads
-use Rattle.texts.proofs.writing.put_line.Reads as put-line-reads
 
 abbrev Inv-loop : tie.InvT-loop
 Inv-loop out₀ table count at₀ p₀ out at p = Before table count out₀ out at p

@@ -1,17 +1,12 @@
 -- The letters passed are stored. Assumes nothing.
 use borrow.Author.Needs.{needs}
-use Prim.Native.Nat.{ℕ, suc, _+_, _-_, _*_, _/_, _%_, _^_, _<_, _≤_}
+use Prim.Native.Nat.{ℕ, _+_, _-_, _^_, _<_, _≤_}
 use native.Mathlib.Omega.{arith}
-use native.Mathlib.Numerals.{add-one}
-use mathlib.Core.Path.{_≡_, refl, sym, ap, _∙_, subst}
-use mathlib.Core.Bool.{Bool, true, false}
-use mathlib.Core.List.{List, [], _∷_, _++_}
-use lib.ListN.{length, take, drop, getD, set, length-set, length-drop}
-use lib.Seq.{sets, length-sets}
-use Rattle.tables.specs.Kinds.{wordOf, rowOf}
-use Rattle.texts.specs.Split.{spaced}
-use Rattle.texts.specs.Decimal.{digits}
-use Rattle.texts.specs.Writing.{numbers, kindTokens}
+use mathlib.Core.Path.{_≡_, refl, sym, ap, _∙_}
+use mathlib.Core.List.{List}
+use lib.ListN.{length, drop, getD, set, length-set, length-drop}
+use lib.Seq.{sets}
+use Rattle.tables.specs.Kinds.{wordOf}
 use Rattle.texts.proofs.Words.{word-at, word-length}
 use Rattle.texts.proofs.Printed.{out-byte, out-less, out-none}
 use Rattle.texts.proofs.writing.put_word.Statement.{statement}

@@ -1,0 +1,95 @@
+// Names: the extra token of a line, as a part of the text.
+use crate::Part;
+use crate::forms;
+use crate::reading;
+use crate::tokens;
+ghost use mathlib.Core.Path.{_≡_};
+ghost use Prim.Native.Nat.{_+_, _-_, _≤_};
+ghost use lib.ListN.{take, drop};
+ghost use Rattle.texts.specs.Split.{tokens as tokensIn};
+ghost use Rattle.texts.specs.Naming.{leads as leadsBy, only as onlyOf, lineName, nameOf};
+
+// The place behind m tokens from the place i on, or the line's end where there are fewer.
+pub fn pass(l: &[u8], i: usize, m: usize) -> usize
+    requires { do ⌜ i ≤ (← ⟦l.len()⟧) ⌝ }
+    ensures { λ r. do ⌜ (r ≤ (← ⟦l.len()⟧ .entry)) × (tokensIn (drop r (now (l .entry))) ≡ drop m (tokensIn (drop i (now (l .entry))))) ⌝ }
+{
+    let mut at = i;
+    let mut p: usize = 0;
+    while p < m {
+        let a = tokens::skip(l, at);
+        if a == l.len() {
+            return a;
+        }
+        at = tokens::find_byte(l, a, 32);
+        p += 1;
+    }
+    at
+}
+
+// The token that stands alone from the place i on, or an empty part.
+pub fn only(l: &[u8], i: usize) -> Part
+    requires { do ⌜ i ≤ (← ⟦l.len()⟧) ⌝ }
+    ensures { λ r. do ⌜ (r .from ≤ r .to) × ((r .to ≤ (← ⟦l.len()⟧ .entry)) × (take (r .to - r .from) (drop (r .from) (now (l .entry))) ≡ onlyOf (tokensIn (drop i (now (l .entry)))))) ⌝ }
+{
+    let a = tokens::skip(l, i);
+    if a == l.len() {
+        return Part { from: 0, to: 0 };
+    }
+    let z = tokens::find_byte(l, a, 32);
+    let b = tokens::skip(l, z);
+    if b == l.len() {
+        return Part { from: a, to: z };
+    }
+    Part { from: 0, to: 0 }
+}
+
+// The name in a line.
+pub fn part(l: &[u8]) -> Part
+    ensures { λ r. do ⌜ (r .from ≤ r .to) × ((r .to ≤ (← ⟦l.len()⟧ .entry)) × (take (r .to - r .from) (drop (r .from) (now (l .entry))) ≡ lineName (tokensIn (now (l .entry))))) ⌝ }
+{
+    let i = pass(l, 0, 1);
+    let w = reading::word(l, i);
+    let f = w.form;
+    let at = w.at;
+    if f == 0 {
+        return Part { from: 0, to: 0 };
+    }
+    let row = forms::row(f);
+    let s = forms::sorted(row);
+    let c = row[12] as usize;
+    let p = pass(l, at, s + c);
+    only(l, p)
+}
+
+// The id of a line is the number n.
+pub fn leads(l: &[u8], n: u64) -> bool
+    ensures { λ r. ⌜ r ≡ leadsBy n (tokensIn (now (l .entry))) ⌝ }
+{
+    let a = tokens::skip(l, 0);
+    if a == l.len() {
+        return false;
+    }
+    let z = tokens::find_byte(l, a, 32);
+    reading::is_id(&l[a..z], n)
+}
+
+// The name of the first line whose id is n.
+pub fn find(text: &[u8], n: u64) -> Part
+    ensures { λ r. do ⌜ (r .from ≤ r .to) × ((r .to ≤ (← ⟦text.len()⟧ .entry)) × (take (r .to - r .from) (drop (r .from) (now (text .entry))) ≡ nameOf (now (text .entry)) n)) ⌝ }
+{
+    let mut i: usize = 0;
+    while i < text.len() {
+        let e = tokens::find_byte(text, i, 10);
+        let z = tokens::cut(text, i, e);
+        if leads(&text[i..z], n) {
+            let p = part(&text[i..z]);
+            return Part {
+                from: i + p.from,
+                to: i + p.to,
+            };
+        }
+        i = tokens::after(e, text.len());
+    }
+    Part { from: 0, to: 0 }
+}
