@@ -1,0 +1,3 @@
+pub mod Ready
+pub mod Demand3
+pub mod Sample

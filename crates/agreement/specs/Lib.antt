@@ -1,0 +1,2 @@
+-- The claim of demand 3.
+pub mod Comparison

@@ -1,0 +1,160 @@
+-- The program of an accepted flat circuit keeps the rules for programs, `translated-ok`, and so its records are an accepted program, `program-accepted`. Assumes nothing.
+use Prim.Native.Nat.{ℕ, _+_, _≤_}
+use mathlib.Core.Path.{_≡_, refl, sym, _∙_, subst}
+use mathlib.Core.Logic.{inl, inr}
+use mathlib.Core.Bool.{Bool, true, false, not}
+use mathlib.Core.List.{List, [], _∷_, _++_}
+use native.Mathlib.Nat.{le-refl}
+use native.Mathlib.Omega.{arith}
+use lib.Dec.{eqb}
+use lib.ListN.{length}
+use borrow.Author.Tests.{eq-eqb}
+use Rattle.tables.specs.declared.Ty.{Ty}
+use Rattle.tables.specs.declared.Checked.the-variants.{Accepted}
+use Rattle.tables.specs.Kinds.{rowOf}
+use Rattle.tables.specs.Lines.{Line, Expr, bitvec, array, input, state, val, give, mark, output, junk, const, one, two, cmp, ite, read, write, encode}
+use Rattle.tables.specs.Types.{sortAt, tyAt, given, givenBy, Ctx, grow, growAll, noCtx}
+use Rattle.tables.specs.Tables.{whole, checked}
+use Rattle.tables.proofs.Kept.{no-yes}
+use Rattle.tables.proofs.Facts.{OkOne, OkValue, OkExpr, Ok, AllOk}
+use Rattle.tables.proofs.Encoding.{encoded-accepted}
+use Rattle.circuits.specs.Layout.{Layout, typeAt, typeOf, placeOf, lay, layAll}
+use Rattle.programs.specs.Uses.{looseLine, looseExpr, needed}
+use Rattle.programs.specs.Translation.{Info, info, noInfo, widthOf, numberOf, looseOf, put, renumbered, made, isArraySort, hasArray, translateFrom, translate}
+use Rattle.programs.proofs.Grew.{lines, grew-line, new-type}
+use Rattle.programs.proofs.Laid.{Laid, sort-of-width, Fresh, puts}
+use Rattle.programs.proofs.LaidLines.{and-never, typed, sorted, fresh-input, fresh-state, fresh-val, laid-line, lines-more, or-none, laid-start}
+use Rattle.programs.proofs.Once.{Once, once-start, once-quiet, once-give}
+
+-- ---- a value instruction with its mask
+
+mask-ok : (L : ℕ → Ty) (w b : ℕ) (t : Ty) → L b ≡ t → 1 ≤ w → w ≤ 64 → 2 ≤ t .cls → t .iw ≡ 0 → t .w ≡ w → OkOne true (sortAt true L w) 56 (L b) 0 0
+unfolding rowOf
+mask-ok L w b t e h k c i x =
+    rw (sort-of-width L w h k, e)
+    (record { kind = inr refl; sort = record { is = refl; flat = refl }; arg = record { is = c; flat = i }; rule = eq-eqb w (t .w) (sym x); spare₂ = refl; spare₃ = refl })
+
+module _ {Y Z : Layout} {J : List Info} (v : Laid Y Z J) (o : Once Y Z J) where
+  put-ok : (i l : Line) (b w : ℕ) (lo n : Bool) → b ≡ lines Z → Fresh Z i (typeOf false Y l) (placeOf Y l) w lo → Ok true (tyAt (Z .ctx)) (given (Z .ctx)) i → AllOk true (Z .ctx) (put b w i lo n .code)
+  put-ok i l b w false n e h k = (k, tt)
+  put-ok i l b w true false e h k = (k, tt)
+  put-ok i l b w true true e h k =
+      (k, (mask-ok (tyAt (lay true Z i .ctx)) w b (typeOf false Y l) (new-type true (v .evenZ) i b e ∙ h .type) (h .least) (h .most) (h .class) (h .flat) (h .width), tt))
+
+  -- ---- each line
+
+  val-ok : (s : ℕ) (x : Expr) → OkExpr false (tyAt (Y .ctx)) (typeAt Y s) x → OkExpr true (tyAt (Z .ctx)) (sortAt true (tyAt (Z .ctx)) (widthOf J s)) (renumbered (numberOf J) x)
+  val-ok s (const n) k = rw (sorted v s (k .sort .is)) k
+  val-ok s (one n a x y) k =
+      rw (sorted v s (k .sort .is), typed v a (k .arg .is))
+      (record { kind = inl (k .kind); sort = k .sort; arg = k .arg; rule = k .rule; spare₂ = k .spare₂; spare₃ = k .spare₃ })
+  val-ok s (two n a b) k = rw (sorted v s (k .sort .is), typed v a (k .left .is), typed v b (k .right .is)) k
+  val-ok s (cmp e a b) k = rw (sorted v s (k .sort .is), typed v a (k .left .is), typed v b (k .right .is)) k
+  val-ok s (ite c a b) k = rw (sorted v s (k .sort .is), typed v c (k .cond .is), typed v a (k .left .is), typed v b (k .right .is)) k
+  val-ok s (read a i) k = absurd (omega (arith, v .rel a .flat, k .arr .deep))
+  val-ok s (write a i x) k = absurd (omega (arith, v .rel a .flat, k .arr .deep))
+
+  -- the value of an init or a next is a value
+  given-value : (m : Bool) (q x : ℕ) (t : Ty) → OkValue m q x t → 2 ≤ t .cls
+  given-value true q x t k = k .word .is
+  given-value false q x t k = k .is
+
+  value-ok : (m : Bool) (q x : ℕ) → typeAt Y q .cls ≡ 4 → OkValue m q x (typeAt Y x) → OkValue m (numberOf J q) (numberOf J x) (typeAt Y x)
+  value-ok true q x c k = record { word = k .word; below = o .rising x q (k .word .is) (omega arith) (k .below); fixed = k .fixed }
+  value-ok false q x c k = k
+
+  give-ok : (m : Bool) (s q x : ℕ) → Ok false (tyAt (Y .ctx)) (given (Y .ctx)) (give m s q x) → Ok true (tyAt (Z .ctx)) (given (Z .ctx)) (give m (widthOf J s) (numberOf J q) (numberOf J x))
+  give-ok m s q x k =
+      rw (sorted v s (k .sort .is), typed v q (omega (arith, k .state)), typed v x (given-value m q x (typeAt Y x) (k .value)))
+      (record { sort = k .sort; state = k .state; same = k .same; value = value-ok m q x (k .state) (k .value); iw = k .iw; w = k .w; once = o .same m q (k .state) ∙ k .once })
+
+  pub line-ok : (N : ℕ → Bool) (b : ℕ) (l : Line) → b ≡ lines Z → Ok false (tyAt (Y .ctx)) (given (Y .ctx)) l → isArraySort l ≡ false → AllOk true (Z .ctx) (made N J b l .code)
+  line-ok N b (bitvec w) e k f = tt
+  line-ok N b (array i j) e k f = tt
+  line-ok N b (input s) e k f =
+      put-ok (input (widthOf J s)) (input s) b (widthOf J s) (looseLine (widthOf J s) 4 false false false) (N (length J)) e (fresh-input v s _ k) (rw (sorted v s (k .is)) k)
+  line-ok N b (state s) e k f =
+      put-ok (state (widthOf J s)) (state s) b (widthOf J s) (looseLine (widthOf J s) 5 false false false) (N (length J)) e (fresh-state v s _ (and-never (not (eqb (widthOf J s) 64))) k)
+      (rw (sorted v s (k .is)) k)
+  line-ok N b (val s x) e k f =
+      put-ok (val (widthOf J s) (renumbered (numberOf J) x)) (val s x) b (widthOf J s) (looseExpr (looseOf J) (widthOf J s) x) (N (length J)) e (fresh-val v s x _ k) (val-ok s x k)
+  line-ok N b (give m s q x) e k f = (give-ok m s q x k, tt)
+  line-ok N b (mark m a) e k f = (rw (typed v a (k .word .is)) k, tt)
+  line-ok N b (output a) e k f = (rw (typed v a (k .is)) k, tt)
+  line-ok N b junk e k f = absurd k
+
+  -- ---- numbers rise, and states are given once
+
+  put-given : (m : Bool) (b w : ℕ) (i : Line) (lo n : Bool) → givenBy m (lay true Z i .ctx) ≡ givenBy m (Z .ctx) → givenBy m (layAll true Z (put b w i lo n .code) .ctx) ≡ givenBy m (Z .ctx)
+  put-given m b w i false n e = e
+  put-given m b w i true false e = e
+  put-given true b w i true true e = e
+  put-given false b w i true true e = e
+
+  put-number : (b w : ℕ) (i : Line) (lo n : Bool) → b ≤ put b w i lo n .info .num
+  put-number b w i false n = le-refl b
+  put-number b w i true false = le-refl b
+  put-number b w i true true = omega arith
+
+  once-put : (l i : Line) (b w : ℕ) (lo n : Bool) → b ≡ lines Z → Fresh Z i (typeOf false Y l) (placeOf Y l) w lo
+      → ((m : Bool) → givenBy m (lay false Y l .ctx) ≡ givenBy m (Y .ctx)) → ((m : Bool) → givenBy m (lay true Z i .ctx) ≡ givenBy m (Z .ctx))
+      → Once (lay false Y l) (layAll true Z (put b w i lo n .code)) (J ++ (put b w i lo n .info ∷ []))
+  once-put l i b w lo n e h gy gz =
+      once-quiet v o l (put b w i lo n .info) (λ c. omega (arith, put-number b w i lo n)) gy (λ m. put-given m b w i lo n (gz m)) (puts (v .evenZ) b e lo n h .grew .longer)
+
+  unchanged : (p : Bool) (X : Layout) (l : Line) → (lay p X l .ctx .inits ≡ X .ctx .inits) → (lay p X l .ctx .nexts ≡ X .ctx .nexts) → (m : Bool) → givenBy m (lay p X l .ctx) ≡ givenBy m (X .ctx)
+  unchanged p X l e f true = e
+  unchanged p X l e f false = f
+
+  pub once-line : (N : ℕ → Bool) (b : ℕ) (l : Line) → b ≡ lines Z → Ok false (tyAt (Y .ctx)) (given (Y .ctx)) l → isArraySort l ≡ false
+      → Once (lay false Y l) (layAll true Z (made N J b l .code)) (J ++ (made N J b l .info ∷ []))
+  once-line N b (bitvec w) e k f = once-quiet v o (bitvec w) (info w 0 false) (λ c. absurd (omega arith)) (unchanged false Y (bitvec w) refl refl) (λ m. refl) (le-refl (lines Z))
+  once-line N b (array i j) e k f = absurd (no-yes (sym f))
+  once-line N b (input s) e k f =
+      once-put (input s) (input (widthOf J s)) b (widthOf J s) (looseLine (widthOf J s) 4 false false false) (N (length J)) e (fresh-input v s _ k) (unchanged false Y (input s) refl refl)
+      (unchanged true Z (input (widthOf J s)) refl refl)
+  once-line N b (state s) e k f =
+      once-put (state s) (state (widthOf J s)) b (widthOf J s) (looseLine (widthOf J s) 5 false false false) (N (length J)) e (fresh-state v s _ (and-never (not (eqb (widthOf J s) 64))) k)
+      (unchanged false Y (state s) refl refl) (unchanged true Z (state (widthOf J s)) refl refl)
+  once-line N b (val s x) e k f =
+      once-put (val s x) (val (widthOf J s) (renumbered (numberOf J) x)) b (widthOf J s) (looseExpr (looseOf J) (widthOf J s) x) (N (length J)) e (fresh-val v s x _ k)
+      (unchanged false Y (val s x) refl refl) (unchanged true Z (val (widthOf J s) (renumbered (numberOf J) x)) refl refl)
+  once-line N b (give m s q x) e k f = once-give v o m s q x (widthOf J s) (numberOf J x) (k .state)
+  once-line N b (mark m a) e k f =
+      once-quiet v o (mark m a) noInfo (λ c. absurd (omega arith)) (unchanged false Y (mark m a) refl refl) (unchanged true Z (mark m (numberOf J a)) refl refl)
+      (grew-line true (v .evenZ) (mark m (numberOf J a)) .longer)
+  once-line N b (output a) e k f =
+      once-quiet v o (output a) noInfo (λ c. absurd (omega arith)) (unchanged false Y (output a) refl refl) (unchanged true Z (output (numberOf J a)) refl refl)
+      (grew-line true (v .evenZ) (output (numberOf J a)) .longer)
+  once-line N b junk e k f = absurd k
+
+-- ---- all lines
+
+-- the context of a layout is the lines' context
+lay-ctx : (p : Bool) (Z : Layout) (ls : List Line) → layAll p Z ls .ctx ≡ growAll p (Z .ctx) ls
+lay-ctx p Z [] = refl
+lay-ctx p Z (l ∷ ls) = lay-ctx p (lay p Z l) ls
+
+ok-append : (p : Bool) (c : Ctx) (xs ys : List Line) → AllOk p c xs → AllOk p (growAll p c xs) ys → AllOk p c (xs ++ ys)
+ok-append p c [] ys h k = k
+ok-append p c (x ∷ xs) ys h k = (h .0, ok-append p (grow p c x) xs ys (h .1) k)
+
+all-ok : {Y Z : Layout} {J : List Info} (N : ℕ → Bool) (b : ℕ) (ls : List Line) → Laid Y Z J → Once Y Z J → b ≡ lines Z → AllOk false (Y .ctx) ls → hasArray ls ≡ false
+    → AllOk true (Z .ctx) (translateFrom N J b ls)
+all-ok N b [] v o e k f = tt
+all-ok {Y} {Z} {J} N b (l ∷ ls) v o e k f =
+    let c = made N J b l in
+    let g = or-none (isArraySort l) (hasArray ls) f in
+    ok-append true (Z .ctx) (c .code) (translateFrom N (J ++ (c .info ∷ [])) (b + length (c .code)) ls) (line-ok v o N b l e (k .0) (g .0))
+    (subst (λ (x : Ctx). AllOk true x (translateFrom N (J ++ (c .info ∷ [])) (b + length (c .code)) ls)) (lay-ctx true Z (c .code))
+    (all-ok N (b + length (c .code)) ls (laid-line v N b l e (k .0) (g .0)) (once-line v o N b l e (k .0) (g .0)) (omega (arith, lines-more true Z (v .evenZ) (c .code))) (k .1) (g .1)))
+
+-- the program of an accepted flat circuit keeps the rules for programs
+pub translated-ok : (F : List Line) → AllOk false noCtx F → hasArray F ≡ false → AllOk true noCtx (translate F)
+unfolding translate
+translated-ok F k f = all-ok (needed F) 1 F laid-start once-start refl k f
+
+-- so neither 1 nor 20 holds of its records with their count, whatever lies past them
+pub program-accepted : (F : List Line) (rest : List ℕ) → AllOk false noCtx F → hasArray F ≡ false → length (translate F) ≤ 16384 → whole (length (encode (translate F) ++ rest)) ≡ true
+    → checked true (encode (translate F) ++ rest) (length (translate F)) ≡ Accepted
+program-accepted F rest k f few w = encoded-accepted true (translate F) rest (translated-ok F k f) few w

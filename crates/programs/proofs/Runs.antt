@@ -1,0 +1,217 @@
+-- A flat circuit and its program run alike: every step leaves the same signals and the same state words. Assumes nothing.
+use Prim.Native.Nat.{ℕ, zero, suc, _+_, _^_, _≤_, _<_}
+use mathlib.Core.Path.{_≡_, refl, sym, ap, _∙_}
+use mathlib.Core.Bool.{Bool, true, false}
+use mathlib.Core.List.{List, [], _∷_, _++_, append-assoc}
+use native.Mathlib.Nat.{le-refl, le-trans}
+use native.Mathlib.Omega.{arith}
+use lib.ListN.{length, getD, take, drop, length-append}
+use lib.Seq.{getD-at}
+use lib.Pow.{pow-pos}
+use Rattle.tables.specs.Lines.{Line, bitvec, array, input, state, val, give, mark, output, junk}
+use Rattle.tables.specs.Types.{tyAt, noCtx}
+use Rattle.tables.proofs.Kept.{no-yes}
+use Rattle.tables.proofs.Facts.{AllOk}
+use Rattle.circuits.specs.Layout.{Layout, typeAt, size, lay, layAll, noLayout, layout}
+use Rattle.circuits.specs.Meaning.{Sig, Acc, evalLine, evalAll, noAcc, step}
+use Rattle.circuits.specs.Run.{rowOf, start, steps, run, bytes, firstBad}
+use Rattle.programs.specs.Uses.{needed}
+use Rattle.programs.specs.Translation.{Info, noInfo, made, isArraySort, hasArray, translateFrom, translate}
+use Rattle.programs.proofs.Grew.{lines, Even, even-line, grew-line}
+use Rattle.programs.proofs.LaidLines.{laid-start, lines-more, or-none, same-counts}
+use Rattle.programs.proofs.Held.{Alike}
+use Rattle.programs.proofs.Needs.{MetAll, met-needed}
+use Rattle.programs.proofs.StepLines.{eval-lay, Reads, alike-line}
+
+-- ---- the widths of the state words
+
+abbrev widthHere : Layout → Line → List ℕ
+widthHere Y (bitvec w) = []
+widthHere Y (array i e) = []
+widthHere Y (input s) = []
+widthHere Y (state s) = typeAt Y s .w ∷ []
+widthHere Y (val s e) = []
+widthHere Y (give m s q v) = []
+widthHere Y (mark m a) = []
+widthHere Y (output a) = []
+widthHere Y junk = []
+
+abbrev widthsFrom : Layout → List Line → List ℕ
+widthsFrom Y [] = []
+widthsFrom Y (l ∷ ls) = widthHere Y l ++ widthsFrom (lay false Y l) ls
+
+-- the width of each state word of F
+abbrev pub stateWidth : List Line → ℕ → ℕ
+stateWidth F j = getD (widthsFrom noLayout F) j 0
+
+-- the state words of F are below their widths
+abbrev pub Tame : List Line → List ℕ → Type 0
+Tame F σ = (j : ℕ) → getD σ j 0 < 2 ^ stateWidth F j
+
+-- ---- one step
+
+-- the two steps leave the same signals and state words, as many as the circuit has, each below its width
+pub record SameStep (W : ℕ → ℕ) (A B : Acc) : Type 0 where
+  pub sts : B .sts ≡ A .sts
+  pub sigs : B .sigs ≡ A .sigs
+  pub count : length (A .sts) ≡ A .lay .counts .states
+  pub fit : (j : ℕ) → getD (A .sts) j 0 < 2 ^ W j
+
+states-grow : (Y : Layout) → Even Y → (ls : List Line) → Y .counts .states ≤ layAll false Y ls .counts .states
+states-grow Y ev [] = le-refl (Y .counts .states)
+states-grow Y ev (l ∷ ls) = le-trans (grew-line false ev l .states) (states-grow (lay false Y l) (even-line false ev l) ls)
+
+eval-append : (p g : Bool) (σ ι : List ℕ) (B : Acc) (xs ys : List Line) → evalAll p g σ ι B (xs ++ ys) ≡ evalAll p g σ ι (evalAll p g σ ι B xs) ys
+eval-append p g σ ι B [] ys = refl
+eval-append p g σ ι B (x ∷ xs) ys = eval-append p g σ ι (evalLine p g σ ι B x) xs ys
+
+module _ (g : Bool) (σ ι Ws : List ℕ) (N : ℕ → Bool) (tame : g ≡ false → (j : ℕ) → getD σ j 0 < 2 ^ getD Ws j 0) (words : (j : ℕ) → getD ι j 0 < 2 ^ 64) where
+  abbrev W : ℕ → ℕ
+  W j = getD Ws j 0
+
+  -- pre has the widths of the state words so far
+  reads : (Y : Layout) (pre : List ℕ) (l : Line) (ls : List Line) → Even Y → Ws ≡ pre ++ widthsFrom Y (l ∷ ls) → length pre ≡ Y .counts .states → layAll false Y (l ∷ ls) .counts .states ≤ length σ
+      → ((s : ℕ) → typeAt Y s .iw ≡ 0) → Reads W σ Y l
+  reads Y pre (bitvec w) ls ev e n h f = tt
+  reads Y pre (array i j) ls ev e n h f = tt
+  reads Y pre (input s) ls ev e n h f = tt
+  reads Y pre (state s) ls ev e n h f =
+      let z : size (typeAt Y s) ≡ 1 = ap (λ (y : ℕ). 2 ^ y) (f s) in (
+        ap (λ (y : List ℕ). getD y (Y .counts .states) 0) e ∙ getD-at pre (typeAt Y s .w) (widthsFrom (lay false Y (state s)) ls) 0 (Y .counts .states) n,
+        omega (arith, states-grow (lay false Y (state s)) (even-line false ev (state s)) ls),
+      )
+  reads Y pre (val s x) ls ev e n h f = tt
+  reads Y pre (give m s q x) ls ev e n h f = tt
+  reads Y pre (mark m a) ls ev e n h f = tt
+  reads Y pre (output a) ls ev e n h f = tt
+  reads Y pre junk ls ev e n h f = tt
+
+  counted : (Y : Layout) (pre : List ℕ) (l : Line) → length pre ≡ Y .counts .states → ((s : ℕ) → typeAt Y s .iw ≡ 0) → isArraySort l ≡ false
+      → length (pre ++ widthHere Y l) ≡ lay false Y l .counts .states
+  counted Y pre (bitvec w) n f a = simp length-append (omega arith)
+  counted Y pre (array i j) n f a = absurd (no-yes (sym a))
+  counted Y pre (input s) n f a = simp length-append (omega arith)
+  counted Y pre (state s) n f a = let z : size (typeAt Y s) ≡ 1 = ap (λ (y : ℕ). 2 ^ y) (f s) in omega (arith, length-append pre (typeAt Y s .w ∷ []))
+  counted Y pre (val s x) n f a = simp length-append (omega arith)
+  counted Y pre (give m s q x) n f a = simp length-append (omega arith)
+  counted Y pre (mark m x) n f a = simp length-append (omega arith)
+  counted Y pre (output x) n f a = simp length-append (omega arith)
+  counted Y pre junk n f a = simp length-append (omega arith)
+
+  alike-all : {A B : Acc} {J : List Info} (b : ℕ) (pre : List ℕ) (ls : List Line) → Alike W N A B J → b ≡ lines (B .lay) → AllOk false (A .lay .ctx) ls → hasArray ls ≡ false → MetAll N ls
+      → Ws ≡ pre ++ widthsFrom (A .lay) ls → length pre ≡ A .lay .counts .states → layAll false (A .lay) ls .counts .states ≤ length σ
+      → SameStep W (evalAll false g σ ι A ls) (evalAll true g σ ι B (translateFrom N J b ls))
+  alike-all b pre [] v e k f m q n h = record { sts = v .sts; sigs = v .sigs; count = v .count; fit = v .fit }
+  alike-all {A} {B} {J} b pre (l ∷ ls) v e k f m q n h =
+      let c = made N J b l in
+      let d = or-none (isArraySort l) (hasArray ls) f in
+      let flat : ((s : ℕ) → typeAt (A .lay) s .iw ≡ 0) = λ s. v .laid .rel s .flat in
+      let r = reads (A .lay) pre l ls (v .laid .evenY) q n h flat in
+      rw (eval-append true g σ ι B (c .code))
+      (alike-all (b + length (c .code)) (pre ++ widthHere (A .lay) l) ls (alike-line g σ ι W N tame words v b e l (k .0) (d .0) (m .0) r)
+      (omega (arith, ap lines (eval-lay true g σ ι B (c .code)), lines-more true (B .lay) (v .laid .evenZ) (c .code))) (k .1) (d .1) (m .1)
+      (q ∙ sym (append-assoc pre (widthHere (A .lay) l) (widthsFrom (lay false (A .lay) l) ls))) (counted (A .lay) pre l n flat (d .0)) h)
+
+alike-start : (W : ℕ → ℕ) (N : ℕ → Bool) → Alike W N noAcc noAcc (noInfo ∷ [])
+alike-start W N =
+    record {
+      laid = laid-start;
+      fullA = record { even = record { alike = refl }; env = refl };
+      fullB = record { even = record { alike = refl }; env = refl };
+      sts = refl;
+      sigs = refl;
+      count = refl;
+      fit = λ j. pow-pos (W j);
+      word = λ i h. absurd (none i h);
+    }
+  where
+    none : (a : ℕ) → 2 ≤ tyAt noCtx a .cls → ⊥
+    none zero h = omega arith
+    none (suc a) h = omega arith
+
+module _ (F : List Line) (ok : AllOk false noCtx F) (flat : hasArray F ≡ false) where
+  -- one step, from the same state words and the same row; after the start they are small
+  pub step-alike : (g : Bool) (σ ι : List ℕ) → layout false F .counts .states ≤ length σ → (g ≡ false → Tame F σ) → ((j : ℕ) → getD ι j 0 < 2 ^ 64)
+      → SameStep (stateWidth F) (step false g F σ ι) (step true g (translate F) σ ι)
+  unfolding step layout translate
+  step-alike g σ ι h tame words =
+      alike-all g σ ι (widthsFrom noLayout F) (needed F) tame words 1 [] F (alike-start (stateWidth F) (needed F)) refl ok flat (met-needed F) refl refl h
+
+  step-counts : (g : Bool) (σ ι : List ℕ) → step false g F σ ι .lay .counts .states ≡ layout false F .counts .states
+  unfolding step layout
+  step-counts g σ ι = ap (λ (Y : Layout). Y .counts .states) (eval-lay false g σ ι noAcc F)
+
+  row-same : rowOf true (translate F) ≡ rowOf false F
+  row-same = same-counts F ok flat .inputs
+
+-- ---- words of 64 bits
+
+abbrev pub Small : List ℕ → Type 0
+Small [] = Unit {0}
+Small (x ∷ xs) = (x < 2 ^ 64) × Small xs
+
+-- a list is small if each of its words is
+pub small-of : (xs : List ℕ) → ((j : ℕ) → j < length xs → getD xs j 0 < 2 ^ 64) → Small xs
+small-of [] h = tt
+small-of (x ∷ xs) h = (h 0 (omega arith), small-of xs (λ j l. h (suc j) (omega arith)))
+
+small-at : (xs : List ℕ) → Small xs → (j : ℕ) → getD xs j 0 < 2 ^ 64
+small-at [] h j = pow-pos 64
+small-at (x ∷ xs) h zero = h .0
+small-at (x ∷ xs) h (suc j) = small-at xs (h .1) j
+
+small-take : (n : ℕ) (xs : List ℕ) → Small xs → Small (take n xs)
+small-take zero xs h = tt
+small-take (suc n) [] h = tt
+small-take (suc n) (x ∷ xs) h = (h .0, small-take n xs (h .1))
+
+small-drop : (n : ℕ) (xs : List ℕ) → Small xs → Small (drop n xs)
+small-drop zero xs h = h
+small-drop (suc n) [] h = tt
+small-drop (suc n) (x ∷ xs) h = small-drop n xs (h .1)
+
+-- ---- all steps
+
+module _ (F : List Line) (ok : AllOk false noCtx F) (flat : hasArray F ≡ false) where
+  row-small : (I : List ℕ) → Small I → (j : ℕ) → getD (take (rowOf false F) I) j 0 < 2 ^ 64
+  row-small I h j = small-at (take (rowOf false F) I) (small-take (rowOf false F) I h) j
+
+  steps-alike : (k : ℕ) (σ I : List ℕ) → layout false F .counts .states ≤ length σ → Tame F σ → Small I → steps true (translate F) k σ I ≡ steps false F k σ I
+  unfolding steps
+  steps-alike zero σ I h t w = refl
+  steps-alike (suc k) σ I h t w =
+      let n = rowOf false F in
+      let s = step-alike F ok flat false σ (take n I) h (λ e. t) (row-small I w) in
+      let r = row-same F ok flat in
+      rw (r, s .sigs, s .sts)
+      (ap (λ (y : List (List Sig)). step false false F σ (take n I) .sigs ∷ y)
+      (steps-alike k (step false false F σ (take n I) .sts) (drop n I) (omega (arith, s .count, step-counts F ok flat false σ (take n I))) (s .fit) (small-drop n I w)))
+
+  -- the state words that step 0 starts from
+  start-step : (S I : List ℕ) → layout false F .counts .states ≤ length S → Small I
+      → SameStep (stateWidth F) (step false true F S (take (rowOf false F) I)) (step true true (translate F) S (take (rowOf false F) I))
+  start-step S I h w = step-alike F ok flat true S (take (rowOf false F) I) h (λ e. absurd (no-yes (sym e))) (row-small I w)
+
+  start-alike : (S I : List ℕ) → layout false F .counts .states ≤ length S → Small I → start true (translate F) S I ≡ start false F S I
+  unfolding start
+  start-alike S I h w = ap (λ (n : ℕ). step true true (translate F) S (take n I) .sts) (row-same F ok flat) ∙ start-step S I h w .sts
+
+  start-tame : (S I : List ℕ) → layout false F .counts .states ≤ length S → Small I → Tame F (start false F S I)
+  unfolding start
+  start-tame S I h w = start-step S I h w .fit
+
+  start-count : (S I : List ℕ) → layout false F .counts .states ≤ length S → Small I → layout false F .counts .states ≤ length (start false F S I)
+  unfolding start
+  start-count S I h w = omega (arith, start-step S I h w .count, step-counts F ok flat true S (take (rowOf false F) I))
+
+  -- F and its program run alike, for every number of steps, all start words and all inputs of 64 bits
+  pub alike : (k : ℕ) (S I : List ℕ) → layout false F .counts .states ≤ length S → Small I → run true (translate F) k S I ≡ run false F k S I
+  unfolding run
+  alike k S I h w = ap (λ (σ : List ℕ). steps true (translate F) k σ I) (start-alike S I h w) ∙ steps-alike k (start false F S I) I (start-count S I h w) (start-tame S I h w) w
+
+  -- so the bytes are the same, and the first counted bad
+  pub bytes-alike : (k : ℕ) (S I : List ℕ) → layout false F .counts .states ≤ length S → Small I → bytes (run true (translate F) k S I) ≡ bytes (run false F k S I)
+  bytes-alike k S I h w = ap bytes (alike k S I h w)
+
+  pub first-alike : (k : ℕ) (S I : List ℕ) → layout false F .counts .states ≤ length S → Small I → firstBad 0 (run true (translate F) k S I) ≡ firstBad 0 (run false F k S I)
+  first-alike k S I h w = ap (firstBad 0) (alike k S I h w)
