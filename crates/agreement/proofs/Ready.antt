@@ -17,8 +17,14 @@ module _ (p : Bool) (t : List ℕ) (n k : ℕ) (S I : List ℕ) (g w : ℕ) wher
       → g ≡ k * layout p (linesOf t n) .counts .signals → layout p (linesOf t n) .counts .cells + layout p (linesOf t n) .counts .states ≤ w → ready p t n k S I g w ≡ Accepted
   unfolding ready
   is-ready a b c d e f =
-      rw (a, le-leb k 4096 b, eq-eqb (length S) (layout p (linesOf t n) .counts .states) c, eq-eqb (length I) (k * layout p (linesOf t n) .counts .inputs) d,
-        eq-eqb g (k * layout p (linesOf t n) .counts .signals) e, le-leb (layout p (linesOf t n) .counts .cells + layout p (linesOf t n) .counts .states) w f)
+      rw (
+        a,
+        le-leb k 4096 b,
+        eq-eqb (length S) (layout p (linesOf t n) .counts .states) c,
+        eq-eqb (length I) (k * layout p (linesOf t n) .counts .inputs) d,
+        eq-eqb g (k * layout p (linesOf t n) .counts .signals) e,
+        le-leb (layout p (linesOf t n) .counts .cells + layout p (linesOf t n) .counts .states) w f,
+      )
 
   pub answers : ready p t n k S I g w ≡ Accepted → ran p t n k S I g w ≡ firstBad 0 (run p (linesOf t n) k S I)
   unfolding ran
