@@ -3,4 +3,5 @@ pub mod Layout
 pub mod Meaning
 pub mod Run
 pub mod Answers
+pub mod Model
 pub mod Examples

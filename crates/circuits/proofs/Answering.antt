@@ -1,0 +1,203 @@
+-- The answers of a run, test by test, and the first counted bad from the bytes of all steps. Assumes nothing.
+use Prim.Native.Nat.{ℕ, zero, suc, _+_, _*_, _≤_, _<_}
+use mathlib.Core.Path.{_≡_, refl, sym, ap, ap₂, _∙_}
+use mathlib.Core.Bool.{Bool, true, false}
+use mathlib.Core.List.{List, [], _∷_, _++_, append-nil, append-assoc}
+use native.Mathlib.Omega.{arith}
+use native.Mathlib.Nat.{mul-le-mul-left, mul-comm, zero-add, zero-mul}
+use lib.Dec.{leb, eqb}
+use lib.ListN.{length, take, drop, replicate, length-append}
+use borrow.Author.Tests.{le-leb, lt-leb, eq-eqb, ne-eqb, leb-true, eqb-true}
+use Rattle.words.specs.Word.{bit}
+use Rattle.tables.specs.declared.Refusal.{Refusal}
+use Rattle.tables.specs.declared.Refusal.the-variants.{TooManySteps, StartWords, InputWords, SignalBytes, WorkArea}
+use Rattle.tables.specs.declared.Checked.{Checked}
+use Rattle.tables.specs.declared.Checked.the-variants.{Accepted, Refused}
+use Rattle.tables.specs.Pick.{pick}
+use Rattle.tables.specs.Lines.{Line}
+use Rattle.tables.specs.Tables.{checked}
+use Rattle.tables.proofs.Checking.{not-accepted}
+use Rattle.circuits.specs.declared.Totals.{Totals}
+use Rattle.circuits.specs.declared.Ran.the-variants.{Nothing, Refused as RefusedRun}
+use Rattle.circuits.specs.Layout.{Counts, Layout, noLayout, lay, layAll, layout, countOf, size, typeOf}
+use Rattle.circuits.specs.Meaning.{Sig, sig, Acc, noAcc, evalLine, evalAll, sigsOf, step}
+use Rattle.circuits.specs.Run.{rowOf, start, steps, run, bytesOf, bytes, firstBad}
+use Rattle.circuits.specs.Answers.{linesOf, lent, ready, ran, signalsLeft}
+use Rattle.circuits.specs.Model.{markOf, marks, zipSig, sigRows, lentAnswer, lentSignals, countsOf, totalsOf}
+
+-- ---- 13 to 17
+
+module _ (c : Counts) (k s i g w : ℕ) where
+  pub is-13 : 4096 < k → Refused TooManySteps ≡ lent c k s i g w
+  is-13 h = rw (lt-leb k 4096 h)
+
+  pub is-14 : k ≤ 4096 → (s ≡ c .states → ⊥) → Refused StartWords ≡ lent c k s i g w
+  is-14 h n = rw (le-leb k 4096 h, ne-eqb s (c .states) n)
+
+  pub is-15 : k ≤ 4096 → s ≡ c .states → (i ≡ k * c .inputs → ⊥) → Refused InputWords ≡ lent c k s i g w
+  is-15 h e n = rw (le-leb k 4096 h, eq-eqb s (c .states) e, ne-eqb i (k * c .inputs) n)
+
+  pub is-16 : k ≤ 4096 → s ≡ c .states → i ≡ k * c .inputs → (g ≡ k * c .signals → ⊥) → Refused SignalBytes ≡ lent c k s i g w
+  is-16 h e f n = rw (le-leb k 4096 h, eq-eqb s (c .states) e, eq-eqb i (k * c .inputs) f, ne-eqb g (k * c .signals) n)
+
+  pub is-17 : k ≤ 4096 → s ≡ c .states → i ≡ k * c .inputs → g ≡ k * c .signals → w < c .cells + c .states → Refused WorkArea ≡ lent c k s i g w
+  is-17 h e f q l = rw (le-leb k 4096 h, eq-eqb s (c .states) e, eq-eqb i (k * c .inputs) f, eq-eqb g (k * c .signals) q, lt-leb (c .cells + c .states) w l)
+
+  pub is-lent : k ≤ 4096 → s ≡ c .states → i ≡ k * c .inputs → g ≡ k * c .signals → c .cells + c .states ≤ w → Accepted ≡ lent c k s i g w
+  is-lent h e f q l = rw (le-leb k 4096 h, eq-eqb s (c .states) e, eq-eqb i (k * c .inputs) f, eq-eqb g (k * c .signals) q, le-leb (c .cells + c .states) w l)
+
+pub record Lent (c : Counts) (k s i g w : ℕ) : Type 0 where
+  pub steps : k ≤ 4096
+  pub starts : s ≡ c .states
+  pub inputs : i ≡ k * c .inputs
+  pub signals : g ≡ k * c .signals
+  pub work : c .cells + c .states ≤ w
+
+pub lent-facts : (c : Counts) (k s i g w : ℕ) → lent c k s i g w ≡ Accepted → Lent c k s i g w
+lent-facts c k s i g w = go (leb k 4096) (eqb s (c .states)) (eqb i (k * c .inputs)) (eqb g (k * c .signals)) (leb (c .cells + c .states) w) refl refl refl refl refl
+  where
+    go : (a b d e f : Bool) → leb k 4096 ≡ a → eqb s (c .states) ≡ b → eqb i (k * c .inputs) ≡ d → eqb g (k * c .signals) ≡ e → leb (c .cells + c .states) w ≡ f
+        → pick a (pick b (pick d (pick e (pick f Accepted (Refused WorkArea)) (Refused SignalBytes)) (Refused InputWords)) (Refused StartWords)) (Refused TooManySteps) ≡ Accepted → Lent c k s i g w
+    go true true true true true a b d e f z =
+        record { steps = leb-true k 4096 a; starts = eqb-true s (c .states) b; inputs = eqb-true i (k * c .inputs) d; signals = eqb-true g (k * c .signals) e; work = leb-true (c .cells + c .states) w f }
+    go true true true true false a b d e f z = absurd (not-accepted WorkArea z)
+    go true true true false y a b d e f z = absurd (not-accepted SignalBytes z)
+    go true true false x y a b d e f z = absurd (not-accepted InputWords z)
+    go true false v x y a b d e f z = absurd (not-accepted StartWords z)
+    go false u v x y a b d e f z = absurd (not-accepted TooManySteps z)
+
+-- a product of the steps and a count fits
+pub times-small : (k n : ℕ) → k ≤ 4096 → n < 4294967296 → k * n < 18446744073709551616
+times-small k n h l = let e : n * k ≤ n * 4096 = mul-le-mul-left n h in omega (arith, mul-comm k n)
+
+-- ---- the signals' classes
+
+classesOf : List Sig → List ℕ
+classesOf [] = []
+classesOf (sig m v ∷ g) = bit m ∷ classesOf g
+
+classes-snoc : (g : List Sig) (m : Bool) (v : ℕ) → classesOf (g ++ (sig m v ∷ [])) ≡ classesOf g ++ (bit m ∷ [])
+unfolding classesOf
+classes-snoc [] m v = refl
+classes-snoc (sig b x ∷ g) m v = ap (λ (l : List ℕ). bit b ∷ l) (classes-snoc g m v)
+
+class-line : (A : Acc) (l : Line) → classesOf (sigsOf A l) ≡ classesOf (A .sigs) ++ markOf l
+class-line A (Line.bitvec w) = sym (append-nil (classesOf (A .sigs)))
+class-line A (Line.array i e) = sym (append-nil (classesOf (A .sigs)))
+class-line A (Line.input s) = sym (append-nil (classesOf (A .sigs)))
+class-line A (Line.state s) = sym (append-nil (classesOf (A .sigs)))
+class-line A (Line.val s e) = sym (append-nil (classesOf (A .sigs)))
+class-line A (Line.give m s q v) = sym (append-nil (classesOf (A .sigs)))
+class-line A (Line.mark m a) = classes-snoc (A .sigs) m _
+class-line A (Line.output a) = sym (append-nil (classesOf (A .sigs)))
+class-line A Line.junk = sym (append-nil (classesOf (A .sigs)))
+
+class-all : (p f : Bool) (σ ι : List ℕ) (A : Acc) (C : List Line) → classesOf (evalAll p f σ ι A C .sigs) ≡ classesOf (A .sigs) ++ marks C
+class-all p f σ ι A [] = sym (append-nil (classesOf (A .sigs)))
+class-all p f σ ι A (l ∷ C) =
+    class-all p f σ ι (evalLine p f σ ι A l) C ∙ ap (λ (x : List ℕ). x ++ marks C) (class-line A l) ∙ append-assoc (classesOf (A .sigs)) (markOf l) (marks C)
+
+step-classes : (p f : Bool) (C : List Line) (σ ι : List ℕ) → classesOf (step p f C σ ι .sigs) ≡ marks C
+unfolding step classesOf
+step-classes p f C σ ι = class-all p f σ ι noAcc C
+
+bit-back : (m : Bool) → eqb (bit m) 1 ≡ m
+bit-back true = refl
+bit-back false = refl
+
+zip-back : (g : List Sig) (rest : List ℕ) → zipSig (classesOf g) (bytesOf g ++ rest) ≡ g
+unfolding classesOf
+zip-back [] rest = refl
+zip-back (sig m v ∷ g) rest = ap₂ (λ (b : Bool) (x : List Sig). sig b v ∷ x) (bit-back m) (zip-back g rest)
+
+rest-back : (g : List Sig) (rest : List ℕ) → drop (length (classesOf g)) (bytesOf g ++ rest) ≡ rest
+unfolding classesOf
+rest-back [] rest = refl
+rest-back (sig m v ∷ g) rest = rest-back g rest
+
+rows-back : (p : Bool) (C : List Line) (k : ℕ) (σ I : List ℕ) → sigRows (marks C) k (bytes (steps p C k σ I)) ≡ steps p C k σ I
+unfolding steps
+rows-back p C zero σ I = refl
+rows-back p C (suc k) σ I =
+    let A = step p false C σ (take (rowOf p C) I) in
+    let r = bytes (steps p C k (A .sts) (drop (rowOf p C) I)) in
+    let e : marks C ≡ classesOf (A .sigs) = sym (step-classes p false C σ (take (rowOf p C) I)) in
+    ap₂ (λ (x : List Sig) (y : List (List Sig)). x ∷ y) (ap (λ (m : List ℕ). zipSig m (bytesOf (A .sigs) ++ r)) e ∙ zip-back (A .sigs) r)
+    (ap (sigRows (marks C) k) (ap (λ (m : List ℕ). drop (length m) (bytesOf (A .sigs) ++ r)) e ∙ rest-back (A .sigs) r) ∙ rows-back p C k (A .sts) (drop (rowOf p C) I))
+
+-- the first counted bad, as it is found
+pub bad-found : (p : Bool) (C : List Line) (k : ℕ) (S I : List ℕ) {m g : List ℕ} → m ≡ marks C → g ≡ bytes (run p C k S I) → firstBad 0 (sigRows m k g) ≡ firstBad 0 (run p C k S I)
+unfolding run
+bad-found p C k S I em eg = ap₂ (λ (x y : List ℕ). firstBad 0 (sigRows x k y)) em eg ∙ ap (firstBad 0) (rows-back p C k (start p C S I) I)
+
+signal-line : (c : Counts) (m : ℕ) (l : Line) → countOf c m l .signals ≡ c .signals + length (markOf l)
+signal-line c m (Line.bitvec w) = omega arith
+signal-line c m (Line.array i e) = omega arith
+signal-line c m (Line.input s) = omega arith
+signal-line c m (Line.state s) = omega arith
+signal-line c m (Line.val s e) = omega arith
+signal-line c m (Line.give n s q v) = omega arith
+signal-line c m (Line.mark n a) = omega arith
+signal-line c m (Line.output a) = omega arith
+signal-line c m Line.junk = omega arith
+
+signals-all : (p : Bool) (Y : Layout) (C : List Line) → layAll p Y C .counts .signals ≡ Y .counts .signals + length (marks C)
+signals-all p Y [] = omega arith
+signals-all p Y (l ∷ C) =
+    signals-all p (lay p Y l) C ∙ omega (arith, signal-line (Y .counts) (size (typeOf p Y l)) l, length-append (markOf l) (marks C))
+
+pub signals-many : (p : Bool) (C : List Line) → layout p C .counts .signals ≡ length (marks C)
+unfolding layout
+signals-many p C = signals-all p noLayout C ∙ zero-add (length (marks C))
+
+-- ---- no steps
+
+pub none-ran : (p : Bool) (C : List Line) (k : ℕ) (S I : List ℕ) → k ≡ 0 → Nothing ≡ firstBad 0 (run p C k S I)
+unfolding run steps
+none-ran p C k S I e = ap (λ (m : ℕ). firstBad 0 (steps p C m (start p C S I) I)) (sym e)
+
+empty : (g : List ℕ) → length g ≡ 0 → g ≡ []
+empty [] e = refl
+empty (x ∷ g) e = absurd (omega arith)
+
+pub none-signals : (p : Bool) (C : List Line) (k n : ℕ) (S I g : List ℕ) → k ≡ 0 → length g ≡ k * n → g ≡ bytes (run p C k S I)
+unfolding run steps
+none-signals p C k n S I g e l =
+    empty g (l ∙ ap (λ (m : ℕ). m * n) e ∙ zero-mul n) ∙ ap (λ (m : ℕ). bytes (steps p C m (start p C S I) I)) (sym e)
+
+-- ---- a work area of zeros
+
+front : (u n : ℕ) → u ≤ n → replicate u 0 ++ drop u (replicate n 0) ≡ replicate {A = ℕ} n 0
+front zero n h = refl
+front (suc u) zero h = absurd (omega arith)
+front (suc u) (suc n) h = ap (λ (l : List ℕ). 0 ∷ l) (front u n (omega arith))
+
+pub zero-front : (w q : List ℕ) (u : ℕ) → w ≡ replicate (length w) 0 → u ≤ length w → q ≡ replicate u 0 → q ++ drop u w ≡ replicate (length w) 0
+zero-front w q u e h eq = ap₂ (λ (x y : List ℕ). x ++ drop u y) eq e ∙ front u (length w) h
+
+-- ---- the answer
+
+module _ (p : Bool) (t : List ℕ) (n k : ℕ) (S I : List ℕ) (g w : ℕ) where
+  pub ran-refused : (r : Refusal) → checked p t n ≡ Refused r → (RefusedRun r ≡ ran p t n k S I g w) × (replicate g 0 ≡ signalsLeft p t n k S I g w)
+  unfolding ran signalsLeft ready
+  ran-refused r e = (rw e, rw e)
+
+  pub ran-lent : checked p t n ≡ Accepted → (lentAnswer p t n k S I g w ≡ ran p t n k S I g w) × (lentSignals p t n k S I g w ≡ signalsLeft p t n k S I g w)
+  unfolding ran signalsLeft ready
+  ran-lent e = (rw e, rw e)
+
+  pub lent-refused : (r : Refusal) → lent (layout p (linesOf t n) .counts) k (length S) (length I) g w ≡ Refused r
+      → (RefusedRun r ≡ lentAnswer p t n k S I g w) × (replicate g 0 ≡ lentSignals p t n k S I g w)
+  lent-refused r e = (rw e, rw e)
+
+  pub lent-runs : lent (layout p (linesOf t n) .counts) k (length S) (length I) g w ≡ Accepted
+      → (firstBad 0 (run p (linesOf t n) k S I) ≡ lentAnswer p t n k S I g w) × (bytes (run p (linesOf t n) k S I) ≡ lentSignals p t n k S I g w)
+  lent-runs e = (rw e, rw e)
+
+pub nonzero : (k : ℕ) → (k ≡ 0 → ⊥) → 0 < k
+nonzero zero n = absurd (n refl)
+nonzero (suc k) n = omega arith
+
+-- the tests 13 to 17 on the counts that the pass has found
+pub lent-on : (c : Counts) (k s i g w : ℕ) {tot : Totals} {d x : Checked} → tot ≡ totalsOf c → d ≡ lent (countsOf tot) k s i g w → d ≡ x → lent c k s i g w ≡ x
+lent-on c k s i g w et ed ex = sym (ed ∙ ap (λ (y : Totals). lent (countsOf y) k s i g w) et) ∙ ex

@@ -1,0 +1,11 @@
+pub mod Puts
+pub mod Fitting
+pub mod Dispatch
+pub mod Laid
+pub mod Held
+pub mod Simulation
+pub mod Walked
+pub mod Repeated
+pub mod Placing
+pub mod Rows
+pub mod Answering

@@ -1,0 +1,72 @@
+-- `eval::line_ite` meets its contract. Assumes nothing.
+use borrow.Author.Needs.{needs}
+use mathlib.Core.Path.{sym, ap₂, _∙_}
+use Rattle.circuits.specs.Cells.{part, put}
+use Rattle.circuits.proofs.Puts as laws
+use Rattle.circuits.proofs.eval.line_ite.Statement.{statement}
+use Rattle.circuits.proofs.eval.line_ite.Tie as tie
+
+at-requires : tie.Need-at-requires
+at-requires c κs = search needs
+
+at-requires-2 : tie.Need-at-requires-2
+at-requires-2 c κs = search needs
+
+at-requires-3 : tie.Need-at-requires-3
+at-requires-3 c κs = search needs
+
+mul-if1 : tie.Need-mul-if1
+mul-if1 c = search needs
+
+slice-read-if1 : tie.Need-slice-read-if1
+slice-read-if1 c = search needs
+
+at-requires-4 : tie.Need-at-requires-4
+at-requires-4 c κs = search needs
+
+raise-requires : tie.Need-raise-requires
+raise-requires c κs = search needs
+
+at-requires-5 : tie.Need-at-requires-5
+at-requires-5 c κs = search needs
+
+raise-requires-2 : tie.Need-raise-requires-2
+raise-requires-2 c κs = search needs
+
+same-length : tie.Need-same-length
+same-length c = search needs
+
+returns : tie.Need-returns
+returns c =
+    let s = c .before .before .before .before .before .before .before .before .before .before .before in
+    c .before .before .raise .ensures ∙ ap₂ (put (s .args .work .now)) (c .before .before .before .before .before .before .before .before .before .at .ensures)
+    (ap₂ (part (s .args .work .now)) (c .before .before .before .at4 .ensures) (c .before .before .before .before .before .before .before .before .at2 .ensures ∙ sym (s .pre .1 .sizeA))
+    ∙ sym (laws.picked-yes (s .args .work .now) _ _ (c .before .before .before .before .before .before .before .at3 .ensures) (c .before .before .before .before .before .if1 .taken)))
+
+same-length-2 : tie.Need-same-length-2
+same-length-2 c = search needs
+
+returns-2 : tie.Need-returns-2
+returns-2 c =
+    let s = c .before .before .before .before .before .before .before .before .before .before .before in
+    c .before .before .raise2 .ensures ∙ ap₂ (put (s .args .work .now)) (c .before .before .before .before .before .before .before .before .before .at .ensures)
+    (ap₂ (part (s .args .work .now)) (c .before .before .before .at5 .ensures) (c .before .before .before .before .before .before .before .before .at2 .ensures ∙ sym (s .pre .1 .sizeB))
+    ∙ sym (laws.picked-no (s .args .work .now) _ _ (c .before .before .before .before .before .before .before .at3 .ensures) (c .before .before .before .before .before .if1 .left)))
+
+pub line-ite-spec : {M : Type 1} → statement M
+line-ite-spec =
+    tie.close
+    (tie.spec
+    at-requires
+    at-requires-2
+    at-requires-3
+    mul-if1
+    slice-read-if1
+    at-requires-4
+    raise-requires
+    at-requires-5
+    raise-requires-2
+    same-length
+    returns
+    same-length-2
+    returns-2)

@@ -1,0 +1,56 @@
+-- `eval::line_one` meets its contract. Assumes nothing.
+use Rattle.circuits.proofs.Fitting.{op-as, fit-as}
+use mathlib.Core.Path.{refl}
+use Rattle.circuits.proofs.Puts as laws
+use borrow.Author.Needs.{needs}
+use Rattle.circuits.proofs.eval.line_one.Statement.{statement}
+use Rattle.circuits.proofs.eval.line_one.Tie as tie
+
+at-requires : tie.Need-at-requires
+at-requires c κs = search needs
+
+at-requires-2 : tie.Need-at-requires-2
+at-requires-2 c κs = search needs
+
+mul-v : tie.Need-mul-v
+mul-v c = search needs
+
+slice-read-v : tie.Need-slice-read-v
+slice-read-v c = search needs
+
+width-requires : tie.Need-width-requires
+width-requires c κs = search needs
+
+width-requires-2 : tie.Need-width-requires-2
+width-requires-2 c κs = search needs
+
+word-requires : tie.Need-word-requires
+word-requires c κs = fit-as (c .before .width .ensures) (c .width2 .ensures) refl (laws.word-as (c .before .before .before .before .before .before .args .work .now) (c .before .before .before .at2 .ensures)) refl (c .before .before .before .before .before .before .pre .1 .op)
+
+mul-work : tie.Need-mul-work
+mul-work c = search needs
+
+slice-write-work : tie.Need-slice-write-work
+slice-write-work c = search needs
+
+same-length : tie.Need-same-length
+same-length c = search needs
+
+returns : tie.Need-returns
+returns c = laws.stored (c .before .before .before .before .before .before .before .args .work .now) (c .before .before .before .before .before .at .ensures) (op-as (c .before .before .before .before .before .before .before .args .program) (c .before .before .before .before .before .before .before .args .k) (c .before .before .before .before .before .before .before .args .y) (c .word .ensures) (c .before .width2 .ensures) refl (laws.word-as (c .before .before .before .before .before .before .before .args .work .now) (c .before .before .before .before .at2 .ensures)) refl) (search needs)
+
+pub line-one-spec : {M : Type 1} → statement M
+line-one-spec =
+    tie.close
+    (tie.spec
+    at-requires
+    at-requires-2
+    mul-v
+    slice-read-v
+    width-requires
+    width-requires-2
+    word-requires
+    mul-work
+    slice-write-work
+    same-length
+    returns)

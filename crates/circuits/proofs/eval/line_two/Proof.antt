@@ -1,0 +1,72 @@
+-- `eval::line_two` meets its contract. Assumes nothing.
+use Prim.Native.Nat.{ℕ}
+use Rattle.circuits.proofs.Fitting.{op-as, fit-as}
+use Rattle.circuits.proofs.Puts as laws
+use borrow.Author.Needs.{needs}
+use Rattle.circuits.proofs.eval.line_two.Statement.{statement}
+use Rattle.circuits.proofs.eval.line_two.Tie as tie
+
+at-requires : tie.Need-at-requires
+at-requires c κs = search needs
+
+at-requires-2 : tie.Need-at-requires-2
+at-requires-2 c κs = search needs
+
+mul-v : tie.Need-mul-v
+mul-v c = search needs
+
+slice-read-v : tie.Need-slice-read-v
+slice-read-v c = search needs
+
+at-requires-3 : tie.Need-at-requires-3
+at-requires-3 c κs = search needs
+
+mul-y : tie.Need-mul-y
+mul-y c = search needs
+
+slice-read-y : tie.Need-slice-read-y
+slice-read-y c = search needs
+
+width-requires : tie.Need-width-requires
+width-requires c κs = search needs
+
+width-requires-2 : tie.Need-width-requires-2
+width-requires-2 c κs = search needs
+
+width-requires-3 : tie.Need-width-requires-3
+width-requires-3 c κs = search needs
+
+word-requires : tie.Need-word-requires
+word-requires c κs = fit-as (c .before .before .width .ensures) (c .before .width2 .ensures) (c .width3 .ensures) (laws.word-as (c .before .before .before .before .before .before .before .before .before .args .work .now) (c .before .before .before .before .before .before .at2 .ensures)) (laws.word-as (c .before .before .before .before .before .before .before .before .before .args .work .now) (c .before .before .before .before .at3 .ensures)) (c .before .before .before .before .before .before .before .before .before .pre .1 .op)
+
+mul-work : tie.Need-mul-work
+mul-work c = search needs
+
+slice-write-work : tie.Need-slice-write-work
+slice-write-work c = search needs
+
+same-length : tie.Need-same-length
+same-length c = search needs
+
+returns : tie.Need-returns
+returns c = let z : ℕ = 0 in laws.stored (c .before .before .before .before .before .before .before .before .before .before .args .work .now) (c .before .before .before .before .before .before .before .before .at .ensures) (op-as (c .before .before .before .before .before .before .before .before .before .before .args .program) (c .before .before .before .before .before .before .before .before .before .before .args .k) z (c .word .ensures) (c .before .before .width2 .ensures) (c .before .width3 .ensures) (laws.word-as (c .before .before .before .before .before .before .before .before .before .before .args .work .now) (c .before .before .before .before .before .before .before .at2 .ensures)) (laws.word-as (c .before .before .before .before .before .before .before .before .before .before .args .work .now) (c .before .before .before .before .before .at3 .ensures))) (search needs)
+
+pub line-two-spec : {M : Type 1} → statement M
+line-two-spec =
+    tie.close
+    (tie.spec
+    at-requires
+    at-requires-2
+    mul-v
+    slice-read-v
+    at-requires-3
+    mul-y
+    slice-read-y
+    width-requires
+    width-requires-2
+    width-requires-3
+    word-requires
+    mul-work
+    slice-write-work
+    same-length
+    returns)

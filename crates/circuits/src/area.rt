@@ -1,0 +1,166 @@
+// Runs of neighbouring words: the work area holds the cells of a line as one run. The lists have an entry for each line.
+use words::low;
+ghost use mathlib.Core.Path.{_≡_};
+ghost use mathlib.Core.Bool.{Bool, true, false};
+ghost use mathlib.Core.List.{List, [], _∷_};
+ghost use Prim.Native.Nat.{_+_, _≤_, _<_};
+ghost use lib.ListN.{length, drop, getD, set, replicate};
+ghost use Rattle.words.specs.Word.{Width};
+ghost use Rattle.tables.specs.Pick.{pick};
+ghost use Rattle.circuits.specs.Cells.{part, put, lows, same};
+ghost use Rattle.circuits.specs.Model.{Apart};
+
+fn wide(x: u32) -> usize
+    ensures { λ r. ⌜ r ≡ x ⌝ }
+{
+    x as usize
+}
+
+fn wide_byte(x: u8) -> u64
+    ensures { λ r. ⌜ r ≡ x ⌝ }
+{
+    x as u64
+}
+
+// The entry of the line i.
+pub fn at(xs: &[u32; 16385], i: usize) -> usize
+    requires { ⌜ i ≤ 16384 ⌝ }
+    ensures { λ r. ⌜ r ≡ getD (now (xs .entry)) i 0 ⌝ }
+{
+    wide(xs[i])
+}
+
+// The width of the line i.
+pub fn width(xs: &[u8; 16385], i: usize) -> u64
+    requires { ⌜ i ≤ 16384 ⌝ }
+    ensures { λ r. ⌜ r ≡ getD (now (xs .entry)) i 0 ⌝ }
+{
+    wide_byte(xs[i])
+}
+
+// Copies words[x..x + n] to words[y..y + n].
+pub fn copy(words: &mut [u64], x: usize, y: usize, n: usize)
+    requires { ⌜ Apart x y n × ((x + n ≤ length (now words)) × (y + n ≤ length (now words))) ⌝ }
+    ensures { λ _. ⌜ now (words .exit) ≡ put (now (words .entry)) y (part (now (words .entry)) x n) ⌝ }
+{
+    let mut i: usize = 0;
+    while i < n {
+        let v = words[x + i];
+        words[y + i] = v;
+        i += 1;
+    }
+}
+
+// Takes each word modulo 2^w.
+pub fn mask_all(cells: &mut [u64], w: u64)
+    requires { ⌜ Width w ⌝ }
+    ensures { λ _. ⌜ now (cells .exit) ≡ lows w (now (cells .entry)) ⌝ }
+{
+    let mut i: usize = 0;
+    while i < cells.len() {
+        let v = cells[i];
+        cells[i] = low(w, v);
+        i += 1;
+    }
+}
+
+// Every cell is v.
+pub fn fill(cells: &mut [u64], v: u64)
+    ensures { λ _. ⌜ now (cells .exit) ≡ replicate (length (now (cells .entry))) v ⌝ }
+{
+    let mut i: usize = 0;
+    while i < cells.len() {
+        cells[i] = v;
+        i += 1;
+    }
+}
+
+// Two runs hold the same words.
+pub fn alike(words: &[u64], x: usize, y: usize, n: usize) -> bool
+    requires { ⌜ (x + n ≤ length (now words)) × (y + n ≤ length (now words)) ⌝ }
+    ensures { λ r. ⌜ r ≡ same (part (now (words .entry)) x n) (part (now (words .entry)) y n) ⌝ }
+{
+    let mut i: usize = 0;
+    while i < n {
+        if words[x + i] != words[y + i] {
+            return false;
+        }
+        i += 1;
+    }
+    true
+}
+
+// The write evaluator: the cells hold the array written to.
+pub fn store(cells: &mut [u64], i: usize, v: u64)
+    requires { ⌜ i < length (now cells) ⌝ }
+    ensures { λ _. ⌜ now (cells .exit) ≡ set (now (cells .entry)) i v ⌝ }
+{
+    cells[i] = v;
+}
+
+// The words of from go to to.
+pub fn load(to: &mut [u64], from: &[u64])
+    requires { ⌜ length (now to) ≡ length (now from) ⌝ }
+    ensures { λ _. ⌜ now (to .exit) ≡ now (from .entry) ⌝ }
+{
+    let mut i: usize = 0;
+    while i < from.len() {
+        let v = from[i];
+        to[i] = v;
+        i += 1;
+    }
+}
+
+// ---- a run of the work area, lent
+
+// Copies work[x..x + m] to work[o..o + m], through the part that holds both.
+pub fn raise(work: &mut [u64], x: usize, o: usize, m: usize)
+    requires { ⌜ (x + m ≤ o) × (o + m ≤ length (now work)) ⌝ }
+    ensures { λ _. ⌜ now (work .exit) ≡ put (now (work .entry)) o (part (now (work .entry)) x m) ⌝ }
+{
+    let e = o + m;
+    copy(&mut work[x..e], 0, o - x, m);
+}
+
+pub fn mask_run(work: &mut [u64], a: usize, m: usize, w: u64)
+    requires { ⌜ (a + m ≤ length (now work)) × Width w ⌝ }
+    ensures { λ _. ⌜ now (work .exit) ≡ put (now (work .entry)) a (lows w (part (now (work .entry)) a m)) ⌝ }
+{
+    let e = a + m;
+    mask_all(&mut work[a..e], w);
+}
+
+// The words from a on are taken modulo 2^w, or stay.
+pub fn settle(mask: bool, work: &mut [u64], a: usize, m: usize, w: u64)
+    requires { ⌜ (a + m ≤ length (now work)) × Width w ⌝ }
+    ensures { λ _. ⌜ now (work .exit) ≡ put (now (work .entry)) a (pick mask (lows w (part (now (work .entry)) a m)) (part (now (work .entry)) a m)) ⌝ }
+{
+    if !mask {
+        return;
+    }
+    mask_run(work, a, m, w);
+}
+
+pub fn fill_run(work: &mut [u64], a: usize, m: usize, v: u64)
+    requires { ⌜ a + m ≤ length (now work) ⌝ }
+    ensures { λ _. ⌜ now (work .exit) ≡ put (now (work .entry)) a (replicate m v) ⌝ }
+{
+    let e = a + m;
+    fill(&mut work[a..e], v);
+}
+
+pub fn store_run(work: &mut [u64], a: usize, m: usize, i: usize, v: u64)
+    requires { ⌜ (a + m ≤ length (now work)) × (i < m) ⌝ }
+    ensures { λ _. ⌜ now (work .exit) ≡ put (now (work .entry)) a (set (part (now (work .entry)) a m) i v) ⌝ }
+{
+    let e = a + m;
+    store(&mut work[a..e], i, v);
+}
+
+// The words of from go to work[a..].
+pub fn load_at(work: &mut [u64], a: usize, from: &[u64])
+    requires { ⌜ length (now work) ≡ a + length (now from) ⌝ }
+    ensures { λ _. ⌜ drop a (now (work .exit)) ≡ now (from .entry) ⌝ }
+{
+    load(&mut work[a..], from);
+}

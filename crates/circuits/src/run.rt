@@ -1,0 +1,194 @@
+// Runs: the checks in their order, the places, the steps, the first counted bad. The work area is zero after any call, and the signals after a refusal.
+use crate::Ran;
+use crate::Totals;
+use crate::bad;
+use crate::places;
+use crate::steps;
+use tables::Checked;
+use tables::Refusal;
+use tables::check;
+use tables::records;
+ghost use mathlib.Core.Path.{_≡_};
+ghost use mathlib.Core.Bool.{Bool, true, false};
+ghost use mathlib.Core.List.{List};
+ghost use Prim.Native.Nat.{_+_, _*_, _≤_, _<_};
+ghost use lib.ListN.{length, replicate};
+ghost use Rattle.circuits.specs.Run.{bytes, firstBad, run};
+ghost use Rattle.circuits.specs.Answers.{linesOf, lent as lentOf, ran, signalsLeft};
+ghost use Rattle.circuits.specs.Model.{countsOf, Ready, Typed, lentAnswer, lentSignals};
+
+// 13 to 17: s start words, i input words, g signal bytes and w words of work area are lent for k steps.
+fn lent(t: Totals, k: usize, s: usize, i: usize, g: usize, w: usize) -> Checked
+    requires { ⌜ (t .cells + t .states < 4294967296) × ((t .inputs < 4294967296) × (t .signals < 4294967296)) ⌝ }
+    ensures { λ r. ⌜ r ≡ lentOf (countsOf t) k s i g w ⌝ }
+{
+    if 4096 < k {
+        return Checked::Refused(Refusal::TooManySteps);
+    }
+    if s != t.states {
+        return Checked::Refused(Refusal::StartWords);
+    }
+    if i != k * t.inputs {
+        return Checked::Refused(Refusal::InputWords);
+    }
+    if g != k * t.signals {
+        return Checked::Refused(Refusal::SignalBytes);
+    }
+    if w < t.cells + t.states {
+        return Checked::Refused(Refusal::WorkArea);
+    }
+    Checked::Accepted
+}
+
+// A run of which 13 to 17 do not hold; signals and work area are zero.
+fn run_lent(
+    program: bool,
+    table: &[u64],
+    count: usize,
+    t: Totals,
+    off: &[u32; 16385],
+    wid: &[u8; 16385],
+    num: &[u32; 16385],
+    pos: &[u32; 16385],
+    k: usize,
+    starts: &[u64],
+    inputs: &[u64],
+    signals: &mut [u8],
+    work: &mut [u64],
+) -> Ran
+    requires { ⌜ Ready program (now table) count (now off) (now wid) (now num) (now pos) (t .cells) (t .states) (t .inputs) (t .signals) × ((lentOf (countsOf t) k (length (now starts)) (length (now inputs)) (length (now signals)) (length (now work)) ≡ Checked.Accepted) × (now work ≡ replicate (length (now work)) 0)) ⌝ }
+    ensures { λ r. ⌜ (r ≡ firstBad 0 (run program (linesOf (now (table .entry)) count) k (now (starts .entry)) (now (inputs .entry)))) × ((now (signals .exit) ≡ bytes (run program (linesOf (now (table .entry)) count) k (now (starts .entry)) (now (inputs .entry)))) × (now (work .exit) ≡ replicate (length (now (work .entry))) 0)) ⌝ }
+{
+    if k == 0 {
+        return Ran::Nothing;
+    }
+    let used = t.cells + t.states;
+    steps::run_laid(
+        program,
+        table,
+        count,
+        off,
+        wid,
+        num,
+        pos,
+        t.cells,
+        t.inputs,
+        t.signals,
+        k,
+        starts,
+        inputs,
+        signals,
+        &mut work[..used],
+    );
+    let mut marks = [0u8; 16385];
+    places::classes(program, table, count, &mut marks);
+    let n = t.signals;
+    bad::first_bad(k, signals, &marks[..n])
+}
+
+// A run of an accepted table, with the index widths and the widths of its lines; signals and work area are zero.
+fn run_checked(
+    program: bool,
+    table: &[u64],
+    count: usize,
+    idx: &[u8; 16385],
+    wid: &[u8; 16385],
+    k: usize,
+    starts: &[u64],
+    inputs: &[u64],
+    signals: &mut [u8],
+    work: &mut [u64],
+) -> Ran
+    requires { ⌜ Typed program (now table) count (now idx) (now wid) × ((now signals ≡ replicate (length (now signals)) 0) × (now work ≡ replicate (length (now work)) 0)) ⌝ }
+    ensures { λ r. ⌜ (r ≡ lentAnswer program (now (table .entry)) count k (now (starts .entry)) (now (inputs .entry)) (length (now (signals .entry))) (length (now (work .entry)))) × ((now (signals .exit) ≡ lentSignals program (now (table .entry)) count k (now (starts .entry)) (now (inputs .entry)) (length (now (signals .entry))) (length (now (work .entry)))) × (now (work .exit) ≡ replicate (length (now (work .entry))) 0)) ⌝ }
+{
+    let mut off = [0u32; 16385];
+    let mut num = [0u32; 16385];
+    let mut pos = [0u32; 16385];
+    let t = places::lay_out(program, table, count, idx, &mut off, &mut num, &mut pos);
+    match lent(t, k, starts.len(), inputs.len(), signals.len(), work.len()) {
+        Checked::Refused(r) => {
+            return Ran::Refused(r);
+        }
+        Checked::Accepted => {}
+    }
+    run_lent(
+        program,
+        table,
+        count,
+        t,
+        &off,
+        wid,
+        &num,
+        &pos,
+        k,
+        starts,
+        inputs,
+        signals,
+        work,
+    )
+}
+
+// A run of a circuit (program is false) or of a program, of k steps: 1, 11 (20 for a program), 13 to 17; else the first counted bad.
+pub fn run_table(
+    program: bool,
+    table: &[u64],
+    count: usize,
+    k: usize,
+    starts: &[u64],
+    inputs: &[u64],
+    signals: &mut [u8],
+    work: &mut [u64],
+) -> Ran
+    ensures { λ r. ⌜ (r ≡ ran program (now (table .entry)) count k (now (starts .entry)) (now (inputs .entry)) (length (now (signals .entry))) (length (now (work .entry)))) × ((now (signals .exit) ≡ signalsLeft program (now (table .entry)) count k (now (starts .entry)) (now (inputs .entry)) (length (now (signals .entry))) (length (now (work .entry)))) × (now (work .exit) ≡ replicate (length (now (work .entry))) 0)) ⌝ }
+{
+    check::clear(signals);
+    records::clear(work);
+    let mut cls = [0u8; 16385];
+    let mut idx = [0u8; 16385];
+    let mut wid = [0u8; 16385];
+    let mut ini = [0u8; 16385];
+    let mut nxt = [0u8; 16385];
+    match check::check(
+        program,
+        table,
+        count,
+        &mut cls,
+        &mut idx,
+        &mut wid,
+        &mut ini,
+        &mut nxt,
+    ) {
+        Checked::Refused(r) => {
+            return Ran::Refused(r);
+        }
+        Checked::Accepted => {}
+    }
+    run_checked(
+        program,
+        table,
+        count,
+        &idx,
+        &wid,
+        k,
+        starts,
+        inputs,
+        signals,
+        work,
+    )
+}
+
+// A circuit's run.
+pub fn run_circuit(
+    table: &[u64],
+    count: usize,
+    k: usize,
+    starts: &[u64],
+    inputs: &[u64],
+    signals: &mut [u8],
+    work: &mut [u64],
+) -> Ran
+    ensures { λ r. ⌜ (r ≡ ran false (now (table .entry)) count k (now (starts .entry)) (now (inputs .entry)) (length (now (signals .entry))) (length (now (work .entry)))) × ((now (signals .exit) ≡ signalsLeft false (now (table .entry)) count k (now (starts .entry)) (now (inputs .entry)) (length (now (signals .entry))) (length (now (work .entry)))) × (now (work .exit) ≡ replicate (length (now (work .entry))) 0)) ⌝ }
+{
+    run_table(false, table, count, k, starts, inputs, signals, work)
+}
