@@ -1,13 +1,12 @@
 -- The worked example of the request read and written, a text for each refusal 3 to 10, and names. Assumes nothing.
-use Prim.Native.Nat.{ℕ, zero, suc, _^_}
+use Prim.Native.Nat.{ℕ}
 use Prim.Native.Char.{code}
 use Prim.Native.String.{String, [] as end, _∷_ as _then_}
 use mathlib.Core.Path.{_≡_, refl}
-use mathlib.Core.Bool.{Bool, true, false, _&&_}
+use mathlib.Core.Bool.{false}
 use mathlib.Core.List.{List, [], _∷_, map}
-use lib.Dec.{T, leb, ltb, ltb→lt, leb→le, lit<}
+use lib.Dec.{T, leb, leb→le}
 use lib.ListN.{length}
-use mir.Facts.{and-yes}
 use Rattle.tables.specs.declared.Refusal.the-variants.{WrongId, NoRecordLeft, UnknownWord, BadOperand, NumberTooLarge, WrongClass, Misfit, InitOrNext}
 use Rattle.tables.specs.declared.Checked.the-variants.{Accepted}
 use Rattle.tables.specs.Kinds.{rowOf}
@@ -20,7 +19,7 @@ use Rattle.texts.specs.Decimal.{digit, allIn, valueFrom, valued, scanned
 use Rattle.texts.specs.Reading.{findIn, wordIn, operands, ruled, settled, judged, large, readLine, readLines, readText, Text, done, refused}
 use Rattle.texts.specs.Writing.{writeFrom, writeText}
 use Rattle.texts.specs.Naming.{nameIn, nameOf}
-use Rattle.texts.proofs.Round.{Words, round-trip}
+use Rattle.texts.proofs.Round.{round-trip}
 
 pub bytes : String → List ℕ
 bytes end = []
@@ -47,26 +46,12 @@ pub sample-accepted : checked false table 11 ≡ Accepted
 unfolding checked fault suits rowOf
 sample-accepted = refl
 
-below : List ℕ → Bool
-below [] = true
-below (x ∷ t) = ltb x (2 ^ 64) && below t
-
-words-below : (t : List ℕ) → T (below t) → Words t
-unfolding below
-words-below [] h j = lit< tt
-words-below (x ∷ t) h zero = ltb→lt x (2 ^ 64) (and-yes (ltb x (2 ^ 64)) (below t) h .0)
-words-below (x ∷ t) h (suc j) = words-below t (and-yes (ltb x (2 ^ 64)) (below t) h .1) j
-
-sample-words : Words table
-unfolding below
-sample-words = words-below table tt
-
 sample-short : T (leb (length (writeText table)) 65536)
 unfolding writeText writeFrom digits digitsF rowOf
 sample-short = tt
 
 pub sample-trip : readText 100 (writeText (counted table 11)) ≡ done 11 (counted table 11)
-sample-trip = round-trip table 11 100 sample-words sample-accepted (leb→le (length (writeText table)) 65536 sample-short) refl (leb→le 11 20 tt)
+sample-trip = round-trip table 11 100 sample-accepted (leb→le (length (writeText table)) 65536 sample-short) refl (leb→le 11 20 tt)
 
 -- ---- a text for each refusal, with its text line; there is room for five records
 

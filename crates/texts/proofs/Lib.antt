@@ -6,7 +6,9 @@ pub mod Places
 pub mod Steps
 pub mod Kept
 pub mod Reached
+pub mod Bounded
 pub mod Round
 pub mod Examples
 pub mod Printed
 pub mod Named
+pub mod Accepted

@@ -17,10 +17,11 @@ use Rattle.tables.specs.declared.Checked.the-variants.{Accepted, Refused}
 use Rattle.tables.specs.Kinds.{rowOf, wordOf, countOf}
 use Rattle.tables.specs.Lines.{lineOf, kindIn, records, counted, recordAt}
 use Rattle.tables.specs.Types.{Ctx, noCtx, tyAt, given, grow}
-use Rattle.tables.specs.Tables.{known, formed, keeps, lawful, checked}
+use Rattle.tables.specs.Tables.{room, known, formed, keeps, lawful, checked}
 use Rattle.tables.proofs.Kept.{both}
 use Rattle.tables.proofs.Shapes.{range}
 use Rattle.tables.proofs.Counted.{length-records, record-at}
+use Rattle.tables.proofs.Checking.{roomy}
 use Rattle.texts.specs.declared.WriteOutcome.the-variants.{Done as Wrote, Refused as WriteRefused}
 use Rattle.texts.specs.Forms.{sorted, firstOf, numbersOf}
 use Rattle.texts.specs.Split.{spaced, join}
@@ -28,7 +29,7 @@ use Rattle.texts.specs.Decimal.{digits, digitsF}
 use Rattle.texts.specs.Writing.{numbers, kindTokens, tokensOf, writeFrom, writeText, fitted, writeTable, writeAnswer, bufferOf}
 use Rattle.texts.proofs.Words.{row-shape, row-kind, sorted-most}
 use Rattle.texts.proofs.Reached.{drop-zeros}
-use Rattle.texts.proofs.Round.{Words, Good, words-take, good-records}
+use Rattle.texts.proofs.Bounded.{Good, good-lawful}
 
 -- ---- digits printed
 
@@ -63,7 +64,7 @@ more-length v h = ap length (digits-more v h) ∙ length-append (digits (v / 10)
 -- one byte of w goes out: what is left to store is from the next place on
 module _ (w : List ℕ) (i : ℕ) (h : i < length w) (l : List ℕ) (p : ℕ) where
   pub out-byte : sets l p (drop i w) ≡ sets (set l p (getD w i 0)) (p + 1) (drop (i + 1) w)
-  out-byte = rw (add-one, add-one, drop-cons w i 0 h) refl
+  out-byte = rw (add-one p, add-one i, drop-cons w i 0 h) refl
 
   pub out-less : p + length (drop i w) ≡ p + 1 + length (drop (i + 1) w)
   out-less = omega (arith, length-drop i w, length-drop (i + 1) w)
@@ -260,9 +261,10 @@ pub record Before (t : List ℕ) (n : ℕ) (out₀ out : List ℕ) (at p : ℕ) 
   pub rest : length (writeFrom 1 (records (counted t n))) ≡ at + length (writeFrom (p + 1) (drop p (records (counted t n))))
   pub stored : sets out₀ 0 (writeFrom 1 (records (counted t n))) ≡ sets out at (writeFrom (p + 1) (drop p (records (counted t n))))
 
-pub before-all : (t : List ℕ) (n : ℕ) (out : List ℕ) → Words t → n ≤ 16384 → 5 * n ≤ length t → lawful false noCtx (records (counted t n)) ≡ true → Before t n out out 0 0
-before-all t n out w few fits law =
-    let m = text-most noCtx (records (counted t n)) 1 (good-records (counted t n) (words-take (5 * n) t w)) law (omega (arith, length-records n t fits)) in
+pub before-all : (t : List ℕ) (n : ℕ) (out : List ℕ) → n ≤ room (length t) → lawful false noCtx (records (counted t n)) ≡ true → Before t n out out 0 0
+before-all t n out few law =
+    let fits : 5 * n ≤ length t = roomy (length t) n few .1 in
+    let m = text-most noCtx (records (counted t n)) 1 (good-lawful (counted t n) (omega (arith, length-records n t fits, roomy (length t) n few .0)) law) law (omega (arith, length-records n t fits)) in
     record {
       most = zero-le;
       size = refl;
@@ -271,7 +273,10 @@ before-all t n out w few fits law =
       stored = refl;
     }
 
-module _ {t : List ℕ} {n : ℕ} {out₀ out : List ℕ} {at p : ℕ} (B : Before t n out₀ out at p) (fits : 5 * n ≤ length t) where
+module _ {t : List ℕ} {n : ℕ} {out₀ out : List ℕ} {at p : ℕ} (B : Before t n out₀ out at p) (few : n ≤ room (length t)) where
+  fits : 5 * n ≤ length t
+  fits = roomy (length t) n few .1
+
   pub after-all : n ≤ p → (at ≡ length (writeText (counted t n))) × (out ≡ sets out₀ 0 (writeText (counted t n)))
   unfolding writeText
   after-all h =

@@ -235,8 +235,8 @@ module _ {s table cls idx wid ini nxt e : List ℕ} {len i n line : ℕ} {c : Ct
       pub has-room : n < room len
       has-room = got-room (tyAt c) (given c) (room len) n (lineTokens (take (f - i) (drop i s))) (r .rec) is-got
 
-      pub fits-record : 5 * n + 5 ≤ length table
-      fits-record = omega (arith, table-size, has-room)
+      pub fits-record : n < room (length table)
+      fits-record = subst (λ (k : ℕ). n < room k) (sym table-size) has-room
 
       pub sort-fits : kindIn (r .rec) ≡ 1 → firstIn (r .rec) ≤ 64
       sort-fits = sort-width false (tyAt c) (given c) (r .rec) (eqb-true (fault false (tyAt c) (given c) (r .rec)) 0 (both (formed false (r .rec)) _ (kept .0) .1))

@@ -4,8 +4,8 @@ use mathlib.Core.Path.{_≡_, refl, sym, ap, _∙_, subst}
 use mathlib.Core.Bool.{Bool, true, false, _&&_, _||_}
 use mathlib.Core.List.{List, [], _∷_, _++_, append-nil, append-assoc}
 use native.Mathlib.Omega.{arith}
-use lib.Dec.{T, eqb, leb, ltb, eqb→eq, leb→le, lit<}
-use lib.ListN.{length, getD, set, take}
+use lib.Dec.{T, eqb, leb, ltb, eqb→eq, leb→le}
+use lib.ListN.{length, getD, set}
 use lib.Seq.{length-take-le}
 use mir.Facts.{and-yes}
 use borrow.Author.Tests.{eqb-true, eqb-false, eq-eqb, lt-ltb, ltb-true, leb-true, leb-false}
@@ -37,6 +37,7 @@ use Rattle.texts.proofs.Decimals.{digits-tok, decimal-digits}
 use Rattle.texts.proofs.Words.{word-found, word-toks, row-kind, kind-low}
 use Rattle.texts.proofs.Scan.{number-other}
 use Rattle.texts.proofs.Steps.{ruled-got, settled-other, judged-other, large-fits, large-other}
+use Rattle.texts.proofs.Bounded.{Good, good-lawful}
 use Rattle.texts.proofs.Reached.{step-got, lines-end, text-lines}
 
 -- ---- a record's numbers, printed and read, are its words
@@ -185,7 +186,7 @@ module _ (L : ℕ → Ty) (G : Bool → ℕ → Bool) (r : List ℕ) (five-long 
 
 -- ---- the lines, the text
 
-abbrev concat : List (List ℕ) → List ℕ
+abbrev pub concat : List (List ℕ) → List ℕ
 concat [] = []
 concat (r ∷ rs) = r ++ concat rs
 
@@ -196,28 +197,6 @@ joined (k ∷ s ∷ []) h = absurd (omega arith)
 joined (k ∷ s ∷ a ∷ []) h = absurd (omega arith)
 joined (k ∷ s ∷ a ∷ b ∷ []) h = absurd (omega arith)
 joined (k ∷ s ∷ a ∷ b ∷ c ∷ t) h = ap (λ (x : List ℕ). k ∷ s ∷ a ∷ b ∷ c ∷ x) (joined t (omega arith))
-
--- the words of a table are u64
-abbrev pub Words : List ℕ → Type 0
-Words t = (j : ℕ) → getD t j 0 < 2 ^ 64
-
-pub words-take : (m : ℕ) (t : List ℕ) → Words t → Words (take m t)
-words-take zero t h j = lit< tt
-words-take (suc m) [] h j = lit< tt
-words-take (suc m) (x ∷ t) h zero = h 0
-words-take (suc m) (x ∷ t) h (suc j) = words-take m t (λ i. h (suc i)) j
-
-abbrev pub Good : List (List ℕ) → Type 0
-Good [] = Unit {0}
-Good (r ∷ rs) = ((length r ≡ 5) × Words r) × Good rs
-
-pub good-records : (t : List ℕ) → Words t → Good (records t)
-good-records [] h = tt
-good-records (k ∷ []) h = tt
-good-records (k ∷ s ∷ []) h = tt
-good-records (k ∷ s ∷ a ∷ []) h = tt
-good-records (k ∷ s ∷ a ∷ b ∷ []) h = tt
-good-records (k ∷ s ∷ a ∷ b ∷ c ∷ t) h = ((refl, words-take 5 (k ∷ s ∷ a ∷ b ∷ c ∷ t) h), good-records t (λ j. h (suc (suc (suc (suc (suc j)))))))
 
 lines-read : (m l n : ℕ) (c : Ctx) (e : List ℕ) (rs : List (List ℕ)) → n + length rs ≤ m → m ≤ 16384 → Good rs → lawful false c rs ≡ true
     → readLines m l n c e (split 10 (writeFrom (suc n) rs)) ≡ done (n + length rs) (e ++ concat rs)
@@ -248,28 +227,28 @@ held t n e = go (whole (length t)) (leb n (room (length t))) (lawful false noCtx
     go false y z p q r = absurd (not-accepted _ (no-table false t n p ∙ e))
 
 -- For every accepted table and count whose written text has at most 65,536 bytes: reading that text into any table with room gives the same records and the same count.
-pub round-trip : (t : List ℕ) (n len : ℕ) → Words t → checked false t n ≡ Accepted → length (writeText (counted t n)) ≤ 65536 → whole len ≡ true → n ≤ room len
+pub round-trip : (t : List ℕ) (n len : ℕ) → checked false t n ≡ Accepted → length (writeText (counted t n)) ≤ 65536 → whole len ≡ true → n ≤ room len
     → readText len (writeText (counted t n)) ≡ done n (counted t n)
 unfolding writeText
-round-trip t n len w a b d l =
+round-trip t n len a b d l =
     let k = held t n a in
     let f = roomy (length t) n (k .fits) in
     let c : length (counted t n) ≡ 5 * n = length-take-le (5 * n) t (f .1) in
     let z : length (records (counted t n)) ≡ n = length-records n t (f .1) in
     text-lines len (writeFrom 1 (records (counted t n))) d b
-    ∙ (lines-read (room len) 1 0 noCtx [] (records (counted t n)) (omega arith) (omega arith) (good-records (counted t n) (words-take (5 * n) t w)) (k .law)
+    ∙ (lines-read (room len) 1 0 noCtx [] (records (counted t n)) (omega arith) (omega arith) (good-lawful (counted t n) (omega arith) (k .law)) (k .law)
     ∙ (rw (joined (counted t n) (omega arith)) (ap (λ (x : ℕ). done x (counted t n)) (omega arith))))
 
 -- what writing leaves, reading takes
-pub written-read : (t : List ℕ) (n size len : ℕ) (s : List ℕ) → Words t → writeTable t n size ≡ wrote s → length s ≤ 65536 → whole len ≡ true → n ≤ room len
+pub written-read : (t : List ℕ) (n size len : ℕ) (s : List ℕ) → writeTable t n size ≡ wrote s → length s ≤ 65536 → whole len ≡ true → n ≤ room len
     → readText len s ≡ done n (counted t n)
 unfolding writeTable
-written-read t n size len s w e b d l = go (checked false t n) refl (leb (length (writeText (counted t n))) size) refl
+written-read t n size len s e b d l = go (checked false t n) refl (leb (length (writeText (counted t n))) size) refl
   where
     go : (x : Checked) → checked false t n ≡ x → (y : Bool) → leb (length (writeText (counted t n))) size ≡ y → readText len s ≡ done n (counted t n)
     go Accepted p true q =
         let z : wrote (writeText (counted t n)) ≡ wrote s = sym (rw (p, q, fitted) refl) ∙ e in
         let v : writeText (counted t n) ≡ s = cc in
-        subst (λ (u : List ℕ). readText len u ≡ done n (counted t n)) v (round-trip t n len w p (subst (λ (u : List ℕ). length u ≤ 65536) (sym v) b) d l)
+        subst (λ (u : List ℕ). readText len u ≡ done n (counted t n)) v (round-trip t n len p (subst (λ (u : List ℕ). length u ≤ 65536) (sym v) b) d l)
     go Accepted p false q = let z : refuse TextBuffer ≡ wrote s = sym (rw (p, q, fitted) refl) ∙ e in let y : _≡_ {A = ℕ} 0 1 = cc in absurd (omega arith)
     go (Refused r) p y q = let z : refuse r ≡ wrote s = sym (rw p refl) ∙ e in let y : _≡_ {A = ℕ} 0 1 = cc in absurd (omega arith)

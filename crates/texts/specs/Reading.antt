@@ -1,5 +1,5 @@
 -- Reading a text: its lines are parted at LF, cut at the first semicolon, and parted into tokens at spaces. Of a line the lowest refusal that holds is answered,
--- of a text the first line's that has one. Assumes nothing.
+-- of a text the first line's that has one. A comment gives the refusal's number where its name stands for it. Assumes nothing.
 use Prim.Native.Nat.{ℕ, zero, suc, _-_, _^_}
 use mathlib.Core.Bool.{Bool, true, false, _&&_, not}
 use mathlib.Core.List.{List, [], _∷_, _++_}
@@ -88,11 +88,13 @@ pub data Reply : Type 0 where
   no : (r : Refusal) → Reply
   got : (rec : List ℕ) → Reply
 
+-- a token is the number n
 abbrev pub isId : Num → ℕ → Bool
 isId Bad n = false
 isId Big n = false
 isId (Is v) n = eqb v n
 
+-- a line's tokens: a semicolon starts a comment to the line's end
 abbrev pub lineTokens : List ℕ → List (List ℕ)
 lineTokens l = tokens (upTo 59 l)
 
@@ -165,7 +167,7 @@ readLines m l n c e (x ∷ xs) =
       | got rec ↦ readLines m (suc l) (suc n) (grow false c (lineOf rec)) (e ++ rec) xs
     ]
 
--- the text s read into a table of len words
+-- the text s read into a table of len words: 1, 2, and then line by line
 unfoldable pub readText : (len : ℕ) → List ℕ → Text
 readText len s =
     elim (whole len) [

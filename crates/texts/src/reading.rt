@@ -15,7 +15,7 @@ use tables::types;
 ghost use mathlib.Core.Path.{_≡_};
 ghost use mathlib.Core.List.{[]};
 ghost use mathlib.Core.Bool.{true, false};
-ghost use Prim.Native.Nat.{ℕ, _+_, _-_, _*_, _^_, _≤_, _<_};
+ghost use Prim.Native.Nat.{ℕ, _+_, _-_, _^_, _≤_, _<_};
 ghost use lib.ListN.{length, drop, getD, replicate};
 ghost use Rattle.tables.specs.Kinds.{rowOf};
 ghost use Rattle.tables.specs.Lines.{kindIn, firstIn, recorded};
@@ -351,7 +351,7 @@ fn take(
     ini: &mut [u8],
     nxt: &mut [u8],
 )
-    requires { ⌜ (5 * n + 5 ≤ length (now table)) × (kindIn rec ≡ 1 → firstIn rec ≤ 64) ⌝ }
+    requires { ⌜ (n < roomOf (length (now table))) × (kindIn rec ≡ 1 → firstIn rec ≤ 64) ⌝ }
     ensures { λ _. ⌜ (now (table .exit) ≡ recorded (now (table .entry)) n rec) × Noted false rec (n + 1) (now (cls .entry)) (now (idx .entry)) (now (wid .entry)) (now (ini .entry)) (now (nxt .entry)) (now (cls .exit)) (now (idx .exit)) (now (wid .exit)) (now (ini .exit)) (now (nxt .exit)) ⌝ }
 {
     records::put(table, n, rec);

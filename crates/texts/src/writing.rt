@@ -7,13 +7,13 @@ use tables::records;
 ghost use mathlib.Core.Path.{_≡_};
 ghost use mathlib.Core.Bool.{true, false};
 ghost use mathlib.Core.List.{[], _∷_, _++_};
-ghost use Prim.Native.Nat.{_+_, _*_, _^_, _≤_, _<_};
+ghost use Prim.Native.Nat.{_+_, _^_, _≤_, _<_};
 ghost use lib.ListN.{length, getD, set};
 ghost use lib.Seq.{sets};
 ghost use Rattle.tables.specs.Kinds.{wordOf};
 ghost use Rattle.tables.specs.Lines.{kindIn, records as recordsOf, counted};
 ghost use Rattle.tables.specs.Types.{noCtx};
-ghost use Rattle.tables.specs.Tables.{lawful, checked};
+ghost use Rattle.tables.specs.Tables.{room, lawful, checked};
 ghost use Rattle.texts.specs.Split.{spaced, join};
 ghost use Rattle.texts.specs.Decimal.{digits};
 ghost use Rattle.texts.specs.Writing.{numbers, kindTokens, tokensOf, writeText};
@@ -112,7 +112,7 @@ pub fn put_line(out: &mut [u8], at: usize, id: u64, rec: [u64; 5]) -> usize
 
 // The lines of the first `count` records, which keep the rules.
 pub fn put_lines(out: &mut [u8], table: &[u64], count: usize) -> usize
-    requires { ⌜ (count ≤ 16384) × ((5 * count ≤ length (now table)) × (lawful false noCtx (recordsOf (counted (now table) count)) ≡ true)) ⌝ }
+    requires { ⌜ (count ≤ room (length (now table))) × (lawful false noCtx (recordsOf (counted (now table) count)) ≡ true) ⌝ }
     ensures { λ x. ⌜ (x ≡ length (writeText (counted (now (table .entry)) count))) × (now (out .exit) ≡ sets (now (out .entry)) 0 (writeText (counted (now (table .entry)) count))) ⌝ }
 {
     let mut at: usize = 0;

@@ -6,7 +6,6 @@ use mathlib.Core.List.{List}
 use lib.ListN.{length, replicate, length-replicate}
 use lib.Seq.{sets, length-sets}
 use Rattle.tables.specs.Lines.{counted}
-use Rattle.tables.proofs.Checking.{roomy}
 use Rattle.texts.specs.Writing.{writeText}
 use Rattle.texts.proofs.Round.{held}
 use Rattle.texts.proofs.Printed.{out-not, out-short, out-written}
@@ -27,7 +26,7 @@ enum-told : tie.Need-enum-told
 enum-told c = search needs
 
 put-lines-requires : tie.Need-put-lines-requires
-put-lines-requires c κs = let h = held (c .before .before .before .before .before .before .before .before .before .before .args .table .now) (c .before .before .before .before .before .before .before .before .before .before .args .count) (sym (c .before .before .before .accept .ensures) ∙ c .before .enum-told .given .1) in let r = roomy _ _ (h .fits) in (r .0, (r .1, h .law))
+put-lines-requires c κs = let h = held (c .before .before .before .before .before .before .before .before .before .before .args .table .now) (c .before .before .before .before .before .before .before .before .before .before .args .count) (sym (c .before .before .before .accept .ensures) ∙ c .before .enum-told .given .1) in (h .fits, h .law)
 
 clear-requires-2 : tie.Need-clear-requires-2
 clear-requires-2 c κs = search needs

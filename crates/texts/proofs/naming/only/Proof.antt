@@ -4,7 +4,6 @@ use native.Mathlib.Omega.{arith}
 use mathlib.Core.Path.{sym, ap, _∙_}
 use mathlib.Core.List.{List, _∷_}
 use lib.ListN.{take, drop}
-use Rattle.texts.specs.Split.{tokens}
 use Rattle.texts.specs.Naming.{only}
 use Rattle.texts.proofs.Places.{no-token, next-token}
 use Rattle.texts.proofs.Named.{only-more}

@@ -13,28 +13,28 @@ abbrev μ-loop : tie.MeasureT-loop
 μ-loop out₀ table count at₀ p₀ out at p = count - p
 
 loop-holds : tie.Need-loop-holds Inv-loop μ-loop
-loop-holds c = before-all _ _ _ (λ j. c .shared-slice-known .given j .fits) (c .before .before .pre .0) (c .before .before .pre .1 .0) (c .before .before .pre .1 .1)
+loop-holds c = before-all _ _ _ (c .before .before .pre .0) (c .before .before .pre .1)
 
 record-requires : tie.Need-record-requires Inv-loop μ-loop
-record-requires c κs = omega (arith, c .before .before .before .before .pre .1 .0)
+record-requires c κs = omega (arith, c .before .before .before .before .pre .0)
 
 add-p : tie.Need-add-p Inv-loop μ-loop
 add-p c = search needs
 
 put-line-requires : tie.Need-put-line-requires Inv-loop μ-loop
-put-line-requires c κs = let k = this-kind (c .before .before .before .loop .inv) (c .before .before .before .before .before .before .pre .1 .0) (c .before .before .before .before .before .before .pre .1 .1) (c .before .before .loop-test .taken) _ (c .before .«record» .ensures) in (k .0, (k .1, this-fits (c .before .before .before .loop .inv) (c .before .before .before .before .before .before .pre .1 .0) (c .before .before .before .before .before .before .pre .1 .1) (c .before .before .loop-test .taken) _ (c .before .«record» .ensures)))
+put-line-requires c κs = let k = this-kind (c .before .before .before .loop .inv) (c .before .before .before .before .before .before .pre .0) (c .before .before .before .before .before .before .pre .1) (c .before .before .loop-test .taken) _ (c .before .«record» .ensures) in (k .0, (k .1, this-fits (c .before .before .before .loop .inv) (c .before .before .before .before .before .before .pre .0) (c .before .before .before .before .before .before .pre .1) (c .before .before .loop-test .taken) _ (c .before .«record» .ensures)))
 
 loop-less : tie.Need-loop-less Inv-loop μ-loop
 loop-less c = omega (arith, c .before .before .before .before .before .loop-test .taken)
 
 loop-again : tie.Need-loop-again Inv-loop μ-loop
-loop-again c = next-record (c .before .before .before .before .before .before .loop .inv) (c .before .before .before .before .before .before .before .before .before .pre .1 .0) (c .before .before .before .before .before .before .before .before .before .pre .1 .1) (c .before .before .before .before .before .loop-test .taken) _ (c .before .before .before .before .«record» .ensures) _ _ (c .before .before .put-line .ensures)
+loop-again c = next-record (c .before .before .before .before .before .before .loop .inv) (c .before .before .before .before .before .before .before .before .before .pre .0) (c .before .before .before .before .before .before .before .before .before .pre .1) (c .before .before .before .before .before .loop-test .taken) _ (c .before .before .before .before .«record» .ensures) _ _ (c .before .before .put-line .ensures)
 
 same-length : tie.Need-same-length Inv-loop μ-loop
 same-length c = c .before .loop .inv .size
 
 returns : tie.Need-returns Inv-loop μ-loop
-returns c = after-all (c .before .loop .inv) (c .before .before .before .before .pre .1 .0) (c .loop-test .left)
+returns c = after-all (c .before .loop .inv) (c .before .before .before .before .pre .0) (c .loop-test .left)
 
 pub put-lines-spec : {M : Type 1} → statement M
 put-lines-spec =
