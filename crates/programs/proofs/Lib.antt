@@ -1,6 +1,5 @@
 -- The laws of programs. For other crates: `Runs` (a flat circuit and its program run alike), `LaidLines` (they have as many state words, inputs and signals), `Accepted` (the
 -- program keeps the rules), `Done` (what a translation leaves is accepted), `Sample` (the request's example meets the premises). The rest serves these.
-pub mod Fitting
 pub mod Lists
 pub mod Grew
 pub mod Laid
@@ -15,3 +14,10 @@ pub mod StepLines
 pub mod Runs
 pub mod Done
 pub mod Sample
+pub mod Reading
+pub mod Modelled
+pub mod Keeping
+pub mod Marking
+pub mod Counting
+pub mod Writing
+pub mod Answering

@@ -17,7 +17,7 @@ use Rattle.words.proofs.Bounds.{circ-lt, prog-lt}
 use Rattle.words.proofs.KindLaws.{loose-kind}
 use Rattle.tables.proofs.Kept.{no-yes}
 use Rattle.programs.specs.Uses.{looseLine}
-use Rattle.programs.proofs.Fitting.{Suits}
+use Rattle.circuits.proofs.Fitting.{Suits}
 
 -- x, a word of the program, stands for a, a word of the circuit of width w; lo says whether x is loose
 pub record Result (w : ℕ) (lo : Bool) (x a : ℕ) : Type 0 where

@@ -24,7 +24,7 @@ use Rattle.circuits.specs.Layout.{typeAt}
 use Rattle.circuits.specs.Meaning.{Acc, cellsAt, wordAt, widthAt}
 use Rattle.programs.specs.Uses.{looseExpr, when, needsExpr}
 use Rattle.programs.specs.Translation.{Info, widthOf, numberOf, looseOf, renumbered}
-use Rattle.programs.proofs.Fitting.{Suits, fit-one, fit-two, plain-one}
+use Rattle.circuits.proofs.Fitting.{Suits, fit-one, fit-two, plain-one}
 use Rattle.programs.proofs.LaidLines.{typed}
 use Rattle.programs.proofs.Operator.{at-use, exact-result, operator}
 use Rattle.programs.proofs.Held.{Alike, New}

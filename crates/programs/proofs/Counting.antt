@@ -1,0 +1,103 @@
+-- The second pass: after i records the lists hold what is known of their lines, and the instructions so far with those ahead are the program's. Assumes nothing.
+use Prim.Native.Nat.{ℕ, _+_, _*_, _≤_, _<_}
+use mathlib.Core.Path.{_≡_, refl, sym, ap, _∙_, subst, subst⁻¹}
+use mathlib.Core.Bool.{Bool, false}
+use mathlib.Core.List.{List, [], _∷_, _++_, append-assoc, append-nil}
+use native.Mathlib.Omega.{arith}
+use lib.ListN.{length, drop, replicate, length-append}
+use Rattle.tables.specs.declared.Checked.the-variants.{Accepted}
+use Rattle.tables.specs.Lines.{Line, wordsOf, kindIn, recordAt}
+use Rattle.tables.specs.Tables.{checked}
+use Rattle.circuits.specs.Answers.{linesOf}
+use Rattle.programs.specs.Uses.{needed}
+use Rattle.programs.specs.Translation.{Info, noInfo, widthOf, numberOf, made, translateFrom, translate}
+use Rattle.programs.specs.Answers.{programOf}
+use Rattle.programs.specs.Records.{numberAt, flagAt, emitted, Marked, Taken}
+use Rattle.programs.proofs.Modelled.{Agrees, agrees}
+use Rattle.programs.proofs.Keeping.{Keeps, keeps-start, keeps-more, line-at, no-line, fits-table, few-emitted}
+
+pub record Walk (t : List ℕ) (n i b : ℕ) (wd num lo : List ℕ) : Type 0 where
+  pub J : List Info
+  pub keeps : Keeps J wd num lo
+  pub known : length J ≡ i + 1
+  pub most : i ≤ n
+  pub least : 1 ≤ b
+  pub few : b ≤ 2 * i + 1
+  -- the instructions so far
+  pub out : List Line
+  pub place : length out + 1 ≡ b
+  pub all : out ++ translateFrom (needed (linesOf t n)) J b (drop i (linesOf t n)) ≡ programOf t n
+
+pub walk-start : (t : List ℕ) (n : ℕ) {wd num lo : List ℕ} → wd ≡ replicate 16385 0 → num ≡ replicate 16385 0 → lo ≡ replicate 16385 0 → Walk t n 0 1 wd num lo
+unfolding translate
+walk-start t n ew en el =
+    record { J = noInfo ∷ []; keeps = rw (ew, en, el) keeps-start; known = refl; most = omega arith; least = omega arith; few = omega arith; out = []; place = refl; all = refl }
+
+pub start-out : (t : List ℕ) (n : ℕ) {wd num lo : List ℕ} (ew : wd ≡ replicate 16385 0) (en : num ≡ replicate 16385 0) (el : lo ≡ replicate 16385 0) → walk-start t n ew en el .out ≡ []
+unfolding walk-start
+start-out t n ew en el = refl
+
+module _ {t : List ℕ} {n i b : ℕ} {wd num lo : List ℕ} (K : Walk t n i b wd num lo) (e : checked false t n ≡ Accepted) where
+  abbrev N : ℕ → Bool
+  N = needed (linesOf t n)
+
+  -- the line at hand, as the code finds it
+  module _ (l : i < n) (nd : Bool) (en : nd ≡ N (i + 1)) where
+    pub at-hand : Agrees (numberAt wd) (numberAt num) (flagAt lo) nd b (recordAt t i) (made N (K .J) b (line-at t n i e l .line))
+    at-hand =
+        let x = line-at t n i e l in
+        let a = agrees N (K .J) b (K .keeps .none) (x .line) (x .kinded) in
+        let p : (nd ≡ N (length (K .J))) = en ∙ ap N (sym (K .known)) in
+        subst (λ (r : List ℕ). Agrees (numberAt wd) (numberAt num) (flagAt lo) nd b r (made N (K .J) b (x .line))) (x .words)
+        (subst⁻¹ (λ (d : Bool). Agrees (numberAt wd) (numberAt num) (flagAt lo) d b (wordsOf (x .line)) (made N (K .J) b (x .line))) p
+        (subst⁻¹ (λ (W : ℕ → ℕ). Agrees W (numberAt num) (flagAt lo) (N (length (K .J))) b (wordsOf (x .line)) (made N (K .J) b (x .line))) (λ j a. K .keeps .width a j)
+        (subst⁻¹ (λ (M : ℕ → ℕ). Agrees (widthOf (K .J)) M (flagAt lo) (N (length (K .J))) b (wordsOf (x .line)) (made N (K .J) b (x .line))) (λ j a. K .keeps .number a j)
+        (subst⁻¹ (λ (L : ℕ → Bool). Agrees (widthOf (K .J)) (numberOf (K .J)) L (N (length (K .J))) b (wordsOf (x .line)) (made N (K .J) b (x .line))) (λ j a. K .keeps .loose a j) a))))
+
+    -- the instructions ahead begin with the line's
+    pub ahead : translateFrom N (K .J) b (drop i (linesOf t n))
+        ≡ made N (K .J) b (line-at t n i e l .line) .code
+        ++ translateFrom N (K .J ++ (made N (K .J) b (line-at t n i e l .line) .info ∷ [])) (b + length (made N (K .J) b (line-at t n i e l .line) .code)) (drop (i + 1) (linesOf t n))
+    ahead = ap (translateFrom N (K .J) b) (line-at t n i e l .rest)
+
+    module _ {m : Bool} {wd₁ num₁ lo₁ : List ℕ} {r : List ℕ} (er : r ≡ recordAt t i) (T : Taken r (i + 1) nd b wd num lo wd₁ num₁ lo₁ m) where
+      taken : Taken (recordAt t i) (i + 1) nd b wd num lo wd₁ num₁ lo₁ m
+      taken = subst (λ (x : List ℕ). Taken x (i + 1) nd b wd num lo wd₁ num₁ lo₁ m) er T
+
+      -- as many as the code counts
+      pub count-is : length (made N (K .J) b (line-at t n i e l .line) .code) ≡ emitted (kindIn r) m
+      count-is = at-hand .count ∙ ap (emitted (kindIn (recordAt t i))) (sym (taken .mask)) ∙ ap (λ (x : List ℕ). emitted (kindIn x) m) (sym er)
+
+      pub walk-more : Walk t n (i + 1) (b + emitted (kindIn r) m) wd₁ num₁ lo₁
+      walk-more =
+          let c = made N (K .J) b (line-at t n i e l .line) in
+          let f = fits-table t n e in
+          record {
+            J = K .J ++ (c .info ∷ []);
+            keeps = keeps-more (K .keeps) taken (K .known) (omega arith) (omega (arith, f .0)) (at-hand .info);
+            known = length-append (K .J) (c .info ∷ []) ∙ ap (λ (x : ℕ). x + 1) (K .known);
+            most = omega arith;
+            least = omega (arith, K .least);
+            few = omega (arith, K .few, few-emitted (kindIn r) m);
+            out = K .out ++ c .code;
+            place = omega (arith, length-append (K .out) (c .code), K .place, count-is);
+            all =
+                ap (λ (x : ℕ). (K .out ++ c .code) ++ translateFrom N (K .J ++ (c .info ∷ [])) (b + x) (drop (i + 1) (linesOf t n))) (sym count-is)
+                ∙ append-assoc (K .out) (c .code) _
+                ∙ ap (λ (x : List Line). K .out ++ x) (sym ahead) ∙ K .all;
+          }
+
+      pub more-out : walk-more .out ≡ K .out ++ made N (K .J) b (line-at t n i e l .line) .code
+      unfolding walk-more
+      more-out = refl
+
+  -- past the last record
+  pub walk-out : n ≤ i → K .out ≡ programOf t n
+  walk-out l = sym (append-nil (K .out)) ∙ ap (λ (x : List Line). K .out ++ translateFrom N (K .J) b x) (sym (no-line t n i e l)) ∙ K .all
+
+  pub walk-end : n ≤ i → b ≡ length (programOf t n) + 1
+  walk-end l = sym (K .place) ∙ ap (λ (x : List Line). length x + 1) (walk-out l)
+
+-- the flag of a line number
+pub need-is : {F : List Line} {ms : List ℕ} → Marked F ms → (j : ℕ) → j < 16385 → {nd : Bool} → nd ≡ flagAt ms j → nd ≡ needed F j
+need-is M j h e = e ∙ M .at j h

@@ -1,0 +1,188 @@
+-- The lists that the code keeps hold what the definition knows of the lines so far; and the line at hand. Assumes nothing.
+use Prim.Native.Nat.{ℕ, zero, suc, _+_, _*_, _≤_, _<_}
+use mathlib.Core.Path.{_≡_, refl, sym, ap, ap₂, _∙_, subst, subst⁻¹}
+use mathlib.Core.Bool.{Bool, true, false}
+use mathlib.Core.List.{List, [], _∷_, _++_, map}
+use native.Mathlib.Omega.{arith}
+use lib.Dec.{eqb, ltb, leb}
+use borrow.Author.Tests.{ltb-true, ltb-false}
+use lib.ListN.{length, getD, set, drop, replicate, length-set, length-replicate, getD-replicate, List·getD-eq-default}
+use lib.Seq.{getD-at, drop-cons, getD-set-same, getD-set-other}
+use Rattle.words.specs.Word.{bit}
+use Rattle.tables.specs.declared.Checked.the-variants.{Accepted}
+use Rattle.tables.specs.Pick.{pick}
+use Rattle.tables.specs.Lines.{Line, Expr, lineOf, wordsOf, records, recordAt, counted, kindIn, junk, bitvec, array, input, state, val, give, mark, output, const, one, two, cmp, ite, read, write}
+use Rattle.tables.specs.Types.{Ctx, tyAt, given, grow, noCtx}
+use Rattle.tables.specs.Tables.{known, formed, keeps, lawful, checked}
+use Rattle.tables.proofs.Shapes.{range}
+use Rattle.tables.proofs.Kept.{both}
+use Rattle.tables.proofs.Formed.{words-back}
+use Rattle.tables.proofs.Showing.{by-place, snoc-other}
+use Rattle.tables.proofs.Counted.{length-records, record-at, length-record}
+use Rattle.tables.proofs.Checking.{roomy}
+use Rattle.tables.proofs.Facts.{Ok, OkExpr, AllOk}
+use Rattle.tables.proofs.Sound.{accepted-lawful, accepted-room, accepted-ok}
+use Rattle.circuits.specs.Answers.{linesOf}
+use Rattle.programs.specs.Translation.{Info, noInfo, infoAt, widthOf, numberOf, looseOf}
+use Rattle.programs.specs.Records.{numberAt, flagAt, looseIn, widthIn, numberIn, emitted, Taken, Ample}
+use Rattle.programs.proofs.Modelled.{Kinded, KindedExpr, infoIn}
+
+-- ---- the lists
+
+pub record Keeps (J : List Info) (wd num lo : List ℕ) : Type 0 where
+  pub width : (a : ℕ) → numberAt wd a ≡ widthOf J a
+  pub number : (a : ℕ) → numberAt num a ≡ numberOf J a
+  pub loose : (a : ℕ) → flagAt lo a ≡ looseOf J a
+  pub size : Ample wd num lo
+  pub none : widthOf J 0 ≡ 0
+
+pub zero-at : (n a : ℕ) → getD (replicate {A = ℕ} n 0) a 0 ≡ 0
+zero-at n a = go (ltb a n) refl
+  where
+    go : (t : Bool) → ltb a n ≡ t → getD (replicate {A = ℕ} n 0) a 0 ≡ 0
+    go true e = getD-replicate {A = ℕ} n a 0 0 (ltb-true a n e)
+    go false e = List·getD-eq-default (replicate {A = ℕ} n 0) 0 {n = a} (rw (length-replicate {A = ℕ} n 0) (ltb-false a n e))
+
+-- a list of zeros, with an entry for each line number
+pub zeros-length : (xs ys : List ℕ) → ys ≡ replicate 16385 0 → length xs ≡ 16385 → length xs ≡ length ys
+zeros-length xs ys e l = l ∙ sym (ap length e ∙ length-replicate {A = ℕ} 16385 0)
+
+-- a record's kind, where its table is accepted
+pub kind-of-record : (t : List ℕ) (i : ℕ) → kindIn (recordAt t i) ≤ 55 → {r : List ℕ} → r ≡ recordAt t i → kindIn r ≤ 55
+kind-of-record t i h e = subst⁻¹ (λ (x : List ℕ). kindIn x ≤ 55) e h
+
+pub few-emitted : (k : ℕ) (m : Bool) → emitted k m ≤ 2
+few-emitted k m = go (leb k 2) m
+  where
+    go : (q m : Bool) → pick q 0 (pick m 2 1) ≤ 2
+    go true m = omega arith
+    go false true = omega arith
+    go false false = omega arith
+
+pub keeps-start : Keeps (noInfo ∷ []) (replicate 16385 0) (replicate 16385 0) (replicate 16385 0)
+keeps-start =
+    record {
+      width = λ a. zero-at 16385 a ∙ sym (empty-width a);
+      number = λ a. zero-at 16385 a ∙ sym (empty-number a);
+      loose = λ a. ap (λ (x : ℕ). eqb x 1) (zero-at 16385 a) ∙ sym (empty-loose a);
+      size = record { of-wd = length-replicate {A = ℕ} 16385 0; of-num = length-replicate {A = ℕ} 16385 0; of-lo = length-replicate {A = ℕ} 16385 0 };
+      none = refl;
+    }
+  where
+    empty-width : (a : ℕ) → widthOf (noInfo ∷ []) a ≡ 0
+    empty-width zero = refl
+    empty-width (suc a) = refl
+
+    empty-number : (a : ℕ) → numberOf (noInfo ∷ []) a ≡ 0
+    empty-number zero = refl
+    empty-number (suc a) = refl
+
+    empty-loose : (a : ℕ) → looseOf (noInfo ∷ []) a ≡ false
+    empty-loose zero = refl
+    empty-loose (suc a) = refl
+
+flag-bit : (t : Bool) → eqb (bit t) 1 ≡ t
+flag-bit true = refl
+flag-bit false = refl
+
+-- an entry set at the place n, against a list with one entry more
+entry-more : (A : Type 0) (g : Info → A) (h : ℕ → A) (J : List Info) (f : Info) (xs : List ℕ) (n v : ℕ) → length J ≡ n → n < length xs → ((a : ℕ) → h (getD xs a 0) ≡ g (infoAt J a)) → h v ≡ g f
+    → (a : ℕ) → h (getD (set xs n v) a 0) ≡ g (infoAt (J ++ (f ∷ [])) a)
+entry-more A g h J f xs n v e l k q a =
+    by-place a n
+    (λ z. ap (λ (x : ℕ). h (getD (set xs n v) x 0)) z ∙ ap h (getD-set-same xs n v 0 l) ∙ q ∙ sym (ap (λ (x : ℕ). g (infoAt (J ++ (f ∷ [])) x)) z ∙ ap g (getD-at J f [] noInfo n e)))
+    (λ z. ap h (getD-set-other xs n a v 0 z) ∙ k a ∙ sym (ap g (snoc-other J f noInfo a (λ y. z (y ∙ e)))))
+
+pub keeps-more : {J : List Info} {f : Info} {r wd num lo wd₁ num₁ lo₁ : List ℕ} {n b : ℕ} {nd m : Bool} → Keeps J wd num lo → Taken r n nd b wd num lo wd₁ num₁ lo₁ m → length J ≡ n → 1 ≤ n → n ≤ 16384
+    → f ≡ infoIn (numberAt wd) (numberAt num) (flagAt lo) nd b r → Keeps (J ++ (f ∷ [])) wd₁ num₁ lo₁
+keeps-more {J} {f} {r} {wd} {num} {lo} {n = n} {b} {nd} {m} k t e h l q =
+    record {
+      width = rw (t .widths) (entry-more ℕ (λ (x : Info). x .w) (λ (x : ℕ). x) J f wd n (widthIn (numberAt wd) r) e (omega (arith, k .size .of-wd)) (k .width) (sym (ap (λ (x : Info). x .w) q)));
+      number = rw (t .numbers) (entry-more ℕ (λ (x : Info). x .num) (λ (x : ℕ). x) J f num n (numberIn (kindIn r) b m) e (omega (arith, k .size .of-num)) (k .number) (ap (numberIn (kindIn r) b) (t .mask) ∙ sym (ap (λ (x : Info). x .num) q)));
+      loose = rw (t .flags) (entry-more Bool (λ (x : Info). x .loose) (λ (x : ℕ). eqb x 1) J f lo n (bit (looseIn (numberAt wd) (flagAt lo) r)) e (omega (arith, k .size .of-lo)) (k .loose) (flag-bit (looseIn (numberAt wd) (flagAt lo) r) ∙ sym (ap (λ (x : Info). x .loose) q)));
+      size = record {
+        of-wd = ap length (t .widths) ∙ length-set wd n (widthIn (numberAt wd) r) ∙ k .size .of-wd;
+        of-num = ap length (t .numbers) ∙ length-set num n (numberIn (kindIn r) b m) ∙ k .size .of-num;
+        of-lo = ap length (t .flags) ∙ length-set lo n (bit (looseIn (numberAt wd) (flagAt lo) r)) ∙ k .size .of-lo;
+      };
+      none = ap (λ (x : Info). x .w) (snoc-other J f noInfo 0 (λ z. omega arith)) ∙ k .none;
+    }
+
+-- ---- the line at hand
+
+pub record LineAt (t : List ℕ) (n i : ℕ) : Type 0 where
+  pub line : Line
+  pub rest : drop i (linesOf t n) ≡ line ∷ drop (i + 1) (linesOf t n)
+  pub words : wordsOf line ≡ recordAt t i
+  pub kinded : Kinded line
+  pub kind : kindIn (recordAt t i) ≤ 55
+
+formed-at : (p : Bool) (c : Ctx) (rs : List (List ℕ)) → lawful p c rs ≡ true → (i : ℕ) → i < length rs → formed p (getD rs i []) ≡ true
+formed-at p c [] h i l = absurd (omega arith)
+formed-at p c (r ∷ rs) h zero l = both (formed p r) _ (both (keeps p (tyAt c) (given c) r) _ h .0) .0
+formed-at p c (r ∷ rs) h (suc i) l = formed-at p (grow p c (lineOf r)) rs (both (keeps p (tyAt c) (given c) r) _ h .1) i (omega arith)
+
+kinded-expr : (c : Ctx) (s : ℕ) (x : Expr) → OkExpr false (tyAt c) (tyAt c s) x → KindedExpr x
+kinded-expr c s (const v) k = tt
+kinded-expr c s (one n a x y) k = k .kind
+kinded-expr c s (two n a b) k = (k .least, k .most)
+kinded-expr c s (cmp e a b) k = tt
+kinded-expr c s (ite d a b) k = tt
+kinded-expr c s (read a i) k = tt
+kinded-expr c s (write a i v) k = tt
+
+kinded-line : (c : Ctx) (l : Line) → Ok false (tyAt c) (given c) l → Kinded l
+kinded-line c (bitvec w) k = tt
+kinded-line c (array i e) k = tt
+kinded-line c (input s) k = tt
+kinded-line c (state s) k = tt
+kinded-line c (val s x) k = kinded-expr c s x k
+kinded-line c (give m s q v) k = tt
+kinded-line c (mark m a) k = tt
+kinded-line c (output a) k = tt
+kinded-line c junk k = tt
+
+kinded-at : (c : Ctx) (ls : List Line) → AllOk false c ls → (i : ℕ) → i < length ls → Kinded (getD ls i junk)
+kinded-at c [] k i l = absurd (omega arith)
+kinded-at c (x ∷ ls) k zero l = kinded-line c x (k .0)
+kinded-at c (x ∷ ls) k (suc i) l = kinded-at (grow false c x) ls (k .1) i (omega arith)
+
+map-at : (rs : List (List ℕ)) (i : ℕ) → i < length rs → getD (map lineOf rs) i junk ≡ lineOf (getD rs i [])
+map-at [] i l = absurd (omega arith)
+map-at (r ∷ rs) zero l = refl
+map-at (r ∷ rs) (suc i) l = map-at rs i (omega arith)
+
+map-length : (rs : List (List ℕ)) → length (map lineOf rs) ≡ length rs
+map-length [] = refl
+map-length (r ∷ rs) = ap suc (map-length rs)
+
+pub fits-table : (t : List ℕ) (n : ℕ) → checked false t n ≡ Accepted → (n ≤ 16384) × (5 * n ≤ length t)
+fits-table t n e = roomy (length t) n (accepted-room false t n e .1)
+
+pub line-at : (t : List ℕ) (n i : ℕ) → checked false t n ≡ Accepted → i < n → LineAt t n i
+line-at t n i e l =
+    let rs = records (counted t n) in
+    let f = fits-table t n e in
+    let nr : length rs ≡ n = length-records n t (f .1) in
+    let li : i < length rs = omega arith in
+    let ra : getD rs i [] ≡ recordAt t i = record-at n t i (f .1) l in
+    let fo : formed false (recordAt t i) ≡ true = subst (λ (r : List ℕ). formed false r ≡ true) ra (formed-at false noCtx rs (accepted-lawful false t n e) i li) in
+    let x : getD (linesOf t n) i junk ≡ lineOf (recordAt t i) = map-at rs i li ∙ ap lineOf ra in
+    let s : suc i ≡ i + 1 = omega arith in
+    record {
+      line = lineOf (recordAt t i);
+      rest = drop-cons (linesOf t n) i junk (rw (map-length rs) li) ∙ ap₂ (λ (y : Line) (k : ℕ). y ∷ drop k (linesOf t n)) x s;
+      words = words-back false (recordAt t i) (length-record t i (omega (arith, f .1))) fo;
+      kinded = subst Kinded x (kinded-at noCtx (linesOf t n) (accepted-ok false t n e) i (rw (map-length rs) li));
+      kind = range 1 55 (kindIn (recordAt t i)) (both (known false (kindIn (recordAt t i))) _ fo .0) .1;
+    }
+
+-- past the last line
+pub no-line : (t : List ℕ) (n i : ℕ) → checked false t n ≡ Accepted → n ≤ i → drop i (linesOf t n) ≡ []
+no-line t n i e l = past (linesOf t n) i (omega (arith, map-length (records (counted t n)), length-records n t (fits-table t n e .1)))
+  where
+    past : (ls : List Line) (i : ℕ) → length ls ≤ i → drop i ls ≡ []
+    past [] zero h = refl
+    past [] (suc i) h = refl
+    past (x ∷ ls) zero h = absurd (omega arith)
+    past (x ∷ ls) (suc i) h = past ls i (omega arith)

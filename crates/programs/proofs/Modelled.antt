@@ -1,0 +1,223 @@
+-- What the code does with a record is what the definition does with its line: the instructions, what is kept of the line, and the lines it needs clean. Assumes nothing.
+use Prim.Native.Nat.{ℕ, suc, _≤_}
+use mathlib.Core.Path.{_≡_, refl, sym, ap, _∙_}
+use mathlib.Core.Bool.{Bool, true, false, not, _&&_, _||_}
+use mathlib.Core.List.{List, [], _∷_, _++_, append-nil}
+use native.Mathlib.Omega.{arith}
+use lib.Dec.{eqb, leb}
+use lib.ListN.{length}
+use borrow.Author.Tests.{le-leb, lt-leb, ne-eqb}
+use Rattle.words.specs.Kinds.{needKind₁, needKind₂}
+use Rattle.tables.specs.Pick.{pick, inside}
+use Rattle.tables.specs.Lines.{Line, Expr, bitvec, array, input, state, val, give, mark, output, junk, const, one, two, cmp, ite, read, write, five, wordsOf, encode, kindIn, sortIn, firstIn, secondIn}
+use Rattle.programs.specs.Uses.{looseLine, when, needs}
+use Rattle.programs.specs.Translation.{isArraySort, Info, info, widthOf, numberOf, looseOf, Made, put, made}
+use Rattle.programs.specs.Records.{firstLine, secondLine, thirdLine, hasValue, looseIn, instruction, maskWords, widthIn, numberIn, emitted}
+
+-- the kinds of operators of one line and of two
+abbrev pub KindedExpr : Expr → Type 0
+KindedExpr (const v) = Unit {0}
+KindedExpr (one k a x y) = (11 ≤ k) × (k ≤ 20)
+KindedExpr (two k a b) = (23 ≤ k) × (k ≤ 52)
+KindedExpr (cmp e a b) = Unit {0}
+KindedExpr (ite c a b) = Unit {0}
+KindedExpr (read a i) = Unit {0}
+KindedExpr (write a i v) = Unit {0}
+
+abbrev pub Kinded : Line → Type 0
+Kinded (bitvec w) = Unit {0}
+Kinded (array i e) = Unit {0}
+Kinded (input s) = Unit {0}
+Kinded (state s) = Unit {0}
+Kinded (val s e) = KindedExpr e
+Kinded (give m s q v) = Unit {0}
+Kinded (mark m a) = Unit {0}
+Kinded (output a) = Unit {0}
+Kinded junk = Unit {0}
+
+and-none : (b : Bool) → (b && false) ≡ false
+and-none true = refl
+and-none false = refl
+
+-- ---- the tests of the kinds, for operators
+
+module _ (k : ℕ) (h : 11 ≤ k) where
+  first-op : firstLine k ≡ true
+  first-op = le-leb 6 k (omega arith)
+
+  value-op : hasValue k ≡ true
+  value-op = rw (lt-leb k 5 (omega arith), le-leb 11 k h) (or-yes (leb 3 k && false))
+    where
+      or-yes : (b : Bool) → (b || true) ≡ true
+      or-yes true = refl
+      or-yes false = refl
+
+  sort-op : leb k 2 ≡ false
+  sort-op = lt-leb k 2 (omega arith)
+
+  width-op : eqb k 1 ≡ false
+  width-op = ne-eqb k 1 (λ e. omega arith)
+
+  array-op : eqb k 2 ≡ false
+  array-op = ne-eqb k 2 (λ e. omega arith)
+
+  range-op : inside 6 7 k ≡ false
+  range-op = rw (le-leb 6 k (omega arith), lt-leb k 7 (omega arith))
+
+  third-op : k ≤ 52 → thirdLine k ≡ false
+  third-op l = rw (ne-eqb k 53 (λ e. omega arith), ne-eqb k 55 (λ e. omega arith))
+
+second-one : (k : ℕ) → 11 ≤ k → k ≤ 20 → secondLine k ≡ false
+second-one k h l = rw (range-op k h) (lt-leb 21 k (omega arith))
+
+second-two : (k : ℕ) → 23 ≤ k → secondLine k ≡ true
+second-two k h = rw (range-op k (omega arith)) (le-leb 21 k (omega arith))
+
+-- ---- the lines that a record needs clean
+
+pub needs-words : (l : Line) → Kinded l → needs l ≡ when (needKind₁ (kindIn (wordsOf l))) (firstIn (wordsOf l)) ++ when (needKind₂ (kindIn (wordsOf l)) && secondLine (kindIn (wordsOf l))) (secondIn (wordsOf l))
+needs-words (bitvec w) k = refl
+needs-words (array i e) k = refl
+needs-words (input s) k = refl
+needs-words (state s) k = refl
+needs-words (val s (const v)) k = refl
+needs-words (val s (one n a x y)) k = rw (second-one n (k .0) (k .1), and-none (needKind₂ n)) (sym (append-nil (when (needKind₁ n) a)))
+needs-words (val s (two n a b)) k = ap (λ (t : Bool). when (needKind₁ n) a ++ when t b) (sym (ap (λ (t : Bool). needKind₂ n && t) (second-two n (k .0)) ∙ and-yes (needKind₂ n)))
+  where
+    and-yes : (b : Bool) → (b && true) ≡ b
+    and-yes true = refl
+    and-yes false = refl
+needs-words (val s (cmp true a b)) k = refl
+needs-words (val s (cmp false a b)) k = refl
+needs-words (val s (ite c a b)) k = refl
+needs-words (val s (read a i)) k = refl
+needs-words (val s (write a i v)) k = refl
+needs-words (give true s q v) k = refl
+needs-words (give false s q v) k = refl
+needs-words (mark true a) k = refl
+needs-words (mark false a) k = refl
+needs-words (output a) k = refl
+needs-words junk k = refl
+
+-- a record of kind 2 is an array sort
+pub array-words : (l : Line) → Kinded l → isArraySort l ≡ eqb (kindIn (wordsOf l)) 2
+array-words (bitvec w) k = refl
+array-words (array i e) k = refl
+array-words (input s) k = refl
+array-words (state s) k = refl
+array-words (val s (const v)) k = refl
+array-words (val s (one n a x y)) k = sym (array-op n (k .0))
+array-words (val s (two n a b)) k = sym (array-op n (omega (arith, k .0)))
+array-words (val s (cmp true a b)) k = refl
+array-words (val s (cmp false a b)) k = refl
+array-words (val s (ite c a b)) k = refl
+array-words (val s (read a i)) k = refl
+array-words (val s (write a i v)) k = refl
+array-words (give true s q v) k = refl
+array-words (give false s q v) k = refl
+array-words (mark true a) k = refl
+array-words (mark false a) k = refl
+array-words (output a) k = refl
+array-words junk k = refl
+
+-- ---- what is made of a line
+
+-- the definition's, by the tests that the code makes
+put-info : (b w : ℕ) (i : Line) (lo n : Bool) → put b w i lo n .info ≡ info w (pick (lo && n) (suc b) b) lo
+put-info b w i false n = refl
+put-info b w i true false = refl
+put-info b w i true true = refl
+
+put-code : (b w : ℕ) (i : Line) (lo n : Bool) → encode (put b w i lo n .code) ≡ wordsOf i ++ pick (lo && n) (maskWords w b) []
+put-code b w i false n = refl
+put-code b w i true false = refl
+put-code b w i true true = refl
+
+put-count : (b w : ℕ) (i : Line) (lo n : Bool) → length (put b w i lo n .code) ≡ pick (lo && n) 2 1
+put-count b w i false n = refl
+put-count b w i true false = refl
+put-count b w i true true = refl
+
+module _ (W M : ℕ → ℕ) (L : ℕ → Bool) (nd : Bool) (b : ℕ) (r : List ℕ) where
+  abbrev pub maskIn : Bool
+  maskIn = looseIn W L r && nd
+
+  abbrev pub infoIn : Info
+  infoIn = info (widthIn W r) (numberIn (kindIn r) b maskIn) (looseIn W L r)
+
+  abbrev pub codeIn : List ℕ
+  codeIn = pick (leb (kindIn r) 2) [] (instruction W M r ++ pick maskIn (maskWords (W (sortIn r)) b) [])
+
+  abbrev pub countIn : ℕ
+  countIn = emitted (kindIn r) maskIn
+
+-- the same information, words and number of instructions
+pub record Agrees (W M : ℕ → ℕ) (L : ℕ → Bool) (nd : Bool) (b : ℕ) (r : List ℕ) (m : Made) : Type 0 where
+  pub info : m .info ≡ infoIn W M L nd b r
+  pub code : encode (m .code) ≡ codeIn W M L nd b r
+  pub count : length (m .code) ≡ countIn W M L nd b r
+
+module _ (N : ℕ → Bool) (J : List Info) (b : ℕ) (zero-w : widthOf J 0 ≡ 0) where
+  abbrev W : ℕ → ℕ
+  W = widthOf J
+
+  abbrev M : ℕ → ℕ
+  M = numberOf J
+
+  abbrev L : ℕ → Bool
+  L = looseOf J
+
+  abbrev nd : Bool
+  nd = N (length J)
+
+  abbrev Here : Line → Type 0
+  Here l = Agrees W M L nd b (wordsOf l) (made N J b l)
+
+  -- a value line, of which the code finds the same
+  value : (l i : Line) (lo : Bool) → hasValue (kindIn (wordsOf l)) ≡ true → eqb (kindIn (wordsOf l)) 1 ≡ false → leb (kindIn (wordsOf l)) 2 ≡ false
+      → looseIn W L (wordsOf l) ≡ lo → instruction W M (wordsOf l) ≡ wordsOf i → Agrees W M L nd b (wordsOf l) (put b (W (sortIn (wordsOf l))) i lo nd)
+  value l i lo v w q e c =
+      let u = W (sortIn (wordsOf l)) in
+      record {
+        info = put-info b u i lo nd ∙ sym (rw (v, w, e));
+        code = put-code b u i lo nd ∙ sym (rw (q, e) (ap (λ (x : List ℕ). x ++ pick (lo && nd) (maskWords u b) []) c));
+        count = put-count b u i lo nd ∙ sym (rw (q, e));
+      }
+
+  -- a line without a value; it is never loose
+  plain : (l i : Line) → hasValue (kindIn (wordsOf l)) ≡ false → eqb (kindIn (wordsOf l)) 1 ≡ false → leb (kindIn (wordsOf l)) 2 ≡ false → looseIn W L (wordsOf l) ≡ false
+      → instruction W M (wordsOf l) ≡ wordsOf i → Agrees W M L nd b (wordsOf l) (record { code = i ∷ []; info = info 0 0 false })
+  plain l i v w q e c =
+      record {
+        info = sym (rw (v, w, e));
+        code = sym (rw (q, e) (ap (λ (x : List ℕ). x ++ []) c));
+        count = sym (rw (q, e));
+      }
+
+  never : (w : ℕ) → (not (eqb w 64) && false) ≡ false
+  never w = and-none (not (eqb w 64))
+
+  pub agrees : (l : Line) → Kinded l → Here l
+  agrees (bitvec w) k = record { info = sym (rw (never (W 0))); code = refl; count = refl }
+  agrees (array i e) k = record { info = sym (rw (never (W 0))); code = refl; count = refl }
+  agrees (input s) k = value (input s) (input (W s)) _ refl refl refl refl refl
+  agrees (state s) k = value (state s) (state (W s)) _ refl refl refl refl refl
+  agrees (val s (const v)) k = value (val s (const v)) (val (W s) (const v)) _ refl refl refl refl refl
+  agrees (val s (one n a x y)) k =
+      value (val s (one n a x y)) (val (W s) (one n (M a) x y)) (looseLine (W s) n (L a) false false) (value-op n (k .0)) (width-op n (k .0)) (sort-op n (k .0))
+      (rw (second-one n (k .0) (k .1), first-op n (k .0), third-op n (k .0) (omega (arith, k .1)))) (rw (second-one n (k .0) (k .1), first-op n (k .0), third-op n (k .0) (omega (arith, k .1))))
+  agrees (val s (two n a c)) k =
+      let h : 11 ≤ n = omega (arith, k .0) in
+      value (val s (two n a c)) (val (W s) (two n (M a) (M c))) (looseLine (W s) n (L a) (L c) false) (value-op n h) (width-op n h) (sort-op n h)
+      (rw (second-two n (k .0), first-op n h, third-op n h (k .1))) (rw (second-two n (k .0), first-op n h, third-op n h (k .1)))
+  agrees (val s (cmp true a c)) k = value (val s (cmp true a c)) (val (W s) (cmp true (M a) (M c))) _ refl refl refl refl refl
+  agrees (val s (cmp false a c)) k = value (val s (cmp false a c)) (val (W s) (cmp false (M a) (M c))) _ refl refl refl refl refl
+  agrees (val s (ite d a c)) k = value (val s (ite d a c)) (val (W s) (ite (M d) (M a) (M c))) _ refl refl refl refl refl
+  agrees (val s (read a i)) k = value (val s (read a i)) (val (W s) (read (M a) (M i))) _ refl refl refl (never (W s)) refl
+  agrees (val s (write a i v)) k = value (val s (write a i v)) (val (W s) (write (M a) (M i) (M v))) _ refl refl refl (never (W s)) refl
+  agrees (give true s q v) k = plain (give true s q v) (give true (W s) (M q) (M v)) refl refl refl (never (W s)) refl
+  agrees (give false s q v) k = plain (give false s q v) (give false (W s) (M q) (M v)) refl refl refl (never (W s)) refl
+  agrees (mark true a) k = plain (mark true a) (mark true (M a)) refl refl refl (never (W 0)) (ap (λ (w : ℕ). five 8 w (M a) 0 0) zero-w)
+  agrees (mark false a) k = plain (mark false a) (mark false (M a)) refl refl refl (never (W 0)) (ap (λ (w : ℕ). five 9 w (M a) 0 0) zero-w)
+  agrees (output a) k = plain (output a) (output (M a)) refl refl refl (never (W 0)) (ap (λ (w : ℕ). five 10 w (M a) 0 0) zero-w)
+  agrees junk k = record { info = sym (rw (never (W 0))); code = refl; count = refl }

@@ -1,0 +1,76 @@
+// The check of the table, and the program where it fits.
+use crate::Translated;
+use crate::passes;
+use tables::Checked;
+use tables::Refusal;
+use tables::check;
+use tables::records;
+ghost use mathlib.Core.Path.{_≡_};
+ghost use mathlib.Core.Bool.{false};
+ghost use mathlib.Core.List.{_++_};
+ghost use Prim.Native.Nat.{_-_, _*_, _≤_};
+ghost use lib.ListN.{length, replicate};
+ghost use Rattle.tables.specs.declared.Checked.the-variants.{Accepted};
+ghost use Rattle.tables.specs.Lines.{encode};
+ghost use Rattle.tables.specs.Tables.{checked};
+ghost use Rattle.circuits.specs.Answers.{linesOf};
+ghost use Rattle.programs.specs.Answers.{programOf, fitting, leftOf};
+ghost use Rattle.programs.specs.Records.{Marked};
+
+// The check of the table.
+pub fn checking(table: &[u64], count: usize) -> Checked
+    ensures { λ r. ⌜ r ≡ checked false (now (table .entry)) count ⌝ }
+{
+    let mut cls = [0u8; 16385];
+    let mut idx = [0u8; 16385];
+    let mut wid = [0u8; 16385];
+    let mut ini = [0u8; 16385];
+    let mut nxt = [0u8; 16385];
+    check::check(
+        false,
+        table,
+        count,
+        &mut cls,
+        &mut idx,
+        &mut wid,
+        &mut ini,
+        &mut nxt,
+    )
+}
+
+// How many instructions the program has.
+fn counting(table: &[u64], count: usize, marks: &[u8]) -> usize
+    requires { ⌜ (checked false (now table) count ≡ Accepted) × Marked (linesOf (now table) count) (now marks) ⌝ }
+    ensures { λ r. ⌜ r ≡ length (programOf (now (table .entry)) count) ⌝ }
+{
+    let mut wd = [0u64; 16385];
+    let mut num = [0u64; 16385];
+    let mut lo = [0u8; 16385];
+    passes::count_all(table, count, marks, &mut wd, &mut num, &mut lo)
+}
+
+// The instructions go to the target, which is zero.
+fn writing(table: &[u64], count: usize, marks: &[u8], target: &mut [u64])
+    requires { ⌜ (checked false (now table) count ≡ Accepted) × (Marked (linesOf (now table) count) (now marks) × ((now target ≡ replicate (length (now target)) 0) × (5 * length (programOf (now table) count) ≤ length (now target)))) ⌝ }
+    ensures { λ _. ⌜ now (target .exit) ≡ encode (programOf (now (table .entry)) count) ++ replicate (length (now (target .entry)) - 5 * length (programOf (now (table .entry)) count)) 0 ⌝ }
+{
+    let mut wd = [0u64; 16385];
+    let mut num = [0u64; 16385];
+    let mut lo = [0u8; 16385];
+    passes::write_all(table, count, marks, &mut wd, &mut num, &mut lo, target);
+}
+
+// The program of an accepted table, where it fits into the target, which is zero.
+pub fn make(table: &[u64], count: usize, target: &mut [u64]) -> Translated
+    requires { ⌜ (checked false (now table) count ≡ Accepted) × (now target ≡ replicate (length (now target)) 0) ⌝ }
+    ensures { λ r. ⌜ (r ≡ fitting (length (programOf (now (table .entry)) count)) (length (now (target .entry)))) × (now (target .exit) ≡ leftOf r (length (now (target .entry))) (programOf (now (table .entry)) count)) ⌝ }
+{
+    let mut marks = [0u8; 16385];
+    passes::needing(table, count, &mut marks);
+    let m = counting(table, count, &marks);
+    if records::room_of(target.len()) < m {
+        return Translated::Refused(Refusal::TargetTooSmall);
+    }
+    writing(table, count, &marks, target);
+    Translated::Done(m)
+}
