@@ -1,9 +1,12 @@
-// Programs: the translation of a flat circuit.
+// Programs: the translation of a flat circuit, and a program's run.
+use circuits::Ran;
 use tables::Checked;
 use tables::Refusal;
 use tables::records;
 ghost use mathlib.Core.Path.{_≡_};
-ghost use lib.ListN.{length};
+ghost use mathlib.Core.Bool.{true};
+ghost use lib.ListN.{length, replicate};
+ghost use Rattle.circuits.specs.Answers.{ran, signalsLeft};
 ghost use Rattle.programs.specs.Answers.{translated, targetLeft};
 
 pub mod make; // the check of the table, and the program where it fits
@@ -39,4 +42,19 @@ pub fn translate(table: &[u64], count: usize, target: &mut [u64]) -> Translated
             return make::make(table, count, target);
         }
     }
+}
+
+// A program's run of k steps: 1, 20, 13 to 17, the first that holds; else the first counted bad. One engine runs circuits and programs.
+pub fn run_program(
+    table: &[u64],
+    count: usize,
+    k: usize,
+    starts: &[u64],
+    inputs: &[u64],
+    signals: &mut [u8],
+    work: &mut [u64],
+) -> Ran
+    ensures { λ r. ⌜ (r ≡ ran true (now (table .entry)) count k (now (starts .entry)) (now (inputs .entry)) (length (now (signals .entry))) (length (now (work .entry)))) × ((now (signals .exit) ≡ signalsLeft true (now (table .entry)) count k (now (starts .entry)) (now (inputs .entry)) (length (now (signals .entry))) (length (now (work .entry)))) × (now (work .exit) ≡ replicate (length (now (work .entry))) 0)) ⌝ }
+{
+    circuits::run::run_table(true, table, count, k, starts, inputs, signals, work)
 }
