@@ -12,8 +12,8 @@ use lib.ListN.{length, take, getD, set, length-set, length-append}
 use lib.Seq.{getD-set-same, getD-set-other, take-suc-set, take-suc, take-length, length-take-le}
 use Rattle.tables.specs.declared.Ty.{Ty}
 use Rattle.tables.specs.Lines.{Line, Shape, isBitvec, isArray, isConst, isInput, isState, isOutput, isOne, isTwo, isIte, isRead, isWrite, isJunk, isGive, isMark, isCmp, shapeOf, build, lineOf, kindIn, sortIn, firstIn, secondIn, thirdIn, recordAt}
-use Rattle.tables.specs.Types.{tyAt, Ctx, growAll, noCtx, context}
 use Rattle.tables.specs.Lists.{Shows as Listed}
+use Rattle.tables.specs.Types.{tyAt, Ctx, growAll, noCtx, context}
 use Rattle.tables.proofs.Shapes.{KindOf, kind-of, line-as, no-junk}
 use Rattle.tables.proofs.Showing.{by-place}
 use Rattle.circuits.specs.Layout.{Place, Counts, Layout, place, noPlace, counting, typeAt, placeAt, size, typeOf, placeOf, countOf, noLayout, lay, layAll, layout}

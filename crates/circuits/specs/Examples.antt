@@ -44,3 +44,8 @@ program-signals = refl
 program-bad : ran true program 17 3 (0 ∷ 0 ∷ []) (0 ∷ 0 ∷ 1 ∷ []) 3 17 ≡ Bad 1 1
 unfolding ran ready checked fault suits kindRow layout run start steps step put
 program-bad = refl
+
+-- a program's start words are masked: a state of width 1 that starts from 2, and a bad of it
+start-masked : signalsLeft true (five 5 1 0 0 0 ++ five 8 0 1 0 0) 2 1 (2 ∷ []) [] 1 2 ≡ 0 ∷ []
+unfolding signalsLeft ready checked fault suits kindRow layout run start steps step put
+start-masked = refl

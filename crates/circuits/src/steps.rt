@@ -183,5 +183,5 @@ pub fn run_laid(
         signals,
         work,
     );
-    records::clear(work);
+    area::fill(work, 0);
 }
