@@ -9,3 +9,4 @@ pub mod Repeated
 pub mod Placing
 pub mod Rows
 pub mod Answering
+pub mod Earlier

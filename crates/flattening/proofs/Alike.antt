@@ -1,6 +1,6 @@
 -- The runs of an accepted circuit and of its flat circuit are alike, and the flat circuit keeps the rules. Assumes nothing.
 use Prim.Native.Nat.{ℕ, zero, suc, _+_, _≤_}
-use mathlib.Core.Path.{_≡_, refl, sym, ap, ap₂, _∙_, subst, subst⁻¹}
+use mathlib.Core.Path.{_≡_, refl, sym, ap, ap₂, _∙_, subst⁻¹}
 use mathlib.Core.Bool.{Bool, true, false}
 use mathlib.Core.List.{List, [], _∷_, _++_}
 use native.Mathlib.Nat.{le-refl, le-trans}
@@ -35,7 +35,7 @@ module _ (f : Bool) (σ ι : List ℕ) where
   sim-val s (write a i x) v e k = sim-write f σ ι s a i x v e k
 
   -- any line
-  sim-line : {A B : Acc} {I : List Info} {b : ℕ} (l : Line) → Inv A B I → b ≡ length (B .env) → Ok false (tyAt (A .lay .ctx)) (given (A .lay .ctx)) l
+  pub sim-line : {A B : Acc} {I : List Info} {b : ℕ} (l : Line) → Inv A B I → b ≡ length (B .env) → Ok false (tyAt (A .lay .ctx)) (given (A .lay .ctx)) l
       → ev1 f σ ι A l .lay .counts .states ≤ length σ → Keeps f σ ι A B I l (chunk I b l)
   sim-line (bitvec w) v e k h = sim-bitvec f σ ι w v e k
   sim-line (array i el) v e k h = sim-array f σ ι i el v e k
@@ -68,7 +68,7 @@ module _ (f : Bool) (σ ι : List ℕ) where
         ok = ok-append f σ ι B L R (s .ok) (r .ok);
       }
 
-  at-start : Inv noAcc noAcc (noInfo ∷ [])
+  pub at-start : Inv noAcc noAcc (noInfo ∷ [])
   at-start =
       record {
         evenA = record { types = refl; places = refl };
@@ -105,12 +105,16 @@ step-alike C a f σ ι h =
     record { alike = r .alike; many = r .many ∙ e; ok = r .ok }
 
 -- zeros for every state cell
-zeros : List Line → List ℕ
+pub zeros : List Line → List ℕ
 zeros C = replicate (layout false C .counts .states) 0
 
-any-step : (C : List Line) → AllOk false noCtx C → StepAlike C true (zeros C) []
+pub zeros-many : (C : List Line) → layout false C .counts .states ≤ length (zeros C)
 unfolding zeros
-any-step C a = step-alike C a true (zeros C) [] (subst⁻¹ (λ (n : ℕ). layout false C .counts .states ≤ n) (length-replicate (layout false C .counts .states) 0) (le-refl (layout false C .counts .states)))
+zeros-many C =
+    subst⁻¹ (λ (n : ℕ). layout false C .counts .states ≤ n) (length-replicate (layout false C .counts .states) 0) (le-refl (layout false C .counts .states))
+
+any-step : (C : List Line) → AllOk false noCtx C → StepAlike C true (zeros C) []
+any-step C a = step-alike C a true (zeros C) [] (zeros-many C)
 
 -- what flattening leaves keeps the rules
 pub flat-ok : (C : List Line) → AllOk false noCtx C → AllOk false noCtx (flatten C)

@@ -1,16 +1,16 @@
 -- No line of a flat circuit is an array sort, so no record of its table has kind 2. Assumes nothing.
-use Prim.Native.Nat.{ℕ, zero, suc, _+_, _^_, _<_}
-use mathlib.Core.Path.{_≡_, refl, sym, ap, _∙_}
+use Prim.Native.Nat.{ℕ, zero, suc, _+_, _^_}
+use mathlib.Core.Path.{_≡_, refl}
 use mathlib.Core.Logic.{_≢_}
 use mathlib.Core.Bool.{Bool, true, false}
 use mathlib.Core.Option.{Option, none, some}
 use mathlib.Core.List.{List, [], _∷_, _++_, map}
 use native.Mathlib.Omega.{arith}
 use lib.ListN.{length, getD, replicate}
-use Rattle.tables.specs.Lines.{Line, Expr, bitvec, array, input, state, val, give, mark, output, junk, const, one, two, cmp, ite, read, write, wordsOf, kindIn}
+use Rattle.tables.specs.Lines.{Line, bitvec, array, input, state, val, give, mark, output, junk, const, one, two, cmp, ite, read, write, wordsOf, kindIn}
 use Rattle.tables.specs.Types.{Ctx, tyAt, given, grow}
 use Rattle.tables.proofs.Facts.{Ok, AllOk}
-use Rattle.flattening.specs.Flat.{from, Info, noInfo, infoAt, linesAt, lineAt, chunk, chunkRead, chunkWrite, constLines, iteLines, cmpLines, joinKind, joinLines, joinAll, writeLines, readLines, readAll, giveLines, givenLines, flattenFrom, flatten}
+use Rattle.flattening.specs.Flat.{from, Info, noInfo, infoAt, linesAt, lineAt, chunk, chunkRead, chunkWrite, constLines, iteLines, cmpLines, joinLines, joinAll, writeLines, readLines, giveLines, givenLines, flattenFrom, flatten}
 
 -- a line that is no array sort
 abbrev pub Plain : Line → Type 0

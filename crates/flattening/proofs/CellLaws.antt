@@ -2,13 +2,13 @@
 use Prim.Native.Nat.{ℕ, zero, suc, _+_, _%_, _^_, _≤_, _<_}
 use mathlib.Core.Path.{_≡_, refl, sym, ap, ap₂, _∙_, subst}
 use mathlib.Core.Logic.{_≢_}
-use mathlib.Core.Bool.{Bool, true, false, _&&_, not}
-use mathlib.Core.List.{List, [], _∷_, _++_}
+use mathlib.Core.Bool.{Bool, true, false, _&&_}
+use mathlib.Core.List.{List, [], _∷_}
 use native.Mathlib.Nat.{mod-lt, le-of-suc-le-suc, not-suc-le-zero}
 use native.Mathlib.Omega.{arith}
 use lib.Dec.{T, eqb, eqb→eq, eqb-refl}
 use lib.Pow.{pow-pos}
-use lib.ListN.{length, getD, set, take, drop, replicate}
+use lib.ListN.{length, getD, set, take, replicate}
 use lib.Seq.{drop-cons}
 use Rattle.words.specs.Word.{bit}
 use Rattle.circuits.specs.Cells.{choose, say, same, lows, part}
@@ -95,6 +95,11 @@ joins-agree e x y xs ys n = joins-from e (eqb x y && true) xs ys n ∙ ap (λ (b
 pub length-from : (b n : ℕ) → length (from b n) ≡ n
 length-from b zero = refl
 length-from b (suc n) = ap suc (length-from (suc b) n)
+
+pub from-at : (b n j : ℕ) → j < n → getD (from b n) j 0 ≡ b + j
+from-at b zero j h = absurd (omega arith)
+from-at b (suc n) zero h = omega arith
+from-at b (suc n) (suc j) h = from-at (suc b) n j (omega arith) ∙ omega arith
 
 -- ---- ite
 

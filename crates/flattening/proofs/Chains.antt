@@ -1,25 +1,25 @@
 -- The flat lines that one line leaves, evaluated. `Run A ls u w ps cs`: the lines ls are quiet and keep the rules, and after them the lines ps are words of width w and of
 -- values cs; `Ends A ls u p w v` says it of one line. Assumes nothing.
 use Prim.Native.Nat.{ℕ, zero, suc, _+_, _^_, _≤_, _<_}
-use mathlib.Core.Path.{_≡_, refl, sym, ap, _∙_, subst, subst⁻¹}
+use mathlib.Core.Path.{_≡_, refl, sym, ap, _∙_, subst⁻¹}
 use mathlib.Core.Bool.{Bool, true, false, _&&_, not}
 use mathlib.Core.List.{List, [], _∷_, _++_}
 use native.Mathlib.Omega.{arith}
-use lib.Dec.{T, eqb}
-use lib.ListN.{length, getD, length-append}
+use lib.Dec.{T}
+use lib.ListN.{length, length-append}
 use Rattle.words.specs.Word.{bit}
 use Rattle.words.specs.Op.{opOf}
 use Rattle.words.specs.Circuit.{circ}
-use Rattle.tables.specs.Lines.{Line, Expr, val, const, two, cmp, ite}
+use Rattle.tables.specs.Lines.{Line, val, const, two, cmp, ite}
 use Rattle.tables.specs.Types.{isFixed, given}
 use Rattle.tables.specs.Rules.{fitsTwo}
-use Rattle.tables.proofs.Facts.{Same, OkTwo, OkCmp, OkIte, OkConst, AllOk, Ok, IsSort}
+use Rattle.tables.proofs.Facts.{AllOk, Ok}
 use Rattle.tables.specs.Types.{tyAt}
 use Rattle.circuits.specs.Cells.{choose, say, same}
-use Rattle.circuits.specs.Layout.{typeAt, typeOf}
-use Rattle.circuits.specs.Meaning.{Acc, cellsAt, wordAt, cellsOf, evalLine, evalAll}
+use Rattle.circuits.specs.Layout.{typeAt}
+use Rattle.circuits.specs.Meaning.{Acc}
 use Rattle.flattening.specs.Flat.{from, constLines, iteLines, cmpLines, joinKind, joinLines, joined, writeLines, writeCells, readLines, Chain}
-use Rattle.flattening.proofs.Walk.{join, Even, Ext, ext-refl, ext-trans, SortAt, Word, Holds, none, more, sort-ext, word-ext, holds-ext, word-val, sort-ok, word-ok, ok-append, len-all, Grew, grew-refl, grew-trans, quiet, Small, ev1, evs, evs-append, len1, ext-line, new-val, grew-line}
+use Rattle.flattening.proofs.Walk.{join, Even, Ext, ext-trans, SortAt, Word, Holds, none, more, sort-ext, word-ext, sort-ok, word-ok, ok-append, len-all, Grew, grew-refl, grew-trans, quiet, Small, ev1, evs, evs-append, len1, ext-line, new-val, grew-line}
 
 -- ---- what the chains compute
 

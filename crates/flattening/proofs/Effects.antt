@@ -2,7 +2,7 @@
 use Prim.Native.Nat.{ℕ, zero, suc, _+_, _%_, _^_, _≤_, _<_}
 use mathlib.Core.Path.{_≡_, refl, sym, ap, ap₂, _∙_, subst, subst⁻¹}
 use mathlib.Core.Logic.{_≢_}
-use mathlib.Core.Bool.{Bool, true, false, _&&_, _||_}
+use mathlib.Core.Bool.{Bool, true, false, _||_}
 use mathlib.Core.List.{List, [], _∷_, _++_, append-assoc, append-nil}
 use native.Mathlib.Nat.{le-trans}
 use native.Mathlib.Omega.{arith}
@@ -12,12 +12,12 @@ use borrow.Author.Tests.{ne-eqb}
 use Rattle.tables.specs.declared.Ty.{Ty}
 use Rattle.tables.specs.Pick.{pick, among, alike}
 use Rattle.tables.specs.Lines.{Line, state, give}
-use Rattle.tables.specs.Types.{givenBy, given, tyAt}
+use Rattle.tables.specs.Types.{givenBy}
 use Rattle.tables.specs.Rules.{valueIndex}
-use Rattle.tables.proofs.Facts.{OkValue, OkGive, Ok, AllOk}
+use Rattle.tables.proofs.Facts.{OkValue, AllOk}
 use Rattle.circuits.specs.Cells.{lows, part, put}
 use Rattle.circuits.specs.Layout.{Place, typeAt, placeAt, size}
-use Rattle.circuits.specs.Meaning.{Acc, cellsAt, wordAt, stateCells, cellsOf, stsOf, givenWords}
+use Rattle.circuits.specs.Meaning.{Acc, stateCells, givenWords}
 use Rattle.flattening.specs.Flat.{from, giveLines}
 use Rattle.flattening.proofs.Walk.{Even, Ext, ext-refl, ext-trans, SortAt, Word, Holds, StateAt, States, none, more, sort-ext, word-ext, word-val, word-ok, state-ext, ev1, evs, len1, ext-line, new-type, new-place, new-word, gave-same}
 use Rattle.flattening.proofs.CellLaws.{taken, lows-taken, state-lows}

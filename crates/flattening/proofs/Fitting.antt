@@ -1,8 +1,7 @@
 -- The rules for the widths of an operator are those of its class: so its result is a word of its line's width. Assumes nothing.
 use Prim.Native.Nat.{ℕ, suc, _+_, _-_, _^_, _≤_, _<_}
-use mathlib.Core.Path.{_≡_, refl, sym, ap, _∙_, subst}
+use mathlib.Core.Path.{_≡_, refl, sym, _∙_, subst}
 use mathlib.Core.Bool.{Bool, true, false, not, _&&_, _||_}
-use mathlib.Core.Logic.{_⊎_, inl, inr}
 use native.Mathlib.Nat.{lt-of-le-of-lt}
 use native.Mathlib.Omega.{arith}
 use lib.Dec.{T, eqb, leb, ltb, lit<, leb→le, eqb→eq}
@@ -10,13 +9,12 @@ use lib.Pow.{pow-pos}
 use mir.Facts.{and-yes}
 use borrow.Author.Tests.{eqb-true, eqb-false, ltb-true, leb-true, leb-false, le-leb, lt-leb, ne-eqb}
 use Rattle.words.specs.Word.{Width}
-use Rattle.words.specs.Op.{Op, opOf}
+use Rattle.words.specs.Op.{opOf}
 use Rattle.words.specs.Circuit.{circ}
 use Rattle.words.specs.Program.{Class, turn, wrap, meet, merge, test, plain, copy, compare, low, extend, cut, left, join, pick as pickClass, clear, classOf}
 use Rattle.words.specs.Widths.{Widths, widthOf}
 use Rattle.words.proofs.Bounds.{circ-lt}
 use Rattle.tables.specs.declared.Ty.{Ty}
-use Rattle.tables.specs.Pick.{pick}
 use Rattle.tables.specs.Kinds.{rowOf, secondClass, thirdClass}
 use Rattle.tables.specs.Rules.{fitsOne, fitsTwo}
 use Rattle.tables.specs.Tables.{unused}

@@ -1,9 +1,9 @@
 -- What flattening leaves for an accepted table: the flat table with the count answered is accepted, has no record of kind 2, and runs as the circuit does. Assumes nothing.
-use Prim.Native.Nat.{ℕ, _+_, _-_, _*_, _/_, _≤_, _<_, min}
+use Prim.Native.Nat.{ℕ, _+_, _-_, _*_, _≤_, _<_}
 use mathlib.Core.Path.{_≡_, refl, sym, ap, ap₂, _∙_, subst, subst⁻¹}
 use mathlib.Core.Logic.{_≢_}
 use mathlib.Core.Bool.{Bool, true, false, _&&_}
-use mathlib.Core.List.{List, [], _∷_, _++_, map}
+use mathlib.Core.List.{List, [], _++_, map}
 use native.Mathlib.Omega.{arith}
 use lib.Dec.{leb}
 use lib.ListN.{length, getD, replicate, length-append, length-replicate}
@@ -13,7 +13,7 @@ use Rattle.tables.specs.declared.Refusal.the-variants.{NotATable, TargetTooSmal
 use Rattle.tables.specs.declared.Checked.{Checked}
 use Rattle.tables.specs.declared.Checked.the-variants.{Accepted, Refused}
 use Rattle.tables.specs.Pick.{pick}
-use Rattle.tables.specs.Lines.{Line, encode, decode, counted, records, recordAt, wordsOf, kindIn}
+use Rattle.tables.specs.Lines.{Line, encode, counted, records, recordAt, wordsOf, kindIn}
 use Rattle.tables.specs.Types.{noCtx}
 use Rattle.tables.specs.Tables.{whole, room, checked}
 use Rattle.tables.proofs.Kept.{both}
@@ -29,7 +29,7 @@ use Rattle.circuits.specs.Answers.{linesOf}
 use Rattle.flattening.specs.declared.Flattened.{Flattened}
 use Rattle.flattening.specs.declared.Flattened.the-variants.{Done, Refused as RefusedFlat}
 use Rattle.flattening.specs.Flat.{flatten, flatLines, flatTable}
-use Rattle.flattening.specs.Answers.{fitting, answerOf, flattened, leftOf, targetLeft}
+use Rattle.flattening.specs.Answers.{answerOf, flattened, leftOf, targetLeft}
 use Rattle.flattening.proofs.Alike.{flat-ok, SameCounts, counts-alike, runs-alike}
 use Rattle.flattening.proofs.Arrayless.{flat-plain, no-kind-two}
 

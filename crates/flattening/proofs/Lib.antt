@@ -12,3 +12,13 @@ pub mod Alike
 pub mod Arrayless
 pub mod Leaves
 pub mod Sample
+pub mod Holding
+pub mod Placing
+pub mod Laying
+pub mod Rowing
+pub mod Agreeing
+pub mod Keeping
+pub mod Remembering
+pub mod Passing
+pub mod Pass
+pub mod Refusing

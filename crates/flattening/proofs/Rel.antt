@@ -1,6 +1,6 @@
 -- How a circuit's walk A and its flat circuit's walk B go together (`Inv`): what they leave is the same, and what is kept of each line in I names the flat lines that hold
 -- its sort, its index constants and its cells (`Rel`). Assumes nothing.
-use Prim.Native.Nat.{ℕ, zero, suc, _+_, _^_, _≤_, _<_}
+use Prim.Native.Nat.{ℕ, suc, _+_, _^_, _≤_, _<_}
 use mathlib.Core.Path.{_≡_, refl, sym, ap, _∙_, subst, subst⁻¹}
 use mathlib.Core.Bool.{Bool, true, false}
 use mathlib.Core.Option.{Option, none, some}
@@ -17,11 +17,11 @@ use Rattle.tables.specs.Pick.{pick, among}
 use Rattle.tables.specs.Lines.{Line, wordsOf, firstIn, secondIn, thirdIn}
 use Rattle.tables.specs.Types.{ty, noTy, isFixed, fixedExpr, givenBy, given}
 use Rattle.tables.proofs.Facts.{IsWord}
-use Rattle.circuits.specs.Layout.{Place, noPlace, typeAt, placeAt, size, typeOf, placeOf}
+use Rattle.circuits.specs.Layout.{Place, typeAt, placeAt, size, typeOf, placeOf}
 use Rattle.circuits.specs.Meaning.{Acc, cellsAt, wordAt, cellsOf}
 use Rattle.flattening.specs.Flat.{from, Info, noInfo, infoAt, linesAt, lineAt, valInfo}
 use Rattle.flattening.proofs.Walk as W
-use Rattle.flattening.proofs.Walk.{Even, Ext, SortAt, Word, Holds, States, Small, Alike, alike-trans, alike-sym, sort-ext, word-ext, holds-ext, word-weak, holds-weak, holds-length, states-ext, ev1, ext-line, length-snoc, Grew, quiet, gives, quiet-gives, gave-same, grew-line, len1, new-type, new-place, new-cells}
+use Rattle.flattening.proofs.Walk.{Even, Ext, SortAt, Word, Holds, States, Small, Alike, alike-trans, alike-sym, sort-ext, holds-ext, word-weak, holds-weak, states-ext, ev1, ext-line, length-snoc, Grew, quiet, gives, quiet-gives, gave-same, grew-line, len1, new-type, new-place, new-cells}
 use Rattle.flattening.proofs.CellLaws.{holds-at, small-at}
 
 pub record ArrRel (B : Acc) (t : Ty) (f : Info) : Type 0 where
@@ -86,11 +86,11 @@ sort-of-val r =
 
 -- ---- a line that computes; x says whether its cone is fixed
 
-no-state : (x : Bool) → pick {A = ℕ} x 2 3 ≡ 4 → ⊥
+pub no-state : (x : Bool) → pick {A = ℕ} x 2 3 ≡ 4 → ⊥
 no-state true e = omega arith
 no-state false e = omega arith
 
-no-sort : (x : Bool) → pick {A = ℕ} x 2 3 ≡ 1 → ⊥
+pub no-sort : (x : Bool) → pick {A = ℕ} x 2 3 ≡ 1 → ⊥
 no-sort true e = omega arith
 no-sort false e = omega arith
 

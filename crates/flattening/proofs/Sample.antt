@@ -1,7 +1,7 @@
 -- The request's circuit meets the theorems' premises: it is accepted, flattening answers 19, and its 19 lines run as it does. Assumes nothing.
-use Prim.Native.Nat.{ℕ, _≤_}
+use Prim.Native.Nat.{ℕ}
 use mathlib.Core.Path.{_≡_, refl}
-use mathlib.Core.Bool.{Bool, true, false}
+use mathlib.Core.Bool.{false}
 use mathlib.Core.List.{List}
 use native.Mathlib.Omega.{arith}
 use lib.ListN.{length}
@@ -16,7 +16,6 @@ use Rattle.circuits.specs.Examples.{circuit}
 use Rattle.circuits.specs.Layout.{layout}
 use Rattle.circuits.specs.Run.{run}
 use Rattle.circuits.specs.Answers.{linesOf}
-use Rattle.flattening.specs.declared.Flattened.{Flattened}
 use Rattle.flattening.specs.declared.Flattened.the-variants.{Done}
 use Rattle.flattening.specs.Flat.{flatten}
 use Rattle.flattening.specs.Answers.{flattened, targetLeft}

@@ -1,20 +1,19 @@
 -- ite, eq and neq, read and write: the circuit's walk over such a line and the flat circuit's walk over its chunk keep `Inv`. Assumes nothing.
-use Prim.Native.Nat.{ℕ, zero, suc, _+_, _^_, _≤_, _<_}
+use Prim.Native.Nat.{ℕ, suc, _+_, _^_, _<_}
 use mathlib.Core.Path.{_≡_, refl, sym, ap, _∙_, subst, subst⁻¹}
-use mathlib.Core.Bool.{Bool, true, false, _&&_}
+use mathlib.Core.Bool.{Bool, false, _&&_}
 use mathlib.Core.Option.{Option, none, some}
 use mathlib.Core.List.{List, [], _∷_, _++_}
 use native.Mathlib.Nat.{not-suc-le-zero}
 use native.Mathlib.Omega.{arith}
-use lib.Dec.{T}
 use lib.Pow.{pow-pos}
 use lib.ListN.{length, getD, set, length-set}
 use Rattle.words.specs.Word.{bit}
 use Rattle.tables.specs.declared.Ty.{Ty}
-use Rattle.tables.specs.Lines.{Line, Expr, val, cmp, ite, read, write}
+use Rattle.tables.specs.Lines.{val, cmp, ite, read, write}
 use Rattle.tables.specs.Types.{isFixed, tyAt, given}
 use Rattle.tables.proofs.Facts.{Ok}
-use Rattle.circuits.specs.Cells.{choose, say, same}
+use Rattle.circuits.specs.Cells.{say, same}
 use Rattle.circuits.specs.Layout.{typeAt, placeAt}
 use Rattle.circuits.specs.Meaning.{Acc, cellsAt, wordAt}
 use Rattle.flattening.specs.Flat.{from, Info, infoAt, linesAt, lineAt, valInfo, chunk, cmpLines, joinAll, joinedAll, joinLines, joined, readAll, readLines, writeCells, chunkRead, chunkWrite}

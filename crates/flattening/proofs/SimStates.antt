@@ -3,7 +3,7 @@ use Prim.Native.Nat.{ℕ, zero, suc, _+_, _^_, _≤_, _<_}
 use mathlib.Core.Path.{_≡_, refl, sym, ap, ap₂, _∙_, subst, subst⁻¹}
 use mathlib.Core.Logic.{_≢_}
 use mathlib.Core.Bool.{Bool, true, false, _||_}
-use mathlib.Core.Option.{Option, none as nothing}
+use mathlib.Core.Option.{none as nothing}
 use mathlib.Core.List.{List, [], _∷_, _++_}
 use native.Mathlib.Nat.{le-refl, le-trans}
 use native.Mathlib.Omega.{arith}
@@ -14,30 +14,21 @@ use lib.ListN.{length, getD, replicate, length-append, length-replicate}
 use borrow.Author.Tests.{eqb-false, ne-eqb, eq-eqb}
 use Rattle.tables.specs.declared.Ty.{Ty}
 use Rattle.tables.specs.Pick.{pick, among, alike}
-use Rattle.tables.specs.Lines.{Line, state, give}
+use Rattle.tables.specs.Lines.{state, give}
 use Rattle.tables.specs.Types.{isFixed, tyAt, given, givenBy}
 use Rattle.tables.specs.Rules.{valueIndex}
 use Rattle.tables.proofs.Kept.{no-yes}
 use Rattle.tables.proofs.Facts.{Ok, OkValue}
-use Rattle.circuits.specs.Cells.{lows, part, put}
+use Rattle.circuits.specs.Cells.{part, put}
 use Rattle.circuits.specs.Layout.{typeAt, placeAt, size}
 use Rattle.circuits.specs.Meaning.{Acc, cellsAt, wordAt, stateCells, givenWords}
 use Rattle.flattening.specs.Flat.{from, Info, noInfo, infoAt, linesAt, lineAt, valInfo, chunk, givenLines, giveLines}
-use Rattle.flattening.proofs.Walk.{Ext, Holds, States, Small, none, more, ext-refl, holds-length, states-room, ev1, evs}
-use Rattle.flattening.proofs.CellLaws.{taken, lows-taken, state-lows, length-taken, small-taken, holds-at, holds-replicate}
+use Rattle.flattening.proofs.Walk.{Holds, States, Small, none, more, ext-refl, holds-length, states-room, ev1, evs}
+use Rattle.flattening.proofs.CellLaws.{from-at, length-from, taken, lows-taken, state-lows, length-taken, small-taken, holds-at, holds-replicate}
 use Rattle.flattening.proofs.Stores.{length-stored}
-use Rattle.flattening.proofs.Effects.{Fresh, Under, Inits, Left, Gives, among-append, run-states, run-gives, gave-give}
-use Rattle.flattening.proofs.Rel.{SortRel, ValRel, Inv, Once, NewState, sortrel-ext, sort-of-val, rel-none, word-for, cells-for, extend, same-given}
+use Rattle.flattening.proofs.Effects.{Fresh, Under, Inits, Gives, among-append, run-states, run-gives, gave-give}
+use Rattle.flattening.proofs.Rel.{SortRel, ValRel, Inv, sortrel-ext, sort-of-val, rel-none, word-for, cells-for, extend, same-given}
 use Rattle.flattening.proofs.SimWords.{Keeps}
-
-from-at : (b n j : ℕ) → j < n → getD (from b n) j 0 ≡ b + j
-from-at b zero j h = absurd (omega arith)
-from-at b (suc n) zero h = omega arith
-from-at b (suc n) (suc j) h = from-at (suc b) n j (omega arith) ∙ omega arith
-
-length-from : (b n : ℕ) → length (from b n) ≡ n
-length-from b zero = refl
-length-from b (suc n) = ap suc (length-from (suc b) n)
 
 -- ---- lists of lines, and lines in them
 
@@ -80,7 +71,7 @@ states-low (more s r) zero h = s .low
 states-low (more s r) (suc j) h = states-low r j (omega arith)
 
 -- every flat line that holds a cell is one of the flat walk's
-held-below : {A B : Acc} {I : List Info} → Inv A B I → (i : ℕ) → 2 ≤ typeAt (A .lay) i .cls → (j : ℕ) → j < length (linesAt I i) → getD (linesAt I i) j 0 < length (B .env)
+pub held-below : {A B : Acc} {I : List Info} → Inv A B I → (i : ℕ) → 2 ≤ typeAt (A .lay) i .cls → (j : ℕ) → j < length (linesAt I i) → getD (linesAt I i) j 0 < length (B .env)
 held-below v i h j l = let r = v .rel i .value h in holds-at j (r .held) (subst (λ (n : ℕ). j < n) (holds-length (r .held)) l) .inb
 
 -- ---- a value that an init or a next gives

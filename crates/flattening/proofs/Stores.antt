@@ -9,15 +9,15 @@ use lib.Seq.{drop-nil}
 use Rattle.tables.specs.Pick.{pick}
 use Rattle.circuits.specs.Cells.{put}
 
-put-zero : (w vs : List ℕ) → put w 0 vs ≡ vs ++ drop (length vs) w
+pub put-zero : (w vs : List ℕ) → put w 0 vs ≡ vs ++ drop (length vs) w
 unfolding put
 put-zero w vs = let e : 0 + length vs ≡ length vs = omega arith in ap (λ (n : ℕ). vs ++ drop n w) e
 
-put-suc : (x : ℕ) (w : List ℕ) (a : ℕ) (vs : List ℕ) → put (x ∷ w) (suc a) vs ≡ x ∷ put w a vs
+pub put-suc : (x : ℕ) (w : List ℕ) (a : ℕ) (vs : List ℕ) → put (x ∷ w) (suc a) vs ≡ x ∷ put w a vs
 unfolding put
 put-suc x w a vs = let e : suc a + length vs ≡ suc (a + length vs) = omega arith in ap (λ (n : ℕ). x ∷ (take a w ++ (vs ++ drop n (x ∷ w)))) e
 
-put-none : (w : List ℕ) (a : ℕ) → put w a [] ≡ w
+pub put-none : (w : List ℕ) (a : ℕ) → put w a [] ≡ w
 unfolding put
 put-none w zero = put-zero w []
 put-none [] (suc a) = drop-nil (suc a + 0)

@@ -1,8 +1,8 @@
 -- A walk over more lines keeps what it has. `Ext A B`: B is A after some lines more. `Word A u p w v`: the line p is a word of width w and value v, and where u holds its
 -- cone has no input and no state. `Holds A u w ps cs`: the lines ps are such words, of values cs. `States A lo w a qs`: the lines qs, none below lo, are states of one
 -- word of width w, their state words being those from a on. Assumes nothing.
-use Prim.Native.Nat.{ℕ, zero, suc, _+_, _^_, _≤_, _<_}
-use mathlib.Core.Path.{_≡_, refl, sym, ap, _∙_, subst, subst⁻¹}
+use Prim.Native.Nat.{ℕ, suc, _+_, _^_, _≤_, _<_}
+use mathlib.Core.Path.{_≡_, refl, sym, ap, _∙_, subst⁻¹}
 use mathlib.Core.Bool.{Bool, true, false, _&&_}
 use mathlib.Core.List.{List, [], _∷_, _++_}
 use native.Mathlib.Nat.{le-refl, le-trans}
@@ -13,12 +13,12 @@ use lib.ListN.{length, getD, length-append, List·getD-append}
 use lib.Seq.{getD-at}
 use Rattle.tables.specs.declared.Ty.{Ty}
 use Rattle.tables.specs.Pick.{pick}
-use Rattle.tables.specs.Lines.{Line, Expr}
-use Rattle.tables.specs.Types.{ty, noTy, isFixed, Ctx, givenBy}
+use Rattle.tables.specs.Lines.{Line}
+use Rattle.tables.specs.Types.{ty, noTy, isFixed, givenBy}
 use Rattle.tables.proofs.Kept.{no-yes}
 use Rattle.tables.proofs.Facts.{IsWord, IsWordSort, AllOk}
-use Rattle.circuits.specs.Layout.{Place, Counts, noPlace, counting, typeAt, placeAt, size, typeOf, placeOf, countOf}
-use Rattle.circuits.specs.Meaning.{Acc, Sig, cellsAt, wordAt, cellsOf, evalLine, evalAll}
+use Rattle.circuits.specs.Layout.{Place, Counts, noPlace, typeAt, placeAt, size, typeOf, placeOf, countOf}
+use Rattle.circuits.specs.Meaning.{Acc, cellsAt, wordAt, cellsOf, evalLine, evalAll}
 
 pub length-snoc {ℓ} : {A : Type ℓ} (xs : List A) (x : A) → length (xs ++ (x ∷ [])) ≡ suc (length xs)
 length-snoc xs x = length-append xs (x ∷ []) ∙ add-one (length xs)

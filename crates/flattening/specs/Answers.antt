@@ -1,6 +1,6 @@
 -- The answers of flattening: 1 for either table, 11, 12, the first that holds; else the number of records of the flat circuit. Assumes nothing.
 use Prim.Native.Nat.{ℕ, _-_, _*_}
-use mathlib.Core.Bool.{Bool, false, _&&_}
+use mathlib.Core.Bool.{false, _&&_}
 use mathlib.Core.List.{List, _++_}
 use lib.Dec.{leb}
 use lib.ListN.{length, replicate}

@@ -1,17 +1,16 @@
 -- Circuits and their flat circuits, computed. Assumes nothing.
 use Prim.Native.Nat.{ℕ}
 use mathlib.Core.Path.{_≡_, refl}
-use mathlib.Core.Bool.{Bool, true, false}
+use mathlib.Core.Bool.{true, false}
 use mathlib.Core.List.{List, [], _∷_, _++_}
 use lib.ListN.{replicate}
 use Rattle.tables.specs.declared.Refusal.the-variants.{NotATable, BadTable, TargetTooSmall}
 use Rattle.tables.specs.declared.Checked.the-variants.{Accepted}
 use Rattle.tables.specs.Kinds.{rowOf}
-use Rattle.tables.specs.Lines.{Line, Expr, five, encode, bitvec, array, input, state, val, give, mark, output, const, one, two, cmp, ite, read, write}
+use Rattle.tables.specs.Lines.{Line, five, encode, bitvec, array, input, state, val, give, mark, output, const, two, cmp, ite, read, write}
 use Rattle.tables.specs.Rules.{suits, fault}
 use Rattle.tables.specs.Tables.{checked}
 use Rattle.circuits.specs.Examples.{circuit}
-use Rattle.flattening.specs.declared.Flattened.{Flattened}
 use Rattle.flattening.specs.declared.Flattened.the-variants.{Done, Refused}
 use Rattle.flattening.specs.Flat.{flatten, flatTable}
 use Rattle.flattening.specs.Answers.{flattened, targetLeft}

@@ -1,3 +1,6 @@
 pub mod Flat
 pub mod Answers
 pub mod Examples
+pub mod Model
+pub mod Making
+pub mod Begun

@@ -1,0 +1,98 @@
+-- The flat line of a cell along writes by constant indexes. Assumes nothing.
+use Prim.Native.Nat.{ℕ, zero, suc, _+_, _-_, _*_, _≤_, _<_}
+use mathlib.Core.Path.{_≡_, refl, sym, ap, _∙_}
+use mathlib.Core.Logic.{_≢_}
+use mathlib.Core.Bool.{Bool, true, false}
+use native.Mathlib.Nat.{mul-le-mul}
+use native.Mathlib.Omega.{arith}
+use lib.Dec.{eqb}
+use borrow.Author.Tests.{eqb-true, eqb-false, eq-eqb, ne-eqb}
+use Rattle.tables.specs.Pick.{pick}
+use Rattle.flattening.specs.declared.Source.{Source}
+use Rattle.flattening.specs.Model.{Held, atOf, oldOf, keyOf, cellBy, cellIn, Sound, Tame, turnAt, sourceAt}
+
+-- a step of a row
+pub product : (x j : ℕ) → x ≤ 256 → j < 256 → x * j ≤ 65536
+product x j h l = mul-le-mul h (let k : j ≤ 256 = omega arith in k)
+
+module _ (H : Held) where
+  own-by : (k m j : ℕ) → oldOf H m ≡ 0 → cellBy H k m j ≡ atOf H m + keyOf H m * j
+  own-by zero m j e = refl
+  own-by (suc k) m j e = rw (eq-eqb (oldOf H m) 0 e)
+
+  link-by : (k m j : ℕ) → oldOf H m ≢ 0 → cellBy H (suc k) m j ≡ pick (eqb (keyOf H m) j) (atOf H m) (cellBy H k (oldOf H m) j)
+  link-by k m j e = rw (ne-eqb (oldOf H m) 0 e)
+
+  -- the number of writes allowed makes no difference
+  fuel : Sound H → (k n m j : ℕ) → m ≤ k → m ≤ n → cellBy H k m j ≡ cellBy H n m j
+  fuel s zero n m j h l = go (eqb (oldOf H m) 0) refl
+    where
+      go : (b : Bool) → eqb (oldOf H m) 0 ≡ b → cellBy H zero m j ≡ cellBy H n m j
+      go true e = sym (own-by n m j (eqb-true (oldOf H m) 0 e))
+      go false e = absurd (let f = s .falls m (eqb-false (oldOf H m) 0 e) in omega arith)
+  fuel s (suc k) zero m j h l = go (eqb (oldOf H m) 0) refl
+    where
+      go : (b : Bool) → eqb (oldOf H m) 0 ≡ b → cellBy H (suc k) m j ≡ cellBy H zero m j
+      go true e = own-by (suc k) m j (eqb-true (oldOf H m) 0 e)
+      go false e = absurd (let f = s .falls m (eqb-false (oldOf H m) 0 e) in omega arith)
+  fuel s (suc k) (suc n) m j h l = go (λ f. fuel s k n (oldOf H m) j (omega arith) (omega arith)) (eqb (oldOf H m) 0) refl
+    where
+      go : (oldOf H m < m → cellBy H k (oldOf H m) j ≡ cellBy H n (oldOf H m) j) → (b : Bool) → eqb (oldOf H m) 0 ≡ b → cellBy H (suc k) m j ≡ cellBy H (suc n) m j
+      go r true e = own-by (suc k) m j (eqb-true (oldOf H m) 0 e) ∙ sym (own-by (suc n) m j (eqb-true (oldOf H m) 0 e))
+      go r false e =
+          let d = eqb-false (oldOf H m) 0 e in
+          link-by k m j d ∙ ap (λ (x : ℕ). pick (eqb (keyOf H m) j) (atOf H m) x) (r (s .falls m d)) ∙ sym (link-by n m j d)
+
+  pub cell-own : (m j : ℕ) → oldOf H m ≡ 0 → cellIn H m j ≡ atOf H m + keyOf H m * j
+  unfolding cellIn
+  cell-own m j e = own-by m m j e
+
+  swapped : Sound H → (m j : ℕ) → oldOf H m ≢ 0 → cellIn H m j ≡ pick (eqb (keyOf H m) j) (atOf H m) (cellIn H (oldOf H m) j)
+  unfolding cellIn
+  swapped s zero j d = absurd (let f = s .falls zero d in omega arith)
+  swapped s (suc k) j d =
+      let f = s .falls (suc k) d in
+      link-by k (suc k) j d ∙ ap (λ (x : ℕ). pick (eqb (keyOf H (suc k)) j) (atOf H (suc k)) x) (fuel s k (oldOf H (suc k)) (oldOf H (suc k)) j (omega arith) (omega arith))
+
+  pub cell-new : Sound H → (m j : ℕ) → oldOf H m ≢ 0 → keyOf H m ≡ j → cellIn H m j ≡ atOf H m
+  cell-new s m j d e = swapped s m j d ∙ rw (eq-eqb (keyOf H m) j e)
+
+  pub cell-old : Sound H → (m j : ℕ) → oldOf H m ≢ 0 → keyOf H m ≢ j → cellIn H m j ≡ cellIn H (oldOf H m) j
+  cell-old s m j d e = swapped s m j d ∙ rw (ne-eqb (keyOf H m) j e)
+
+  bound-by : Sound H → (k m j : ℕ) → j < 256 → cellBy H k m j ≤ 131072
+  bound-by s zero m j h = let a = s .low m in let p = product (keyOf H m) j (s .few m) h in omega arith
+  bound-by s (suc k) m j h = go (eqb (oldOf H m) 0) (eqb (keyOf H m) j) (bound-by s k (oldOf H m) j h)
+    where
+      go : (b c : Bool) → cellBy H k (oldOf H m) j ≤ 131072 → pick b (atOf H m + keyOf H m * j) (pick c (atOf H m) (cellBy H k (oldOf H m) j)) ≤ 131072
+      go true c r = let a = s .low m in let p = product (keyOf H m) j (s .few m) h in omega arith
+      go false true r = let a = s .low m in omega arith
+      go false false r = r
+
+  pub cell-bound : Sound H → (m j : ℕ) → j < 256 → cellIn H m j ≤ 131072
+  unfolding cellIn
+  cell-bound s m j h = bound-by s m m j h
+
+-- ---- sources
+
+pub turn-up : (s : Source) (j : ℕ) → s .falling ≡ false → j ≡ turnAt s j
+turn-up s j e = rw e
+
+pub turn-past : (s : Source) (j : ℕ) → s .falling ≡ true → s .top < j → 0 ≡ turnAt s j
+turn-past s j e h = rw e (omega arith)
+
+pub turn-down : (s : Source) (j : ℕ) → s .falling ≡ true → s .top - j ≡ turnAt s j
+turn-down s j e = rw e
+
+pub turn-lt : (s : Source) (j : ℕ) → Tame s → j < 256 → turnAt s j < 256
+turn-lt s j t h = go (s .falling)
+  where
+    go : (b : Bool) → pick b (s .top - j) j < 256
+    go true = let k = t .top in omega arith
+    go false = h
+
+pub source-own : (H : Held) (s : Source) (j i : ℕ) → i ≡ turnAt s j → s .line ≡ 0 → s .base + s .step * i ≡ sourceAt H s j
+source-own H s j i t e = ap (λ (x : ℕ). s .base + s .step * x) t ∙ rw (eq-eqb (s .line) 0 e)
+
+pub source-cell : (H : Held) (s : Source) (j i r : ℕ) → i ≡ turnAt s j → s .line ≢ 0 → r ≡ cellIn H (s .line) i → r ≡ sourceAt H s j
+source-cell H s j i r t d e = e ∙ ap (λ (x : ℕ). cellIn H (s .line) x) t ∙ rw (ne-eqb (s .line) 0 d)

@@ -1,0 +1,169 @@
+-- What the code keeps of a line, put to the lists, tells what the definition keeps of it; and of earlier lines it still does. Assumes nothing.
+use Prim.Native.Nat.{ℕ, zero, suc, _+_, _-_, _*_, _≤_, _<_}
+use mathlib.Core.Path.{_≡_, refl, sym, ap, ap₂, _∙_, subst⁻¹}
+use mathlib.Core.Logic.{_≢_}
+use mathlib.Core.Bool.{Bool, true, false}
+use mathlib.Core.Option.{none}
+use mathlib.Core.List.{List, [], _∷_}
+use native.Mathlib.Omega.{arith}
+use native.Mathlib.Decide.{decLt}
+use lib.Dec.{eqb}
+use lib.ListN.{length, getD, set}
+use lib.Seq.{getD-set-same, getD-set-other}
+use borrow.Author.Tests.{eqb-true, eqb-false}
+use Rattle.tables.specs.declared.Ty.{Ty}
+use Rattle.tables.specs.Pick.{pick}
+use Rattle.flattening.specs.declared.Made.{Made}
+use Rattle.flattening.specs.Flat.{from, Info, writeCells, joined, joinedAll}
+use Rattle.flattening.specs.Model.{Held, held, atOf, oldOf, keyOf, cellBy, cellIn, Sound}
+use Rattle.flattening.specs.Making.{Notes, notes}
+use Rattle.flattening.proofs.Holding.{cell-own, cell-new, cell-old}
+use Rattle.flattening.proofs.Agreeing.{KnownNote, NoteRel}
+
+-- the lists with what is kept of the line n
+abbrev pub noted : Notes → ℕ → Made → Notes
+noted N n m =
+    notes (set (N .held .at) n (m .at)) (set (N .bit) n (m .bit)) (set (N .held .old) n (m .old)) (set (N .held .key) n (m .key)) (set (N .con) n (m .con)) (N .idx) (N .wid)
+
+-- there is a place for the line n
+pub record Holds (N : Notes) (n : ℕ) : Type 0 where
+  pub at : n < length (N .held .at)
+  pub bit : n < length (N .bit)
+  pub old : n < length (N .held .old)
+  pub key : n < length (N .held .key)
+  pub con : n < length (N .con)
+
+module _ (N : Notes) (n : ℕ) (m : Made) where
+  abbrev H : Held
+  H = N .held
+
+  abbrev K : Held
+  K = noted N n m .held
+
+  at-other : (a : ℕ) → a ≢ n → atOf K a ≡ atOf H a
+  at-other a d = getD-set-other (H .at) n a (m .at) 0 d
+
+  old-other : (a : ℕ) → a ≢ n → oldOf K a ≡ oldOf H a
+  old-other a d = getD-set-other (H .old) n a (m .old) 0 d
+
+  key-other : (a : ℕ) → a ≢ n → keyOf K a ≡ keyOf H a
+  key-other a d = getD-set-other (H .key) n a (m .key) 0 d
+
+  -- an earlier line's cells are held where they were
+  frame-by : Sound H → (k a j : ℕ) → a < n → cellBy K k a j ≡ cellBy H k a j
+  frame-by s zero a j l = let d : a ≢ n = (λ e. omega arith) in ap₂ (λ (x y : ℕ). x + y * j) (at-other a d) (key-other a d)
+  frame-by s (suc k) a j l = go (λ h. frame-by s k (oldOf H a) j h) (eqb (oldOf H a) 0) refl
+    where
+      d : a ≢ n
+      d e = omega arith
+
+      go : (oldOf H a < n → cellBy K k (oldOf H a) j ≡ cellBy H k (oldOf H a) j) → (b : Bool) → eqb (oldOf H a) 0 ≡ b → cellBy K (suc k) a j ≡ cellBy H (suc k) a j
+      go r true e =
+          (λ i. pick (eqb (old-other a d i) 0) (at-other a d i + key-other a d i * j) (pick (eqb (key-other a d i) j) (at-other a d i) (cellBy K k (old-other a d i) j)))
+          ∙ ap (λ (b : Bool). pick b (atOf H a + keyOf H a * j) (pick (eqb (keyOf H a) j) (atOf H a) (cellBy K k (oldOf H a) j))) e
+          ∙ sym (ap (λ (b : Bool). pick b (atOf H a + keyOf H a * j) (pick (eqb (keyOf H a) j) (atOf H a) (cellBy H k (oldOf H a) j))) e)
+      go r false e =
+          (λ i. pick (eqb (old-other a d i) 0) (at-other a d i + key-other a d i * j) (pick (eqb (key-other a d i) j) (at-other a d i) (cellBy K k (old-other a d i) j)))
+          ∙ ap (λ (x : ℕ). pick (eqb (oldOf H a) 0) (atOf H a + keyOf H a * j) (pick (eqb (keyOf H a) j) (atOf H a) x)) (r (let f = s .falls a (eqb-false (oldOf H a) 0 e) in omega arith))
+
+  pub frame : Sound H → (a j : ℕ) → a < n → cellIn K a j ≡ cellIn H a j
+  unfolding cellIn
+  frame s a j l = frame-by s a a j l
+
+  -- of another line the same is told; one that is still to come has no cells
+  pub note-other : {t : Ty} {f : Info} → Sound H → (a : ℕ) → a ≢ n → (n < a → f .cells ≡ []) → NoteRel N t a f → NoteRel (noted N n m) t a f
+  note-other {f = f} s a d e r =
+      record {
+        elem = λ h. at-other a d ∙ r .elem h;
+        bit = getD-set-other (N .bit) n a (m .bit) 0 d ∙ r .bit;
+        index = r .index;
+        cells = λ j l. by (decLt a n) j l;
+        known = subst⁻¹ (λ (c : ℕ). KnownNote (f .known) c) (getD-set-other (N .con) n a (m .con) 0 d) (r .known);
+      }
+    where
+      by : Dec (a < n) → (j : ℕ) → j < length (f .cells) → cellIn K a j ≡ getD (f .cells) j 0
+      by (yes h) j l = frame s a j h ∙ r .cells j l
+      by (no h) j l = absurd (let z : length (f .cells) ≡ 0 = ap length (e (omega arith)) in omega arith)
+
+  module _ (h : Holds N n) where
+    at-new : atOf K n ≡ m .at
+    at-new = getD-set-same (H .at) n (m .at) 0 (h .at)
+
+    old-new : oldOf K n ≡ m .old
+    old-new = getD-set-same (H .old) n (m .old) 0 (h .old)
+
+    key-new : keyOf K n ≡ m .key
+    key-new = getD-set-same (H .key) n (m .key) 0 (h .key)
+
+    -- where the cells of lines are held stays sound
+    pub sound-new : Sound H → (m .old ≢ 0 → m .old < n) → m .at ≤ 65536 → m .key ≤ 256 → Sound K
+    sound-new s f l k =
+        record {
+          falls = λ a. falls-by a (eqb a n) refl;
+          low = λ a. low-by a (eqb a n) refl;
+          few = λ a. few-by a (eqb a n) refl;
+        }
+      where
+        falls-by : (a : ℕ) (b : Bool) → eqb a n ≡ b → oldOf K a ≢ 0 → oldOf K a < a
+        falls-by a true e z =
+            let q = eqb-true a n e in
+            let w : oldOf K a ≡ m .old = ap (oldOf K) q ∙ old-new in
+            let y = f (λ x. z (w ∙ x)) in
+            omega arith
+        falls-by a false e z =
+            let w = old-other a (eqb-false a n e) in
+            let y = s .falls a (λ x. z (w ∙ x)) in
+            omega arith
+
+        low-by : (a : ℕ) (b : Bool) → eqb a n ≡ b → atOf K a ≤ 65536
+        low-by a true e = let w : atOf K a ≡ m .at = ap (atOf K) (eqb-true a n e) ∙ at-new in omega arith
+        low-by a false e = let w = at-other a (eqb-false a n e) in let y = s .low a in omega arith
+
+        few-by : (a : ℕ) (b : Bool) → eqb a n ≡ b → keyOf K a ≤ 256
+        few-by a true e = let w : keyOf K a ≡ m .key = ap (keyOf K) (eqb-true a n e) ∙ key-new in omega arith
+        few-by a false e = let w = key-other a (eqb-false a n e) in let y = s .few a in omega arith
+
+    -- the cells of the new line, where it swaps none
+    pub cell-step : m .old ≡ 0 → (j : ℕ) → cellIn K n j ≡ m .at + m .key * j
+    cell-step e j = cell-own K n j (old-new ∙ e) ∙ ap₂ (λ (x y : ℕ). x + y * j) at-new key-new
+
+    -- and where it writes over the line a, whose cells are ps
+    pub cell-swap : Sound K → Sound H → (a k : ℕ) (ps : List ℕ) → m .old ≡ a → a ≢ 0 → a < n → m .key ≡ k → ((j : ℕ) → j < length ps → cellIn H a j ≡ getD ps j 0)
+        → (j : ℕ) → j < length ps → cellIn K n j ≡ getD (set ps k (m .at)) j 0
+    cell-swap sK sH a k ps e d l ek c j lj = go (eqb k j) refl
+      where
+        o : oldOf K n ≡ a
+        o = old-new ∙ e
+
+        go : (b : Bool) → eqb k j ≡ b → cellIn K n j ≡ getD (set ps k (m .at)) j 0
+        go true q =
+            let z = eqb-true k j q in
+            cell-new K sK n j (λ x. d (sym o ∙ x)) (key-new ∙ ek ∙ z) ∙ at-new ∙ sym (ap (λ (i : ℕ). getD (set ps i (m .at)) j 0) z ∙ getD-set-same ps j (m .at) 0 lj)
+        go false q =
+            let z = eqb-false k j q in
+            cell-old K sK n j (λ x. d (sym o ∙ x)) (λ x. z (sym (key-new ∙ ek) ∙ x)) ∙ ap (λ (i : ℕ). cellIn K i j) o ∙ frame sH a j l ∙ c j lj
+            ∙ sym (getD-set-other ps k j (m .at) 0 (λ x. z (sym x)))
+
+-- ---- the flat lines of chains
+
+pub write-cell : (b : ℕ) (ks ps : List ℕ) → length ks ≡ length ps → (j : ℕ) → j < length ps → getD (writeCells b ks ps) j 0 ≡ suc (b + 2 * j)
+write-cell b [] [] e j l = absurd (omega arith)
+write-cell b [] (p ∷ ps) e j l = absurd (omega arith)
+write-cell b (k ∷ ks) [] e j l = absurd (omega arith)
+write-cell b (k ∷ ks) (p ∷ ps) e zero l = omega arith
+write-cell b (k ∷ ks) (p ∷ ps) e (suc j) l = write-cell (suc (suc b)) ks ps (omega arith) j (omega arith) ∙ omega arith
+
+pub write-length : (b : ℕ) (ks ps : List ℕ) → length ks ≡ length ps → length (writeCells b ks ps) ≡ length ps
+write-length b [] [] e = refl
+write-length b [] (p ∷ ps) e = absurd (omega arith)
+write-length b (k ∷ ks) [] e = absurd (omega arith)
+write-length b (k ∷ ks) (p ∷ ps) e = ap suc (write-length (suc (suc b)) ks ps (omega arith))
+
+joined-end : (c q n : ℕ) → joined c (suc c) (from q n) ≡ c + n
+joined-end c q zero = omega arith
+joined-end c q (suc n) = joined-end (suc c) (suc q) n ∙ omega arith
+
+pub joined-all : (p n : ℕ) → 0 < n → joinedAll (suc p + n) (from (suc p) n) ≡ p + (n + (n - 1))
+joined-all p zero h = absurd (omega arith)
+joined-all p (suc zero) h = omega arith
+joined-all p (suc (suc m)) h = joined-end (suc p + suc (suc m)) (suc (suc (suc p))) m ∙ omega arith

@@ -1,0 +1,112 @@
+-- What one line is made, by its kind. Assumes nothing.
+use Prim.Native.Nat.{ℕ, suc, _+_, _-_, _*_, _^_, _≤_, _<_}
+use mathlib.Core.Path.{_≡_, refl, sym, ap, _∙_, subst, subst⁻¹}
+use mathlib.Core.Bool.{true, false}
+use mathlib.Core.Logic.{_≢_}
+use mathlib.Core.List.{List, []}
+use native.Mathlib.Omega.{arith}
+use lib.Pow.{pow-mono}
+use borrow.Author.Tests.{eq-eqb, ne-eqb}
+use lib.Arith.{lt-of-le-ne}
+use Rattle.tables.specs.Lines.{Line, Expr, Shape, isBitvec, isArray, isConst, isInput, isState, isOutput, isOne, isTwo, isIte, isRead, isWrite, isJunk, isGive, isMark, isCmp, shapeOf, build, lineOf, kindIn, sortIn as sortOf, firstIn, secondIn, thirdIn}
+use Rattle.tables.specs.Tables.{known}
+use Rattle.tables.proofs.Laws.{past, within}
+use Rattle.tables.proofs.Shapes.{KindOf, kind-of, line-as, shape-one, shape-two, range}
+use Rattle.flattening.specs.declared.Made.{Made}
+use Rattle.flattening.specs.Model.{cellIn}
+use Rattle.flattening.specs.Making.{Notes, sortIn, wordIn, bitIn, conIn, sizeIn, made, flatCount, flatWords, flatMade, readWords, writeWords, Fit, Laid}
+
+-- an index width of at most 8 means at most 256 cells
+pub size-le : (w : ℕ) → w ≤ 8 → 2 ^ w ≤ 256
+size-le w h = pow-mono h
+
+pub size-two : (w : ℕ) → 0 < w → 2 ≤ 2 ^ w
+size-two w h = pow-mono h
+
+module _ (N : Notes) (p s a i : ℕ) where
+  -- by a constant index
+  pub read-con : conIn N i ≢ 0 → flatMade N p (Line.val s (Expr.read a i)) ≡ made p (cellIn (N .held) a (conIn N i - 1)) (bitIn N s) 0 1 0
+  read-con d = let e : p + 0 ≡ p = omega arith in rw (ne-eqb (conIn N i) 0 d) (ap (λ (q : ℕ). made q (cellIn (N .held) a (conIn N i - 1)) (bitIn N s) 0 1 0) e)
+
+  pub read-con-words : conIn N i ≢ 0 → flatWords N p (Line.val s (Expr.read a i)) ≡ []
+  read-con-words d = rw (ne-eqb (conIn N i) 0 d)
+
+  -- by any other
+  pub read-any : conIn N i ≡ 0 → flatMade N p (Line.val s (Expr.read a i)) ≡ made (p + 2 * (sizeIn N a - 1)) (p + 2 * (sizeIn N a - 1)) (bitIn N s) 0 1 0
+  read-any e = rw (eq-eqb (conIn N i) 0 e)
+
+  pub read-any-count : conIn N i ≡ 0 → flatCount N (Line.val s (Expr.read a i)) ≡ 2 * (sizeIn N a - 1)
+  read-any-count e = rw (eq-eqb (conIn N i) 0 e)
+
+  pub read-any-words : conIn N i ≡ 0 → flatWords N p (Line.val s (Expr.read a i)) ≡ readWords (N .held) p (bitIn N a) (wordIn N i) (sortIn N s) a (sizeIn N a)
+  read-any-words e = rw (eq-eqb (conIn N i) 0 e)
+
+  pub write-con : (v : ℕ) → conIn N i ≢ 0 → flatMade N p (Line.val s (Expr.write a i v)) ≡ made p (wordIn N v) (bitIn N s) a (conIn N i - 1) 0
+  write-con v d = let e : p + 0 ≡ p = omega arith in rw (ne-eqb (conIn N i) 0 d) (ap (λ (q : ℕ). made q (wordIn N v) (bitIn N s) a (conIn N i - 1) 0) e)
+
+  pub write-con-words : (v : ℕ) → conIn N i ≢ 0 → flatWords N p (Line.val s (Expr.write a i v)) ≡ []
+  write-con-words v d = rw (ne-eqb (conIn N i) 0 d)
+
+  pub write-any : (v : ℕ) → conIn N i ≡ 0 → flatMade N p (Line.val s (Expr.write a i v)) ≡ made (p + 2 * sizeIn N s) (p + 2) (bitIn N s) 0 2 0
+  write-any v e = rw (eq-eqb (conIn N i) 0 e)
+
+  pub write-any-count : (v : ℕ) → conIn N i ≡ 0 → flatCount N (Line.val s (Expr.write a i v)) ≡ 2 * sizeIn N s
+  write-any-count v e = rw (eq-eqb (conIn N i) 0 e)
+
+  pub write-any-words : (v : ℕ) → conIn N i ≡ 0 → flatWords N p (Line.val s (Expr.write a i v)) ≡ writeWords (N .held) p (bitIn N s) (wordIn N i) (sortIn N s) (wordIn N v) a (sizeIn N s)
+  write-any-words v e = rw (eq-eqb (conIn N i) 0 e)
+
+-- ---- by the kind of a record
+
+pub fit-as : {N : Notes} {p len : ℕ} {l m : Line} → l ≡ m → Fit N p l len → Fit N p m len
+fit-as {N} {p} {len} e h = subst (λ (x : Line). Fit N p x len) e h
+
+pub laid-as : {N : Notes} {p : ℕ} {t u : List ℕ} {r : Made} {l m : Line} → l ≡ m → Laid N p m t u r → Laid N p l t u r
+laid-as {N} {p} {t} {u} {r} e h = subst⁻¹ (λ (x : Line). Laid N p x t u r) e h
+
+pub as-key : (r : List ℕ) (n : ℕ) → kindIn r ≡ n → lineOf r ≡ build (shapeOf n) (kindIn r) (sortOf r) (firstIn r) (secondIn r) (thirdIn r)
+as-key r n e = line-as r (shapeOf n) (ap shapeOf e)
+
+pub as-one : (r : List ℕ) → 10 < kindIn r → kindIn r ≤ 20 → lineOf r ≡ build isOne (kindIn r) (sortOf r) (firstIn r) (secondIn r) (thirdIn r)
+as-one r h l = line-as r isOne (shape-one (kindIn r) h l)
+
+pub as-two : (r : List ℕ) → 20 < kindIn r → known false (kindIn r) ≡ true → (kindIn r ≡ 21 → ⊥) → (kindIn r ≡ 22 → ⊥) → (kindIn r ≡ 53 → ⊥) → (kindIn r ≡ 54 → ⊥) → (kindIn r ≡ 55 → ⊥)
+    → lineOf r ≡ build isTwo (kindIn r) (sortOf r) (firstIn r) (secondIn r) (thirdIn r)
+as-two r h e a b c d f = line-as r isTwo (shape-two (kindIn r) (past (past h a) b) (fewer (fewer (fewer (range 1 55 (kindIn r) e .1) f) d) c))
+  where
+    fewer : {k n : ℕ} → k ≤ suc n → (k ≡ suc n → ⊥) → k ≤ n
+    fewer x y = within (lt-of-le-ne x y)
+
+pub as-output : (r : List ℕ) → kindIn r ≤ 10 → known false (kindIn r) ≡ true → (kindIn r ≡ 1 → ⊥) → (kindIn r ≡ 2 → ⊥) → (kindIn r ≡ 3 → ⊥) → (kindIn r ≡ 4 → ⊥) → (kindIn r ≡ 5 → ⊥) → (kindIn r ≡ 6 → ⊥)
+    → (kindIn r ≡ 7 → ⊥) → (kindIn r ≡ 8 → ⊥) → (kindIn r ≡ 9 → ⊥) → lineOf r ≡ Line.output (firstIn r)
+as-output r h e a₁ a₂ a₃ a₄ a₅ a₆ a₇ a₈ a₉ = as-key r 10 (top h (past (past (past (past (past (past (past (past (past (range 1 55 (kindIn r) e .0) a₁) a₂) a₃) a₄) a₅) a₆) a₇) a₈) a₉))
+  where
+    top : kindIn r ≤ 10 → 10 ≤ kindIn r → kindIn r ≡ 10
+    top x y = omega arith
+
+-- the kinds that leave one flat line
+pub count-rest : (N : Notes) (r : List ℕ) → known false (kindIn r) ≡ true → (kindIn r ≡ 2 → ⊥) → (kindIn r ≡ 5 → ⊥) → (kindIn r ≡ 6 → ⊥) → (kindIn r ≡ 7 → ⊥) → (kindIn r ≡ 21 → ⊥) → (kindIn r ≡ 22 → ⊥)
+    → (kindIn r ≡ 53 → ⊥) → (kindIn r ≡ 54 → ⊥) → (kindIn r ≡ 55 → ⊥) → 1 ≡ flatCount N (lineOf r)
+count-rest N r e a₂ a₅ a₆ a₇ b₁ b₂ c₃ c₄ c₅ = go (shapeOf (kindIn r)) refl (kind-of (kindIn r))
+  where
+    made-one : (S : Shape) → shapeOf (kindIn r) ≡ S → 1 ≡ flatCount N (build S (kindIn r) (sortOf r) (firstIn r) (secondIn r) (thirdIn r)) → 1 ≡ flatCount N (lineOf r)
+    made-one S q h = h ∙ ap (flatCount N) (sym (line-as r S q))
+
+    go : (S : Shape) → shapeOf (kindIn r) ≡ S → KindOf S (kindIn r) → 1 ≡ flatCount N (lineOf r)
+    go isBitvec q h = made-one isBitvec q refl
+    go isArray q h = absurd (a₂ h)
+    go isConst q h = made-one isConst q refl
+    go isInput q h = made-one isInput q refl
+    go isState q h = absurd (a₅ h)
+    go isOutput q h = made-one isOutput q refl
+    go isOne q h = made-one isOne q refl
+    go isTwo q h = made-one isTwo q refl
+    go isIte q h = absurd (c₃ h)
+    go isRead q h = absurd (c₄ h)
+    go isWrite q h = absurd (c₅ h)
+    go isJunk q h = made-one isJunk q refl
+    go (isGive true) q h = absurd (a₆ h)
+    go (isGive false) q h = absurd (a₇ h)
+    go (isMark m) q h = made-one (isMark m) q refl
+    go (isCmp true) q h = absurd (b₁ h)
+    go (isCmp false) q h = absurd (b₂ h)

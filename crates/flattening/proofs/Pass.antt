@@ -1,0 +1,639 @@
+-- The pass over the lines of a table: what holds after the first i of them, and what is answered. Assumes nothing.
+use Prim.Native.Nat.{ℕ, zero, suc, _+_, _-_, _*_, _^_, _≤_, _<_}
+use mathlib.Core.Path.{_≡_, refl, sym, ap, ap₂, _∙_, subst, subst⁻¹}
+use mathlib.Core.Logic.{_≢_}
+use mathlib.Core.Bool.{Bool, true, false}
+use mathlib.Core.Option.{none}
+use mathlib.Core.List.{List, [], _∷_, _++_, append-assoc}
+use native.Mathlib.Omega.{arith}
+use native.Mathlib.Decide.{decLt}
+use lib.Dec.{eqb}
+use lib.ListN.{length, getD, set, take, drop, replicate, length-append, length-replicate, length-set, List·getD-map, List·getD-eq-default}
+use lib.Seq.{take-append-seam, drop-append-add, getD-at, getD-set-same, getD-set-other}
+use lib.Pow.{pow-pos}
+use borrow.Author.Tests.{eqb-true, eqb-false, le-leb, lt-leb}
+use Rattle.tables.specs.declared.Ty.{Ty}
+use Rattle.tables.specs.declared.Checked.the-variants.{Accepted}
+use Rattle.tables.specs.declared.Refusal.the-variants.{TargetTooSmall}
+use Rattle.tables.specs.Pick.{pick}
+use Rattle.tables.specs.Lines.{Line, Expr, five, lineOf, kindIn, records, recordAt, decode, encode, counted, cmpKind, giveKind}
+use Rattle.tables.proofs.Values.{val-value}
+use Rattle.tables.specs.Types.{lineType, Ctx, noTy, tyAt, given, grow, growAll, noCtx, context}
+use Rattle.tables.specs.Tables.{whole, room, known, formed, keeps, lawful, checked}
+use Rattle.tables.proofs.Kept.{both}
+use Rattle.tables.proofs.Checking.{roomy, zeros-at}
+use Rattle.tables.proofs.Showing.{snoc-other}
+use Rattle.tables.proofs.Counted.{length-records, record-at}
+use Rattle.tables.proofs.Facts.{Ok, AllOk}
+use Rattle.tables.proofs.Sound.{accepted-lawful, accepted-room, accepted-ok}
+use Rattle.tables.proofs.Complete.{length-encode}
+use Rattle.tables.proofs.Encoding.{length-decode}
+use Rattle.tables.proofs.Wide.{all-wide}
+use Rattle.circuits.specs.Cells.{put}
+use Rattle.circuits.specs.Layout.{Layout, typeAt, typeOf, lay, layAll, noLayout, layout}
+use Rattle.circuits.specs.Meaning.{Acc, noAcc}
+use Rattle.flattening.specs.declared.Flattened.{Flattened}
+use Rattle.flattening.specs.declared.Flattened.the-variants.{Done, Refused}
+use Rattle.flattening.specs.declared.Made.{Made}
+use Rattle.flattening.specs.Flat.{Info, noInfo, infoAt, chunk, flatten, flatLines, flatTable, joinKind}
+use Rattle.flattening.specs.Answers.{fitting, flattened, leftOf, targetLeft}
+use Rattle.flattening.specs.Model.{Held, words, rowAt, pairAt, cellIn}
+use Rattle.flattening.specs.Making.{run, still, of, runDown, ofDown, joinWords, readWords, writeWords, Notes, notes, sortIn, wordIn, sizeIn, bitIn, conIn, givenFrom, made, flatCount, flatWords, flatMade, Neat, Deep, Fit, Laid, Shallow}
+use Rattle.flattening.specs.Begun.{Begun}
+use Rattle.flattening.proofs.Walk.{new-type}
+use Rattle.flattening.proofs.Rel.{Inv}
+use Rattle.flattening.proofs.Placing.{length-row, length-pairs, join-some}
+use Rattle.flattening.proofs.Laying.{size-two}
+use Rattle.flattening.proofs.Rowing.{encode-append}
+use Rattle.flattening.proofs.Alike.{zeros, step-lay}
+use Rattle.flattening.proofs.Agreeing.{NoteRel, Told, line-words}
+use Rattle.flattening.proofs.Keeping.{noted, Holds, note-other, sound-new}
+use Rattle.flattening.proofs.Remembering.{LineKept, line-kept}
+use Rattle.flattening.proofs.Passing.{lineIn, chunkAt, sofar, all-lines, lines-le, walked, flatWalked, walked-suc, ok-at, inv-at, flat-length, walked-ext, walked-length}
+
+-- ---- the number of words of a line's records
+
+join-length : (H : Held) (p j s n : ℕ) → 0 < n → length (joinWords H p j s n) ≡ 5 * (n - 1)
+join-length H p j s zero h = absurd (omega arith)
+join-length H p j s (suc zero) h = refl
+join-length H p j s (suc (suc m)) h =
+    let n = suc (suc m) in
+    let W = words (n - 2) (rowAt H j s (run (p + n + 1) 1) (run (p + 3) 1) (still 0)) in
+    ap length (join-some H p j s n (omega arith)) ∙ length-append (five j s (p + 1) (p + 2) 0) W ∙ omega (arith, length-row H j s (run (p + n + 1) 1) (run (p + 3) 1) (still 0) (n - 2))
+
+pick-length : (b : Bool) (w : List ℕ) (k : ℕ) → length w ≡ 5 * k → length (pick b w []) ≡ 5 * pick b k 0
+pick-length true w k e = e
+pick-length false w k e = refl
+
+read-length : (H : Held) (p o i s a n : ℕ) → 2 ≤ n → length (readWords H p o i s a n) ≡ 5 * (2 * (n - 1))
+read-length H p o i s a n h =
+    let c₁ = runDown (o + 1) (n - 2) in
+    let c₂ = runDown (o + 1) (n - 3) in
+    length-append (words 1 (pairAt H p o i s c₁ (ofDown a (n - 2)) (still (cellIn H a (n - 1))))) (words (n - 2) (pairAt H (p + 2) o i s c₂ (ofDown a (n - 3)) (run (p + 2) 2)))
+    ∙ omega (arith, length-pairs H p o i s c₁ (ofDown a (n - 2)) (still (cellIn H a (n - 1))) 1, length-pairs H (p + 2) o i s c₂ (ofDown a (n - 3)) (run (p + 2) 2) (n - 2))
+
+words-length : (N : Notes) (p : ℕ) (l : Line) → Deep N l → length (flatWords N p l) ≡ 5 * flatCount N l
+words-length N p (Line.bitvec w) d = refl
+words-length N p (Line.array i e) d =
+    let n = 2 ^ getD (N .wid) i 0 in
+    length-append (five 1 0 1 0 0) (words n (rowAt (N .held) 3 (sortIn N i) (run 0 1) (still 0) (still 0))) ∙ omega (arith, length-row (N .held) 3 (sortIn N i) (run 0 1) (still 0) (still 0) n)
+words-length N p (Line.input s) d = refl
+words-length N p (Line.state s) d = length-row (N .held) 5 (sortIn N s) (still 0) (still 0) (still 0) (sizeIn N s)
+words-length N p (Line.val s (Expr.const c)) d = refl
+words-length N p (Line.val s (Expr.one k a x y)) d = refl
+words-length N p (Line.val s (Expr.two k a b)) d = refl
+words-length N p (Line.val s (Expr.cmp e a b)) d =
+    let n = sizeIn N a in
+    length-append (words n (rowAt (N .held) (cmpKind e) (sortIn N s) (of a) (of b) (still 0))) (joinWords (N .held) p (joinKind e) (sortIn N s) n)
+    ∙ omega (arith, length-row (N .held) (cmpKind e) (sortIn N s) (of a) (of b) (still 0) n, join-length (N .held) p (joinKind e) (sortIn N s) n (pow-pos (getD (N .idx) a 0)))
+words-length N p (Line.val s (Expr.ite c a b)) d = length-row (N .held) 53 (sortIn N s) (still (wordIn N c)) (of a) (of b) (sizeIn N a)
+words-length N p (Line.val s (Expr.read a i)) d =
+    pick-length (eqb (conIn N i) 0) (readWords (N .held) p (bitIn N a) (wordIn N i) (sortIn N s) a (sizeIn N a)) (2 * (sizeIn N a - 1)) (read-length (N .held) p (bitIn N a) (wordIn N i) (sortIn N s) a (sizeIn N a) (size-two (getD (N .idx) a 0) d))
+words-length N p (Line.val s (Expr.write a i x)) d =
+    pick-length (eqb (conIn N i) 0) (writeWords (N .held) p (bitIn N s) (wordIn N i) (sortIn N s) (wordIn N x) a (sizeIn N s)) (2 * sizeIn N s) (length-pairs (N .held) p (bitIn N s) (wordIn N i) (sortIn N s) (run (bitIn N s + 1) 1) (still (wordIn N x)) (of a) (sizeIn N s) ∙ omega arith)
+words-length N p (Line.give m s q a) d = length-row (N .held) (giveKind m) (sortIn N s) (of q) (givenFrom N m a) (still 0) (sizeIn N q)
+words-length N p (Line.mark m a) d = refl
+words-length N p (Line.output a) d = refl
+words-length N p Line.junk d = refl
+
+-- the count needs only the widths and the constants
+pub count-same : (at bit old key con idx wid : List ℕ) (l : Line) → flatCount (notes [] [] [] [] con idx wid) l ≡ flatCount (notes at bit old key con idx wid) l
+count-same at bit old key con idx wid (Line.bitvec w) = refl
+count-same at bit old key con idx wid (Line.array i e) = refl
+count-same at bit old key con idx wid (Line.input s) = refl
+count-same at bit old key con idx wid (Line.state s) = refl
+count-same at bit old key con idx wid (Line.val s (Expr.const c)) = refl
+count-same at bit old key con idx wid (Line.val s (Expr.one k a x y)) = refl
+count-same at bit old key con idx wid (Line.val s (Expr.two k a b)) = refl
+count-same at bit old key con idx wid (Line.val s (Expr.cmp e a b)) = refl
+count-same at bit old key con idx wid (Line.val s (Expr.ite c a b)) = refl
+count-same at bit old key con idx wid (Line.val s (Expr.read a i)) = refl
+count-same at bit old key con idx wid (Line.val s (Expr.write a i x)) = refl
+count-same at bit old key con idx wid (Line.give m s q a) = refl
+count-same at bit old key con idx wid (Line.mark m a) = refl
+count-same at bit old key con idx wid (Line.output a) = refl
+count-same at bit old key con idx wid Line.junk = refl
+
+pub deep-same : (at bit old key con idx wid : List ℕ) (l : Line) → Deep (notes at bit old key con idx wid) l → Deep (notes [] [] [] [] con idx wid) l
+deep-same at bit old key con idx wid (Line.bitvec w) d = d
+deep-same at bit old key con idx wid (Line.array i e) d = d
+deep-same at bit old key con idx wid (Line.input s) d = d
+deep-same at bit old key con idx wid (Line.state s) d = d
+deep-same at bit old key con idx wid (Line.val s (Expr.const c)) d = d
+deep-same at bit old key con idx wid (Line.val s (Expr.one k a x y)) d = d
+deep-same at bit old key con idx wid (Line.val s (Expr.two k a b)) d = d
+deep-same at bit old key con idx wid (Line.val s (Expr.cmp e a b)) d = d
+deep-same at bit old key con idx wid (Line.val s (Expr.ite c a b)) d = d
+deep-same at bit old key con idx wid (Line.val s (Expr.read a i)) d = d
+deep-same at bit old key con idx wid (Line.val s (Expr.write a i x)) d = d
+deep-same at bit old key con idx wid (Line.give m s q a) d = d
+deep-same at bit old key con idx wid (Line.mark m a) d = d
+deep-same at bit old key con idx wid (Line.output a) d = d
+deep-same at bit old key con idx wid Line.junk d = d
+
+next-of : (N : Notes) (p : ℕ) (l : Line) → flatMade N p l .next ≡ p + flatCount N l
+next-of N p (Line.bitvec w) = refl
+next-of N p (Line.array i e) = refl
+next-of N p (Line.input s) = refl
+next-of N p (Line.state s) = refl
+next-of N p (Line.val s (Expr.const c)) = refl
+next-of N p (Line.val s (Expr.one k a x y)) = refl
+next-of N p (Line.val s (Expr.two k a b)) = refl
+next-of N p (Line.val s (Expr.cmp e a b)) = refl
+next-of N p (Line.val s (Expr.ite c a b)) = refl
+next-of N p (Line.val s (Expr.read a i)) = refl
+next-of N p (Line.val s (Expr.write a i x)) = go (eqb (conIn N i) 0)
+  where
+    q : ℕ
+    q = p + flatCount N (Line.val s (Expr.write a i x))
+
+    go : (b : Bool) → pick b (made q (p + 2) (bitIn N s) 0 2 0) (made q (wordIn N x) (bitIn N s) a (conIn N i - 1) 0) .next ≡ q
+    go true = refl
+    go false = refl
+next-of N p (Line.give m s q a) = refl
+next-of N p (Line.mark m a) = refl
+next-of N p (Line.output a) = refl
+next-of N p Line.junk = refl
+
+-- ---- words put at the end
+
+drop-zeros : (k r : ℕ) → drop k (replicate {A = ℕ} r 0) ≡ replicate (r - k) 0
+drop-zeros zero r = ap (λ (m : ℕ). replicate {A = ℕ} m 0) (let e : r ≡ r - 0 = omega arith in e)
+drop-zeros (suc k) zero = ap (λ (m : ℕ). replicate {A = ℕ} m 0) (let e : 0 ≡ 0 - suc k = omega arith in e)
+drop-zeros (suc k) (suc r) = drop-zeros k r ∙ ap (λ (m : ℕ). replicate {A = ℕ} m 0) (let e : r - k ≡ suc r - suc k = omega arith in e)
+
+put-end : (x w : List ℕ) (a r m : ℕ) → a ≡ length x → length w ≡ m → put (x ++ replicate r 0) a w ≡ (x ++ w) ++ replicate (r - m) 0
+unfolding put
+put-end x w a r m e f =
+    let Z = replicate {A = ℕ} r 0 in
+    ap (λ (b : ℕ). take b (x ++ Z) ++ (w ++ drop (b + length w) (x ++ Z))) e
+    ∙ ap₂ (λ (u y : List ℕ). u ++ (w ++ y)) (take-append-seam x Z) (drop-append-add x Z (length w) ∙ ap (λ (k : ℕ). drop k Z) f ∙ drop-zeros m r)
+    ∙ sym (append-assoc x w (replicate (r - m) 0))
+
+-- ---- the lines of a table
+
+all-known : (p : Bool) (c : Ctx) (rs : List (List ℕ)) → lawful p c rs ≡ true → (i : ℕ) → i < length rs → known p (kindIn (getD rs i [])) ≡ true
+all-known p c [] h i l = absurd (omega arith)
+all-known p c (r ∷ rs) h zero l = both (known p (kindIn r)) _ (both (formed p r) _ (both (keeps p (tyAt c) (given c) r) _ h .0) .0) .0
+all-known p c (r ∷ rs) h (suc i) l = all-known p (grow p c (lineOf r)) rs (both (keeps p (tyAt c) (given c) r) _ h .1) i (omega arith)
+
+lay-ctx : (Y : Layout) (ls : List Line) → layAll false Y ls .ctx ≡ growAll false (Y .ctx) ls
+lay-ctx Y [] = refl
+lay-ctx Y (l ∷ ls) = lay-ctx (lay false Y l) ls
+
+layout-ctx : (C : List Line) → layout false C .ctx ≡ context false C
+unfolding layout context
+layout-ctx C = lay-ctx noLayout C
+
+module _ (t : List ℕ) (n : ℕ) (acc : checked false t n ≡ Accepted) where
+  abbrev pub C : List Line
+  C = decode (counted t n)
+
+  many : (n ≤ 16384) × (5 * n ≤ length t)
+  many = roomy (length t) n (accepted-room false t n acc .1)
+
+  size-C : length C ≡ n
+  size-C = length-decode false t n acc
+
+  ok-C : AllOk false noCtx C
+  ok-C = accepted-ok false t n acc
+
+  -- the record at the place i
+  pub record-known : (i : ℕ) → i < n → known false (kindIn (recordAt t i)) ≡ true
+  record-known i h =
+      subst (λ (r : List ℕ). known false (kindIn r) ≡ true) (record-at n t i (many .1) h) (all-known false noCtx (records (counted t n)) (accepted-lawful false t n acc) i (subst⁻¹ (λ (m : ℕ). i < m) (length-records n t (many .1)) h))
+
+  pub record-line : (i : ℕ) → i < n → lineOf (recordAt t i) ≡ lineIn C i
+  record-line i h = ap lineOf (sym (record-at n t i (many .1) h)) ∙ sym (List·getD-map lineOf (records (counted t n)) i [])
+
+  -- the types of the lines so far are those of all lines
+  types-at : (i : ℕ) → i ≤ n → (a : ℕ) → 1 ≤ typeAt (walked C i .lay) a .cls → (a < suc i) × (typeAt (walked C i .lay) a ≡ tyAt (context false C) a)
+  types-at i h a k = by (decLt a (suc i))
+    where
+      v : Inv (walked C i) (flatWalked C i) (sofar C i .infos)
+      v = inv-at C ok-C i (subst⁻¹ (λ (m : ℕ). i ≤ m) size-C h)
+
+      le : length (walked C i .env) ≡ suc i
+      le = walked-length C i (subst⁻¹ (λ (m : ℕ). i ≤ m) size-C h)
+
+      by : Dec (a < suc i) → (a < suc i) × (typeAt (walked C i .lay) a ≡ tyAt (context false C) a)
+      by (yes l) =
+          (l, sym (walked-ext C ok-C i (subst⁻¹ (λ (m : ℕ). i ≤ m) size-C h) .type a (omega (arith, le))) ∙ ap (λ (Y : Layout). typeAt Y a) (step-lay true C (zeros C) []) ∙ ap (λ (c : Ctx). tyAt c a) (layout-ctx C))
+      by (no l) =
+          absurd (let e : typeAt (walked C i .lay) a ≡ noTy = List·getD-eq-default (walked C i .lay .ctx .tys) noTy {n = a} (omega (arith, v .evenA .types, le)) in
+          let z : typeAt (walked C i .lay) a .cls ≡ 0 = ap (λ (x : Ty). x .cls) e in
+          omega arith)
+
+  type-none : (i : ℕ) → i ≤ n → typeAt (walked C i .lay) 0 .cls ≡ 0
+  type-none i h =
+      let le = walked-length C i (subst⁻¹ (λ (m : ℕ). i ≤ m) size-C h) in
+      ap (λ (x : Ty). x .cls) (sym (walked-ext C ok-C i (subst⁻¹ (λ (m : ℕ). i ≤ m) size-C h) .type 0 (omega arith)) ∙ walked-ext C ok-C 0 (omega arith) .type 0 (omega arith))
+
+  -- ---- what holds after the first i lines
+
+  module _ (idx wid : List ℕ) (eiw : (a : ℕ) → getD idx a 0 ≡ tyAt (context false C) a .iw) (ew : (a : ℕ) → getD wid a 0 ≡ tyAt (context false C) a .w) (len : ℕ) where
+    pub record Pass (i p : ℕ) (at bit old key con target : List ℕ) : Type 0 where
+      pub upto : i ≤ n
+      pub of-at : length at ≡ 16385
+      pub of-bit : length bit ≡ 16385
+      pub of-old : length old ≡ 16385
+      pub of-key : length key ≡ 16385
+      pub of-con : length con ≡ 16385
+      pub neat : Neat (notes at bit old key con idx wid)
+      pub rel : (a : ℕ) → NoteRel (notes at bit old key con idx wid) (typeAt (walked C i .lay) a) a (infoAt (sofar C i .infos) a)
+      pub count : p ≡ length (sofar C i .lines)
+      pub fits : p ≤ room len
+      pub words : target ≡ encode (sofar C i .lines) ++ replicate (len - 5 * p) 0
+
+    told : (i : ℕ) → i ≤ n → (at bit old key con : List ℕ) → Told (walked C i) (notes at bit old key con idx wid)
+    told i h at bit old key con =
+        record {
+          none = type-none i h;
+          iw = λ a k. eiw a ∙ sym (ap (λ (x : Ty). x .iw) (types-at i h a k .1));
+          w = λ a k. ew a ∙ sym (ap (λ (x : Ty). x .w) (types-at i h a k .1));
+        }
+
+    module _ {i p : ℕ} {at bit old key con target : List ℕ} (s : Pass i p at bit old key con target) (h : i < n) where
+      abbrev N : Notes
+      N = notes at bit old key con idx wid
+
+      abbrev l : Line
+      l = lineIn C i
+
+      hi : i ≤ length C
+      hi = subst⁻¹ (λ (m : ℕ). i ≤ m) size-C (s .upto)
+
+      v : Inv (walked C i) (flatWalked C i) (sofar C i .infos)
+      v = inv-at C ok-C i hi
+
+      k : Ok false (tyAt (walked C i .lay .ctx)) (given (walked C i .lay .ctx)) (lineIn C i)
+      k = ok-at C ok-C i (subst⁻¹ (λ (m : ℕ). i < m) size-C h)
+
+      tl : Told (walked C i) (notes at bit old key con idx wid)
+      tl = told i (s .upto) at bit old key con
+
+      deep-of : (m : Line) → Ok false (tyAt (walked C i .lay .ctx)) (given (walked C i .lay .ctx)) m → Deep (notes at bit old key con idx wid) m
+      deep-of (Line.bitvec w) q = tt
+      deep-of (Line.array x e) q = let z = q .index .is in let y = tl .w x (omega arith) in let g = q .most in omega arith
+      deep-of (Line.input x) q = tt
+      deep-of (Line.state x) q = tt
+      deep-of (Line.val x (Expr.const c)) q = tt
+      deep-of (Line.val x (Expr.one a b c d)) q = tt
+      deep-of (Line.val x (Expr.two a b c)) q = tt
+      deep-of (Line.val x (Expr.cmp a b c)) q = tt
+      deep-of (Line.val x (Expr.ite a b c)) q = tt
+      deep-of (Line.val x (Expr.read a b)) q = let z = q .arr .is in let y = tl .iw a (omega arith) in let g = q .arr .deep in omega arith
+      deep-of (Line.val x (Expr.write a b c)) q = tt
+      deep-of (Line.give a b c d) q = tt
+      deep-of (Line.mark a b) q = tt
+      deep-of (Line.output a) q = tt
+      deep-of Line.junk q = tt
+
+      pub deep : Deep (notes at bit old key con idx wid) (lineIn C i)
+      deep = deep-of (lineIn C i) k
+
+      -- the words of the line's chunk, and the number of its lines
+      chunk-words : encode (chunkAt (sofar C i) (lineIn C i) .lines) ≡ flatWords (notes at bit old key con idx wid) p (lineIn C i)
+      chunk-words = ap (λ (b : ℕ). encode (chunk (sofar C i .infos) (suc b) (lineIn C i) .lines)) (sym (s .count)) ∙ line-words v (notes at bit old key con idx wid) (s .neat) tl (s .rel) p (lineIn C i) k
+
+      chunk-length : length (chunkAt (sofar C i) (lineIn C i) .lines) ≡ flatCount (notes at bit old key con idx wid) (lineIn C i)
+      chunk-length =
+          let L = chunkAt (sofar C i) (lineIn C i) .lines in
+          let e = ap length chunk-words ∙ words-length (notes at bit old key con idx wid) p (lineIn C i) deep in
+          omega (arith, e, length-encode L)
+
+      next-length : length (sofar C (suc i) .lines) ≡ p + flatCount (notes at bit old key con idx wid) (lineIn C i)
+      next-length = length-append (sofar C i .lines) (chunkAt (sofar C i) (lineIn C i) .lines) ∙ omega (arith, chunk-length, s .count)
+
+      -- too many: so are all lines
+      pub too-many : room len < p + flatCount (notes at bit old key con idx wid) (lineIn C i) → room len < length (flatten C)
+      too-many g = omega (arith, g, next-length, lines-le C (suc i) (subst⁻¹ (λ (m : ℕ). suc i ≤ m) size-C h))
+
+      pub length-target : length target ≡ len
+      length-target = ap length (s .words) ∙ length-append (encode (sofar C i .lines)) (replicate (len - 5 * p) 0) ∙ omega (arith, length-encode (sofar C i .lines), length-replicate {A = ℕ} (len - 5 * p) 0, s .count, roomy len p (s .fits) .1)
+
+      pub fit : p + flatCount (notes at bit old key con idx wid) (lineIn C i) ≤ room len → Fit (notes at bit old key con idx wid) p (lineIn C i) (length target)
+      fit g =
+          let r = roomy len (p + flatCount (notes at bit old key con idx wid) (lineIn C i)) g in
+          record {
+            neat = s .neat;
+            low = omega (arith, roomy len p (s .fits) .0);
+            room = omega (arith, r .1, length-target);
+            deep = deep;
+          }
+
+      -- ---- one line more
+
+      len-infos : length (sofar C i .infos) ≡ suc i
+      len-infos = v .lenI ∙ walked-length C i hi
+
+      len-types : length (walked C i .lay .ctx .tys) ≡ suc i
+      len-types = v .evenA .types ∙ walked-length C i hi
+
+      type-other : (a : ℕ) → a ≢ suc i → typeAt (walked C (suc i) .lay) a ≡ typeAt (walked C i .lay) a
+      type-other a d =
+          ap (λ (A : Acc). typeAt (A .lay) a) (walked-suc C i (subst⁻¹ (λ (m : ℕ). i < m) size-C h))
+          ∙ snoc-other (walked C i .lay .ctx .tys) (typeOf false (walked C i .lay) (lineIn C i)) noTy a (λ e. d (e ∙ len-types))
+
+      type-this : typeAt (walked C (suc i) .lay) (suc i) ≡ typeOf false (walked C i .lay) (lineIn C i)
+      type-this =
+          ap (λ (A : Acc). typeAt (A .lay) (suc i)) (walked-suc C i (subst⁻¹ (λ (m : ℕ). i < m) size-C h))
+          ∙ new-type true (zeros C) [] (v .evenA) (lineIn C i) (suc i) (sym (walked-length C i hi))
+
+      info-other : (a : ℕ) → a ≢ suc i → infoAt (sofar C (suc i) .infos) a ≡ infoAt (sofar C i .infos) a
+      info-other a d = snoc-other (sofar C i .infos) (chunkAt (sofar C i) (lineIn C i) .info) noInfo a (λ e. d (e ∙ len-infos))
+
+      info-this : infoAt (sofar C (suc i) .infos) (suc i) ≡ chunkAt (sofar C i) (lineIn C i) .info
+      info-this = getD-at (sofar C i .infos) (chunkAt (sofar C i) (lineIn C i) .info) [] noInfo (suc i) len-infos
+
+      places : Holds (notes at bit old key con idx wid) (suc i)
+      places =
+          let q = many .0 in
+          record { at = omega (arith, s .of-at); bit = omega (arith, s .of-bit); old = omega (arith, s .of-old); key = omega (arith, s .of-key); con = omega (arith, s .of-con) }
+
+      module _ (g : p + flatCount (notes at bit old key con idx wid) (lineIn C i) ≤ room len) where
+        abbrev m : Made
+        m = flatMade (notes at bit old key con idx wid) p (lineIn C i)
+
+        lk : LineKept (notes at bit old key con idx wid) (suc i) (flatMade (notes at bit old key con idx wid) p (lineIn C i)) (typeOf false (walked C i .lay) (lineIn C i)) (chunk (sofar C i .infos) (suc p) (lineIn C i) .info)
+        lk =
+            line-kept v (notes at bit old key con idx wid) (s .neat) tl (s .rel) p (suc i) places (ap suc (s .count) ∙ flat-length C i) (λ a z. types-at i (s .upto) a z .0) (lineIn C i) k
+            (roomy len (p + flatCount (notes at bit old key con idx wid) (lineIn C i)) g .0)
+
+        neat-by : (xs : List ℕ) (x c : ℕ) → suc i < length xs → ((a : ℕ) → getD xs a 0 ≤ c) → x ≤ c → (a : ℕ) → getD (set xs (suc i) x) a 0 ≤ c
+        neat-by xs x c b f e a = go (eqb a (suc i)) refl
+          where
+            go : (y : Bool) → eqb a (suc i) ≡ y → getD (set xs (suc i) x) a 0 ≤ c
+            go true q = subst⁻¹ (λ (y : ℕ). y ≤ c) (ap (λ (y : ℕ). getD (set xs (suc i) x) y 0) (eqb-true a (suc i) q) ∙ getD-set-same xs (suc i) x 0 b) e
+            go false q = subst⁻¹ (λ (y : ℕ). y ≤ c) (getD-set-other xs (suc i) a x 0 (eqb-false a (suc i) q)) (f a)
+
+        rel-next : (a : ℕ) → NoteRel (noted (notes at bit old key con idx wid) (suc i) m) (typeAt (walked C (suc i) .lay) a) a (infoAt (sofar C (suc i) .infos) a)
+        rel-next a = go (eqb a (suc i)) refl
+          where
+            N′ : Notes
+            N′ = noted (notes at bit old key con idx wid) (suc i) m
+
+            go : (b : Bool) → eqb a (suc i) ≡ b → NoteRel (noted (notes at bit old key con idx wid) (suc i) m) (typeAt (walked C (suc i) .lay) a) a (infoAt (sofar C (suc i) .infos) a)
+            go true q =
+                subst⁻¹ (λ (x : ℕ). NoteRel (noted (notes at bit old key con idx wid) (suc i) m) (typeAt (walked C (suc i) .lay) x) x (infoAt (sofar C (suc i) .infos) x)) (eqb-true a (suc i) q)
+                (subst⁻¹ (λ (x : Ty). NoteRel (noted (notes at bit old key con idx wid) (suc i) m) x (suc i) (infoAt (sofar C (suc i) .infos) (suc i))) type-this
+                (subst⁻¹ (λ (x : Info). NoteRel (noted (notes at bit old key con idx wid) (suc i) m) (typeOf false (walked C i .lay) (lineIn C i)) (suc i) x)
+                (info-this ∙ ap (λ (b : ℕ). chunk (sofar C i .infos) (suc b) (lineIn C i) .info) (sym (s .count))) (lk .note)))
+            go false q =
+                let d = eqb-false a (suc i) q in
+                subst⁻¹ (λ (x : Ty). NoteRel (noted (notes at bit old key con idx wid) (suc i) m) x a (infoAt (sofar C (suc i) .infos) a)) (type-other a d)
+                (subst⁻¹ (λ (x : Info). NoteRel (noted (notes at bit old key con idx wid) (suc i) m) (typeAt (walked C i .lay) a) a x) (info-other a d)
+                (note-other (notes at bit old key con idx wid) (suc i) m (s .neat .sound) a d
+                (λ z. ap (λ (x : Info). x .cells) (List·getD-eq-default (sofar C i .infos) noInfo {n = a} (omega (arith, len-infos)))) (s .rel a)))
+
+        further : {target₁ : List ℕ} → target₁ ≡ put target (5 * p) (flatWords (notes at bit old key con idx wid) p (lineIn C i))
+            → Pass (suc i) (m .next) (set at (suc i) (m .at)) (set bit (suc i) (m .bit)) (set old (suc i) (m .old)) (set key (suc i) (m .key)) (set con (suc i) (m .con)) target₁
+        further e =
+            record {
+              upto = h;
+              of-at = length-set at (suc i) (m .at) ∙ s .of-at;
+              of-bit = length-set bit (suc i) (m .bit) ∙ s .of-bit;
+              of-old = length-set old (suc i) (m .old) ∙ s .of-old;
+              of-key = length-set key (suc i) (m .key) ∙ s .of-key;
+              of-con = length-set con (suc i) (m .con) ∙ s .of-con;
+              neat =
+                  record {
+                    sound = sound-new (notes at bit old key con idx wid) (suc i) m places (s .neat .sound) (lk .falls) (lk .low) (lk .few);
+                    bit = neat-by bit (m .bit) 65536 (places .bit) (s .neat .bit) (lk .bit);
+                    con = neat-by con (m .con) 256 (places .con) (s .neat .con) (lk .con);
+                    deep = s .neat .deep;
+                  };
+              rel = rel-next;
+              count = next-of (notes at bit old key con idx wid) p (lineIn C i) ∙ sym next-length;
+              fits = subst⁻¹ (λ (x : ℕ). x ≤ room len) (next-of (notes at bit old key con idx wid) p (lineIn C i)) g;
+              words = e ∙ all-words;
+            }
+          where
+            F : List Line
+            F = sofar C i .lines
+
+            L : List Line
+            L = chunkAt (sofar C i) (lineIn C i) .lines
+
+            q : ℕ
+            q = flatCount (notes at bit old key con idx wid) (lineIn C i)
+
+            all-words : put target (5 * p) (flatWords (notes at bit old key con idx wid) p (lineIn C i)) ≡ encode (sofar C (suc i) .lines) ++ replicate (len - 5 * m .next) 0
+            all-words =
+                let e₁ : 5 * p ≡ length (encode (sofar C i .lines)) = omega (arith, length-encode (sofar C i .lines), s .count) in
+                let e₂ : len - 5 * p - 5 * flatCount (notes at bit old key con idx wid) (lineIn C i) ≡ len - 5 * m .next = omega (arith, next-of (notes at bit old key con idx wid) p (lineIn C i)) in
+                ap₂ (λ (x y : List ℕ). put x (5 * p) y) (s .words) (sym chunk-words)
+                ∙ put-end (encode (sofar C i .lines)) (encode (chunkAt (sofar C i) (lineIn C i) .lines)) (5 * p) (len - 5 * p) (5 * flatCount (notes at bit old key con idx wid) (lineIn C i)) e₁
+                (length-encode (chunkAt (sofar C i) (lineIn C i) .lines) ∙ ap (λ (x : ℕ). 5 * x) chunk-length)
+                ∙ ap₂ (λ (x : List ℕ) (y : ℕ). x ++ replicate y 0) (sym (encode-append (sofar C i .lines) (chunkAt (sofar C i) (lineIn C i) .lines))) e₂
+
+        -- the same, as the code says it
+        pub passed : (q : ℕ) (r : Made) {target₁ : List ℕ} → q ≡ suc i → Laid (notes at bit old key con idx wid) p (lineIn C i) target target₁ r
+            → Pass q (r .next) (set at q (r .at)) (set bit q (r .bit)) (set old q (r .old)) (set key q (r .key)) (set con q (r .con)) target₁
+        passed q r {target₁} e d =
+            subst⁻¹ (λ (x : ℕ). Pass x (r .next) (set at x (r .at)) (set bit x (r .bit)) (set old x (r .old)) (set key x (r .key)) (set con x (r .con)) target₁) e
+            (subst⁻¹ (λ (x : Made). Pass (suc i) (x .next) (set at (suc i) (x .at)) (set bit (suc i) (x .bit)) (set old (suc i) (x .old)) (set key (suc i) (x .key)) (set con (suc i) (x .con)) target₁) (d .kept) (further (d .words)))
+
+    -- ---- the start and the answers
+
+    empty-note : {idx₁ wid₁ : List ℕ} (a₁ a₂ a₃ a₄ a₅ : ℕ) (t₁ : Ty) (a : ℕ) → t₁ .cls ≡ 0 → NoteRel (notes (replicate a₁ 0) (replicate a₂ 0) (replicate a₃ 0) (replicate a₄ 0) (replicate a₅ 0) idx₁ wid₁) t₁ a noInfo
+    empty-note a₁ a₂ a₃ a₄ a₅ t₁ a e =
+        record { elem = λ z. absurd (omega arith); bit = zeros-at a₂ a; index = refl; cells = λ j l. absurd (omega arith); known = zeros-at a₅ a }
+
+    none-type : (a : ℕ) → typeAt (noAcc .lay) a .cls ≡ 0
+    none-type zero = refl
+    none-type (suc a) = refl
+
+    none-info : (a : ℕ) → infoAt (noInfo ∷ []) a ≡ noInfo
+    none-info zero = refl
+    none-info (suc a) = refl
+
+    pub begun : ((a : ℕ) → getD idx a 0 ≤ 8) → Pass 0 0 (replicate 16385 0) (replicate 16385 0) (replicate 16385 0) (replicate 16385 0) (replicate 16385 0) (replicate len 0)
+    begun dp =
+        record {
+          upto = omega arith;
+          of-at = length-replicate {A = ℕ} 16385 0;
+          of-bit = length-replicate {A = ℕ} 16385 0;
+          of-old = length-replicate {A = ℕ} 16385 0;
+          of-key = length-replicate {A = ℕ} 16385 0;
+          of-con = length-replicate {A = ℕ} 16385 0;
+          neat =
+              record {
+                sound = record { falls = λ a z. absurd (z (zeros-at 16385 a)); low = λ a. zero-le a 65536; few = λ a. zero-le a 256 };
+                bit = λ a. zero-le a 65536;
+                con = λ a. zero-le a 256;
+                deep = dp;
+              };
+          rel = λ a. subst⁻¹ (λ (x : Info). NoteRel (notes (replicate 16385 0) (replicate 16385 0) (replicate 16385 0) (replicate 16385 0) (replicate 16385 0) idx wid) (typeAt (noAcc .lay) a) a x) (none-info a)
+              (empty-note 16385 16385 16385 16385 16385 (typeAt (noAcc .lay) a) a (none-type a));
+          count = refl;
+          fits = omega arith;
+          words = ap (λ (x : ℕ). replicate {A = ℕ} x 0) (let e : len ≡ len - 5 * 0 = omega arith in e);
+        }
+      where
+        zero-le : (a c : ℕ) → getD {A = ℕ} (replicate 16385 0) a 0 ≤ c
+        zero-le a c = let e = zeros-at 16385 a in omega arith
+
+    module _ (ev : whole len ≡ true) where
+      answer : flattened t n len ≡ fitting (length (flatLines t n)) len
+      unfolding flattened
+      answer = rw (accepted-room false t n acc .0, ev, acc)
+
+      pub stopped : room len < length (flatten C) → Refused TargetTooSmall ≡ flattened t n len
+      stopped z = sym (answer ∙ ap (λ (b : Bool). pick b (Done (length (flatLines t n))) (Refused TargetTooSmall)) (lt-leb (length (flatLines t n)) (room len) z))
+
+      pub stopped-target : room len < length (flatten C) → replicate len 0 ≡ targetLeft t n len
+      unfolding targetLeft
+      stopped-target z = ap (λ (r : Flattened). leftOf r len (flatTable t n)) (stopped z)
+
+      module _ {p : ℕ} {at bit old key con target : List ℕ} (s : Pass n p at bit old key con target) where
+        whole-lines : sofar C n .lines ≡ flatten C
+        whole-lines = ap (λ (i : ℕ). sofar C i .lines) (sym size-C) ∙ all-lines C
+
+        all-of : p ≡ length (flatLines t n)
+        all-of = s .count ∙ ap length whole-lines
+
+        pub done : Done p ≡ flattened t n len
+        done =
+            sym (answer ∙ ap (λ (b : Bool). pick b (Done (length (flatLines t n))) (Refused TargetTooSmall)) (le-leb (length (flatLines t n)) (room len) (subst (λ (x : ℕ). x ≤ room len) all-of (s .fits)))
+            ∙ ap Done (sym all-of))
+
+        pub done-target : target ≡ targetLeft t n len
+        unfolding targetLeft flatTable
+        done-target = s .words ∙ ap (λ (ls : List Line). encode ls ++ replicate (len - 5 * p) 0) whole-lines ∙ ap (λ (r : Flattened). leftOf r len (encode (flatLines t n))) done
+
+-- the index widths of all lines
+wide-at : (t : List ℕ) (n : ℕ) → checked false t n ≡ Accepted → (a : ℕ) → 0 < tyAt (context false (decode (counted t n))) a .cls → tyAt (context false (decode (counted t n))) a .iw ≤ 8
+unfolding context
+wide-at t n acc a h = all-wide false (decode (counted t n)) (accepted-ok false t n acc) a h .deep
+
+-- a line without a type has no index width
+grown-flat : (c : Ctx) (ls : List Line) → ((a : ℕ) → tyAt c a .cls ≡ 0 → tyAt c a .iw ≡ 0) → AllOk false c ls → (a : ℕ) → tyAt (growAll false c ls) a .cls ≡ 0 → tyAt (growAll false c ls) a .iw ≡ 0
+grown-flat c [] f k a e = f a e
+grown-flat c (l ∷ ls) f k a e = grown-flat (grow false c l) ls (one-flat c l f) (k .1) a e
+  where
+    own-flat : (c : Ctx) (l : Line) → lineType false (tyAt c) l .cls ≡ 0 → lineType false (tyAt c) l .iw ≡ 0
+    own-flat c (Line.bitvec w) z = refl
+    own-flat c (Line.array i x) z = absurd (omega arith)
+    own-flat c (Line.input x) z = absurd (omega arith)
+    own-flat c (Line.state x) z = absurd (omega arith)
+    own-flat c (Line.val x y) z = absurd (let q = val-value false (tyAt c) x y in omega arith)
+    own-flat c (Line.give m x y w) z = refl
+    own-flat c (Line.mark m x) z = refl
+    own-flat c (Line.output x) z = refl
+    own-flat c Line.junk z = refl
+
+    one-flat : (c : Ctx) (l : Line) → ((a : ℕ) → tyAt c a .cls ≡ 0 → tyAt c a .iw ≡ 0) → (a : ℕ) → tyAt (grow false c l) a .cls ≡ 0 → tyAt (grow false c l) a .iw ≡ 0
+    one-flat c l f a z = go (eqb a (length (c .tys))) refl
+      where
+        T : Ty
+        T = lineType false (tyAt c) l
+
+        go : (b : Bool) → eqb a (length (c .tys)) ≡ b → tyAt (grow false c l) a .iw ≡ 0
+        go true q =
+            let e : tyAt (grow false c l) a ≡ lineType false (tyAt c) l = ap (tyAt (grow false c l)) (eqb-true a (length (c .tys)) q) ∙ getD-at (c .tys) (lineType false (tyAt c) l) [] noTy (length (c .tys)) refl in
+            ap (λ (x : Ty). x .iw) e ∙ own-flat c l (sym (ap (λ (x : Ty). x .cls) e) ∙ z)
+        go false q =
+            let e : tyAt (grow false c l) a ≡ tyAt c a = snoc-other (c .tys) (lineType false (tyAt c) l) noTy a (eqb-false a (length (c .tys)) q) in
+            ap (λ (x : Ty). x .iw) e ∙ f a (sym (ap (λ (x : Ty). x .cls) e) ∙ z)
+
+flat-at : (t : List ℕ) (n : ℕ) → checked false t n ≡ Accepted → (a : ℕ) → tyAt (context false (decode (counted t n))) a .cls ≡ 0 → tyAt (context false (decode (counted t n))) a .iw ≡ 0
+unfolding context
+flat-at t n acc a h = grown-flat noCtx (decode (counted t n)) none-flat (accepted-ok false t n acc) a h
+  where
+    none-flat : (a : ℕ) → tyAt noCtx a .cls ≡ 0 → tyAt noCtx a .iw ≡ 0
+    none-flat zero e = refl
+    none-flat (suc a) e = refl
+
+-- ---- the loop's invariant
+
+abbrev pub Going : (t : List ℕ) (n : ℕ) (idx wid at₀ bit₀ old₀ key₀ con₀ target₀ : List ℕ) (i p : ℕ) (at bit old key con target : List ℕ) → Type 0
+Going t n idx wid at₀ bit₀ old₀ key₀ con₀ target₀ i p at bit old key con target =
+    (b : Begun t n idx wid at₀ bit₀ old₀ key₀ con₀ target₀) → Pass t n (b .accepted) idx wid (b .iw) (b .w) (length target₀) i p at bit old key con target
+
+module _ {t : List ℕ} {n : ℕ} {idx wid at₀ bit₀ old₀ key₀ con₀ target₀ : List ℕ} (b : Begun t n idx wid at₀ bit₀ old₀ key₀ con₀ target₀) where
+  pub shallow : Shallow idx
+  shallow = record { deep = λ a. go a (decLt 0 (tyAt (context false (decode (counted t n))) a .cls)) }
+    where
+      go : (a : ℕ) → Dec (0 < tyAt (context false (decode (counted t n))) a .cls) → getD idx a 0 ≤ 8
+      go a (yes h) = let e = b .iw a in let w = wide-at t n (b .accepted) a h in omega arith
+      go a (no h) = let e = b .iw a in let w = flat-at t n (b .accepted) a (omega arith) in omega arith
+
+  pub going : Going t n idx wid at₀ bit₀ old₀ key₀ con₀ target₀ 0 0 at₀ bit₀ old₀ key₀ con₀ target₀
+  going q = subst⁻¹ (λ (x : List ℕ). Pass t n (q .accepted) idx wid (q .iw) (q .w) (length target₀) 0 0 x bit₀ old₀ key₀ con₀ target₀) (b .no-at)
+      (subst⁻¹ (λ (x : List ℕ). Pass t n (q .accepted) idx wid (q .iw) (q .w) (length target₀) 0 0 (replicate 16385 0) x old₀ key₀ con₀ target₀) (b .no-bit)
+      (subst⁻¹ (λ (x : List ℕ). Pass t n (q .accepted) idx wid (q .iw) (q .w) (length target₀) 0 0 (replicate 16385 0) (replicate 16385 0) x key₀ con₀ target₀) (b .no-old)
+      (subst⁻¹ (λ (x : List ℕ). Pass t n (q .accepted) idx wid (q .iw) (q .w) (length target₀) 0 0 (replicate 16385 0) (replicate 16385 0) (replicate 16385 0) x con₀ target₀) (b .no-key)
+      (subst⁻¹ (λ (x : List ℕ). Pass t n (q .accepted) idx wid (q .iw) (q .w) (length target₀) 0 0 (replicate 16385 0) (replicate 16385 0) (replicate 16385 0) (replicate 16385 0) x target₀) (b .no-con)
+      (subst⁻¹ (λ (x : List ℕ). Pass t n (q .accepted) idx wid (q .iw) (q .w) (length target₀) 0 0 (replicate 16385 0) (replicate 16385 0) (replicate 16385 0) (replicate 16385 0) (replicate 16385 0) x) (b .empty)
+      (begun t n (q .accepted) idx wid (q .iw) (q .w) (length target₀) (shallow .deep)))))))
+
+  pub record-fits : (i : ℕ) → i < n → 5 * i + 5 ≤ length t
+  record-fits i h = let q = roomy (length t) n (accepted-room false t n (b .accepted) .1) .1 in omega arith
+
+  pub line-fits : (i : ℕ) → i < n → i + 1 < 16385
+  line-fits i h = let q = roomy (length t) n (accepted-room false t n (b .accepted) .1) .0 in omega arith
+
+  module _ {i p : ℕ} {at bit old key con target : List ℕ} (g : Going t n idx wid at₀ bit₀ old₀ key₀ con₀ target₀ i p at bit old key con target) (h : i < n) (r : List ℕ) (er : r ≡ recordAt t i) where
+    S : Pass t n (b .accepted) idx wid (b .iw) (b .w) (length target₀) i p at bit old key con target
+    S = g b
+
+    el : lineOf r ≡ lineIn (decode (counted t n)) i
+    el = ap lineOf er ∙ record-line t n (b .accepted) i h
+
+    pub rec-known : known false (kindIn r) ≡ true
+    rec-known = subst⁻¹ (λ (x : List ℕ). known false (kindIn x) ≡ true) er (record-known t n (b .accepted) i h)
+
+    pub rec-deep : Deep (notes [] [] [] [] con idx wid) (lineOf r)
+    rec-deep = deep-same at bit old key con idx wid (lineOf r) (subst⁻¹ (λ (l : Line). Deep (notes at bit old key con idx wid) l) el (deep t n (b .accepted) idx wid (b .iw) (b .w) (length target₀) S h))
+
+    count-is : (c : ℕ) → c ≡ flatCount (notes [] [] [] [] con idx wid) (lineOf r) → c ≡ flatCount (notes at bit old key con idx wid) (lineIn (decode (counted t n)) i)
+    count-is c e = e ∙ count-same at bit old key con idx wid (lineOf r) ∙ ap (flatCount (notes at bit old key con idx wid)) el
+
+    pub rec-stop : (c m : ℕ) → c ≡ flatCount (notes [] [] [] [] con idx wid) (lineOf r) → m ≡ room (length target₀) → m - p < c → room (length target₀) < length (flatten (decode (counted t n)))
+    rec-stop c m e f z = too-many t n (b .accepted) idx wid (b .iw) (b .w) (length target₀) S h (omega (arith, count-is c e))
+
+    fits-in : (c m : ℕ) → c ≡ flatCount (notes [] [] [] [] con idx wid) (lineOf r) → m ≡ room (length target₀) → c ≤ m - p → p + flatCount (notes at bit old key con idx wid) (lineIn (decode (counted t n)) i) ≤ room (length target₀)
+    fits-in c m e f z = let q = S .fits in omega (arith, count-is c e, q)
+
+    pub rec-fit : (c m : ℕ) → c ≡ flatCount (notes [] [] [] [] con idx wid) (lineOf r) → m ≡ room (length target₀) → c ≤ m - p → Fit (notes at bit old key con idx wid) p (lineOf r) (length target)
+    rec-fit c m e f z =
+        subst⁻¹ (λ (l : Line). Fit (notes at bit old key con idx wid) p l (length target)) el (fit t n (b .accepted) idx wid (b .iw) (b .w) (length target₀) S h (fits-in c m e f z))
+
+  -- one line more
+  pub rec-next : {i p : ℕ} {at bit old key con target : List ℕ} → Going t n idx wid at₀ bit₀ old₀ key₀ con₀ target₀ i p at bit old key con target → (h : i < n) (r : List ℕ) → r ≡ recordAt t i → (c m : ℕ)
+      → c ≡ flatCount (notes [] [] [] [] con idx wid) (lineOf r) → m ≡ room (length target₀) → c ≤ m - p → (d : Made) {target₁ : List ℕ} → Laid (notes at bit old key con idx wid) p (lineOf r) target target₁ d
+      → Going t n idx wid at₀ bit₀ old₀ key₀ con₀ target₀ (i + 1) (d .next) (set at (i + 1) (d .at)) (set bit (i + 1) (d .bit)) (set old (i + 1) (d .old)) (set key (i + 1) (d .key)) (set con (i + 1) (d .con)) target₁
+  rec-next {i} {p} {at} {bit} {old} {key} {con} {target} g h r er c m e f z d {target₁} w q =
+      let s = g q in
+      let el = ap lineOf er ∙ record-line t n (q .accepted) i h in
+      let e₁ : c ≡ flatCount (notes at bit old key con idx wid) (lineIn (decode (counted t n)) i) = e ∙ count-same at bit old key con idx wid (lineOf r) ∙ ap (flatCount (notes at bit old key con idx wid)) el in
+      let fi = s .fits in
+      passed t n (q .accepted) idx wid (q .iw) (q .w) (length target₀) s h (omega arith) (i + 1) d (omega arith) (subst (λ (l : Line). Laid (notes at bit old key con idx wid) p l target target₁ d) el w)
+
+  -- the lists keep their lengths
+  zero-length : {xs : List ℕ} → xs ≡ replicate 16385 0 → length xs ≡ 16385
+  zero-length e = ap length e ∙ length-replicate {A = ℕ} 16385 0
+
+  module _ {i p : ℕ} {at bit old key con target : List ℕ} (g : Going t n idx wid at₀ bit₀ old₀ key₀ con₀ target₀ i p at bit old key con target) where
+    pub same-at : length at ≡ length at₀
+    same-at = g b .of-at ∙ sym (zero-length (b .no-at))
+
+    pub same-bit : length bit ≡ length bit₀
+    same-bit = g b .of-bit ∙ sym (zero-length (b .no-bit))
+
+    pub same-old : length old ≡ length old₀
+    same-old = g b .of-old ∙ sym (zero-length (b .no-old))
+
+    pub same-key : length key ≡ length key₀
+    same-key = g b .of-key ∙ sym (zero-length (b .no-key))
+
+    pub same-con : length con ≡ length con₀
+    same-con = g b .of-con ∙ sym (zero-length (b .no-con))
+
+    pub same-target : length target ≡ length target₀
+    same-target =
+        let s = g b in
+        let L = sofar (decode (counted t n)) i .lines in
+        ap length (s .words) ∙ length-append (encode L) (replicate (length target₀ - 5 * p) 0)
+        ∙ omega (arith, length-encode L, length-replicate {A = ℕ} (length target₀ - 5 * p) 0, s .count, roomy (length target₀) p (s .fits) .1)

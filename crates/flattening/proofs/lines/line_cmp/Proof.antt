@@ -1,0 +1,69 @@
+-- Tests and joins. Assumes nothing.
+use Prim.Native.Nat.{ℕ, _+_, _-_, _*_, _≤_}
+use mathlib.Core.Path.{ap, _∙_, subst⁻¹}
+use native.Mathlib.Omega.{arith}
+use lib.ListN.{length, getD}
+use Rattle.circuits.specs.Cells.{put}
+use Rattle.flattening.specs.Model.{held, words}
+use Rattle.flattening.specs.Making.{made, cmpWords}
+use Rattle.flattening.proofs.Laying.{size-le}
+use borrow.Author.Needs.{needs}
+use Rattle.flattening.proofs.lines.line_cmp.Statement.{statement}
+use Rattle.flattening.proofs.lines.line_cmp.Tie as tie
+use Rattle.flattening.proofs.lines.line_cmp.Reads as reads
+use Rattle.flattening.proofs.lines.line_cmp.Lts as lts
+use Rattle.flattening.proofs.cells.entry.Reads as entry-reads
+use Rattle.flattening.proofs.lines.cmp_kind.Reads as cmp-kind-reads
+use Rattle.flattening.proofs.lines.join_kind.Reads as join-kind-reads
+use Rattle.flattening.proofs.making.cmp_lines.Reads as cmp-lines-reads
+use Rattle.flattening.proofs.making.less.Reads as less-reads
+use Rattle.flattening.proofs.making.size.Reads as size-reads
+
+size-requires : tie.Need-size-requires
+size-requires c κs = c .before .before .before .before .before .before .before .before .pre .neat .deep (c .before .before .before .before .before .before .before .before .args .x)
+
+cmp-kind-requires : tie.Need-cmp-kind-requires
+cmp-kind-requires c κs = search needs
+
+join-kind-requires : tie.Need-join-kind-requires
+join-kind-requires c κs = search needs
+
+entry-requires : tie.Need-entry-requires
+entry-requires c κs = search needs
+
+cmp-lines-requires : tie.Need-cmp-lines-requires
+cmp-lines-requires c κs = let a = c .before .before .before .before .before .before .before .before .before .before .before .before .before .args in (c .before .before .before .before .before .before .before .before .before .before .before .before .before .pre .neat .sound, (subst⁻¹ (λ (x : ℕ). x ≤ 256) (c .before .before .before .before .size .ensures) (size-le (getD (a .idx .now) (a .x) 0) (c .before .before .before .before .before .before .before .before .before .before .before .before .before .pre .neat .deep (a .x))), (omega (arith, c .before .before .before .before .before .before .before .before .before .before .before .before .before .pre .low), subst⁻¹ (λ (x : ℕ). 5 * (a .p + (x + (x - 1))) ≤ length (a .target .now)) (c .before .before .before .before .size .ensures) (c .before .before .before .before .before .before .before .before .before .before .before .before .before .pre .room))))
+
+less-requires : tie.Need-less-requires
+less-requires c κs = search needs
+
+add-q : tie.Need-add-q
+add-q c = let a = c .before .before .before .before .before .before .before .before .before .before .before .before .before .before .before .before .before .args in omega (arith, subst⁻¹ (λ (x : ℕ). x ≤ 256) (c .before .before .before .before .before .before .before .before .size .ensures) (size-le (getD (a .idx .now) (a .x) 0) (c .before .before .before .before .before .before .before .before .before .before .before .before .before .before .before .before .before .pre .neat .deep (a .x))), c .less .ensures)
+
+add-q-2 : tie.Need-add-q-2
+add-q-2 c = let a = c .before .before .before .before .before .before .before .before .before .before .before .before .before .before .before .before .before .args in omega (arith, c .before .before .before .before .before .before .before .before .before .before .before .before .before .before .before .before .before .pre .low, subst⁻¹ (λ (x : ℕ). x ≤ 256) (c .before .before .before .before .before .before .before .before .size .ensures) (size-le (getD (a .idx .now) (a .x) 0) (c .before .before .before .before .before .before .before .before .before .before .before .before .before .before .before .before .before .pre .neat .deep (a .x))), c .less .ensures)
+
+entry-requires-2 : tie.Need-entry-requires-2
+entry-requires-2 c κs = search needs
+
+same-length : tie.Need-same-length
+same-length c = search needs
+
+returns : tie.Need-returns
+returns c = let a = c .before .before .before .before .before .before .before .before .before .before .before .before .before .before .before .before .before .before .args in let H = held (a .at .now) (a .old .now) (a .key .now) in let l = c .before .less .ensures ∙ ap (λ (x : ℕ). x - 1) (c .before .before .before .before .before .before .before .before .before .size .ensures) in record { kept = λ i. made (a .p + (c .before .before .before .before .before .before .before .before .before .size .ensures i + l i)) (a .p + (c .before .before .before .before .before .before .before .before .before .size .ensures i + l i)) (c .entry2 .ensures i) 0 1 0; words = c .before .before .before .before .cmp-lines .ensures ∙ (λ i. put (a .target .now) (5 * a .p) (cmpWords H (a .p) (c .before .before .before .before .before .before .before .before .cmp-kind .ensures i) (c .before .before .before .before .before .before .before .join-kind .ensures i) (c .before .before .before .before .before .before .entry .ensures i) (a .x) (a .y) (c .before .before .before .before .before .before .before .before .before .size .ensures i))) }
+
+pub line-cmp-spec : {M : Type 1} → statement M
+line-cmp-spec =
+    tie.close
+    (tie.spec
+    size-requires
+    cmp-kind-requires
+    join-kind-requires
+    entry-requires
+    cmp-lines-requires
+    less-requires
+    add-q
+    add-q-2
+    entry-requires-2
+    same-length
+    returns)

@@ -1,0 +1,48 @@
+-- A constant is copied. Assumes nothing.
+use Prim.Native.Nat.{_+_, _-_, _*_}
+use mathlib.Core.Path.{_∙_}
+use Rattle.tables.specs.Lines.{five}
+use Rattle.circuits.specs.Cells.{put}
+use Rattle.flattening.specs.Model.{words}
+use Rattle.flattening.specs.Making.{made}
+use borrow.Author.Needs.{needs}
+use Rattle.flattening.proofs.lines.line_const.Statement.{statement}
+use Rattle.flattening.proofs.lines.line_const.Tie as tie
+use Rattle.flattening.proofs.lines.line_const.Reads as reads
+use Rattle.flattening.proofs.lines.line_const.Lts as lts
+use Rattle.flattening.proofs.cells.entry.Reads as entry-reads
+use Rattle.flattening.proofs.lines.single.Reads as single-reads
+use Rattle.flattening.proofs.lines.small.Reads as small-reads
+
+entry-requires : tie.Need-entry-requires
+entry-requires c κs = search needs
+
+add-single : tie.Need-add-single
+add-single c = search needs
+
+entry-requires-2 : tie.Need-entry-requires-2
+entry-requires-2 c κs = search needs
+
+small-requires : tie.Need-small-requires
+small-requires c κs = search needs
+
+single-requires : tie.Need-single-requires
+single-requires c κs = search needs
+
+same-length : tie.Need-same-length
+same-length c = search needs
+
+returns : tie.Need-returns
+returns c = let a = c .before .before .before .before .before .before .before .before .before .before .before .before .before .before .before .args in record { kept = c .before .before .single .ensures .0 ∙ (λ i. made (a .p + 1) (a .p + 1) (c .before .before .before .before .before .entry2 .ensures i) 0 1 (c .before .before .before .before .small .ensures i)); words = c .before .before .single .ensures .1 ∙ (λ i. put (a .target .now) (5 * a .p) (five 3 (c .before .before .before .before .before .before .entry .ensures i) (a .v) 0 0)) }
+
+pub line-const-spec : {M : Type 1} → statement M
+line-const-spec =
+    tie.close
+    (tie.spec
+    entry-requires
+    add-single
+    entry-requires-2
+    small-requires
+    single-requires
+    same-length
+    returns)

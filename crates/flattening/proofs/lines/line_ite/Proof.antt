@@ -1,0 +1,75 @@
+-- One ite for each cell. Assumes nothing.
+use Prim.Native.Nat.{ℕ, _+_, _-_, _*_, _≤_}
+use mathlib.Core.Path.{ap, _∙_, subst⁻¹}
+use native.Mathlib.Omega.{arith}
+use lib.ListN.{length, getD}
+use Rattle.circuits.specs.Cells.{put}
+use Rattle.flattening.specs.Model.{held, Tame, words, rowAt}
+use Rattle.flattening.specs.Making.{run, still, of, made}
+use Rattle.flattening.proofs.Holding.{cell-bound}
+use Rattle.flattening.proofs.Placing.{tame-run, tame-of}
+use Rattle.flattening.proofs.Laying.{size-le}
+use borrow.Author.Needs.{needs}
+use Rattle.flattening.proofs.lines.line_ite.Statement.{statement}
+use Rattle.flattening.proofs.lines.line_ite.Tie as tie
+use Rattle.flattening.proofs.lines.line_ite.Reads as reads
+use Rattle.flattening.proofs.lines.line_ite.Lts as lts
+use Rattle.flattening.proofs.cells.cell.Reads as cell-reads
+use Rattle.flattening.proofs.cells.entry.Reads as entry-reads
+use Rattle.flattening.proofs.making.of.Reads as of-reads
+use Rattle.flattening.proofs.making.run.Reads as run-reads
+use Rattle.flattening.proofs.making.size.Reads as size-reads
+use Rattle.flattening.proofs.rows.rows.Reads as rows-reads
+
+size-requires : tie.Need-size-requires
+size-requires c κs = c .before .before .before .before .before .before .before .before .pre .neat .deep (c .before .before .before .before .before .before .before .before .args .x)
+
+entry-requires : tie.Need-entry-requires
+entry-requires c κs = search needs
+
+cell-requires : tie.Need-cell-requires
+cell-requires c κs = search needs
+
+run-requires : tie.Need-run-requires
+run-requires c κs = search needs
+
+of-requires : tie.Need-of-requires
+of-requires c κs = search needs
+
+of-requires-2 : tie.Need-of-requires-2
+of-requires-2 c κs = search needs
+
+rows-requires : tie.Need-rows-requires
+rows-requires c κs = let a = c .before .before .before .before .before .before .before .before .before .before .before .before .before .before .before .args in (c .before .before .before .before .before .before .before .before .before .before .before .before .before .before .before .pre .neat .sound, (subst⁻¹ Tame (c .before .before .run .ensures) (tame-run (c .before .before .before .cell .result) 0 (omega (arith, subst⁻¹ (λ (x : ℕ). x ≤ 131072) (c .before .before .before .cell .ensures) (cell-bound (held (a .at .now) (a .old .now) (a .key .now)) (c .before .before .before .before .before .before .before .before .before .before .before .before .before .before .before .pre .neat .sound) (a .c) 0 (omega arith)))) (omega arith)), (subst⁻¹ Tame (c .before .of .ensures) (tame-of (a .x)), (subst⁻¹ Tame (c .of2 .ensures) (tame-of (a .y)), (subst⁻¹ (λ (x : ℕ). x ≤ 256) (c .before .before .before .before .before .before .size .ensures) (size-le (getD (a .idx .now) (a .x) 0) (c .before .before .before .before .before .before .before .before .before .before .before .before .before .before .before .pre .neat .deep (a .x))), subst⁻¹ (λ (x : ℕ). 5 * (a .p + x) ≤ length (a .target .now)) (c .before .before .before .before .before .before .size .ensures) (c .before .before .before .before .before .before .before .before .before .before .before .before .before .before .before .pre .room))))))
+
+add-t23 : tie.Need-add-t23
+add-t23 c = let a = c .before .before .before .before .before .before .before .before .before .before .before .before .before .before .before .before .before .before .args in omega (arith, c .before .before .before .before .before .before .before .before .before .before .before .before .before .before .before .before .before .before .pre .low, subst⁻¹ (λ (x : ℕ). x ≤ 256) (c .before .before .before .before .before .before .before .before .before .size .ensures) (size-le (getD (a .idx .now) (a .x) 0) (c .before .before .before .before .before .before .before .before .before .before .before .before .before .before .before .before .before .before .pre .neat .deep (a .x))))
+
+add-t24 : tie.Need-add-t24
+add-t24 c = omega (arith, c .before .before .before .before .before .before .before .before .before .before .before .before .before .before .before .before .before .before .pre .low)
+
+entry-requires-2 : tie.Need-entry-requires-2
+entry-requires-2 c κs = search needs
+
+same-length : tie.Need-same-length
+same-length c = search needs
+
+returns : tie.Need-returns
+returns c = let a = c .before .before .before .before .before .before .before .before .before .before .before .before .before .before .before .before .before .before .before .args in let H = held (a .at .now) (a .old .now) (a .key .now) in let r = c .before .before .before .before .before .before .run .ensures ∙ ap still (c .before .before .before .before .before .before .before .cell .ensures) in record { kept = λ i. made (a .p + c .before .before .before .before .before .before .before .before .before .before .size .ensures i) (a .p + 1) (c .entry2 .ensures i) 0 1 0; words = c .before .before .before .rows .ensures ∙ (λ i. put (a .target .now) (5 * a .p) (words (c .before .before .before .before .before .before .before .before .before .before .size .ensures i) (rowAt H 53 (c .before .before .before .before .before .before .before .before .entry .ensures i) (r i) (c .before .before .before .before .before .of .ensures i) (c .before .before .before .before .of2 .ensures i)))) }
+
+pub line-ite-spec : {M : Type 1} → statement M
+line-ite-spec =
+    tie.close
+    (tie.spec
+    size-requires
+    entry-requires
+    cell-requires
+    run-requires
+    of-requires
+    of-requires-2
+    rows-requires
+    add-t23
+    add-t24
+    entry-requires-2
+    same-length
+    returns)

@@ -1,0 +1,29 @@
+-- An output is copied. Assumes nothing.
+use Prim.Native.Nat.{_+_, _-_, _*_}
+use mathlib.Core.Path.{_∙_}
+use Rattle.tables.specs.Lines.{five}
+use Rattle.circuits.specs.Cells.{put}
+use Rattle.flattening.specs.Model.{words}
+use Rattle.flattening.specs.Making.{made}
+use borrow.Author.Needs.{needs}
+use Rattle.flattening.proofs.lines.line_output.Statement.{statement}
+use Rattle.flattening.proofs.lines.line_output.Tie as tie
+use Rattle.flattening.proofs.lines.line_output.Reads as reads
+use Rattle.flattening.proofs.lines.line_output.Lts as lts
+use Rattle.flattening.proofs.cells.cell.Reads as cell-reads
+use Rattle.flattening.proofs.lines.single.Reads as single-reads
+
+cell-requires : tie.Need-cell-requires
+cell-requires c κs = search needs
+
+single-requires : tie.Need-single-requires
+single-requires c κs = search needs
+
+same-length : tie.Need-same-length
+same-length c = search needs
+
+returns : tie.Need-returns
+returns c = let a = c .before .before .before .before .before .before .before .before .before .before .before .before .before .args in record { kept = c .before .before .single .ensures .0 ∙ (λ i. made (a .p + 1) (0) (0) 0 0 (0)); words = c .before .before .single .ensures .1 ∙ (λ i. put (a .target .now) (5 * a .p) (five 10 0 (c .before .before .before .before .cell .ensures i) 0 0)) }
+
+pub line-output-spec : {M : Type 1} → statement M
+line-output-spec = tie.close (tie.spec cell-requires single-requires same-length returns)

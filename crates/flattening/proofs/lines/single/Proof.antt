@@ -1,0 +1,26 @@
+-- One record is put. Assumes nothing.
+use Prim.Native.Nat.{_-_}
+use mathlib.Core.Path.{refl, _∙_}
+use Rattle.circuits.specs.Cells.{put}
+use Rattle.flattening.proofs.Placing.{recorded-put}
+use borrow.Author.Needs.{needs}
+use Rattle.flattening.proofs.lines.single.Statement.{statement}
+use Rattle.flattening.proofs.lines.single.Tie as tie
+use Rattle.flattening.proofs.lines.single.Reads as reads
+use Rattle.flattening.proofs.lines.single.Lts as lts
+use Rattle.tables.proofs.records.put.Reads as put-reads
+
+put-requires : tie.Need-put-requires
+put-requires c κs = search needs
+
+add-t11 : tie.Need-add-t11
+add-t11 c = search needs
+
+same-length : tie.Need-same-length
+same-length c = search needs
+
+returns : tie.Need-returns
+returns c = let a = c .before .before .before .before .before .args in (refl, c .before .before .put .ensures ∙ recorded-put (a .target .now) (a .p) _ (search needs))
+
+pub single-spec : {M : Type 1} → statement M
+single-spec = tie.close (tie.spec put-requires add-t11 same-length returns)

@@ -1,0 +1,212 @@
+-- What the code makes of one line: the number of its flat lines, the words of their records, and what it keeps. The flat lines so far are p. Assumes nothing.
+use Prim.Native.Nat.{ℕ, _+_, _-_, _*_, _^_, _≤_, _<_}
+use mathlib.Core.Path.{_≡_}
+use mathlib.Core.Bool.{Bool, true, false}
+use mathlib.Core.List.{List, [], _++_}
+use lib.Dec.{eqb, leb, ltb}
+use lib.ListN.{getD}
+use Rattle.tables.specs.Pick.{pick}
+use Rattle.tables.specs.Lines.{Line, Expr, five, giveKind, markKind, cmpKind}
+use Rattle.circuits.specs.Cells.{put}
+use Rattle.flattening.specs.declared.Source.{Source}
+use Rattle.flattening.specs.declared.Made.{Made}
+use Rattle.flattening.specs.Flat.{joinKind}
+use Rattle.flattening.specs.Model.{Held, held, atOf, cellIn, Sound, words, rowAt, pairAt}
+
+-- ---- sources
+
+abbrev pub run : (base step : ℕ) → Source
+run b s = record { line = 0; base = b; step = s; falling = false; top = 0 }
+
+abbrev pub still : ℕ → Source
+still b = run b 0
+
+abbrev pub of : ℕ → Source
+of a = record { line = a; base = 0; step = 0; falling = false; top = 0 }
+
+abbrev pub runDown : (base top : ℕ) → Source
+runDown b t = record { line = 0; base = b; step = 1; falling = true; top = t }
+
+abbrev pub ofDown : (a top : ℕ) → Source
+ofDown a t = record { line = a; base = 0; step = 0; falling = true; top = t }
+
+-- ---- the words of the records, where n is a number of cells
+
+abbrev pub arrayWords : Held → (s n : ℕ) → List ℕ
+arrayWords H s n = five 1 0 1 0 0 ++ words n (rowAt H 3 s (run 0 1) (still 0) (still 0))
+
+-- the first of the ands, or ors, takes the first two tests; each of the others the one before it and the next test
+abbrev pub joinWords : Held → (p j s n : ℕ) → List ℕ
+joinWords H p j s n =
+    pick (leb 2 n) (five j s (p + 1) (p + 2) 0 ++ words (n - 2) (rowAt H j s (run (p + n + 1) 1) (run (p + 3) 1) (still 0))) []
+
+abbrev pub cmpWords : Held → (p k j s x y n : ℕ) → List ℕ
+cmpWords H p k j s x y n = words n (rowAt H k s (of x) (of y) (still 0)) ++ joinWords H p j s n
+
+-- o is the width-1 sort line, i the flat line of the index; the index constants stand after o
+abbrev pub readWords : Held → (p o i s a n : ℕ) → List ℕ
+readWords H p o i s a n =
+    words 1 (pairAt H p o i s (runDown (o + 1) (n - 2)) (ofDown a (n - 2)) (still (cellIn H a (n - 1))))
+    ++ words (n - 2) (pairAt H (p + 2) o i s (runDown (o + 1) (n - 3)) (ofDown a (n - 3)) (run (p + 2) 2))
+
+abbrev pub writeWords : Held → (p o i s v a n : ℕ) → List ℕ
+writeWords H p o i s v a n = words n (pairAt H p o i s (run (o + 1) 1) (still v) (of a))
+
+-- ---- one line
+
+-- what is kept of the lines so far, and the index widths and widths of all lines
+pub record Notes : Type 0 where
+  pub held : Held
+  pub bit : List ℕ
+  pub con : List ℕ
+  pub idx : List ℕ
+  pub wid : List ℕ
+
+abbrev pub notes : (at bit old key con idx wid : List ℕ) → Notes
+notes a b o k c i w = record { held = held a o k; bit = b; con = c; idx = i; wid = w }
+
+abbrev pub sortIn : Notes → ℕ → ℕ
+sortIn N s = atOf (N .held) s
+
+abbrev pub wordIn : Notes → ℕ → ℕ
+wordIn N a = cellIn (N .held) a 0
+
+abbrev pub bitIn : Notes → ℕ → ℕ
+bitIn N a = getD (N .bit) a 0
+
+abbrev pub conIn : Notes → ℕ → ℕ
+conIn N a = getD (N .con) a 0
+
+abbrev pub sizeIn : Notes → ℕ → ℕ
+sizeIn N a = 2 ^ getD (N .idx) a 0
+
+-- a small constant is kept as its value plus one
+abbrev pub small : ℕ → ℕ
+small v = pick (ltb v 256) (v + 1) 0
+
+abbrev pub made : (next at bit old key con : ℕ) → Made
+made n a b o k c = record { next = n; at = a; bit = b; old = o; key = k; con = c }
+
+-- the number of flat lines
+abbrev pub readCount : (c n : ℕ) → ℕ
+readCount c n = pick (eqb c 0) (2 * (n - 1)) 0
+
+abbrev pub writeCount : (c n : ℕ) → ℕ
+writeCount c n = pick (eqb c 0) (2 * n) 0
+
+abbrev pub exprCount : Notes → ℕ → Expr → ℕ
+exprCount N s (Expr.const v) = 1
+exprCount N s (Expr.one k a x y) = 1
+exprCount N s (Expr.two k a b) = 1
+exprCount N s (Expr.cmp e a b) = sizeIn N a + (sizeIn N a - 1)
+exprCount N s (Expr.ite c a b) = sizeIn N a
+exprCount N s (Expr.read a i) = readCount (conIn N i) (sizeIn N a)
+exprCount N s (Expr.write a i v) = writeCount (conIn N i) (sizeIn N s)
+
+abbrev pub flatCount : Notes → Line → ℕ
+flatCount N (Line.bitvec w) = 1
+flatCount N (Line.array i e) = 1 + 2 ^ getD (N .wid) i 0
+flatCount N (Line.input s) = 1
+flatCount N (Line.state s) = sizeIn N s
+flatCount N (Line.val s e) = exprCount N s e
+flatCount N (Line.give m s q v) = sizeIn N q
+flatCount N (Line.mark m a) = 1
+flatCount N (Line.output a) = 1
+flatCount N Line.junk = 1
+
+-- the words of their records
+abbrev pub exprWords : Notes → (p s : ℕ) → Expr → List ℕ
+exprWords N p s (Expr.const v) = five 3 (sortIn N s) v 0 0
+exprWords N p s (Expr.one k a x y) = five k (sortIn N s) (wordIn N a) x y
+exprWords N p s (Expr.two k a b) = five k (sortIn N s) (wordIn N a) (wordIn N b) 0
+exprWords N p s (Expr.cmp e a b) = cmpWords (N .held) p (cmpKind e) (joinKind e) (sortIn N s) a b (sizeIn N a)
+exprWords N p s (Expr.ite c a b) = words (sizeIn N a) (rowAt (N .held) 53 (sortIn N s) (still (wordIn N c)) (of a) (of b))
+exprWords N p s (Expr.read a i) = pick (eqb (conIn N i) 0) (readWords (N .held) p (bitIn N a) (wordIn N i) (sortIn N s) a (sizeIn N a)) []
+exprWords N p s (Expr.write a i v) = pick (eqb (conIn N i) 0) (writeWords (N .held) p (bitIn N s) (wordIn N i) (sortIn N s) (wordIn N v) a (sizeIn N s)) []
+
+-- an init gives one word to all cells, a next its cells
+abbrev pub givenFrom : Notes → Bool → ℕ → Source
+givenFrom N true v = still (wordIn N v)
+givenFrom N false v = of v
+
+abbrev pub flatWords : Notes → ℕ → Line → List ℕ
+flatWords N p (Line.bitvec w) = five 1 0 w 0 0
+flatWords N p (Line.array i e) = arrayWords (N .held) (sortIn N i) (2 ^ getD (N .wid) i 0)
+flatWords N p (Line.input s) = five 4 (sortIn N s) 0 0 0
+flatWords N p (Line.state s) = words (sizeIn N s) (rowAt (N .held) 5 (sortIn N s) (still 0) (still 0) (still 0))
+flatWords N p (Line.val s e) = exprWords N p s e
+flatWords N p (Line.give m s q v) = words (sizeIn N q) (rowAt (N .held) (giveKind m) (sortIn N s) (of q) (givenFrom N m v) (still 0))
+flatWords N p (Line.mark m a) = five (markKind m) 0 (wordIn N a) 0 0
+flatWords N p (Line.output a) = five 10 0 (wordIn N a) 0 0
+flatWords N p Line.junk = five 0 0 0 0 0
+
+-- what is kept: q is the number of flat lines after the line
+abbrev pub exprMade : Notes → (p q s : ℕ) → Expr → Made
+exprMade N p q s (Expr.const v) = made q q (bitIn N s) 0 1 (small v)
+exprMade N p q s (Expr.one k a x y) = made q q (bitIn N s) 0 1 0
+exprMade N p q s (Expr.two k a b) = made q q (bitIn N s) 0 1 0
+exprMade N p q s (Expr.cmp e a b) = made q q (bitIn N s) 0 1 0
+exprMade N p q s (Expr.ite c a b) = made q (p + 1) (bitIn N s) 0 1 0
+exprMade N p q s (Expr.read a i) = made q (pick (eqb (conIn N i) 0) q (cellIn (N .held) a (conIn N i - 1))) (bitIn N s) 0 1 0
+exprMade N p q s (Expr.write a i v) =
+    pick (eqb (conIn N i) 0) (made q (p + 2) (bitIn N s) 0 2 0) (made q (wordIn N v) (bitIn N s) a (conIn N i - 1) 0)
+
+abbrev pub lineMade : Notes → (p q : ℕ) → Line → Made
+lineMade N p q (Line.bitvec w) = made q q 0 0 0 0
+lineMade N p q (Line.array i e) = made q (sortIn N e) (p + 1) 0 0 0
+lineMade N p q (Line.input s) = made q q (bitIn N s) 0 1 0
+lineMade N p q (Line.state s) = made q (p + 1) (bitIn N s) 0 1 0
+lineMade N p q (Line.val s e) = exprMade N p q s e
+lineMade N p q (Line.give m s x v) = made q 0 0 0 0 0
+lineMade N p q (Line.mark m a) = made q 0 0 0 0 0
+lineMade N p q (Line.output a) = made q 0 0 0 0 0
+lineMade N p q Line.junk = made q 0 0 0 0 0
+
+abbrev pub flatMade : Notes → ℕ → Line → Made
+flatMade N p l = lineMade N p (p + flatCount N l) l
+
+-- ---- what a line asks
+
+-- the numbers kept are small
+pub record Neat (N : Notes) : Type 0 where
+  pub sound : Sound (N .held)
+  pub bit : (a : ℕ) → bitIn N a ≤ 65536
+  pub con : (a : ℕ) → conIn N a ≤ 256
+  pub deep : (a : ℕ) → getD (N .idx) a 0 ≤ 8
+
+-- the index width of an array sort is at most 8, and a read takes an array
+abbrev pub DeepE : Notes → Expr → Type 0
+DeepE N (Expr.const v) = Unit {0}
+DeepE N (Expr.one k a x y) = Unit {0}
+DeepE N (Expr.two k a b) = Unit {0}
+DeepE N (Expr.cmp e a b) = Unit {0}
+DeepE N (Expr.ite c a b) = Unit {0}
+DeepE N (Expr.read a i) = 0 < getD (N .idx) a 0
+DeepE N (Expr.write a i v) = Unit {0}
+
+abbrev pub Deep : Notes → Line → Type 0
+Deep N (Line.bitvec w) = Unit {0}
+Deep N (Line.array i e) = getD (N .wid) i 0 ≤ 8
+Deep N (Line.input s) = Unit {0}
+Deep N (Line.state s) = Unit {0}
+Deep N (Line.val s e) = DeepE N e
+Deep N (Line.give m s q v) = Unit {0}
+Deep N (Line.mark m a) = Unit {0}
+Deep N (Line.output a) = Unit {0}
+Deep N Line.junk = Unit {0}
+
+-- the line l can be made flat after p flat lines, into a target of len words
+pub record Fit (N : Notes) (p : ℕ) (l : Line) (len : ℕ) : Type 0 where
+  pub neat : Neat N
+  pub low : p ≤ 60000
+  pub room : 5 * (p + flatCount N l) ≤ len
+  pub deep : Deep N l
+
+-- it is made flat: r is what is kept of it, and the words of its records go to the target
+pub record Laid (N : Notes) (p : ℕ) (l : Line) (target target₁ : List ℕ) (r : Made) : Type 0 where
+  pub kept : r ≡ flatMade N p l
+  pub words : target₁ ≡ put target (5 * p) (flatWords N p l)
+
+-- no line has more than 256 cells
+pub record Shallow (idx : List ℕ) : Type 0 where
+  pub deep : (a : ℕ) → getD idx a 0 ≤ 8

@@ -1,0 +1,668 @@
+// One line: its flat lines go to the target, and what later lines need of it is answered.
+use crate::Made;
+use crate::cells;
+use crate::making;
+use crate::rows;
+use tables::records;
+use tables::types;
+ghost use mathlib.Core.Path.{_≡_};
+ghost use mathlib.Core.Bool.{Bool, true, false};
+ghost use Prim.Native.Nat.{_+_, _*_, _≤_, _<_};
+ghost use mathlib.Core.List.{List, [], _∷_};
+ghost use lib.Dec.{ltb};
+ghost use lib.ListN.{length};
+ghost use Rattle.tables.specs.Pick.{pick};
+ghost use Rattle.tables.specs.Lines.{Line, Expr, five, lineOf, kindIn, giveKind, cmpKind};
+ghost use Rattle.tables.specs.Tables.{known as knownOf};
+ghost use Rattle.circuits.specs.Cells.{put};
+ghost use Rattle.flattening.specs.Flat.{joinKind};
+ghost use Rattle.flattening.specs.Making.{notes, made, small as smallOf, Fit, Laid};
+
+// A line that leaves one flat line.
+pub fn single(rec: [u64; 5], p: usize, a: u64, b: u64, k: u64, c: u64, target: &mut [u64]) -> Made
+    requires { ⌜ 5 * (p + 1) ≤ length (now target) ⌝ }
+    ensures { λ r. ⌜ (r ≡ made (p + 1) a b 0 k c) × (now (target .exit) ≡ put (now (target .entry)) (5 * p) rec) ⌝ }
+{
+    records::put(target, p, rec);
+    Made {
+        next: p + 1,
+        at: a,
+        bit: b,
+        old: 0,
+        key: k,
+        con: c,
+    }
+}
+
+// Nothing is kept of a line that has no value.
+pub fn no_value(q: usize) -> Made
+    ensures { λ r. ⌜ r ≡ made q 0 0 0 0 0 ⌝ }
+{
+    Made {
+        next: q,
+        at: 0,
+        bit: 0,
+        old: 0,
+        key: 0,
+        con: 0,
+    }
+}
+
+// A small constant is kept as its value plus one.
+pub fn small(v: u64) -> u64
+    ensures { λ r. ⌜ r ≡ smallOf v ⌝ }
+{
+    if v < 256 {
+        return v + 1;
+    }
+    0
+}
+
+// The kinds of eq and neq, and of and and or.
+pub fn cmp_kind(e: bool) -> u64
+    ensures { λ r. ⌜ r ≡ cmpKind e ⌝ }
+{
+    if e {
+        return 21;
+    }
+    22
+}
+
+pub fn join_kind(e: bool) -> u64
+    ensures { λ r. ⌜ r ≡ joinKind e ⌝ }
+{
+    if e {
+        return 33;
+    }
+    34
+}
+
+// A word sort is copied.
+pub fn line_bitvec(
+    w: u64,
+    at: &[u64],
+    bit: &[u64],
+    old: &[u64],
+    key: &[u64],
+    con: &[u64],
+    idx: &[u8],
+    wid: &[u8],
+    p: usize,
+    target: &mut [u64],
+) -> Made
+    requires { ⌜ Fit (notes (now at) (now bit) (now old) (now key) (now con) (now idx) (now wid)) p (Line.bitvec w) (length (now target)) ⌝ }
+    ensures { λ r. ⌜ Laid (notes (now (at .entry)) (now (bit .entry)) (now (old .entry)) (now (key .entry)) (now (con .entry)) (now (idx .entry)) (now (wid .entry))) p (Line.bitvec w) (now (target .entry)) (now (target .exit)) r ⌝ }
+{
+    single([1, 0, w, 0, 0], p, (p + 1) as u64, 0, 0, 0, target)
+}
+
+// An array sort: a width-1 sort, then the index constants.
+pub fn line_array(
+    i: u64,
+    e: u64,
+    at: &[u64],
+    bit: &[u64],
+    old: &[u64],
+    key: &[u64],
+    con: &[u64],
+    idx: &[u8],
+    wid: &[u8],
+    p: usize,
+    target: &mut [u64],
+) -> Made
+    requires { ⌜ Fit (notes (now at) (now bit) (now old) (now key) (now con) (now idx) (now wid)) p (Line.array i e) (length (now target)) ⌝ }
+    ensures { λ r. ⌜ Laid (notes (now (at .entry)) (now (bit .entry)) (now (old .entry)) (now (key .entry)) (now (con .entry)) (now (idx .entry)) (now (wid .entry))) p (Line.array i e) (now (target .entry)) (now (target .exit)) r ⌝ }
+{
+    let n = making::power(types::at(wid, i));
+    making::array_lines(at, old, key, cells::entry(at, i), n, p, target);
+    Made {
+        next: p + (1 + n),
+        at: cells::entry(at, e),
+        bit: (p + 1) as u64,
+        old: 0,
+        key: 0,
+        con: 0,
+    }
+}
+
+// An input is copied.
+pub fn line_input(
+    s: u64,
+    at: &[u64],
+    bit: &[u64],
+    old: &[u64],
+    key: &[u64],
+    con: &[u64],
+    idx: &[u8],
+    wid: &[u8],
+    p: usize,
+    target: &mut [u64],
+) -> Made
+    requires { ⌜ Fit (notes (now at) (now bit) (now old) (now key) (now con) (now idx) (now wid)) p (Line.input s) (length (now target)) ⌝ }
+    ensures { λ r. ⌜ Laid (notes (now (at .entry)) (now (bit .entry)) (now (old .entry)) (now (key .entry)) (now (con .entry)) (now (idx .entry)) (now (wid .entry))) p (Line.input s) (now (target .entry)) (now (target .exit)) r ⌝ }
+{
+    single(
+        [4, cells::entry(at, s), 0, 0, 0],
+        p,
+        (p + 1) as u64,
+        cells::entry(bit, s),
+        1,
+        0,
+        target,
+    )
+}
+
+// One state for each cell.
+pub fn line_state(
+    s: u64,
+    at: &[u64],
+    bit: &[u64],
+    old: &[u64],
+    key: &[u64],
+    con: &[u64],
+    idx: &[u8],
+    wid: &[u8],
+    p: usize,
+    target: &mut [u64],
+) -> Made
+    requires { ⌜ Fit (notes (now at) (now bit) (now old) (now key) (now con) (now idx) (now wid)) p (Line.state s) (length (now target)) ⌝ }
+    ensures { λ r. ⌜ Laid (notes (now (at .entry)) (now (bit .entry)) (now (old .entry)) (now (key .entry)) (now (con .entry)) (now (idx .entry)) (now (wid .entry))) p (Line.state s) (now (target .entry)) (now (target .exit)) r ⌝ }
+{
+    let n = making::size(idx, s);
+    rows::rows(
+        at,
+        old,
+        key,
+        target,
+        p,
+        n,
+        5,
+        cells::entry(at, s),
+        making::run(0, 0),
+        making::run(0, 0),
+        making::run(0, 0),
+    );
+    Made {
+        next: p + n,
+        at: (p + 1) as u64,
+        bit: cells::entry(bit, s),
+        old: 0,
+        key: 1,
+        con: 0,
+    }
+}
+
+// A constant is copied.
+pub fn line_const(
+    s: u64,
+    v: u64,
+    at: &[u64],
+    bit: &[u64],
+    old: &[u64],
+    key: &[u64],
+    con: &[u64],
+    idx: &[u8],
+    wid: &[u8],
+    p: usize,
+    target: &mut [u64],
+) -> Made
+    requires { ⌜ Fit (notes (now at) (now bit) (now old) (now key) (now con) (now idx) (now wid)) p (Line.val s (Expr.const v)) (length (now target)) ⌝ }
+    ensures { λ r. ⌜ Laid (notes (now (at .entry)) (now (bit .entry)) (now (old .entry)) (now (key .entry)) (now (con .entry)) (now (idx .entry)) (now (wid .entry))) p (Line.val s (Expr.const v)) (now (target .entry)) (now (target .exit)) r ⌝ }
+{
+    single(
+        [3, cells::entry(at, s), v, 0, 0],
+        p,
+        (p + 1) as u64,
+        cells::entry(bit, s),
+        1,
+        small(v),
+        target,
+    )
+}
+
+// An operator of one word is copied.
+pub fn line_one(
+    k: u64,
+    s: u64,
+    a: u64,
+    x: u64,
+    y: u64,
+    at: &[u64],
+    bit: &[u64],
+    old: &[u64],
+    key: &[u64],
+    con: &[u64],
+    idx: &[u8],
+    wid: &[u8],
+    p: usize,
+    target: &mut [u64],
+) -> Made
+    requires { ⌜ Fit (notes (now at) (now bit) (now old) (now key) (now con) (now idx) (now wid)) p (Line.val s (Expr.one k a x y)) (length (now target)) ⌝ }
+    ensures { λ r. ⌜ Laid (notes (now (at .entry)) (now (bit .entry)) (now (old .entry)) (now (key .entry)) (now (con .entry)) (now (idx .entry)) (now (wid .entry))) p (Line.val s (Expr.one k a x y)) (now (target .entry)) (now (target .exit)) r ⌝ }
+{
+    single(
+        [
+            k,
+            cells::entry(at, s),
+            cells::cell(at, old, key, a, 0),
+            x,
+            y,
+        ],
+        p,
+        (p + 1) as u64,
+        cells::entry(bit, s),
+        1,
+        0,
+        target,
+    )
+}
+
+// An operator of two words is copied.
+pub fn line_two(
+    k: u64,
+    s: u64,
+    a: u64,
+    b: u64,
+    at: &[u64],
+    bit: &[u64],
+    old: &[u64],
+    key: &[u64],
+    con: &[u64],
+    idx: &[u8],
+    wid: &[u8],
+    p: usize,
+    target: &mut [u64],
+) -> Made
+    requires { ⌜ Fit (notes (now at) (now bit) (now old) (now key) (now con) (now idx) (now wid)) p (Line.val s (Expr.two k a b)) (length (now target)) ⌝ }
+    ensures { λ r. ⌜ Laid (notes (now (at .entry)) (now (bit .entry)) (now (old .entry)) (now (key .entry)) (now (con .entry)) (now (idx .entry)) (now (wid .entry))) p (Line.val s (Expr.two k a b)) (now (target .entry)) (now (target .exit)) r ⌝ }
+{
+    single(
+        [
+            k,
+            cells::entry(at, s),
+            cells::cell(at, old, key, a, 0),
+            cells::cell(at, old, key, b, 0),
+            0,
+        ],
+        p,
+        (p + 1) as u64,
+        cells::entry(bit, s),
+        1,
+        0,
+        target,
+    )
+}
+
+// eq and neq: a test for each cell, then ands or ors.
+pub fn line_cmp(
+    e: bool,
+    s: u64,
+    x: u64,
+    y: u64,
+    at: &[u64],
+    bit: &[u64],
+    old: &[u64],
+    key: &[u64],
+    con: &[u64],
+    idx: &[u8],
+    wid: &[u8],
+    p: usize,
+    target: &mut [u64],
+) -> Made
+    requires { ⌜ Fit (notes (now at) (now bit) (now old) (now key) (now con) (now idx) (now wid)) p (Line.val s (Expr.cmp e x y)) (length (now target)) ⌝ }
+    ensures { λ r. ⌜ Laid (notes (now (at .entry)) (now (bit .entry)) (now (old .entry)) (now (key .entry)) (now (con .entry)) (now (idx .entry)) (now (wid .entry))) p (Line.val s (Expr.cmp e x y)) (now (target .entry)) (now (target .exit)) r ⌝ }
+{
+    let n = making::size(idx, x);
+    making::cmp_lines(
+        at,
+        old,
+        key,
+        cmp_kind(e),
+        join_kind(e),
+        cells::entry(at, s),
+        x,
+        y,
+        n,
+        p,
+        target,
+    );
+    let q = p + (n + making::less(n, 1));
+    Made {
+        next: q,
+        at: q as u64,
+        bit: cells::entry(bit, s),
+        old: 0,
+        key: 1,
+        con: 0,
+    }
+}
+
+// One ite for each cell.
+pub fn line_ite(
+    s: u64,
+    c: u64,
+    x: u64,
+    y: u64,
+    at: &[u64],
+    bit: &[u64],
+    old: &[u64],
+    key: &[u64],
+    con: &[u64],
+    idx: &[u8],
+    wid: &[u8],
+    p: usize,
+    target: &mut [u64],
+) -> Made
+    requires { ⌜ Fit (notes (now at) (now bit) (now old) (now key) (now con) (now idx) (now wid)) p (Line.val s (Expr.ite c x y)) (length (now target)) ⌝ }
+    ensures { λ r. ⌜ Laid (notes (now (at .entry)) (now (bit .entry)) (now (old .entry)) (now (key .entry)) (now (con .entry)) (now (idx .entry)) (now (wid .entry))) p (Line.val s (Expr.ite c x y)) (now (target .entry)) (now (target .exit)) r ⌝ }
+{
+    let n = making::size(idx, x);
+    rows::rows(
+        at,
+        old,
+        key,
+        target,
+        p,
+        n,
+        53,
+        cells::entry(at, s),
+        making::run(cells::cell(at, old, key, c, 0), 0),
+        making::of(x),
+        making::of(y),
+    );
+    Made {
+        next: p + n,
+        at: (p + 1) as u64,
+        bit: cells::entry(bit, s),
+        old: 0,
+        key: 1,
+        con: 0,
+    }
+}
+
+// A read: by a constant index it stands for the cell.
+pub fn line_read(
+    s: u64,
+    a: u64,
+    i: u64,
+    at: &[u64],
+    bit: &[u64],
+    old: &[u64],
+    key: &[u64],
+    con: &[u64],
+    idx: &[u8],
+    wid: &[u8],
+    p: usize,
+    target: &mut [u64],
+) -> Made
+    requires { ⌜ Fit (notes (now at) (now bit) (now old) (now key) (now con) (now idx) (now wid)) p (Line.val s (Expr.read a i)) (length (now target)) ⌝ }
+    ensures { λ r. ⌜ Laid (notes (now (at .entry)) (now (bit .entry)) (now (old .entry)) (now (key .entry)) (now (con .entry)) (now (idx .entry)) (now (wid .entry))) p (Line.val s (Expr.read a i)) (now (target .entry)) (now (target .exit)) r ⌝ }
+{
+    let c = cells::entry(con, i);
+    let b = cells::entry(bit, s);
+    if c != 0 {
+        return Made {
+            next: p,
+            at: cells::cell(at, old, key, a, c - 1),
+            bit: b,
+            old: 0,
+            key: 1,
+            con: 0,
+        };
+    }
+    let n = making::size(idx, a);
+    making::read_lines(
+        at,
+        old,
+        key,
+        cells::entry(bit, a),
+        cells::cell(at, old, key, i, 0),
+        cells::entry(at, s),
+        a,
+        n,
+        p,
+        target,
+    );
+    let q = p + 2 * (n - 1);
+    Made {
+        next: q,
+        at: q as u64,
+        bit: b,
+        old: 0,
+        key: 1,
+        con: 0,
+    }
+}
+
+// A write: by a constant index it swaps one cell.
+pub fn line_write(
+    s: u64,
+    a: u64,
+    i: u64,
+    v: u64,
+    at: &[u64],
+    bit: &[u64],
+    old: &[u64],
+    key: &[u64],
+    con: &[u64],
+    idx: &[u8],
+    wid: &[u8],
+    p: usize,
+    target: &mut [u64],
+) -> Made
+    requires { ⌜ Fit (notes (now at) (now bit) (now old) (now key) (now con) (now idx) (now wid)) p (Line.val s (Expr.write a i v)) (length (now target)) ⌝ }
+    ensures { λ r. ⌜ Laid (notes (now (at .entry)) (now (bit .entry)) (now (old .entry)) (now (key .entry)) (now (con .entry)) (now (idx .entry)) (now (wid .entry))) p (Line.val s (Expr.write a i v)) (now (target .entry)) (now (target .exit)) r ⌝ }
+{
+    let c = cells::entry(con, i);
+    let o = cells::entry(bit, s);
+    let x = cells::cell(at, old, key, v, 0);
+    if c != 0 {
+        return Made {
+            next: p,
+            at: x,
+            bit: o,
+            old: a,
+            key: c - 1,
+            con: 0,
+        };
+    }
+    let n = making::size(idx, s);
+    rows::pairs(
+        at,
+        old,
+        key,
+        target,
+        p,
+        n,
+        o,
+        cells::cell(at, old, key, i, 0),
+        cells::entry(at, s),
+        making::run(o + 1, 1),
+        making::run(x, 0),
+        making::of(a),
+    );
+    Made {
+        next: p + 2 * n,
+        at: (p + 2) as u64,
+        bit: o,
+        old: 0,
+        key: 2,
+        con: 0,
+    }
+}
+
+// init and next: one line for each cell.
+pub fn line_give(
+    m: bool,
+    s: u64,
+    q: u64,
+    v: u64,
+    at: &[u64],
+    bit: &[u64],
+    old: &[u64],
+    key: &[u64],
+    con: &[u64],
+    idx: &[u8],
+    wid: &[u8],
+    p: usize,
+    target: &mut [u64],
+) -> Made
+    requires { ⌜ Fit (notes (now at) (now bit) (now old) (now key) (now con) (now idx) (now wid)) p (Line.give m s q v) (length (now target)) ⌝ }
+    ensures { λ r. ⌜ Laid (notes (now (at .entry)) (now (bit .entry)) (now (old .entry)) (now (key .entry)) (now (con .entry)) (now (idx .entry)) (now (wid .entry))) p (Line.give m s q v) (now (target .entry)) (now (target .exit)) r ⌝ }
+{
+    let n = making::size(idx, q);
+    let t = cells::entry(at, s);
+    if m {
+        let x = cells::cell(at, old, key, v, 0);
+        rows::rows(
+            at,
+            old,
+            key,
+            target,
+            p,
+            n,
+            6,
+            t,
+            making::of(q),
+            making::run(x, 0),
+            making::run(0, 0),
+        );
+        return no_value(p + n);
+    }
+    rows::rows(
+        at,
+        old,
+        key,
+        target,
+        p,
+        n,
+        7,
+        t,
+        making::of(q),
+        making::of(v),
+        making::run(0, 0),
+    );
+    no_value(p + n)
+}
+
+// bad and constraint are copied.
+pub fn line_mark(
+    m: bool,
+    a: u64,
+    at: &[u64],
+    bit: &[u64],
+    old: &[u64],
+    key: &[u64],
+    con: &[u64],
+    idx: &[u8],
+    wid: &[u8],
+    p: usize,
+    target: &mut [u64],
+) -> Made
+    requires { ⌜ Fit (notes (now at) (now bit) (now old) (now key) (now con) (now idx) (now wid)) p (Line.mark m a) (length (now target)) ⌝ }
+    ensures { λ r. ⌜ Laid (notes (now (at .entry)) (now (bit .entry)) (now (old .entry)) (now (key .entry)) (now (con .entry)) (now (idx .entry)) (now (wid .entry))) p (Line.mark m a) (now (target .entry)) (now (target .exit)) r ⌝ }
+{
+    let x = cells::cell(at, old, key, a, 0);
+    if m {
+        return single([8, 0, x, 0, 0], p, 0, 0, 0, 0, target);
+    }
+    single([9, 0, x, 0, 0], p, 0, 0, 0, 0, target)
+}
+
+// An output is copied.
+pub fn line_output(
+    a: u64,
+    at: &[u64],
+    bit: &[u64],
+    old: &[u64],
+    key: &[u64],
+    con: &[u64],
+    idx: &[u8],
+    wid: &[u8],
+    p: usize,
+    target: &mut [u64],
+) -> Made
+    requires { ⌜ Fit (notes (now at) (now bit) (now old) (now key) (now con) (now idx) (now wid)) p (Line.output a) (length (now target)) ⌝ }
+    ensures { λ r. ⌜ Laid (notes (now (at .entry)) (now (bit .entry)) (now (old .entry)) (now (key .entry)) (now (con .entry)) (now (idx .entry)) (now (wid .entry))) p (Line.output a) (now (target .entry)) (now (target .exit)) r ⌝ }
+{
+    single(
+        [10, 0, cells::cell(at, old, key, a, 0), 0, 0],
+        p,
+        0,
+        0,
+        0,
+        0,
+        target,
+    )
+}
+
+// The line of a record of an operator.
+fn operator(
+    rec: [u64; 5],
+    at: &[u64],
+    bit: &[u64],
+    old: &[u64],
+    key: &[u64],
+    con: &[u64],
+    idx: &[u8],
+    wid: &[u8],
+    p: usize,
+    target: &mut [u64],
+) -> Made
+    requires { ⌜ (knownOf false (kindIn rec) ≡ true) × ((10 < kindIn rec) × Fit (notes (now at) (now bit) (now old) (now key) (now con) (now idx) (now wid)) p (lineOf rec) (length (now target))) ⌝ }
+    ensures { λ r. ⌜ Laid (notes (now (at .entry)) (now (bit .entry)) (now (old .entry)) (now (key .entry)) (now (con .entry)) (now (idx .entry)) (now (wid .entry))) p (lineOf rec) (now (target .entry)) (now (target .exit)) r ⌝ }
+{
+    let k = rec[0];
+    let s = rec[1];
+    let a = rec[2];
+    let b = rec[3];
+    let c = rec[4];
+    if k <= 20 {
+        return line_one(k, s, a, b, c, at, bit, old, key, con, idx, wid, p, target);
+    }
+    match k {
+        21 => line_cmp(true, s, a, b, at, bit, old, key, con, idx, wid, p, target),
+        22 => line_cmp(false, s, a, b, at, bit, old, key, con, idx, wid, p, target),
+        53 => line_ite(s, a, b, c, at, bit, old, key, con, idx, wid, p, target),
+        54 => line_read(s, a, b, at, bit, old, key, con, idx, wid, p, target),
+        55 => line_write(s, a, b, c, at, bit, old, key, con, idx, wid, p, target),
+        _ => line_two(k, s, a, b, at, bit, old, key, con, idx, wid, p, target),
+    }
+}
+
+// The line of a record of a circuit.
+pub fn line(
+    rec: [u64; 5],
+    at: &[u64],
+    bit: &[u64],
+    old: &[u64],
+    key: &[u64],
+    con: &[u64],
+    idx: &[u8],
+    wid: &[u8],
+    p: usize,
+    target: &mut [u64],
+) -> Made
+    requires { ⌜ (knownOf false (kindIn rec) ≡ true) × Fit (notes (now at) (now bit) (now old) (now key) (now con) (now idx) (now wid)) p (lineOf rec) (length (now target)) ⌝ }
+    ensures { λ r. ⌜ Laid (notes (now (at .entry)) (now (bit .entry)) (now (old .entry)) (now (key .entry)) (now (con .entry)) (now (idx .entry)) (now (wid .entry))) p (lineOf rec) (now (target .entry)) (now (target .exit)) r ⌝ }
+{
+    let k = rec[0];
+    if 10 < k {
+        return operator(rec, at, bit, old, key, con, idx, wid, p, target);
+    }
+    let s = rec[1];
+    let a = rec[2];
+    let b = rec[3];
+    match k {
+        1 => line_bitvec(a, at, bit, old, key, con, idx, wid, p, target),
+        2 => line_array(a, b, at, bit, old, key, con, idx, wid, p, target),
+        3 => line_const(s, a, at, bit, old, key, con, idx, wid, p, target),
+        4 => line_input(s, at, bit, old, key, con, idx, wid, p, target),
+        5 => line_state(s, at, bit, old, key, con, idx, wid, p, target),
+        6 => line_give(true, s, a, b, at, bit, old, key, con, idx, wid, p, target),
+        7 => line_give(false, s, a, b, at, bit, old, key, con, idx, wid, p, target),
+        8 => line_mark(true, a, at, bit, old, key, con, idx, wid, p, target),
+        9 => line_mark(false, a, at, bit, old, key, con, idx, wid, p, target),
+        _ => line_output(a, at, bit, old, key, con, idx, wid, p, target),
+    }
+}

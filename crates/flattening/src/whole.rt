@@ -1,0 +1,49 @@
+// The pass over the lines: each is counted, and then its flat lines are written.
+use crate::Flattened;
+use crate::counting;
+use crate::lines;
+use tables::Refusal;
+use tables::records;
+ghost use mathlib.Core.Path.{_≡_};
+ghost use lib.ListN.{length};
+ghost use Rattle.flattening.specs.Answers.{flattened, targetLeft};
+ghost use Rattle.flattening.specs.Begun.{Begun};
+
+// The lines of an accepted table.
+pub fn all_lines(
+    table: &[u64],
+    count: usize,
+    idx: &[u8],
+    wid: &[u8],
+    at: &mut [u64],
+    bit: &mut [u64],
+    old: &mut [u64],
+    key: &mut [u64],
+    con: &mut [u64],
+    target: &mut [u64],
+) -> Flattened
+    requires { ⌜ Begun (now table) count (now idx) (now wid) (now at) (now bit) (now old) (now key) (now con) (now target) ⌝ }
+    ensures { λ r. ⌜ (r ≡ flattened (now (table .entry)) count (length (now (target .entry)))) × (now (target .exit) ≡ targetLeft (now (table .entry)) count (length (now (target .entry)))) ⌝ }
+{
+    let room = records::room_of(target.len());
+    let mut i: usize = 0;
+    let mut p: usize = 0;
+    while i < count {
+        let rec = records::record(table, i);
+        let c = counting::count_line(rec, con, idx, wid);
+        if room - p < c {
+            records::clear(target);
+            return Flattened::Refused(Refusal::TargetTooSmall);
+        }
+        let m = lines::line(rec, at, bit, old, key, con, idx, wid, p, target);
+        let n = i + 1;
+        at[n] = m.at;
+        bit[n] = m.bit;
+        old[n] = m.old;
+        key[n] = m.key;
+        con[n] = m.con;
+        p = m.next;
+        i = n;
+    }
+    Flattened::Done(p)
+}
