@@ -5,13 +5,13 @@ use mathlib.Core.Bool.{Bool, true, false, _&&_, _||_}
 use mathlib.Core.List.{List}
 use native.Mathlib.Omega.{arith}
 use lib.Dec.{eqb, leb}
-use borrow.Author.Tests.{eqb-true, eq-eqb, ne-eqb}
+use borrow.Author.Tests.{eqb-true}
 use Rattle.tables.specs.declared.Ty.{Ty}
 use Rattle.tables.specs.Pick.{all, inside}
 use Rattle.tables.specs.Kinds.{rowOf}
 use Rattle.tables.specs.Lines.{kindIn}
 use Rattle.tables.specs.Rules.{fault}
-use Rattle.tables.specs.Tables.{known, tidy, keeps}
+use Rattle.tables.specs.Tables.{known, tidy, formed, keeps}
 use Rattle.tables.proofs.Shapes.{range}
 
 pub no-yes : _≡_ {A = Bool} false true → ⊥
@@ -39,8 +39,8 @@ module _ (p : Bool) (L : ℕ → Ty) (G : Bool → ℕ → Bool) (r row : List �
   pub breaks-place : known p (kindIn r) ≡ true → row ≡ rowOf (kindIn r) → all (tidy row r) ≡ false → false ≡ keeps p L G r
   breaks-place e q f = let g : all (tidy (rowOf (kindIn r)) r) ≡ false = subst (λ (x : List ℕ). all (tidy x r) ≡ false) q f in rw (e, g)
 
-  pub breaks-rule : known p (kindIn r) ≡ true → row ≡ rowOf (kindIn r) → all (tidy row r) ≡ true → (fault p L G r ≡ 0 → ⊥) → false ≡ keeps p L G r
-  breaks-rule e q f n = let g : all (tidy (rowOf (kindIn r)) r) ≡ true = subst (λ (x : List ℕ). all (tidy x r) ≡ true) q f in rw (e, g, ne-eqb (fault p L G r) 0 n)
+  pub by-fault : known p (kindIn r) ≡ true → row ≡ rowOf (kindIn r) → all (tidy row r) ≡ true → {m : ℕ} → m ≡ fault p L G r → eqb m 0 ≡ keeps p L G r
+  by-fault e q f h = let g : all (tidy (rowOf (kindIn r)) r) ≡ true = subst (λ (x : List ℕ). all (tidy x r) ≡ true) q f in rw (e, g, h) refl
 
-  pub keeps-all : known p (kindIn r) ≡ true → row ≡ rowOf (kindIn r) → all (tidy row r) ≡ true → fault p L G r ≡ 0 → true ≡ keeps p L G r
-  keeps-all e q f n = let g : all (tidy (rowOf (kindIn r)) r) ≡ true = subst (λ (x : List ℕ). all (tidy x r) ≡ true) q f in rw (e, g, eq-eqb (fault p L G r) 0 n)
+pub kept-fault : (p : Bool) (L : ℕ → Ty) (G : Bool → ℕ → Bool) (r : List ℕ) → keeps p L G r ≡ true → fault p L G r ≡ 0
+kept-fault p L G r e = eqb-true (fault p L G r) 0 (both (formed p r) _ e .1)

@@ -1,6 +1,7 @@
 // The check of a table with its count: a circuit's (1, 11) and a program's (1, 20).
 use crate::Checked;
 use crate::Refusal;
+use crate::Ty;
 use crate::kinds;
 use crate::records;
 use crate::rules;
@@ -11,10 +12,10 @@ ghost use mathlib.Core.List.{List, [], _∷_};
 ghost use Prim.Native.Nat.{_+_, _*_, _≤_, _<_};
 ghost use lib.ListN.{length, set, replicate};
 ghost use Rattle.tables.specs.Pick.{all};
-ghost use Rattle.tables.specs.Lines.{kindIn, firstIn, records, decode, counted};
-ghost use Rattle.tables.specs.Types.{noCtx, context};
+ghost use Rattle.tables.specs.Lines.{lineOf, kindIn, firstIn, records, decode, counted};
+ghost use Rattle.tables.specs.Types.{recordType, noCtx, context};
 ghost use Rattle.tables.specs.Lists.{lookIn, givenIn, Shows, Ample, Noted, markedBy};
-ghost use Rattle.tables.specs.Tables.{known as knownOf, unused as unusedOf, tidy as tidyOf, keeps, lawful, checked, broken};
+ghost use Rattle.tables.specs.Tables.{known as knownOf, unused as unusedOf, tidy as tidyOf, keeps, whole, room, lawful, checked, broken};
 
 // The kind is one of a circuit, or of a program.
 pub fn known(program: bool, k: u64) -> bool
@@ -71,6 +72,27 @@ pub fn put(xs: &mut [u8], n: u64, v: u8)
     }
 }
 
+// The type of a record that keeps the rules, after the lines that the lists hold.
+fn type_in(program: bool, rec: [u64; 5], cls: &[u8], idx: &[u8], wid: &[u8]) -> Ty
+    requires { ⌜ (kindIn rec ≡ 1 → firstIn rec ≤ 64) ⌝ }
+    ensures { λ r. ⌜ r ≡ recordType program (lookIn (now (cls .entry)) (now (idx .entry)) (now (wid .entry))) rec (lineOf rec) ⌝ }
+{
+    let t = types::sort_at(program, cls, idx, wid, rec[1]);
+    let a = types::look(cls, idx, wid, rec[2]);
+    let b = types::look(cls, idx, wid, rec[3]);
+    let c = types::look(cls, idx, wid, rec[4]);
+    types::type_of(rec, t, a, b, c)
+}
+
+// A type goes to the place n of the lists.
+fn put_type(y: Ty, n: u64, cls: &mut [u8], idx: &mut [u8], wid: &mut [u8])
+    ensures { λ _. ⌜ (now (cls .exit) ≡ set (now (cls .entry)) n (y .cls)) × ((now (idx .exit) ≡ set (now (idx .entry)) n (y .iw)) × (now (wid .exit) ≡ set (now (wid .entry)) n (y .w))) ⌝ }
+{
+    put(cls, n, y.cls);
+    put(idx, n, y.iw);
+    put(wid, n, y.w);
+}
+
 // What is known of the line n, whose record keeps the rules, goes to the lists.
 pub fn note(
     program: bool,
@@ -85,14 +107,8 @@ pub fn note(
     requires { ⌜ (kindIn rec ≡ 1 → firstIn rec ≤ 64) ⌝ }
     ensures { λ _. ⌜ Noted program rec n (now (cls .entry)) (now (idx .entry)) (now (wid .entry)) (now (ini .entry)) (now (nxt .entry)) (now (cls .exit)) (now (idx .exit)) (now (wid .exit)) (now (ini .exit)) (now (nxt .exit)) ⌝ }
 {
-    let t = types::sort_at(program, cls, idx, wid, rec[1]);
-    let a = types::look(cls, idx, wid, rec[2]);
-    let b = types::look(cls, idx, wid, rec[3]);
-    let c = types::look(cls, idx, wid, rec[4]);
-    let y = types::type_of(rec, t, a, b, c);
-    put(cls, n, y.cls);
-    put(idx, n, y.iw);
-    put(wid, n, y.w);
+    let y = type_in(program, rec, cls, idx, wid);
+    put_type(y, n, cls, idx, wid);
     mark(6, rec, ini);
     mark(7, rec, nxt);
 }
@@ -117,6 +133,29 @@ pub fn clear(xs: &mut [u8])
     }
 }
 
+// The record breaks no rule after the lines that the lists hold.
+fn keeps_rules(
+    program: bool,
+    rec: [u64; 5],
+    cls: &[u8],
+    idx: &[u8],
+    wid: &[u8],
+    ini: &[u8],
+    nxt: &[u8],
+) -> bool
+    ensures { λ r. ⌜ r ≡ keeps program (lookIn (now (cls .entry)) (now (idx .entry)) (now (wid .entry))) (givenIn (now (ini .entry)) (now (nxt .entry))) rec ⌝ }
+{
+    let k = rec[0];
+    if !known(program, k) {
+        return false;
+    }
+    let row = kinds::row(k);
+    if !tidy(row, rec) {
+        return false;
+    }
+    rules::fault(program, row, rec, cls, idx, wid, ini, nxt) == 0
+}
+
 // The record of the line n breaks no rule after the lines that the lists hold; then they hold it too.
 pub fn take_record(
     program: bool,
@@ -130,15 +169,7 @@ pub fn take_record(
 ) -> bool
     ensures { λ r. ⌜ (r ≡ keeps program (lookIn (now (cls .entry)) (now (idx .entry)) (now (wid .entry))) (givenIn (now (ini .entry)) (now (nxt .entry))) rec) × (r ≡ true → Noted program rec n (now (cls .entry)) (now (idx .entry)) (now (wid .entry)) (now (ini .entry)) (now (nxt .entry)) (now (cls .exit)) (now (idx .exit)) (now (wid .exit)) (now (ini .exit)) (now (nxt .exit))) ⌝ }
 {
-    let k = rec[0];
-    if !known(program, k) {
-        return false;
-    }
-    let row = kinds::row(k);
-    if !tidy(row, rec) {
-        return false;
-    }
-    if rules::fault(program, row, rec, cls, idx, wid, ini, nxt) != 0 {
+    if !keeps_rules(program, rec, cls, idx, wid, ini, nxt) {
         return false;
     }
     note(program, rec, n, cls, idx, wid, ini, nxt);
@@ -170,6 +201,39 @@ fn lines(
     true
 }
 
+// Lists of zeros hold the context of no lines.
+fn clear_all(cls: &mut [u8], idx: &mut [u8], wid: &mut [u8], ini: &mut [u8], nxt: &mut [u8])
+    requires { ⌜ Ample (now cls) (now idx) (now wid) (now ini) (now nxt) ⌝ }
+    ensures { λ _. ⌜ Ample (now (cls .exit)) (now (idx .exit)) (now (wid .exit)) (now (ini .exit)) (now (nxt .exit)) × Shows (now (cls .exit)) (now (idx .exit)) (now (wid .exit)) (now (ini .exit)) (now (nxt .exit)) noCtx ⌝ }
+{
+    clear(cls);
+    clear(idx);
+    clear(wid);
+    clear(ini);
+    clear(nxt);
+}
+
+// The check of a count of records that the table has.
+fn check_lines(
+    program: bool,
+    table: &[u64],
+    count: usize,
+    cls: &mut [u8],
+    idx: &mut [u8],
+    wid: &mut [u8],
+    ini: &mut [u8],
+    nxt: &mut [u8],
+) -> Checked
+    requires { ⌜ (whole (length (now table)) ≡ true) × ((count ≤ room (length (now table))) × Ample (now cls) (now idx) (now wid) (now ini) (now nxt)) ⌝ }
+    ensures { λ r. ⌜ (r ≡ checked program (now (table .entry)) count) × (r ≡ Checked.Accepted → Shows (now (cls .exit)) (now (idx .exit)) (now (wid .exit)) (now (ini .exit)) (now (nxt .exit)) (context program (decode (counted (now (table .entry)) count)))) ⌝ }
+{
+    clear_all(cls, idx, wid, ini, nxt);
+    if !lines(program, table, count, cls, idx, wid, ini, nxt) {
+        return refused(program);
+    }
+    Checked::Accepted
+}
+
 // The check of a table with its count. Where it is accepted the lists hold its context.
 pub fn check(
     program: bool,
@@ -184,21 +248,13 @@ pub fn check(
     requires { ⌜ Ample (now cls) (now idx) (now wid) (now ini) (now nxt) ⌝ }
     ensures { λ r. ⌜ (r ≡ checked program (now (table .entry)) count) × (r ≡ Checked.Accepted → Shows (now (cls .exit)) (now (idx .exit)) (now (wid .exit)) (now (ini .exit)) (now (nxt .exit)) (context program (decode (counted (now (table .entry)) count)))) ⌝ }
 {
-    clear(cls);
-    clear(idx);
-    clear(wid);
-    clear(ini);
-    clear(nxt);
     if !records::is_table(table.len()) {
         return Checked::Refused(Refusal::NotATable);
     }
     if records::room_of(table.len()) < count {
         return refused(program);
     }
-    if !lines(program, table, count, cls, idx, wid, ini, nxt) {
-        return refused(program);
-    }
-    Checked::Accepted
+    check_lines(program, table, count, cls, idx, wid, ini, nxt)
 }
 
 // 11, for a program 20.

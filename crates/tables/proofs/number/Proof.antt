@@ -179,5 +179,3 @@ number-spec =
     returns-19
     returns-20
     returns-21)
-
--- x

@@ -105,5 +105,3 @@ lines-spec =
     same-length-9
     same-length-10
     returns-2)
-
--- x

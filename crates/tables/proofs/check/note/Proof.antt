@@ -1,83 +1,61 @@
 use mathlib.Core.Path.{ap, _∙_}
 use lib.ListN.{set}
 use Rattle.tables.specs.declared.Ty.{Ty}
-use Rattle.tables.specs.Lists.{lookIn, Noted}
-use Rattle.tables.proofs.Answers.{typed}
+use Rattle.tables.specs.Lists.{Noted}
 use borrow.Author.Needs.{needs}
 use Rattle.tables.proofs.check.note.Statement.{statement}
 use Rattle.tables.proofs.check.note.Tie as tie
 use Rattle.tables.proofs.check.note.Reads as reads
 use Rattle.tables.proofs.check.note.Lts as lts
 use Rattle.tables.proofs.check.mark.Reads as mark-reads
-use Rattle.tables.proofs.check.put.Reads as put-reads
-use Rattle.tables.proofs.types.look.Reads as look-reads
-use Rattle.tables.proofs.types.sort_at.Reads as sort-at-reads
-use Rattle.tables.proofs.types.type_of.Reads as type-of-reads
+use Rattle.tables.proofs.check.put_type.Reads as put-type-reads
+use Rattle.tables.proofs.check.type_in.Reads as type-in-reads
 
-array-read-sort-at : tie.Need-array-read-sort-at
-array-read-sort-at c = search needs
+-- src/check.rt:110:9
+type-in-requires : tie.Need-type-in-requires
+type-in-requires c κs = search needs
 
-sort-at-requires : tie.Need-sort-at-requires
-sort-at-requires c κs = search needs
+-- src/check.rt:111:5
+put-type-requires : tie.Need-put-type-requires
+put-type-requires c κs = search needs
 
-array-read-look : tie.Need-array-read-look
-array-read-look c = search needs
-
-look-requires : tie.Need-look-requires
-look-requires c κs = search needs
-
-array-read-look-2 : tie.Need-array-read-look-2
-array-read-look-2 c = search needs
-
-look-requires-2 : tie.Need-look-requires-2
-look-requires-2 c κs = search needs
-
-array-read-look-3 : tie.Need-array-read-look-3
-array-read-look-3 c = search needs
-
-look-requires-3 : tie.Need-look-requires-3
-look-requires-3 c κs = search needs
-
-type-of-requires : tie.Need-type-of-requires
-type-of-requires c κs = c .before .before .before .before .before .before .before .before .before .before .before .before .before .before .before .before .before .before .before .before .before .pre
-
-put-requires : tie.Need-put-requires
-put-requires c κs = search needs
-
-put-requires-2 : tie.Need-put-requires-2
-put-requires-2 c κs = search needs
-
-put-requires-3 : tie.Need-put-requires-3
-put-requires-3 c κs = search needs
-
+-- src/check.rt:112:5
 mark-requires : tie.Need-mark-requires
 mark-requires c κs = search needs
 
+-- src/check.rt:113:5
 mark-requires-2 : tie.Need-mark-requires-2
 mark-requires-2 c κs = search needs
 
+-- src/check.rt:97:1
 same-length : tie.Need-same-length
 same-length c = search needs
 
+-- src/check.rt:97:1
 same-length-2 : tie.Need-same-length-2
 same-length-2 c = search needs
 
+-- src/check.rt:97:1
 same-length-3 : tie.Need-same-length-3
 same-length-3 c = search needs
 
+-- src/check.rt:97:1
 same-length-4 : tie.Need-same-length-4
 same-length-4 c = search needs
 
+-- src/check.rt:97:1
 same-length-5 : tie.Need-same-length-5
 same-length-5 c = search needs
 
+-- src/check.rt:97:1
 returns : tie.Need-returns
-returns c = let s = c .before .before .before .before .before .before .before .before .before .before .before .before .before .before .before .before .before .before .before .before .before .before .before .before .before .before .before .before .before .before .before .before .before .before .before .before .before .before .before .before .before .before .args in
-    let e = typed (s .program) (lookIn (s .cls .now) (s .idx .now) (s .wid .now)) (s .t2) (c .before .before .before .before .before .before .before .before .before .before .before .before .before .before .before .before .before .before .before .before .before .before .before .before .before .before .before .before .before .before .before .before .before .sort-at .ensures) (c .before .before .before .before .before .before .before .before .before .before .before .before .before .before .before .before .before .before .before .before .before .before .before .before .before .before .before .before .before .look .ensures) (c .before .before .before .before .before .before .before .before .before .before .before .before .before .before .before .before .before .before .before .before .before .before .before .before .before .look2 .ensures) (c .before .before .before .before .before .before .before .before .before .before .before .before .before .before .before .before .before .before .before .before .before .look3 .ensures) (c .before .before .before .before .before .before .before .before .before .before .before .before .before .before .before .before .before .before .before .before .type-of .ensures) in
+returns c = let s = c .before .before .before .before .before .before .before .before .before .before .before .before .before .before .before .before .before .before .before .before .before .before .before .before .before .before .before .args in
+    let e = c .before .before .before .before .before .before .before .before .before .before .before .before .before .before .before .before .before .before .type-in .ensures in
+    let h = c .before .before .before .before .before .before .before .before .before .before .before .before .before .before .put-type .ensures in
     record {
-      class = c .before .before .before .before .before .before .before .before .before .before .before .before .before .before .before .before .before .before .put .ensures ∙ ap (λ (y : Ty). set (s .cls .now) (s .n) (y .cls)) e;
-      index = c .before .before .before .before .before .before .before .before .before .before .before .before .before .before .put2 .ensures ∙ ap (λ (y : Ty). set (s .idx .now) (s .n) (y .iw)) e;
-      width = c .before .before .before .before .before .before .before .before .before .before .put3 .ensures ∙ ap (λ (y : Ty). set (s .wid .now) (s .n) (y .w)) e;
+      class = h .0 ∙ ap (λ (y : Ty). set (s .cls .now) (s .n) (y .cls)) e;
+      index = h .1 .0 ∙ ap (λ (y : Ty). set (s .idx .now) (s .n) (y .iw)) e;
+      width = h .1 .1 ∙ ap (λ (y : Ty). set (s .wid .now) (s .n) (y .w)) e;
       inits = c .before .before .before .before .before .before .mark .ensures;
       nexts = c .before .before .mark2 .ensures;
     }
@@ -86,18 +64,8 @@ pub note-spec : {M : Type 1} → statement M
 note-spec =
     tie.close
     (tie.spec
-    array-read-sort-at
-    sort-at-requires
-    array-read-look
-    look-requires
-    array-read-look-2
-    look-requires-2
-    array-read-look-3
-    look-requires-3
-    type-of-requires
-    put-requires
-    put-requires-2
-    put-requires-3
+    type-in-requires
+    put-type-requires
     mark-requires
     mark-requires-2
     same-length
@@ -106,5 +74,3 @@ note-spec =
     same-length-4
     same-length-5
     returns)
-
--- x

@@ -76,5 +76,3 @@ tidy-spec =
     array-read-unused-8
     unused-requires-4
     returns-4)
-
--- x

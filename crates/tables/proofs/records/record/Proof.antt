@@ -75,5 +75,3 @@ record-spec =
     mul-t20
     shared-slice-read-t22
     returns)
-
--- x

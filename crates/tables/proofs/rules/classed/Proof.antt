@@ -60,5 +60,3 @@ classed-spec =
     array-read-suits-4
     suits-requires-4
     returns-4)
-
--- x

@@ -77,5 +77,3 @@ fault-spec =
     once-requires
     returns-3
     returns-4)
-
--- x

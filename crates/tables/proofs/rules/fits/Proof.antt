@@ -185,5 +185,3 @@ fits-spec =
     returns-18
     returns-19
     returns-20)
-
--- x

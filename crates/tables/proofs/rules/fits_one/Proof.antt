@@ -57,5 +57,3 @@ fits-one-spec =
     returns-7
     add-result-3
     returns-8)
-
--- x

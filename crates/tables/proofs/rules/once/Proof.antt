@@ -58,5 +58,3 @@ once-spec =
     returns-3
     returns-4
     returns-5)
-
--- x

@@ -71,5 +71,3 @@ suits-spec =
     returns-6
     returns-7
     returns-8)
-
--- x

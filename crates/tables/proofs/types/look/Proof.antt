@@ -21,5 +21,3 @@ returns c = λ i. record { cls = c .before .before .at .ensures i; iw = c .befor
 
 pub look-spec : {M : Type 1} → statement M
 look-spec = tie.close (tie.spec at-requires at-requires-2 at-requires-3 returns)
-
--- x

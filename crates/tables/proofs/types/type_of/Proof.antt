@@ -71,5 +71,3 @@ type-of-spec =
     returns-6
     returns-7
     returns-8)
-
--- x

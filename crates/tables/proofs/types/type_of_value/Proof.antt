@@ -79,5 +79,3 @@ type-of-value-spec =
     returns-4
     returns-5
     returns-6)
-
--- x
