@@ -87,7 +87,7 @@ record New (t : Ty) (q : Place) (d : Counts) : Type 0 where
   low : 2 ≤ t .cls → q .off + size t ≤ d .cells
   room : t .cls ≡ 4 → q .at + size t ≤ d .states
 
-not-four : (p : Bool) (L : ℕ → Ty) (s : ℕ) (e : Expr) → lineType p L (Line.val s e) .cls ≡ 4 → ⊥
+pub not-four : (p : Bool) (L : ℕ → Ty) (s : ℕ) (e : Expr) → lineType p L (Line.val s e) .cls ≡ 4 → ⊥
 not-four p L s e = let r = wordsOf (Line.val s e) in go (fixedExpr e (L (firstIn r)) (L (secondIn r)) (L (thirdIn r)))
   where
     go : (b : Bool) → _≡_ {A = ℕ} (pick b 2 3) 4 → ⊥

@@ -10,3 +10,7 @@ pub mod Placing
 pub mod Rows
 pub mod Answering
 pub mod Earlier
+pub mod Whole
+pub mod Begun
+pub mod Looked
+pub mod Inits

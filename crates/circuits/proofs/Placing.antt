@@ -344,13 +344,13 @@ module _ (p : Bool) (t : List ℕ) (n : ℕ) (acc : checked p t n ≡ Accepted) 
 -- ---- the counts of an accepted table are small
 
 module _ (p : Bool) (t : List ℕ) (n : ℕ) (acc : checked p t n ≡ Accepted) where
-  all-sound : Sound (layout p (linesOf t n))
+  pub all-sound : Sound (layout p (linesOf t n))
   all-sound = subst Sound (lay-done p t n acc) (sound-at p t n acc n)
 
-  lines-here : length (layout p (linesOf t n) .ctx .tys) ≡ n + 1
+  pub lines-here : length (layout p (linesOf t n) .ctx .tys) ≡ n + 1
   lines-here = ap (λ (Y : Layout). length (Y .ctx .tys)) (sym (lay-done p t n acc)) ∙ number-at p t n acc n (omega arith)
 
-  few-here : n ≤ 16384
+  pub few-here : n ≤ 16384
   few-here = fits-table p t n acc .0
 
   pub words-few : (layout p (linesOf t n) .counts .cells ≤ 4194560) × (layout p (linesOf t n) .counts .states ≤ 4194560)

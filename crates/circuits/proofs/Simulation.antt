@@ -131,7 +131,7 @@ module _ {p : Bool} {all : ℕ} {σ w : List ℕ} {A : Acc} (H : Held p all σ w
 
   -- ---- word operators
 
-  word-one : (t : Ty) (k a x y : ℕ) → t .w ≤ 64 → OkOne p t k (typeAt (A .lay) a) x y → FitWord p k (t .w) (widthAt A a) 64 (wordAt A a) x y
+  pub word-one : (t : Ty) (k a x y : ℕ) → t .w ≤ 64 → OkOne p t k (typeAt (A .lay) a) x y → FitWord p k (t .w) (widthAt A a) 64 (wordAt A a) x y
   word-one t k a x y h ok =
       let s = fit-one p t (typeAt (A .lay) a) k x y h ok in
       let u = width-of a (ok .arg .is) in
@@ -143,7 +143,7 @@ module _ {p : Bool} {all : ℕ} {σ w : List ℕ} {A : Acc} (H : Held p all σ w
         below = λ e. record { first = small-of e a (ok .arg .is) 0; second = b .0; third = b .1; width = s .width };
       }
 
-  word-two : (t : Ty) (k a b : ℕ) → t .w ≤ 64 → OkTwo t k (typeAt (A .lay) a) (typeAt (A .lay) b) → FitWord p k (t .w) (widthAt A a) (widthAt A b) (wordAt A a) (wordAt A b) 0
+  pub word-two : (t : Ty) (k a b : ℕ) → t .w ≤ 64 → OkTwo t k (typeAt (A .lay) a) (typeAt (A .lay) b) → FitWord p k (t .w) (widthAt A a) (widthAt A b) (wordAt A a) (wordAt A b) 0
   word-two t k a b h ok =
       let s = fit-two t (typeAt (A .lay) a) (typeAt (A .lay) b) k (wordAt A b) 0 h ok in
       record {
@@ -301,7 +301,7 @@ module _ {p : Bool} {all : ℕ} {σ w : List ℕ} {A : Acc} (H : Held p all σ w
 
 -- ---- one line
 
-is-sort : (p : Bool) (L : ℕ → Ty) (t : Ty) (e : Expr) → OkExpr p L t e → t .cls ≡ 1
+pub is-sort : (p : Bool) (L : ℕ → Ty) (t : Ty) (e : Expr) → OkExpr p L t e → t .cls ≡ 1
 is-sort p L t (Expr.const v) ok = ok .sort .is
 is-sort p L t (Expr.one k a x y) ok = ok .sort .is
 is-sort p L t (Expr.two k a b) ok = ok .sort .is

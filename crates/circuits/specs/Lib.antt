@@ -3,5 +3,7 @@ pub mod Layout
 pub mod Meaning
 pub mod Run
 pub mod Answers
+pub mod Peek
 pub mod Model
+pub mod Looks
 pub mod Examples

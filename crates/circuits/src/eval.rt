@@ -35,7 +35,7 @@ fn input_word(program: bool, w: u64, x: u64) -> u64
 }
 
 // What eq (true) and neq say of values that are the same, or not.
-fn says(e: bool, r: bool) -> u64
+pub fn says(e: bool, r: bool) -> u64
     ensures { λ v. ⌜ v ≡ bit (say e r) ⌝ }
 {
     if e {

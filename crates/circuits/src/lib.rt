@@ -2,6 +2,7 @@
 pub mod area; // runs of words in the work area
 pub mod bad; // the first counted bad
 pub mod eval; // one line
+pub mod peek; // one value at step 0
 pub mod places; // where each line has its cells
 pub mod run; // the answers of a run
 pub mod steps; // all lines of a step, and the steps
@@ -12,6 +13,12 @@ use tables::Refusal;
 pub enum Ran {
     Nothing,
     Bad(usize, usize),
+    Refused(Refusal),
+}
+
+// What a peek answers: a value, or a refusal.
+pub enum Peeked {
+    Value(u64),
     Refused(Refusal),
 }
 

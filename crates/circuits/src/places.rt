@@ -15,7 +15,7 @@ ghost use Rattle.circuits.specs.Answers.{linesOf};
 ghost use Rattle.circuits.specs.Model.{countsOf, totalsOf, placeBy, Small, AllPlaced, Sized, markOf, marks};
 
 // The cells of the line n.
-fn cells_of(idx: &[u8; 16385], n: usize) -> usize
+pub fn cells_of(idx: &[u8; 16385], n: usize) -> usize
     requires { ⌜ (n ≤ 16384) × (getD (now idx) n 0 ≤ 8) ⌝ }
     ensures { λ r. ⌜ r ≡ 2 ^ getD (now (idx .entry)) n 0 ⌝ }
 {
