@@ -61,8 +61,8 @@ fn zero_past(target: &[u64], m: usize) -> bool {
     zero(&target[from..])
 }
 
-// The number of records and their lines, and whether the rest of the target is zero.
-fn done(target: &[u64], m: usize) {
+// The number of records, and whether the rest of the target is zero.
+fn counted(target: &[u64], m: usize) {
     say(b"records ");
     say_number(m as u64);
     if zero_past(target, m) {
@@ -70,6 +70,11 @@ fn done(target: &[u64], m: usize) {
     } else {
         say(b", not zero past them\n");
     }
+}
+
+// The same, and the lines of the records.
+fn done(target: &[u64], m: usize) {
+    counted(target, m);
     print(target, m);
 }
 
@@ -163,6 +168,30 @@ fn two_array_sorts() {
     );
 }
 
+// A memory of 256 cells: 516 flat lines, then 29 writes of 512 and two reads of 510 make 16,384; an output is one more. The target has room for 16,385 records.
+fn full() {
+    let text =
+        b"1 sort bitvec 8\n2 sort array 1 1\n3 state 2\n4 input 1\n5 input 1\n6 write 2 3 4 5\n7 write 2 6 4 5\n8 write 2 7 4 5\n9 write 2 8 4 5\n10 write 2 9 4 5\n11 write 2 10 4 5\n12 write 2 11 4 5\n13 write 2 12 4 5\n14 write 2 13 4 5\n15 write 2 14 4 5\n16 write 2 15 4 5\n17 write 2 16 4 5\n18 write 2 17 4 5\n19 write 2 18 4 5\n20 write 2 19 4 5\n21 write 2 20 4 5\n22 write 2 21 4 5\n23 write 2 22 4 5\n24 write 2 23 4 5\n25 write 2 24 4 5\n26 write 2 25 4 5\n27 write 2 26 4 5\n28 write 2 27 4 5\n29 write 2 28 4 5\n30 write 2 29 4 5\n31 write 2 30 4 5\n32 write 2 31 4 5\n33 write 2 32 4 5\n34 write 2 33 4 5\n35 read 1 34 4\n36 read 1 34 5\n37 output 36\n";
+    let mut table = [0u64; 185];
+    let mut target = [9u64; 81925];
+    match texts::read(text, &mut table) {
+        ReadOutcome::Refused(r, line) => say_refusal(r),
+        ReadOutcome::Done(n) => {
+            count_flat(b"36 lines", &table, 36, &mut target);
+            count_flat(b"37 lines", &table, 37, &mut target);
+        }
+    }
+}
+
+fn count_flat(label: &[u8], table: &[u64], count: usize, target: &mut [u64]) {
+    say(label);
+    say(b": ");
+    match flattening::flatten(table, count, target) {
+        Flattened::Refused(r) => refused(r, target),
+        Flattened::Done(m) => counted(target, m),
+    }
+}
+
 fn main() {
     rooms();
     tables_refused();
@@ -171,4 +200,5 @@ fn main() {
     read_over_a_write();
     arrays();
     two_array_sorts();
+    full();
 }
