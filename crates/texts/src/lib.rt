@@ -59,8 +59,8 @@ pub struct Readout {
 
 // A part of a text: from a place up to another.
 pub struct Part {
-    from: usize,
-    to: usize,
+    pub from: usize,
+    pub to: usize,
 }
 
 // Reads a text into a table.

@@ -1,0 +1,59 @@
+-- The answer list first, then the operation. Assumes nothing.
+use mathlib.Core.Path.{_≡_, sym, ap, _∙_}
+use borrow.Author.Tests.{not-true, not-false}
+use Rattle.exports.proofs.Told.{three-length, is-told, is-refused}
+use Rattle.exports.specs.Answers.{flatNumber, flatWords}
+use borrow.Author.Needs.{needs}
+use Rattle.exports.proofs.gofeshan_flatten.Statement.{statement}
+use Rattle.exports.proofs.gofeshan_flatten.Tie as tie
+use Rattle.exports.proofs.gofeshan_flatten.Reads as reads
+use Rattle.exports.proofs.gofeshan_flatten.Lts as lts
+use Rattle.exports.proofs.take.Reads as take-reads
+use Rattle.exports.proofs.tell_flat.Reads as tell-flat-reads
+use Rattle.flattening.proofs.flatten.Reads as flatten-reads
+use Rattle.tables.proofs.records.clear.Reads as clear-reads
+
+take-requires : tie.Need-take-requires
+take-requires c κs = search needs
+
+clear-requires : tie.Need-clear-requires
+clear-requires c κs = search needs
+
+same-length : tie.Need-same-length
+same-length c = search needs
+
+same-length-2 : tie.Need-same-length-2
+same-length-2 c = search needs
+
+returns : tie.Need-returns
+returns c = let h = sym (c .before .before .before .before .before .before .before .take .ensures .0) ∙ not-true _ (c .before .before .before .before .if1 .taken) in (is-refused _ _ h, (c .before .before .before .before .before .before .before .take .ensures .1 ∙ is-refused _ _ h, c .before .before .clear .ensures ∙ is-refused _ _ h))
+
+flatten-requires : tie.Need-flatten-requires
+flatten-requires c κs = search needs
+
+tell-flat-requires : tie.Need-tell-flat-requires
+tell-flat-requires c κs = three-length (c .before .before .before .before .before .before .before .before .before .before .before .before .before .args .answer .now) (c .before .before .before .before .before .before .before .before .take .last .0) (sym (c .before .before .before .before .before .before .before .before .take .ensures .0) ∙ not-false _ (c .before .before .before .before .before .if1 .left)) (c .before .before .before .before .before .before .before .before .take .ensures .1)
+
+same-length-3 : tie.Need-same-length-3
+same-length-3 c = search needs
+
+same-length-4 : tie.Need-same-length-4
+same-length-4 c = search needs
+
+returns-2 : tie.Need-returns-2
+returns-2 c = let h = sym (c .before .before .before .before .before .before .before .before .before .before .before .take .ensures .0) ∙ not-false _ (c .before .before .before .before .before .before .before .before .if1 .left) in (c .before .before .tell-flat .ensures .0 ∙ (ap flatNumber (c .before .before .before .before .before .before .flatten .ensures .0) ∙ is-told _ _ h), (c .before .before .tell-flat .ensures .1 ∙ (ap flatWords (c .before .before .before .before .before .before .flatten .ensures .0) ∙ is-told _ _ h), c .before .before .before .before .before .before .flatten .ensures .1 ∙ is-told _ _ h))
+
+pub gofeshan-flatten-spec : {M : Type 1} → statement M
+gofeshan-flatten-spec =
+    tie.close
+    (tie.spec
+    take-requires
+    clear-requires
+    same-length
+    same-length-2
+    returns
+    flatten-requires
+    tell-flat-requires
+    same-length-3
+    same-length-4
+    returns-2)

@@ -1,0 +1,60 @@
+-- The answer list first, then reading. Assumes nothing.
+use mathlib.Core.Path.{_≡_, sym, ap, _∙_}
+use borrow.Author.Tests.{not-true, not-false}
+use Rattle.exports.specs.Answers.{readNumber, readWords}
+use Rattle.exports.proofs.Told.{three-length, is-told, is-refused}
+use borrow.Author.Needs.{needs}
+use Rattle.exports.proofs.gofeshan_read.Statement.{statement}
+use Rattle.exports.proofs.gofeshan_read.Tie as tie
+use Rattle.exports.proofs.gofeshan_read.Reads as reads
+use Rattle.exports.proofs.gofeshan_read.Lts as lts
+use Rattle.exports.proofs.take.Reads as take-reads
+use Rattle.exports.proofs.tell_read.Reads as tell-read-reads
+use Rattle.tables.proofs.records.clear.Reads as clear-reads
+use Rattle.texts.proofs.read.Reads as read-reads
+
+take-requires : tie.Need-take-requires
+take-requires c κs = search needs
+
+clear-requires : tie.Need-clear-requires
+clear-requires c κs = search needs
+
+same-length : tie.Need-same-length
+same-length c = search needs
+
+same-length-2 : tie.Need-same-length-2
+same-length-2 c = search needs
+
+returns : tie.Need-returns
+returns c = let h = sym (c .before .before .before .before .before .before .before .take .ensures .0) ∙ not-true _ (c .before .before .before .before .if1 .taken) in (is-refused _ _ h, (c .before .before .before .before .before .before .before .take .ensures .1 ∙ is-refused _ _ h, c .before .before .clear .ensures ∙ is-refused _ _ h))
+
+read-requires : tie.Need-read-requires
+read-requires c κs = search needs
+
+tell-read-requires : tie.Need-tell-read-requires
+tell-read-requires c κs = three-length (c .before .before .before .before .before .before .before .before .before .before .before .before .before .args .answer .now) (c .before .before .before .before .before .before .before .before .take .last .0) (sym (c .before .before .before .before .before .before .before .before .take .ensures .0) ∙ not-false _ (c .before .before .before .before .before .if1 .left)) (c .before .before .before .before .before .before .before .before .take .ensures .1)
+
+same-length-3 : tie.Need-same-length-3
+same-length-3 c = search needs
+
+same-length-4 : tie.Need-same-length-4
+same-length-4 c = search needs
+
+returns-2 : tie.Need-returns-2
+returns-2 c = let h = sym (c .before .before .before .before .before .before .before .before .before .before .before .take .ensures .0) ∙ not-false _ (c .before .before .before .before .before .before .before .before .if1 .left) in
+    (c .before .before .tell-read .ensures .0 ∙ (ap readNumber (c .before .before .before .before .before .before .read .ensures .0) ∙ is-told _ _ h), (c .before .before .tell-read .ensures .1 ∙ (ap readWords (c .before .before .before .before .before .before .read .ensures .0) ∙ is-told _ _ h), c .before .before .before .before .before .before .read .ensures .1 ∙ is-told _ _ h))
+
+pub gofeshan-read-spec : {M : Type 1} → statement M
+gofeshan-read-spec =
+    tie.close
+    (tie.spec
+    take-requires
+    clear-requires
+    same-length
+    same-length-2
+    returns
+    read-requires
+    tell-read-requires
+    same-length-3
+    same-length-4
+    returns-2)

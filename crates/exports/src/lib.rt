@@ -1,0 +1,270 @@
+// The C interface: each function returns a refusal's number, 0 when done, and writes its further values to `answer`, a list of three words. A list of another length is refused by 1.
+use circuits::Ran;
+use flattening::Flattened;
+use programs::Translated;
+use tables::check;
+use tables::records;
+use texts::ReadOutcome;
+use texts::WriteOutcome;
+use texts::naming;
+ghost use mathlib.Core.Path.{_≡_};
+ghost use mathlib.Core.Bool.{true, false};
+ghost use mathlib.Core.List.{[], _∷_};
+ghost use lib.ListN.{length};
+ghost use Rattle.texts.specs.Reading.{readText, answerOf, tableOf};
+ghost use Rattle.texts.specs.Writing.{writeTable, writeAnswer, bufferOf};
+ghost use Rattle.circuits.specs.Answers.{ran, signalsLeft};
+ghost use Rattle.programs.specs.Answers.{translated, targetLeft as programLeft};
+ghost use Rattle.flattening.specs.Answers.{flattened, targetLeft as flatLeft};
+ghost use Rattle.exports.specs.Answers.{three, given, zeros, Named, readNumber, readWords, writeNumber, writeWords, flatNumber, flatWords, programNumber, programWords, runNumber, runWords};
+
+// Whether a list is an answer list; all its words are then 0.
+fn take(answer: &mut [u64]) -> bool
+    ensures { λ r. ⌜ (r ≡ three (now (answer .entry))) × (now (answer .exit) ≡ zeros (now (answer .entry))) ⌝ }
+{
+    records::clear(answer);
+    answer.len() == 3
+}
+
+// The words of an answer list.
+fn tell(answer: &mut [u64], a: u64, b: u64, c: u64)
+    requires { ⌜ length (now answer) ≡ 3 ⌝ }
+    ensures { λ _. ⌜ now (answer .exit) ≡ a ∷ b ∷ c ∷ [] ⌝ }
+{
+    answer[0] = a;
+    answer[1] = b;
+    answer[2] = c;
+}
+
+// What reading tells.
+fn tell_read(r: ReadOutcome, answer: &mut [u64]) -> u64
+    requires { ⌜ length (now answer) ≡ 3 ⌝ }
+    ensures { λ n. ⌜ (n ≡ readNumber r) × (now (answer .exit) ≡ readWords r) ⌝ }
+{
+    match r {
+        ReadOutcome::Done(n) => {
+            tell(answer, n as u64, 0, 0);
+            0
+        }
+        ReadOutcome::Refused(c, l) => {
+            tell(answer, l as u64, 0, 0);
+            tables::number(c)
+        }
+    }
+}
+
+// What writing tells.
+fn tell_write(r: WriteOutcome, answer: &mut [u64]) -> u64
+    requires { ⌜ length (now answer) ≡ 3 ⌝ }
+    ensures { λ n. ⌜ (n ≡ writeNumber r) × (now (answer .exit) ≡ writeWords r) ⌝ }
+{
+    match r {
+        WriteOutcome::Done(n) => {
+            tell(answer, n as u64, 0, 0);
+            0
+        }
+        WriteOutcome::Refused(c) => {
+            tell(answer, 0, 0, 0);
+            tables::number(c)
+        }
+    }
+}
+
+// What flattening tells.
+fn tell_flat(r: Flattened, answer: &mut [u64]) -> u64
+    requires { ⌜ length (now answer) ≡ 3 ⌝ }
+    ensures { λ n. ⌜ (n ≡ flatNumber r) × (now (answer .exit) ≡ flatWords r) ⌝ }
+{
+    match r {
+        Flattened::Done(n) => {
+            tell(answer, n as u64, 0, 0);
+            0
+        }
+        Flattened::Refused(c) => {
+            tell(answer, 0, 0, 0);
+            tables::number(c)
+        }
+    }
+}
+
+// What translating tells.
+fn tell_program(r: Translated, answer: &mut [u64]) -> u64
+    requires { ⌜ length (now answer) ≡ 3 ⌝ }
+    ensures { λ n. ⌜ (n ≡ programNumber r) × (now (answer .exit) ≡ programWords r) ⌝ }
+{
+    match r {
+        Translated::Done(n) => {
+            tell(answer, n as u64, 0, 0);
+            0
+        }
+        Translated::Refused(c) => {
+            tell(answer, 0, 0, 0);
+            tables::number(c)
+        }
+    }
+}
+
+// What a run tells.
+fn tell_run(r: Ran, answer: &mut [u64]) -> u64
+    requires { ⌜ length (now answer) ≡ 3 ⌝ }
+    ensures { λ n. ⌜ (n ≡ runNumber r) × (now (answer .exit) ≡ runWords r) ⌝ }
+{
+    match r {
+        Ran::Nothing => {
+            tell(answer, 0, 0, 0);
+            0
+        }
+        Ran::Bad(step, place) => {
+            tell(answer, 1, step as u64, place as u64);
+            0
+        }
+        Ran::Refused(c) => {
+            tell(answer, 0, 0, 0);
+            tables::number(c)
+        }
+    }
+}
+
+// Reads a text into a table. The answer's first word is the number of records, or the text line of a refusal.
+#[no_mangle]
+pub extern "C" fn gofeshan_read(text: &[u8], table: &mut [u64], answer: &mut [u64]) -> u64
+    ensures { λ n. ⌜ n ≡ given (three (now (answer .entry))) (readNumber (answerOf (readText (length (now (table .entry))) (now (text .entry))))) 1 ⌝ }
+    ensures { λ _. ⌜ now (answer .exit) ≡ given (three (now (answer .entry))) (readWords (answerOf (readText (length (now (table .entry))) (now (text .entry))))) (zeros (now (answer .entry))) ⌝ }
+    ensures { λ _. ⌜ now (table .exit) ≡ given (three (now (answer .entry))) (tableOf (length (now (table .entry))) (readText (length (now (table .entry))) (now (text .entry)))) (zeros (now (table .entry))) ⌝ }
+{
+    if !take(answer) {
+        records::clear(table);
+        return 1;
+    }
+    let r = texts::read(text, table);
+    tell_read(r, answer)
+}
+
+// Writes the first `count` records of a table as text. The answer's first word is the number of bytes.
+#[no_mangle]
+pub extern "C" fn gofeshan_write(
+    table: &[u64],
+    count: usize,
+    text: &mut [u8],
+    answer: &mut [u64],
+) -> u64
+    ensures { λ n. ⌜ n ≡ given (three (now (answer .entry))) (writeNumber (writeAnswer (writeTable (now (table .entry)) count (length (now (text .entry)))))) 1 ⌝ }
+    ensures { λ _. ⌜ now (answer .exit) ≡ given (three (now (answer .entry))) (writeWords (writeAnswer (writeTable (now (table .entry)) count (length (now (text .entry)))))) (zeros (now (answer .entry))) ⌝ }
+    ensures { λ _. ⌜ now (text .exit) ≡ given (three (now (answer .entry))) (bufferOf (length (now (text .entry))) (writeTable (now (table .entry)) count (length (now (text .entry))))) (zeros (now (text .entry))) ⌝ }
+{
+    if !take(answer) {
+        check::clear(text);
+        return 1;
+    }
+    let r = texts::write(table, count, text);
+    tell_write(r, answer)
+}
+
+// Flattens a circuit. The answer's first word is the number of records in the target.
+#[no_mangle]
+pub extern "C" fn gofeshan_flatten(
+    table: &[u64],
+    count: usize,
+    target: &mut [u64],
+    answer: &mut [u64],
+) -> u64
+    ensures { λ n. ⌜ n ≡ given (three (now (answer .entry))) (flatNumber (flattened (now (table .entry)) count (length (now (target .entry))))) 1 ⌝ }
+    ensures { λ _. ⌜ now (answer .exit) ≡ given (three (now (answer .entry))) (flatWords (flattened (now (table .entry)) count (length (now (target .entry))))) (zeros (now (answer .entry))) ⌝ }
+    ensures { λ _. ⌜ now (target .exit) ≡ given (three (now (answer .entry))) (flatLeft (now (table .entry)) count (length (now (target .entry)))) (zeros (now (target .entry))) ⌝ }
+{
+    if !take(answer) {
+        records::clear(target);
+        return 1;
+    }
+    let r = flattening::flatten(table, count, target);
+    tell_flat(r, answer)
+}
+
+// Translates a flat circuit into a program. The answer's first word is the number of records in the target.
+#[no_mangle]
+pub extern "C" fn gofeshan_translate(
+    table: &[u64],
+    count: usize,
+    target: &mut [u64],
+    answer: &mut [u64],
+) -> u64
+    ensures { λ n. ⌜ n ≡ given (three (now (answer .entry))) (programNumber (translated (now (table .entry)) count (length (now (target .entry))))) 1 ⌝ }
+    ensures { λ _. ⌜ now (answer .exit) ≡ given (three (now (answer .entry))) (programWords (translated (now (table .entry)) count (length (now (target .entry))))) (zeros (now (answer .entry))) ⌝ }
+    ensures { λ _. ⌜ now (target .exit) ≡ given (three (now (answer .entry))) (programLeft (now (table .entry)) count (length (now (target .entry)))) (zeros (now (target .entry))) ⌝ }
+{
+    if !take(answer) {
+        records::clear(target);
+        return 1;
+    }
+    let r = programs::translate(table, count, target);
+    tell_program(r, answer)
+}
+
+// Runs a circuit. The answer is 1, the step and the place of the first counted bad, or three zeros.
+#[no_mangle]
+pub extern "C" fn gofeshan_run_circuit(
+    table: &[u64],
+    count: usize,
+    steps: usize,
+    starts: &[u64],
+    inputs: &[u64],
+    signals: &mut [u8],
+    work: &mut [u64],
+    answer: &mut [u64],
+) -> u64
+    ensures { λ n. ⌜ n ≡ given (three (now (answer .entry))) (runNumber (ran false (now (table .entry)) count steps (now (starts .entry)) (now (inputs .entry)) (length (now (signals .entry))) (length (now (work .entry))))) 1 ⌝ }
+    ensures { λ _. ⌜ now (answer .exit) ≡ given (three (now (answer .entry))) (runWords (ran false (now (table .entry)) count steps (now (starts .entry)) (now (inputs .entry)) (length (now (signals .entry))) (length (now (work .entry))))) (zeros (now (answer .entry))) ⌝ }
+    ensures { λ _. ⌜ now (signals .exit) ≡ given (three (now (answer .entry))) (signalsLeft false (now (table .entry)) count steps (now (starts .entry)) (now (inputs .entry)) (length (now (signals .entry))) (length (now (work .entry)))) (zeros (now (signals .entry))) ⌝ }
+    ensures { λ _. ⌜ now (work .exit) ≡ zeros (now (work .entry)) ⌝ }
+{
+    if !take(answer) {
+        check::clear(signals);
+        records::clear(work);
+        return 1;
+    }
+    let r = circuits::run::run_circuit(table, count, steps, starts, inputs, signals, work);
+    tell_run(r, answer)
+}
+
+// Runs a program. The answer is 1, the step and the place of the first counted bad, or three zeros.
+#[no_mangle]
+pub extern "C" fn gofeshan_run_program(
+    table: &[u64],
+    count: usize,
+    steps: usize,
+    starts: &[u64],
+    inputs: &[u64],
+    signals: &mut [u8],
+    work: &mut [u64],
+    answer: &mut [u64],
+) -> u64
+    ensures { λ n. ⌜ n ≡ given (three (now (answer .entry))) (runNumber (ran true (now (table .entry)) count steps (now (starts .entry)) (now (inputs .entry)) (length (now (signals .entry))) (length (now (work .entry))))) 1 ⌝ }
+    ensures { λ _. ⌜ now (answer .exit) ≡ given (three (now (answer .entry))) (runWords (ran true (now (table .entry)) count steps (now (starts .entry)) (now (inputs .entry)) (length (now (signals .entry))) (length (now (work .entry))))) (zeros (now (answer .entry))) ⌝ }
+    ensures { λ _. ⌜ now (signals .exit) ≡ given (three (now (answer .entry))) (signalsLeft true (now (table .entry)) count steps (now (starts .entry)) (now (inputs .entry)) (length (now (signals .entry))) (length (now (work .entry)))) (zeros (now (signals .entry))) ⌝ }
+    ensures { λ _. ⌜ now (work .exit) ≡ zeros (now (work .entry)) ⌝ }
+{
+    if !take(answer) {
+        check::clear(signals);
+        records::clear(work);
+        return 1;
+    }
+    let r = programs::run_program(table, count, steps, starts, inputs, signals, work);
+    tell_run(r, answer)
+}
+
+// The name of the first line whose id is the given number: where it starts in the text, and its length; the length is 0 where it has none.
+#[no_mangle]
+pub extern "C" fn gofeshan_name(text: &[u8], id: u64, answer: &mut [u64]) -> u64
+    ensures { λ n. ⌜ n ≡ given (three (now (answer .entry))) 0 1 ⌝ }
+    ensures { λ _. ⌜ (three (now (answer .entry)) ≡ true → Named (now (text .entry)) id (now (answer .exit))) ⌝ }
+    ensures { λ _. ⌜ (three (now (answer .entry)) ≡ false → now (answer .exit) ≡ zeros (now (answer .entry))) ⌝ }
+{
+    if !take(answer) {
+        return 1;
+    }
+    let p = naming::find(text, id);
+    let from = p.from;
+    let to = p.to;
+    tell(answer, from as u64, (to - from) as u64, 0);
+    0
+}
