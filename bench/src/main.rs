@@ -1,0 +1,409 @@
+//! The proved library against plain Rust: `bash bench/run` in the repository's root.
+//!
+//! Reading, writing, flattening and translating are compared with the independent implementation of rust/tests, runs
+//! with the two interpreters of this crate. Each is measured at three sizes; the time is the least of many calls, the
+//! sides taking turns. `bench profile OPERATION` calls one proved operation at its largest size and measures nothing;
+//! `bench/profile` runs that under callgrind.
+#![allow(dead_code, unused_imports)]
+
+mod clock;
+#[cfg(all(
+    feature = "read",
+    feature = "flatten",
+    feature = "translate",
+    feature = "run_circuit",
+    feature = "run_program"
+))]
+mod designs;
+#[path = "../../rust/tests/generator/mod.rs"]
+mod generator;
+#[path = "../../rust/tests/independent/mod.rs"]
+mod independent;
+mod interpreter;
+
+use generator::Random;
+use gofeshan::interface as proved;
+use independent::rules::{check_table, Lines};
+use independent::Record;
+use std::time::{Duration, Instant};
+
+/// Whether nothing is measured, and the proved operations alone are called.
+fn profiled() -> bool {
+    std::env::args().nth(1).is_some_and(|word| word == "profile")
+}
+
+/// The least time of a call of each of some functions, in turns, for some time. The first is the proved operation.
+fn measure<const N: usize>(mut calls: [&mut dyn FnMut(); N]) -> [f64; N] {
+    if profiled() {
+        (0..3).for_each(|_| calls[0]());
+        calls[1..].iter_mut().for_each(|call| call());
+        return [1.0; N];
+    }
+    let (mut least, began) = ([f64::MAX; N], Instant::now());
+    let mut rounds = 0;
+    while rounds < 5 || began.elapsed() < Duration::from_millis(1500) {
+        for (call, time) in calls.iter_mut().zip(&mut least) {
+            let began = clock::thread();
+            call();
+            *time = time.min(clock::thread() - began);
+        }
+        rounds += 1;
+    }
+    least
+}
+
+/// The sizes to measure; to profile, the last alone.
+fn sizes<T>(all: &[T]) -> &[T] {
+    if profiled() {
+        &all[all.len() - 1..]
+    } else {
+        all
+    }
+}
+
+/// Prints the rows of an operation and how its time grows.
+struct Table {
+    /// The units and the first two times of the row above.
+    last: Option<(f64, f64, f64)>,
+}
+
+impl Table {
+    fn new() -> Table {
+        Table { last: None }
+    }
+
+    /// `units` says how large the work is; the times are of the proved operation, the plain one, and for runs of the
+    /// interpreter of the same shape.
+    fn row(&mut self, operation: &str, size: &str, units: f64, unit: &str, times: &[f64]) {
+        let (proved, plain) = (times[0], times[1]);
+        let growth = |now: f64, last: fn((f64, f64, f64)) -> f64| match self.last {
+            Some(row) => format!("{:.2}", now / last(row) / (units / row.0)),
+            None => "-".to_string(),
+        };
+        let (shape, shape_ratio) = match times.get(2) {
+            Some(shape) => (format!("{:.1}", shape * 1e6), format!("{:.2}", proved / shape)),
+            None => ("-".to_string(), "-".to_string()),
+        };
+        println!(
+            "{operation:<12} {size:<34} {:>10.1} {:>10.1} {:>6.2} {shape:>10} {shape_ratio:>6} {:>9.2} ns/{unit:<11} {:>6} {:>6}",
+            proved * 1e6,
+            plain * 1e6,
+            proved / plain,
+            proved * 1e9 / units,
+            growth(proved, |row| row.1),
+            growth(plain, |row| row.2)
+        );
+        self.last = Some((units, proved, plain));
+    }
+}
+
+/// A circuit of about so many lines, in linear time: some sorts, inputs and states, then lines of every kind.
+fn circuit(lines: usize, arrays: Option<u64>) -> Lines {
+    let mut random = Random::new(lines as u64);
+    let mut all = Lines::default();
+    let widths = [1u64, 8, 32, 64];
+    fn add(all: &mut Lines, r: Record) -> u64 {
+        assert!(all.classes_fit(&r) && all.widths_fit(&r) && all.states_fit(&r), "{r:?}");
+        all.add(r);
+        all.lines.len() as u64
+    }
+    let sorts: Vec<u64> = widths.iter().map(|&w| add(&mut all, [1, 0, w, 0, 0])).collect();
+    let mut words: Vec<Vec<u64>> = vec![vec![]; 4];
+    let mut states: Vec<(usize, u64)> = vec![];
+    for (i, &sort) in sorts.iter().enumerate() {
+        for _ in 0..3 {
+            words[i].push(add(&mut all, [4, sort, 0, 0, 0]));
+            let state = add(&mut all, [5, sort, 0, 0, 0]);
+            words[i].push(state);
+            states.push((i, state));
+        }
+    }
+    // An array sort of 32-bit elements.
+    let memory = arrays.map(|index| {
+        let index_sort = add(&mut all, [1, 0, index, 0, 0]);
+        let sort = add(&mut all, [2, 0, index_sort, sorts[2], 0]);
+        let memory = add(&mut all, [5, sort, 0, 0, 0]);
+        (index, index_sort, sort, memory)
+    });
+    let mut memories: Vec<u64> = memory.iter().map(|m| m.3).collect();
+    let recent = |random: &mut Random, from: &[u64]| from[from.len() - 1 - random.below(from.len().min(40))];
+    while all.lines.len() + 30 < lines {
+        let i = random.below(4);
+        let (a, b) = (recent(&mut random, &words[i]), recent(&mut random, &words[i]));
+        let (bit, middle) = (recent(&mut random, &words[0]), recent(&mut random, &words[2]));
+        if let (Some((index, index_sort, sort, _)), true) = (memory, random.one_in(4)) {
+            let address = add(&mut all, [18, index_sort, recent(&mut random, &words[1]), index - 1, 0]);
+            let array = recent(&mut random, &memories);
+            if random.one_in(2) {
+                words[2].push(add(&mut all, [54, sorts[2], array, address, 0]));
+            } else {
+                let value = recent(&mut random, &words[2]);
+                memories.push(add(&mut all, [55, sort, array, address, value]));
+            }
+            continue;
+        }
+        match random.below(12) {
+            0 => words[i].push(add(&mut all, [11 + random.next() % 4, sorts[i], a, 0, 0])),
+            1 => words[0].push(add(&mut all, [15 + random.next() % 3, sorts[0], a, 0, 0])),
+            2 => words[1].push(add(&mut all, [18, sorts[1], middle, 15, 8])),
+            3 => words[3].push(add(&mut all, [19 + random.next() % 2, sorts[3], middle, 32, 0])),
+            4 => words[0].push(add(&mut all, [21 + random.next() % 10, sorts[0], a, b, 0])),
+            5 => words[i].push(add(&mut all, [53, sorts[i], bit, a, b])),
+            6 => words[i].push(add(&mut all, [39 + random.next() % 3, sorts[i], a, b, 0])),
+            7 => words[i].push(add(&mut all, [47 + random.next() % 5, sorts[i], a, b, 0])),
+            8 => {
+                let low = recent(&mut random, &words[2]);
+                words[3].push(add(&mut all, [52, sorts[3], middle, low, 0]));
+            }
+            9 if random.one_in(3) => words[i].push(add(&mut all, [42 + random.next() % 5, sorts[i], a, b, 0])),
+            _ => words[i].push(add(&mut all, [33 + random.next() % 6, sorts[i], a, b, 0])),
+        }
+    }
+    for (i, state) in states {
+        let value = recent(&mut random, &words[i]);
+        add(&mut all, [7, sorts[i], state, value, 0]);
+    }
+    if let Some((_, _, sort, state)) = memory {
+        add(&mut all, [7, sort, state, *memories.last().unwrap(), 0]);
+    }
+    for _ in 0..4 {
+        let bit = recent(&mut random, &words[0]);
+        add(&mut all, [8, 0, bit, 0, 0]);
+    }
+    all
+}
+
+fn read_rows() {
+    #[cfg(feature = "read")]
+    {
+        let mut table = Table::new();
+        for &lines in sizes(&[80, 500, 2900]) {
+            let c = circuit(lines, Some(3));
+            let text = independent::texts::print(&c.records);
+            let (mut a, mut b) = (vec![1; 5 * c.records.len()], vec![2; 5 * c.records.len()]);
+            let (mut x, mut y) = ([1; 3], [2; 3]);
+            let times = measure([&mut || assert_eq!(proved::read(&text, &mut a, &mut x), 0), &mut || {
+                assert_eq!(independent::read(&text, &mut b, &mut y), 0)
+            }]);
+            assert!(a == b && x == y);
+            let size = format!("{} bytes, {} lines", text.len(), c.records.len());
+            table.row("reading", &size, text.len() as f64, "byte", &times);
+        }
+    }
+}
+
+fn write_rows() {
+    #[cfg(feature = "write")]
+    {
+        let mut table = Table::new();
+        for &lines in sizes(&[250, 2000, 16_000]) {
+            let c = circuit(lines, Some(3));
+            let (words, n) = (c.records.concat(), c.records.len());
+            let length = independent::texts::print(&c.records).len();
+            let (mut a, mut b) = (vec![1; length], vec![2; length]);
+            let (mut x, mut y) = ([1; 3], [2; 3]);
+            let times = measure([&mut || assert_eq!(proved::write(&words, n, &mut a, &mut x), 0), &mut || {
+                assert_eq!(independent::write(&words, n, &mut b, &mut y), 0)
+            }]);
+            assert!(a == b && x == y);
+            table.row("writing", &format!("{n} records, {length} bytes"), n as f64, "record", &times);
+        }
+    }
+}
+
+fn flatten_rows() {
+    #[cfg(feature = "flatten")]
+    {
+        let mut table = Table::new();
+        for &lines in sizes(&[90, 600, 4000]) {
+            let c = circuit(lines, Some(3));
+            let (words, n) = (c.records.concat(), c.records.len());
+            let flat = independent::flattening::flat_records(&c, independent::MOST_RECORDS).unwrap().len();
+            let (mut a, mut b) = (vec![1; 5 * flat], vec![2; 5 * flat]);
+            let (mut x, mut y) = ([1; 3], [2; 3]);
+            let times = measure([&mut || assert_eq!(proved::flatten(&words, n, &mut a, &mut x), 0), &mut || {
+                assert_eq!(independent::flatten(&words, n, &mut b, &mut y), 0)
+            }]);
+            assert!(a == b && x == y);
+            table.row("flattening", &format!("{n} records to {flat}"), flat as f64, "record", &times);
+        }
+    }
+}
+
+fn translate_rows() {
+    #[cfg(feature = "translate")]
+    {
+        let mut table = Table::new();
+        for &lines in sizes(&[200, 1500, 11_000]) {
+            let c = circuit(lines, None);
+            let (words, n) = (c.records.concat(), c.records.len());
+            let program = independent::translating::program_records(&c).len();
+            let (mut a, mut b) = (vec![1; 5 * program], vec![2; 5 * program]);
+            let (mut x, mut y) = ([1; 3], [2; 3]);
+            let times = measure([&mut || assert_eq!(proved::translate(&words, n, &mut a, &mut x), 0), &mut || {
+                assert_eq!(independent::translate(&words, n, &mut b, &mut y), 0)
+            }]);
+            assert!(a == b && x == y);
+            table.row("translating", &format!("{n} records to {program}"), program as f64, "record", &times);
+        }
+    }
+}
+
+#[cfg(any(feature = "run_circuit", feature = "run_program"))]
+type Running = fn(&[u64], usize, usize, &[u64], &[u64], &mut [u8], &mut [u64], &mut [u64]) -> u64;
+
+#[cfg(any(feature = "run_circuit", feature = "run_program"))]
+fn run_row(rows: &mut Table, operation: &str, run: Running, program: bool, lines: &Lines, steps: usize) {
+    let mut random = Random::new(3);
+    let (table, n) = (lines.records.concat(), lines.records.len());
+    let (starts, inputs) = (random.words(lines.state_cells()), random.words(steps * lines.inputs()));
+    let length = steps * lines.signals();
+    let (mut a, mut b, mut c) = (vec![1; length], vec![2; length], vec![3; length]);
+    let (mut x, mut y, mut z, mut work) = ([1; 3], [2; 3], [3; 3], vec![3; lines.work()]);
+    let times = measure([
+        &mut || assert_eq!(run(&table, n, steps, &starts, &inputs, &mut a, &mut work, &mut x), 0),
+        &mut || {
+            let told = interpreter::run_table::<true>(program, &table, n, steps, &starts, &inputs, &mut b, &mut y);
+            assert_eq!(told, 0)
+        },
+        &mut || {
+            let told = interpreter::run_table::<false>(program, &table, n, steps, &starts, &inputs, &mut c, &mut z);
+            assert_eq!(told, 0)
+        },
+    ]);
+    assert!(a == b && x == y && a == c && x == z, "a plain interpreter disagrees");
+    let size = format!("{n} records, {} cells, {steps} steps", lines.work());
+    rows.row(operation, &size, (n * steps) as f64, "record·step", &times);
+}
+
+/// Records and steps: more records, then more steps.
+const RUNS: [(usize, usize); 4] = [(100, 4000), (1000, 400), (10_000, 40), (10_000, 400)];
+
+/// A circuit of additions alone.
+fn adds(lines: usize) -> Lines {
+    let mut random = Random::new(lines as u64);
+    let mut all = Lines::default();
+    all.add([1, 0, 32, 0, 0]);
+    (0..4).for_each(|_| all.add([4, 1, 0, 0, 0]));
+    while all.lines.len() + 2 < lines {
+        let n = all.lines.len();
+        let mut operand = || (n - random.below(n.min(40) - 1)) as u64;
+        let (a, b) = (operand(), operand());
+        all.add([39, 1, a, b, 0]);
+    }
+    let last = all.lines.len() as u64;
+    all.add([1, 0, 1, 0, 0]);
+    all.add([17, last + 1, last, 0, 0]);
+    all.add([8, 0, last + 2, 0, 0]);
+    all
+}
+
+fn circuit_rows() {
+    #[cfg(feature = "run_circuit")]
+    {
+        let mut table = Table::new();
+        for &(lines, steps) in sizes(&RUNS) {
+            run_row(&mut table, "adds alone", proved::run_circuit, false, &adds(lines), steps);
+        }
+    }
+    #[cfg(feature = "run_circuit")]
+    for (name, arrays) in [("circuits", None), ("with arrays", Some(3))] {
+        let mut table = Table::new();
+        for &(lines, steps) in sizes(&RUNS) {
+            run_row(&mut table, name, proved::run_circuit, false, &circuit(lines, arrays), steps);
+        }
+    }
+}
+
+fn program_rows() {
+    #[cfg(feature = "run_program")]
+    {
+        let mut table = Table::new();
+        for &(lines, steps) in sizes(&RUNS) {
+            let program = independent::translating::program_records(&circuit(lines, None));
+            let lines = independent::rules::check_program(&program.concat(), program.len()).unwrap();
+            run_row(&mut table, "programs", proved::run_program, true, &lines, steps);
+        }
+    }
+}
+
+/// Inputs that could take long: each has to end within 10 ms.
+fn edges() {
+    #[cfg(feature = "read")]
+    {
+        let mut shortest = b"1 sort bitvec 1\n2 input 1\n".to_vec();
+        let mut id = 3;
+        while shortest.len() + 11 <= 65_536 {
+            shortest.extend(format!("{id} bad 2\n").bytes());
+            id += 1;
+        }
+        let lines = format!("reading {} shortest lines", id - 1);
+        let texts: [(&str, Vec<u8>); 6] = [
+            ("reading 65,536 semicolons", vec![b';'; 65_536]),
+            ("reading 65,536 spaces", vec![b' '; 65_536]),
+            ("reading 65,536 LFs", vec![b'\n'; 65_536]),
+            ("reading one token of 65,536 digits", vec![b'1'; 65_536]),
+            ("reading a number of 65,520 digits", [b"1 sort bitvec ".to_vec(), vec![b'1'; 65_520]].concat()),
+            (&lines, shortest),
+        ];
+        let mut table = vec![1; 5 * independent::MOST_RECORDS];
+        for (name, text) in texts {
+            let began = Instant::now();
+            let number = proved::read(&text, &mut table, &mut [0; 3]);
+            println!("{name:<40} {:>8.3} ms, answer {number}", began.elapsed().as_secs_f64() * 1e3);
+        }
+    }
+    #[cfg(feature = "peek")]
+    {
+        let mut table = vec![1, 0, 64, 0, 0, 4, 1, 0, 0, 0];
+        (2..64).for_each(|i| table.extend([39, 1, i, i, 0]));
+        let began = Instant::now();
+        let number = proved::peek(&table, 64, 64, 0, &[], &[1], &mut [0; 3]);
+        println!(
+            "{:<40} {:>8.3} ms, answer {number}",
+            "peek on 64 doubling lines",
+            began.elapsed().as_secs_f64() * 1e3
+        );
+    }
+}
+
+fn main() {
+    println!("Times are processor time in microseconds, the least of many calls, release builds, one thread, one machine, in turns.");
+    println!("Every operation clears what is lent for writing first, on both sides; that is part of the times.");
+    println!(
+        "Growth, of either side: the time against the row above, divided by the growth of the work; 1.00 is linear."
+    );
+    println!("Runs: `plain` decodes the lines once, `same shape` walks the records and looks up places and widths, as the proved run does.");
+    println!("Circuits of one kind of line (`adds alone`) stand beside those of all kinds, where branches are hard to foresee.\n");
+    println!(
+        "{:<12} {:<34} {:>10} {:>10} {:>6} {:>10} {:>6} {:>24} {:>6} {:>6}",
+        "operation", "size", "proved", "plain", "ratio", "same shape", "ratio", "proved per unit", "growth", "plain"
+    );
+    let rows: [(&str, fn()); 6] = [
+        ("read", read_rows),
+        ("write", write_rows),
+        ("flatten", flatten_rows),
+        ("translate", translate_rows),
+        ("run_circuit", circuit_rows),
+        ("run_program", program_rows),
+    ];
+    for (operation, rows) in rows {
+        if !profiled() || std::env::args().nth(2).is_some_and(|word| word == operation) {
+            rows();
+        }
+    }
+    if profiled() {
+        return;
+    }
+    println!();
+    #[cfg(all(
+        feature = "read",
+        feature = "flatten",
+        feature = "translate",
+        feature = "run_circuit",
+        feature = "run_program"
+    ))]
+    designs::rows();
+    println!();
+    edges();
+}

@@ -1,0 +1,73 @@
+/* Reads the circuit below, flattens it and prints the flat text; then runs it and its program.
+ *
+ *     rt staticlib exports
+ *     cc -O2 -Iinclude examples/c/example.c target/staticlib/libexports.a -o example && ./example
+ */
+#include "gofeshan.h"
+
+#include <stdio.h>
+#include <string.h>
+
+enum { RECORDS = 1000, WORDS = 5 * RECORDS, BYTES = 65536, STEPS = 3 };
+
+static uint64_t circuit[WORDS], flat[WORDS], program[WORDS], work[WORDS], answer[3];
+static uint8_t text[BYTES];
+
+static const char *example =
+    "1 sort bitvec 1\n"
+    "2 sort bitvec 3\n"
+    "3 sort array 1 2\n"
+    "4 state 3 cells\n"
+    "5 input 1\n"
+    "6 constd 2 5\n"
+    "7 write 3 4 5 6\n"
+    "8 next 3 4 7\n"
+    "9 read 2 4 5\n"
+    "10 eq 1 9 6\n"
+    "11 bad 10 five\n";
+
+static int refused(const char *operation, uint64_t number) {
+    if (number)
+        printf("%s: refused %llu %llu\n", operation, (unsigned long long)number, (unsigned long long)answer[0]);
+    return number != 0;
+}
+
+static void print_run(const char *of, const uint8_t *signals) {
+    printf("; %s: signals %d %d %d", of, signals[0], signals[1], signals[2]);
+    if (answer[0])
+        printf(", first counted bad: step %llu, place %llu\n", (unsigned long long)answer[1], (unsigned long long)answer[2]);
+    else
+        printf(", no counted bad\n");
+}
+
+int main(void) {
+    const uint8_t *source = (const uint8_t *)example;
+    size_t length = strlen(example);
+    if (refused("read", gofeshan_read(source, length, circuit, WORDS, answer, 3)))
+        return 1;
+    size_t count = answer[0];
+    if (refused("flatten", gofeshan_flatten(circuit, WORDS, count, flat, WORDS, answer, 3)))
+        return 1;
+    size_t flat_count = answer[0];
+    if (refused("write", gofeshan_write(flat, WORDS, flat_count, text, BYTES, answer, 3)))
+        return 1;
+    fwrite(text, 1, answer[0], stdout);
+    if (refused("translate", gofeshan_translate(flat, WORDS, flat_count, program, WORDS, answer, 3)))
+        return 1;
+    size_t program_count = answer[0];
+
+    /* Three steps: two state cells that start at 0, inputs 0 0 1. */
+    uint64_t starts[2] = {0, 0}, inputs[STEPS] = {0, 0, 1};
+    uint8_t signals[STEPS];
+    if (refused("run", gofeshan_run_circuit(circuit, WORDS, count, STEPS, starts, 2, inputs, STEPS, signals, STEPS, work, WORDS, answer, 3)))
+        return 1;
+    print_run("circuit", signals);
+    if (refused("run", gofeshan_run_program(program, WORDS, program_count, STEPS, starts, 2, inputs, STEPS, signals, STEPS, work, WORDS, answer, 3)))
+        return 1;
+    print_run("program", signals);
+
+    if (refused("name", gofeshan_name(source, length, 11, answer, 3)))
+        return 1;
+    printf("; the bad line's name: %.*s\n", (int)answer[1], example + answer[0]);
+    return 0;
+}

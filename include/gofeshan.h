@@ -1,0 +1,118 @@
+/* The C interface of Gofeshan, a proved tool for BTOR2 circuits with small memories.
+ *
+ * Link target/staticlib/libexports.a, which `rt staticlib exports` writes.
+ *
+ * A table is a list of records of five words each: kind, sort line, three
+ * operands; unused words are 0. A record's number is its place, from 1. At most
+ * 16,384 records count. A program is a list of records too: kind, width, three
+ * operands. A list whose length is no multiple of five is neither.
+ *
+ * A list is passed as a pointer and its length (in elements). Each function
+ * returns 0 when done, else the number of the first refusal that holds, in the
+ * order given with the function:
+ *
+ *    1  a list is no table, or `answer` has not three words
+ *    2  text above 65,536 bytes
+ *    3  id is not the next number
+ *    4  no record left
+ *    5  word unknown or missing
+ *    6  operand missing or malformed, or two extra tokens
+ *    7  number above 2^64 - 1, const above 64 or consth above 16 digits, or bitvec width not 1 to 64
+ *    8  operand is not an earlier line of the right class
+ *    9  sorts, widths, bounds or constant misfit
+ *   10  second init or next of a state, or the init rule
+ *   11  the count exceeds the table or 16,384, or a record breaks a rule
+ *   12  more records than the target or 16,384 holds
+ *   13  steps above 4,096
+ *   14  start words: not one for each state cell
+ *   15  input words: not one for each input and step
+ *   16  signal bytes: not one for each bad and constraint line and step
+ *   17  work area below one word for each cell of each value line plus each state cell
+ *   18  above 64 records, not a value line, or no such cell
+ *   19  a record of kind 2 is present
+ *   20  the count exceeds the program or 16,384, or a record breaks a rule for programs
+ *   21  text buffer too short
+ *
+ * Further values go to `answer`, a list of three words; words that are not used
+ * are 0. After a refusal, and past the end of a result, everything lent for
+ * writing is zero; a work area is zero after any call. What such a list held
+ * before makes no difference. Nothing is asked of the caller but that each
+ * pointer comes with its length, and that lists lent for writing share no words
+ * with other lists; a pointer may be anything but NULL where the length is 0.
+ *
+ * The functions keep their notes on the stack: call them with 8 MB of it.
+ */
+#ifndef GOFESHAN_H
+#define GOFESHAN_H
+
+#include <stddef.h>
+#include <stdint.h>
+
+#ifdef __cplusplus
+extern "C" {
+#endif
+
+/* Reads a BTOR2 text into a table. 1, 2; then line by line 3 to 10.
+ * answer[0]: the number of records; with 3 to 10 the text line, from 1. */
+uint64_t gofeshan_read(const uint8_t *text, size_t text_len,
+                       uint64_t *table, size_t table_len,
+                       uint64_t *answer, size_t answer_len);
+
+/* Writes the first `count` records as text. 1, 11, 21.
+ * answer[0]: the number of bytes. */
+uint64_t gofeshan_write(const uint64_t *table, size_t table_len, size_t count,
+                        uint8_t *text, size_t text_len,
+                        uint64_t *answer, size_t answer_len);
+
+/* Flattens a circuit: arrays become words, one for each cell. 1, 11, 12.
+ * answer[0]: the number of records in the target. */
+uint64_t gofeshan_flatten(const uint64_t *table, size_t table_len, size_t count,
+                          uint64_t *target, size_t target_len,
+                          uint64_t *answer, size_t answer_len);
+
+/* Translates a flat circuit into a program on 64-bit words. 1, 11, 19, 12.
+ * answer[0]: the number of records in the target. */
+uint64_t gofeshan_translate(const uint64_t *table, size_t table_len, size_t count,
+                            uint64_t *target, size_t target_len,
+                            uint64_t *answer, size_t answer_len);
+
+/* Runs a circuit. 1, 11, 13, 14, 15, 16, 17.
+ * starts:  a word for each state cell, in line order, cells rising; unused where there is an init.
+ * inputs:  a row for each step, a word for each input line.
+ * signals: gets a byte, 0 or 1, for each step and each bad and constraint line.
+ * work:    a word for each cell of each value line plus each state cell, or more.
+ * answer:  1, step, place of the first counted bad (the step from 0, the place among the bad lines from 1); else 0, 0, 0. */
+uint64_t gofeshan_run_circuit(const uint64_t *table, size_t table_len, size_t count, size_t steps,
+                              const uint64_t *starts, size_t starts_len,
+                              const uint64_t *inputs, size_t inputs_len,
+                              uint8_t *signals, size_t signals_len,
+                              uint64_t *work, size_t work_len,
+                              uint64_t *answer, size_t answer_len);
+
+/* Runs a program, as gofeshan_run_circuit runs a circuit. 1, 20, 13, 14, 15, 16, 17. */
+uint64_t gofeshan_run_program(const uint64_t *table, size_t table_len, size_t count, size_t steps,
+                              const uint64_t *starts, size_t starts_len,
+                              const uint64_t *inputs, size_t inputs_len,
+                              uint8_t *signals, size_t signals_len,
+                              uint64_t *work, size_t work_len,
+                              uint64_t *answer, size_t answer_len);
+
+/* The value of a line's cell at step 0, from start words and one row of inputs;
+ * a word has cell 0 only. 1, 11, 14, 15, 18.
+ * answer[0]: the value. */
+uint64_t gofeshan_peek(const uint64_t *table, size_t table_len, size_t count, size_t line, size_t cell,
+                       const uint64_t *starts, size_t starts_len,
+                       const uint64_t *row, size_t row_len,
+                       uint64_t *answer, size_t answer_len);
+
+/* The name in the first line whose id is the given number. 1.
+ * answer[0]: where it starts in the text, answer[1]: its length, 0 where the
+ * line is missing, has an unknown word or has not just one extra token. */
+uint64_t gofeshan_name(const uint8_t *text, size_t text_len, uint64_t id,
+                       uint64_t *answer, size_t answer_len);
+
+#ifdef __cplusplus
+}
+#endif
+
+#endif

@@ -1,0 +1,438 @@
+//! Safe functions over the C interface of Gofeshan, a proved tool for BTOR2
+//! circuits with small memories.
+//!
+//! A *table* is a list of records of five words each: kind, sort line, three
+//! operands. A record's number is its place, from 1. A *program* is a list of
+//! records too: kind, width, three operands. At most 16,384 records count.
+//!
+//! Every operation ends with a listed answer. A refusal is a number
+//! ([`Refusal::number`], documented by [`Refusal::reason`]); after it
+//! everything lent for writing is zero. Past the end of a result everything
+//! lent for writing is zero too, and a work area is zero after any call. What
+//! a list lent for writing held before makes no difference.
+//!
+//! The archive `libexports.a` is built by `rt staticlib exports` in the
+//! repository's root; the environment variable `GOFESHAN_LIB` names another
+//! folder that holds it. The functions keep their notes on the stack, at most
+//! a few megabytes: call them from the main thread or from a thread with 8 MB
+//! ([`STACK`]).
+//!
+//! The functions of [`interface`] are the C functions on slices, one for one.
+//! Those beside them give the same answers as Rust values:
+//!
+//! ```
+//! let mut table = [0; 5 * 100];
+//! let count = gofeshan::read(b"1 sort bitvec 1\n2 input 1\n3 bad 2\n", &mut table).unwrap();
+//! let mut signals = [0; 2];
+//! let mut work = [0; 100];
+//! let bad = gofeshan::run_circuit(&table, count, 2, &[], &[0, 1], &mut signals, &mut work).unwrap();
+//! assert_eq!(bad, Some(gofeshan::FirstBad { step: 1, place: 1 }));
+//! ```
+
+/// Words in a record.
+pub const RECORD: usize = 5;
+/// At most this many records count.
+pub const MOST_RECORDS: usize = 16_384;
+/// The longest text that is read, in bytes.
+pub const MOST_TEXT: usize = 65_536;
+/// The longest run, in steps.
+pub const MOST_STEPS: usize = 4_096;
+/// A stack that is large enough for every operation, in bytes.
+pub const STACK: usize = 8 << 20;
+
+/// The C functions on slices. Each returns the refusal's number, 0 when done,
+/// and writes its further values to `answer`, a list of three words; words
+/// that it does not use are 0. An `answer` of another length is refused by 1.
+///
+/// None of them asks anything of its arguments, so that all are safe.
+pub mod interface {
+    #[rustfmt::skip]
+    mod c {
+        #[allow(dead_code)]
+        extern "C" {
+            pub fn gofeshan_read(
+                text: *const u8, text_len: usize,
+                table: *mut u64, table_len: usize,
+                answer: *mut u64, answer_len: usize,
+            ) -> u64;
+            pub fn gofeshan_write(
+                table: *const u64, table_len: usize, count: usize,
+                text: *mut u8, text_len: usize,
+                answer: *mut u64, answer_len: usize,
+            ) -> u64;
+            pub fn gofeshan_flatten(
+                table: *const u64, table_len: usize, count: usize,
+                target: *mut u64, target_len: usize,
+                answer: *mut u64, answer_len: usize,
+            ) -> u64;
+            pub fn gofeshan_translate(
+                table: *const u64, table_len: usize, count: usize,
+                target: *mut u64, target_len: usize,
+                answer: *mut u64, answer_len: usize,
+            ) -> u64;
+            pub fn gofeshan_run_circuit(
+                table: *const u64, table_len: usize, count: usize, steps: usize,
+                starts: *const u64, starts_len: usize,
+                inputs: *const u64, inputs_len: usize,
+                signals: *mut u8, signals_len: usize,
+                work: *mut u64, work_len: usize,
+                answer: *mut u64, answer_len: usize,
+            ) -> u64;
+            pub fn gofeshan_run_program(
+                table: *const u64, table_len: usize, count: usize, steps: usize,
+                starts: *const u64, starts_len: usize,
+                inputs: *const u64, inputs_len: usize,
+                signals: *mut u8, signals_len: usize,
+                work: *mut u64, work_len: usize,
+                answer: *mut u64, answer_len: usize,
+            ) -> u64;
+            pub fn gofeshan_peek(
+                table: *const u64, table_len: usize, count: usize, line: usize, cell: usize,
+                starts: *const u64, starts_len: usize,
+                row: *const u64, row_len: usize,
+                answer: *mut u64, answer_len: usize,
+            ) -> u64;
+            pub fn gofeshan_name(
+                text: *const u8, text_len: usize, id: u64,
+                answer: *mut u64, answer_len: usize,
+            ) -> u64;
+        }
+    }
+
+    /// Reads a text into a table. `answer[0]` is the number of records, or with
+    /// a refusal from 3 to 10 the text line's number, from 1.
+    #[cfg(feature = "read")]
+    pub fn read(text: &[u8], table: &mut [u64], answer: &mut [u64]) -> u64 {
+        // SAFETY: each pointer comes with the length of its slice.
+        unsafe {
+            c::gofeshan_read(
+                text.as_ptr(),
+                text.len(),
+                table.as_mut_ptr(),
+                table.len(),
+                answer.as_mut_ptr(),
+                answer.len(),
+            )
+        }
+    }
+
+    /// Writes the first `count` records of a table as text. `answer[0]` is the number of bytes.
+    #[cfg(feature = "write")]
+    pub fn write(table: &[u64], count: usize, text: &mut [u8], answer: &mut [u64]) -> u64 {
+        // SAFETY: each pointer comes with the length of its slice.
+        unsafe {
+            c::gofeshan_write(
+                table.as_ptr(),
+                table.len(),
+                count,
+                text.as_mut_ptr(),
+                text.len(),
+                answer.as_mut_ptr(),
+                answer.len(),
+            )
+        }
+    }
+
+    /// Flattens a circuit. `answer[0]` is the number of records in the target.
+    #[cfg(feature = "flatten")]
+    pub fn flatten(table: &[u64], count: usize, target: &mut [u64], answer: &mut [u64]) -> u64 {
+        // SAFETY: each pointer comes with the length of its slice.
+        unsafe {
+            c::gofeshan_flatten(
+                table.as_ptr(),
+                table.len(),
+                count,
+                target.as_mut_ptr(),
+                target.len(),
+                answer.as_mut_ptr(),
+                answer.len(),
+            )
+        }
+    }
+
+    /// Translates a flat circuit into a program. `answer[0]` is the number of records in the target.
+    #[cfg(feature = "translate")]
+    pub fn translate(table: &[u64], count: usize, target: &mut [u64], answer: &mut [u64]) -> u64 {
+        // SAFETY: each pointer comes with the length of its slice.
+        unsafe {
+            c::gofeshan_translate(
+                table.as_ptr(),
+                table.len(),
+                count,
+                target.as_mut_ptr(),
+                target.len(),
+                answer.as_mut_ptr(),
+                answer.len(),
+            )
+        }
+    }
+
+    /// Runs a circuit. `answer` is 1, step, place of the first counted bad, or three zeros.
+    #[cfg(feature = "run_circuit")]
+    #[allow(clippy::too_many_arguments)]
+    pub fn run_circuit(
+        table: &[u64],
+        count: usize,
+        steps: usize,
+        starts: &[u64],
+        inputs: &[u64],
+        signals: &mut [u8],
+        work: &mut [u64],
+        answer: &mut [u64],
+    ) -> u64 {
+        // SAFETY: each pointer comes with the length of its slice.
+        unsafe {
+            c::gofeshan_run_circuit(
+                table.as_ptr(),
+                table.len(),
+                count,
+                steps,
+                starts.as_ptr(),
+                starts.len(),
+                inputs.as_ptr(),
+                inputs.len(),
+                signals.as_mut_ptr(),
+                signals.len(),
+                work.as_mut_ptr(),
+                work.len(),
+                answer.as_mut_ptr(),
+                answer.len(),
+            )
+        }
+    }
+
+    /// Runs a program. `answer` is 1, step, place of the first counted bad, or three zeros.
+    #[cfg(feature = "run_program")]
+    #[allow(clippy::too_many_arguments)]
+    pub fn run_program(
+        table: &[u64],
+        count: usize,
+        steps: usize,
+        starts: &[u64],
+        inputs: &[u64],
+        signals: &mut [u8],
+        work: &mut [u64],
+        answer: &mut [u64],
+    ) -> u64 {
+        // SAFETY: each pointer comes with the length of its slice.
+        unsafe {
+            c::gofeshan_run_program(
+                table.as_ptr(),
+                table.len(),
+                count,
+                steps,
+                starts.as_ptr(),
+                starts.len(),
+                inputs.as_ptr(),
+                inputs.len(),
+                signals.as_mut_ptr(),
+                signals.len(),
+                work.as_mut_ptr(),
+                work.len(),
+                answer.as_mut_ptr(),
+                answer.len(),
+            )
+        }
+    }
+
+    /// The value of a line's cell at step 0. `answer[0]` is the value.
+    #[cfg(feature = "peek")]
+    pub fn peek(
+        table: &[u64],
+        count: usize,
+        line: usize,
+        cell: usize,
+        starts: &[u64],
+        row: &[u64],
+        answer: &mut [u64],
+    ) -> u64 {
+        // SAFETY: each pointer comes with the length of its slice.
+        unsafe {
+            c::gofeshan_peek(
+                table.as_ptr(),
+                table.len(),
+                count,
+                line,
+                cell,
+                starts.as_ptr(),
+                starts.len(),
+                row.as_ptr(),
+                row.len(),
+                answer.as_mut_ptr(),
+                answer.len(),
+            )
+        }
+    }
+
+    /// The name of a line. `answer[0]` is the start of the name in the text,
+    /// `answer[1]` its length; where there is none, the length is 0.
+    #[cfg(feature = "name")]
+    pub fn name(text: &[u8], id: u64, answer: &mut [u64]) -> u64 {
+        // SAFETY: each pointer comes with the length of its slice.
+        unsafe { c::gofeshan_name(text.as_ptr(), text.len(), id, answer.as_mut_ptr(), answer.len()) }
+    }
+}
+
+/// Why an operation refused.
+#[derive(Clone, Copy, PartialEq, Eq, Debug)]
+pub struct Refusal {
+    /// From 1 to 21.
+    pub number: u64,
+    /// The text line, from 1, with the numbers 3 to 10; else 0.
+    pub line: u64,
+}
+
+impl Refusal {
+    /// The refusal in words.
+    pub fn reason(self) -> &'static str {
+        match self.number {
+            1 => "a list is no table: its length is no multiple of five",
+            2 => "the text is above 65,536 bytes",
+            3 => "the id is not the next number",
+            4 => "no record is left",
+            5 => "the word is unknown or missing",
+            6 => "an operand is missing or malformed, or there are two extra tokens",
+            7 => "a number is too large, or a bitvec width is not 1 to 64",
+            8 => "an operand is not an earlier line of the right class",
+            9 => "sorts, widths, bounds or a constant do not fit",
+            10 => "a second init or next of a state, or the init rule",
+            11 => "the count exceeds the table, or a record breaks a rule",
+            12 => "more records than the target holds",
+            13 => "more than 4,096 steps",
+            14 => "not one start word for each state cell",
+            15 => "not one input word for each input and step",
+            16 => "not one signal byte for each bad and constraint line and step",
+            17 => "the work area is too small",
+            18 => "no such value or cell, or more than 64 records",
+            19 => "an array sort is present",
+            20 => "the count exceeds the program, or a record breaks a rule",
+            21 => "the text buffer is too short",
+            _ => "no refusal",
+        }
+    }
+}
+
+impl std::fmt::Display for Refusal {
+    fn fmt(&self, f: &mut std::fmt::Formatter<'_>) -> std::fmt::Result {
+        write!(f, "refused {} {}: {}", self.number, self.line, self.reason())
+    }
+}
+
+impl std::error::Error for Refusal {}
+
+/// The first counted bad of a run.
+#[derive(Clone, Copy, PartialEq, Eq, Debug)]
+pub struct FirstBad {
+    /// From 0.
+    pub step: u64,
+    /// The bad line's place among the bad lines, from 1.
+    pub place: u64,
+}
+
+#[allow(dead_code)]
+fn counted(number: u64, answer: [u64; 3]) -> Result<usize, Refusal> {
+    match number {
+        0 => Ok(answer[0] as usize),
+        number => Err(Refusal { number, line: answer[0] }),
+    }
+}
+
+#[allow(dead_code)]
+fn first_bad(number: u64, answer: [u64; 3]) -> Result<Option<FirstBad>, Refusal> {
+    match number {
+        0 => Ok((answer[0] == 1).then_some(FirstBad { step: answer[1], place: answer[2] })),
+        number => Err(Refusal { number, line: 0 }),
+    }
+}
+
+/// Reads a text into a table and gives the number of records.
+#[cfg(feature = "read")]
+pub fn read(text: &[u8], table: &mut [u64]) -> Result<usize, Refusal> {
+    let mut answer = [0; 3];
+    counted(interface::read(text, table, &mut answer), answer)
+}
+
+/// Writes the first `count` records of a table as text and gives the number of bytes.
+#[cfg(feature = "write")]
+pub fn write(table: &[u64], count: usize, text: &mut [u8]) -> Result<usize, Refusal> {
+    let mut answer = [0; 3];
+    counted(interface::write(table, count, text, &mut answer), answer)
+}
+
+/// Flattens a circuit and gives the number of records in the target.
+#[cfg(feature = "flatten")]
+pub fn flatten(table: &[u64], count: usize, target: &mut [u64]) -> Result<usize, Refusal> {
+    let mut answer = [0; 3];
+    counted(interface::flatten(table, count, target, &mut answer), answer)
+}
+
+/// Translates a flat circuit into a program and gives the number of records in the target.
+#[cfg(feature = "translate")]
+pub fn translate(table: &[u64], count: usize, target: &mut [u64]) -> Result<usize, Refusal> {
+    let mut answer = [0; 3];
+    counted(interface::translate(table, count, target, &mut answer), answer)
+}
+
+/// Runs a circuit: `starts` has a word for each state cell in line order,
+/// `inputs` a row of words for each step, `signals` gets a byte for each bad
+/// and constraint line and step, and `work` has a word for each cell of each
+/// value line plus each state cell, or more.
+#[cfg(feature = "run_circuit")]
+pub fn run_circuit(
+    table: &[u64],
+    count: usize,
+    steps: usize,
+    starts: &[u64],
+    inputs: &[u64],
+    signals: &mut [u8],
+    work: &mut [u64],
+) -> Result<Option<FirstBad>, Refusal> {
+    let mut answer = [0; 3];
+    let number = interface::run_circuit(table, count, steps, starts, inputs, signals, work, &mut answer);
+    first_bad(number, answer)
+}
+
+/// Runs a program, as [`run_circuit`] runs a circuit.
+#[cfg(feature = "run_program")]
+pub fn run_program(
+    table: &[u64],
+    count: usize,
+    steps: usize,
+    starts: &[u64],
+    inputs: &[u64],
+    signals: &mut [u8],
+    work: &mut [u64],
+) -> Result<Option<FirstBad>, Refusal> {
+    let mut answer = [0; 3];
+    let number = interface::run_program(table, count, steps, starts, inputs, signals, work, &mut answer);
+    first_bad(number, answer)
+}
+
+/// The value of a line's cell at step 0, from start words and one row of
+/// inputs, in a circuit of at most 64 records. A word has cell 0 only.
+#[cfg(feature = "peek")]
+pub fn peek(
+    table: &[u64],
+    count: usize,
+    line: usize,
+    cell: usize,
+    starts: &[u64],
+    row: &[u64],
+) -> Result<u64, Refusal> {
+    let mut answer = [0; 3];
+    match interface::peek(table, count, line, cell, starts, row, &mut answer) {
+        0 => Ok(answer[0]),
+        number => Err(Refusal { number, line: 0 }),
+    }
+}
+
+/// The name of the first line whose id is the given number, as that part of
+/// the text; empty where the line is missing, has an unknown word or has not
+/// just one extra token.
+#[cfg(feature = "name")]
+pub fn name(text: &[u8], id: u64) -> &[u8] {
+    let mut answer = [0; 3];
+    interface::name(text, id, &mut answer);
+    let start = answer[0] as usize;
+    &text[start..start + answer[1] as usize]
+}

@@ -1,0 +1,877 @@
+//! The proved tool against the independent implementation.
+//!
+//!     cargo test --release --test compare                                        a fixed seed
+//!     GOFESHAN_SEED=7 GOFESHAN_CASES=200000 cargo test --release --test compare -- --nocapture
+//!
+//! The second is the longer run: another seed, and so many cases for every operation. Every case has its own seed; a
+//! failure prints it, and GOFESHAN_CASE=n runs that case alone. An archive that lacks some operations is tested with
+//! `--no-default-features --features "read write"`.
+//!
+//! Compared are the number, the answer's words and every lent list, byte for byte and word for word; lists lent for
+//! writing are dirty before each call.
+#![allow(unused_imports, dead_code)]
+
+mod generator;
+mod independent;
+
+use generator::*;
+use gofeshan::interface as proved;
+use independent::rules::Lines;
+use std::collections::BTreeMap;
+
+/// What an operation told: the number, and every list that was lent for writing, the answer first.
+#[derive(PartialEq)]
+struct Told {
+    number: u64,
+    words: Vec<Vec<u64>>,
+    bytes: Vec<u8>,
+}
+
+fn first_difference<T: PartialEq + std::fmt::Debug>(a: &[T], b: &[T]) -> String {
+    match a.iter().zip(b).position(|(x, y)| x != y) {
+        Some(i) => format!("at {i}: independent {:?}, proved {:?}", a[i], b[i]),
+        None => "none".to_string(),
+    }
+}
+
+fn same(independent: &Told, proved: &Told, input: impl Fn() -> String) {
+    if independent == proved {
+        return;
+    }
+    let mut report = format!(
+        "DISAGREEMENT\nindependent: {} {:?}\nproved:      {} {:?}\n",
+        independent.number, independent.words[0], proved.number, proved.words[0]
+    );
+    for (a, b) in independent.words.iter().zip(&proved.words) {
+        report += &format!("first difference of words: {}\n", first_difference(a, b));
+    }
+    report += &format!("first difference of bytes: {}\n", first_difference(&independent.bytes, &proved.bytes));
+    panic!("{report}{}", input());
+}
+
+/// Says which case failed.
+struct Case<'a> {
+    operation: &'a str,
+    seed: u64,
+    case: u64,
+}
+
+impl Drop for Case<'_> {
+    fn drop(&mut self) {
+        if std::thread::panicking() {
+            eprintln!("operation {}, GOFESHAN_SEED={} GOFESHAN_CASE={}", self.operation, self.seed, self.case);
+        }
+    }
+}
+
+fn environment(name: &str) -> Option<u64> {
+    std::env::var(name).ok().map(|v| v.parse().unwrap_or_else(|_| panic!("{name} is no number")))
+}
+
+/// Runs cases of an operation, each with its own seed, and sees that every listed answer was given. 100 stands for a run
+/// with a counted bad, and for a name that was found.
+fn cases(operation: &'static str, default: u64, listed: &'static [u64], case: fn(&mut Random) -> u64) {
+    on_stack(move || {
+        let seed = environment("GOFESHAN_SEED").unwrap_or(1);
+        let count = environment("GOFESHAN_CASES").unwrap_or(default);
+        let only = environment("GOFESHAN_CASE");
+        let began = std::time::Instant::now();
+        let mut answers: BTreeMap<u64, u64> = BTreeMap::new();
+        for n in only.map_or(0..count, |n| n..n + 1) {
+            let _guard = Case { operation, seed, case: n };
+            let mixed = operation.bytes().fold(seed, |h, b| h.wrapping_mul(1_000_003) ^ u64::from(b));
+            let mut random = Random::new(Random::new(mixed).next() ^ Random::new(n).next());
+            *answers.entry(case(&mut random)).or_default() += 1;
+        }
+        println!(
+            "{operation}: seed {seed}, {count} cases in {:.1} s, answers {answers:?}",
+            began.elapsed().as_secs_f64()
+        );
+        if only.is_none() && count >= default {
+            for number in listed {
+                assert!(answers.contains_key(number), "{operation}: no case gave {number}");
+            }
+        }
+    });
+}
+
+/// The operations keep their notes on the stack; a test's thread has little.
+fn on_stack(work: impl FnOnce() + Send + 'static) {
+    let thread = std::thread::Builder::new().stack_size(2 * gofeshan::STACK).spawn(work).unwrap();
+    if let Err(panic) = thread.join() {
+        std::panic::resume_unwind(panic);
+    }
+}
+
+fn show(table: &[u64], count: usize) -> String {
+    let records: Vec<String> =
+        table.chunks(5).take(count.min(400)).enumerate().map(|(i, r)| format!("{}: {r:?}", i + 1)).collect();
+    format!("table of {} words, count {count}\n{}\n", table.len(), records.join("\n"))
+}
+
+/// A table with a count: valid, damaged, cut, or with other words past the count.
+fn table_of(random: &mut Random, records: &[independent::Record], program: bool) -> (Vec<u64>, usize) {
+    let mut table = records.concat();
+    if random.one_in(3) {
+        damage_records(random, &mut table, program);
+    }
+    let n = table.len() / 5;
+    let length = match random.below(8) {
+        0 => table_length(random, n),
+        1 => 5 * (n + random.below(20)),
+        _ => 5 * n,
+    };
+    while table.len() < length {
+        table.push(random.word());
+    }
+    table.truncate(length);
+    (table, count(random, n))
+}
+
+fn flat_of(lines: &Lines) -> Option<Lines> {
+    let flat = independent::flattening::flat_records(lines, independent::MOST_RECORDS)?;
+    independent::rules::check_table(&flat.concat(), flat.len())
+}
+
+// Reading.
+
+#[cfg(feature = "read")]
+fn both_read(random: &mut Random, text: &[u8], length: usize, answer: usize) -> u64 {
+    let dirt = (random.words(length), random.words(answer));
+    let (mut table, mut words) = dirt.clone();
+    let number = independent::read(text, &mut table, &mut words);
+    let ours = Told { number, words: vec![words, table], bytes: vec![] };
+    let (mut table, mut words) = dirt;
+    let number = proved::read(text, &mut table, &mut words);
+    let theirs = Told { number, words: vec![words, table], bytes: vec![] };
+    same(&ours, &theirs, || {
+        format!("read, table of {length} words, answer of {answer}\n{}\n{text:?}", String::from_utf8_lossy(text))
+    });
+    ours.number
+}
+
+#[cfg(feature = "read")]
+fn read_case(random: &mut Random) -> u64 {
+    let size = size(random);
+    let lines = circuit(random, size);
+    let text = match random.below(20) {
+        0 => {
+            let n = random.below(40);
+            (0..n).map(|_| random.pick(b"0123 ;\nsortbivec\t")).collect()
+        }
+        1 => babble(random),
+        2..=6 => text(random, &lines),
+        7 if random.one_in(20) => {
+            let mut text = text(random, &lines);
+            text.resize(65_536 + random.below(3), random.pick(b" \n;x"));
+            text
+        }
+        _ => damaged_text(random, &lines),
+    };
+    let n = lines.records.len();
+    let length = if random.one_in(4) { table_length(random, n) } else { 5 * (n + random.below(9)) };
+    let answer = answer_length(random);
+    both_read(random, &text, length, answer)
+}
+
+#[cfg(feature = "read")]
+#[test]
+fn reading() {
+    cases("read", 20_000, &[0, 1, 2, 3, 4, 5, 6, 7, 8, 9, 10], read_case);
+}
+
+#[cfg(feature = "read")]
+#[test]
+fn reading_at_the_edges() {
+    on_stack(|| {
+        let mut random = Random::new(5);
+        let mut texts: Vec<Vec<u8>> = vec![vec![], b"\n".to_vec(), b" ".to_vec(), b";".to_vec(), b"1".to_vec()];
+        for n in [65_535, 65_536, 65_537] {
+            for byte in b"; \n1x0\xff" {
+                texts.push(vec![*byte; n]);
+            }
+            // The shortest lines, as many as fit.
+            let mut text = b"1 sort bitvec 1\n2 input 1\n".to_vec();
+            let mut id = 3;
+            while text.len() + format!("{id} bad 2\n").len() <= n {
+                text.extend(format!("{id} bad 2\n").bytes());
+                id += 1;
+            }
+            text.resize(n, b' ');
+            texts.push(text);
+        }
+        for w in 0..=66 {
+            texts.push(format!("1 sort bitvec {w}").into_bytes());
+            texts.push(format!("1 sort bitvec {w}\n2 sort array 1 1\n").into_bytes());
+            for digits in 0..=66 {
+                for digit in ["1", "0", "f", "9"] {
+                    for word in ["const", "constd", "consth"] {
+                        let token = digit.repeat(digits);
+                        texts.push(format!("1 sort bitvec {w}\n2 {word} 1 {token}").into_bytes());
+                    }
+                }
+            }
+        }
+        // Every kind of line, with too few, enough, one extra and two extra tokens, behind lines of every class.
+        let start = "1 sort bitvec 1\n2 sort bitvec 3\n3 sort array 1 2\n4 input 1\n5 input 2\n6 constd 1 1\n7 state 1\n8 state 3\n9 bad 4\n10 next 1 7 4\n";
+        let mut words: Vec<&str> = independent::kinds::KINDS[..55].iter().map(|k| k.word).collect();
+        words.extend(["const", "consth", "zero", "one", "ones", "sort", "", "add;", "justice"]);
+        for word in words {
+            for n in 0..=6 {
+                for strange in 0..90 {
+                    let mut text = format!("{start}11 {word}").into_bytes();
+                    for _ in 0..n {
+                        text.push(b' ');
+                        if strange < 40 && random.one_in(2) {
+                            text.extend(random.pick(STRANGE));
+                        } else {
+                            text.extend(random.below(12).to_string().bytes());
+                        }
+                    }
+                    texts.push(text);
+                }
+            }
+        }
+        let count = texts.len();
+        for text in texts {
+            let lengths = if text.len() < 1000 { [10, 55] } else { [5 * 16_384, 5 * 16_385] };
+            for length in lengths {
+                both_read(&mut random, &text, length, 3);
+            }
+        }
+        println!("reading at the edges: {count} texts, each twice");
+    });
+}
+
+// Writing.
+
+#[cfg(feature = "write")]
+fn both_write(random: &mut Random, table: &[u64], count: usize, length: usize, answer: usize) -> u64 {
+    let dirt = (random.bytes(length), random.words(answer));
+    let (mut text, mut words) = dirt.clone();
+    let number = independent::write(table, count, &mut text, &mut words);
+    let ours = Told { number, words: vec![words], bytes: text };
+    let (mut text, mut words) = dirt;
+    let number = proved::write(table, count, &mut text, &mut words);
+    let theirs = Told { number, words: vec![words], bytes: text };
+    same(&ours, &theirs, || format!("write, text of {length} bytes, answer of {answer}\n{}", show(table, count)));
+    ours.number
+}
+
+#[cfg(feature = "write")]
+fn write_case(random: &mut Random) -> u64 {
+    let size = size(random);
+    let lines = circuit(random, size);
+    let (table, count) = table_of(random, &lines.records, false);
+    let exact = independent::texts::print(&lines.records).len();
+    let (length, answer) = (length(random, exact), answer_length(random));
+    both_write(random, &table, count, length, answer)
+}
+
+#[cfg(feature = "write")]
+#[test]
+fn writing() {
+    cases("write", 20_000, &[0, 1, 11, 21], write_case);
+}
+
+#[cfg(feature = "write")]
+#[test]
+fn writing_at_the_edges() {
+    on_stack(|| {
+        let mut random = Random::new(6);
+        let (n, mut table) = (16_384, vec![1, 0, 64, 0, 0]);
+        while table.len() < 5 * (n + 1) {
+            table.extend([3, 1, random.word(), 0, 0]);
+        }
+        assert_eq!(both_write(&mut random, &table, n, 1_000_000, 3), 0);
+        assert_eq!(both_write(&mut random, &table, n + 1, 1_000_000, 3), 11);
+        assert_eq!(both_write(&mut random, &table, n, 65_536, 3), 21);
+        assert_eq!(both_write(&mut random, &table[..5 * n], n, 1_000_000, 3), 0);
+        assert_eq!(both_write(&mut random, &table[..5 * n + 1], n, 1_000_000, 3), 1);
+        assert_eq!(both_write(&mut random, &[], 0, 0, 3), 0);
+        assert_eq!(both_write(&mut random, &[], 1, 0, 3), 11);
+        // Every word of every record of a circuit with all classes, set to edge values.
+        for _ in 0..20 {
+            let lines = circuit(&mut random, Size { lines: 25, arrays: true });
+            let table = lines.records.concat();
+            for at in 0..table.len() {
+                for value in [0, 1, 2, 3, 6, 7, 55, 56, 57, 63, 64, 65, 1 << 32, u64::MAX] {
+                    let mut changed = table.clone();
+                    changed[at] = value;
+                    both_write(&mut random, &changed, lines.records.len(), 2000, 3);
+                }
+            }
+        }
+    });
+}
+
+/// What is written is read back.
+#[cfg(all(feature = "read", feature = "write"))]
+#[test]
+fn writing_then_reading() {
+    cases("write then read", 3_000, &[0], |random| {
+        let size = size(random);
+        let lines = circuit(random, size);
+        let (table, n) = (lines.records.concat(), lines.records.len());
+        let mut text = vec![1; 40 * n + 1];
+        let length = gofeshan::write(&table, n, &mut text).unwrap();
+        let mut back = random.words(5 * n);
+        assert_eq!(gofeshan::read(&text[..length], &mut back), Ok(n));
+        assert!(back == table);
+        0
+    });
+}
+
+// Flattening and translating.
+
+#[cfg(any(feature = "flatten", feature = "translate"))]
+type Changing = fn(&[u64], usize, &mut [u64], &mut [u64]) -> u64;
+
+#[cfg(any(feature = "flatten", feature = "translate"))]
+fn both_change(
+    random: &mut Random,
+    operations: (Changing, Changing),
+    table: &[u64],
+    count: usize,
+    length: usize,
+    answer: usize,
+) -> u64 {
+    let dirt = (random.words(length), random.words(answer));
+    let (mut target, mut words) = dirt.clone();
+    let number = operations.0(table, count, &mut target, &mut words);
+    let ours = Told { number, words: vec![words, target], bytes: vec![] };
+    let (mut target, mut words) = dirt;
+    let number = operations.1(table, count, &mut target, &mut words);
+    let theirs = Told { number, words: vec![words, target], bytes: vec![] };
+    same(&ours, &theirs, || format!("target of {length} words, answer of {answer}\n{}", show(table, count)));
+    ours.number
+}
+
+#[cfg(feature = "flatten")]
+fn flatten_case(random: &mut Random) -> u64 {
+    let size = size(random);
+    let lines = circuit(random, size);
+    let exact = flat_of(&lines).map_or(0, |f| f.records.len());
+    let (table, count) = table_of(random, &lines.records, false);
+    let (length, answer) = (table_length(random, exact), answer_length(random));
+    both_change(random, (independent::flatten, proved::flatten), &table, count, length, answer)
+}
+
+#[cfg(feature = "flatten")]
+#[test]
+fn flattening() {
+    cases("flatten", 10_000, &[0, 1, 11, 12], flatten_case);
+}
+
+#[cfg(feature = "flatten")]
+#[test]
+fn flattening_at_the_edges() {
+    on_stack(|| {
+        let mut random = Random::new(7);
+        let both: (Changing, Changing) = (independent::flatten, proved::flatten);
+        for i in 1..=8u64 {
+            for e in [1, 3, 8, 63, 64] {
+                // Arrays of every index width, with everything that flattening unfolds.
+                let text = format!(
+                    "1 sort bitvec 1\n2 sort bitvec {i}\n3 sort bitvec {e}\n4 sort array 2 3\n5 sort array 2 3\n6 zero 3\n7 state 4\n8 state 5\n9 init 5 7 6\n10 input 2\n11 input 3\n12 write 5 7 10 11\n13 ones 2\n14 write 4 12 13 11\n15 input 1\n16 ite 4 15 14 8\n17 next 4 8 16\n18 read 3 16 10\n19 read 3 12 13\n20 eq 1 7 8\n21 neq 1 16 12\n22 bad 20\n23 bad 21\n24 next 5 7 12\n25 eq 1 18 19\n26 constraint 25\n"
+                );
+                let mut table = vec![0; 5 * 26];
+                assert_eq!(independent::read(text.as_bytes(), &mut table, &mut [0; 3]), 0);
+                for length in [0, 5, 5 * 4000, 5 * 6144, 5 * 16_384, 5 * 20_000] {
+                    both_change(&mut random, both, &table, 26, length, 3);
+                }
+            }
+        }
+        // As many records as count, one fewer and one more.
+        for n in [16_382, 16_383, 16_384, 16_385] {
+            let mut table = vec![1, 0, 64, 0, 0];
+            while table.len() < 5 * n {
+                table.extend([5, 1, 0, 0, 0]);
+            }
+            for length in [5 * 16_383, 5 * 16_384, 5 * 16_385, 5 * 20_000] {
+                both_change(&mut random, both, &table, n, length, 3);
+            }
+        }
+        // States of 256 cells until the target is full.
+        for states in [62, 63, 64, 200] {
+            let mut table = vec![1, 0, 8, 0, 0, 2, 0, 1, 1, 0];
+            (0..states).for_each(|_| table.extend([5, 2, 0, 0, 0]));
+            for length in [5 * (2 + 256 + 256 * 62), 5 * 16_384, 5 * 40_000] {
+                both_change(&mut random, both, &table, states + 2, length, 3);
+            }
+        }
+    });
+}
+
+#[cfg(feature = "translate")]
+fn translate_case(random: &mut Random) -> u64 {
+    let size = size(random);
+    let mut lines = circuit(random, size);
+    if !random.one_in(12) {
+        lines = match flat_of(&lines) {
+            Some(flat) => flat,
+            None => return 0,
+        };
+    }
+    let exact = independent::translating::program_records(&flat_of(&lines).unwrap_or_default()).len();
+    let (table, count) = table_of(random, &lines.records, false);
+    let (length, answer) = (table_length(random, exact), answer_length(random));
+    both_change(random, (independent::translate, proved::translate), &table, count, length, answer)
+}
+
+#[cfg(feature = "translate")]
+#[test]
+fn translating() {
+    cases("translate", 10_000, &[0, 1, 11, 12, 19], translate_case);
+}
+
+#[cfg(feature = "translate")]
+#[test]
+fn translating_at_the_edges() {
+    on_stack(|| {
+        let mut random = Random::new(8);
+        let both: (Changing, Changing) = (independent::translate, proved::translate);
+        for n in [16_382, 16_383, 16_384, 16_385] {
+            for masked in [0, 1, 2, 3] {
+                // A sort, inputs, and outputs that each ask for a mask.
+                let mut table = vec![1, 0, 8, 0, 0];
+                while table.len() < 5 * (n - masked) {
+                    table.extend([4, 1, 0, 0, 0]);
+                }
+                (0..masked).for_each(|i| table.extend([10, 0, 2 + i as u64, 0, 0]));
+                for length in [5 * 16_383, 5 * 16_384, 5 * 16_385, 5 * 20_000] {
+                    both_change(&mut random, both, &table, n, length, 3);
+                }
+            }
+        }
+    });
+}
+
+// Runs.
+
+#[cfg(any(feature = "run_circuit", feature = "run_program"))]
+type Running = fn(&[u64], usize, usize, &[u64], &[u64], &mut [u8], &mut [u64], &mut [u64]) -> u64;
+
+#[cfg(any(feature = "run_circuit", feature = "run_program"))]
+struct Run {
+    steps: usize,
+    starts: Vec<u64>,
+    inputs: Vec<u64>,
+    signals: usize,
+    work: usize,
+    answer: usize,
+}
+
+#[cfg(any(feature = "run_circuit", feature = "run_program"))]
+fn both_run(random: &mut Random, operations: (Running, Running), table: &[u64], count: usize, run: &Run) -> u64 {
+    let dirt = (random.bytes(run.signals), random.words(run.work), random.words(run.answer));
+    let (mut signals, mut work, mut words) = dirt.clone();
+    let (k, s, i) = (run.steps, &run.starts, &run.inputs);
+    let number = operations.0(table, count, k, s, i, &mut signals, &mut work, &mut words);
+    let ours = Told { number, words: vec![words, work], bytes: signals };
+    let (mut signals, mut work, mut words) = dirt;
+    let number = operations.1(table, count, k, s, i, &mut signals, &mut work, &mut words);
+    let theirs = Told { number, words: vec![words, work], bytes: signals };
+    same(&ours, &theirs, || {
+        format!("steps {k}, starts {s:?}, inputs {i:?}, work of {} words\n{}", run.work, show(table, count))
+    });
+    if ours.words[0].first() == Some(&1) {
+        100
+    } else {
+        ours.number
+    }
+}
+
+/// A run of some lines, with lists of the exact lengths or, seldom, of others.
+#[cfg(any(feature = "run_circuit", feature = "run_program"))]
+fn run_of(random: &mut Random, lines: &Lines) -> Run {
+    let steps = match random.below(60) {
+        0 => random.pick(&[4_096, 4_097, 4_098, usize::MAX, 1 << 32]),
+        1..=6 => 0,
+        7..=12 => 10 + random.below(40),
+        _ => 1 + random.below(8),
+    };
+    let steps = if steps == 4_096 && lines.work() > 60 { 4_097 } else { steps };
+    let rows = if steps > 4_096 { 1 } else { steps };
+    let exact = |random: &mut Random, n| if random.one_in(3) { length(random, n) } else { n };
+    let (starts, inputs) = (exact(random, lines.state_cells()), exact(random, rows * lines.inputs()));
+    Run {
+        steps,
+        starts: random.words(starts),
+        inputs: random.words(inputs),
+        signals: exact(random, rows * lines.signals()),
+        work: length(random, lines.work()),
+        answer: answer_length(random),
+    }
+}
+
+#[cfg(feature = "run_circuit")]
+fn run_circuit_case(random: &mut Random) -> u64 {
+    let size = size(random);
+    let mut lines = circuit(random, size);
+    if random.one_in(5) {
+        lines = flat_of(&lines).unwrap_or_default();
+    }
+    let run = run_of(random, &lines);
+    let (table, count) = if random.one_in(3) {
+        table_of(random, &lines.records, false)
+    } else {
+        (lines.records.concat(), lines.records.len())
+    };
+    both_run(random, (independent::run_circuit, proved::run_circuit), &table, count, &run)
+}
+
+#[cfg(feature = "run_circuit")]
+#[test]
+fn running_circuits() {
+    cases("run_circuit", 10_000, &[0, 1, 11, 13, 14, 15, 16, 17, 100], run_circuit_case);
+}
+
+#[cfg(feature = "run_program")]
+fn run_program_case(random: &mut Random) -> u64 {
+    let size = size(random);
+    let lines = flat_of(&circuit(random, size)).unwrap_or_default();
+    let records =
+        if random.one_in(2) { independent::translating::program_records(&lines) } else { wild_program(random, &lines) };
+    let Some(lines) = independent::rules::check_program(&records.concat(), records.len()) else {
+        // Masks past 16,384 records.
+        assert!(records.len() > independent::MOST_RECORDS);
+        return 20;
+    };
+    let run = run_of(random, &lines);
+    let (table, count) =
+        if random.one_in(3) { table_of(random, &records, true) } else { (records.concat(), records.len()) };
+    both_run(random, (independent::run_program, proved::run_program), &table, count, &run)
+}
+
+#[cfg(feature = "run_program")]
+#[test]
+fn running_programs() {
+    cases("run_program", 10_000, &[0, 1, 13, 14, 15, 16, 17, 20, 100], run_program_case);
+}
+
+/// Every operator on all words of widths 1 to 3, and on edge words of larger widths, in circuits.
+#[cfg(feature = "run_circuit")]
+#[test]
+fn operators_in_circuits() {
+    on_stack(|| operators(&mut Random::new(9), (independent::run_circuit, proved::run_circuit), false));
+}
+
+/// The same in programs, with any bits above the widths.
+#[cfg(feature = "run_program")]
+#[test]
+fn operators_in_programs() {
+    on_stack(|| operators(&mut Random::new(10), (independent::run_program, proved::run_program), true));
+}
+
+/// A run whose signals are the bits of an operator's result, for many operands.
+#[cfg(any(feature = "run_circuit", feature = "run_program"))]
+fn operators(random: &mut Random, both: (Running, Running), program: bool) {
+    let mut compared = 0;
+    for w in (1..=8).chain([15, 16, 31, 32, 33, 47, 62, 63, 64]) {
+        for kind in (11..=53).chain(if program { Some(56) } else { None }) {
+            for _ in 0..if matches!(kind, 18..=20 | 52) { 6 } else { 1 } {
+                // Widths of the operands and of the result, and the plain numbers.
+                let (mut widths, mut result, mut numbers) = ([w, w, w], w, [0, 0]);
+                match kind {
+                    15..=17 | 21..=30 => result = 1,
+                    31 | 32 => (widths, result) = ([1; 3], 1),
+                    18 => {
+                        let upper = random.next() % w;
+                        let lower = random.next() % (upper + 1);
+                        (numbers, result) = ([upper, lower], upper - lower + 1);
+                    }
+                    19 | 20 => {
+                        numbers[0] = random.next() % (65 - w);
+                        result = w + numbers[0];
+                    }
+                    52 if w == 64 => continue,
+                    52 => {
+                        widths[1] = 1 + random.next() % (64 - w);
+                        result = w + widths[1];
+                    }
+                    53 => widths[0] = 1,
+                    _ => {}
+                }
+                let n = match kind {
+                    11..=20 | 56 => 1,
+                    53 => 3,
+                    _ => 2,
+                };
+                // Inputs, the operator, a slice for each bit of the result (in a program a mask of width 1 behind it).
+                let mut table: Vec<[u64; 5]> = Vec::new();
+                let sort = |table: &mut Vec<[u64; 5]>, w: u64| {
+                    if program {
+                        return w;
+                    }
+                    table.push([1, 0, w, 0, 0]);
+                    table.len() as u64
+                };
+                let mut operands = [0; 3];
+                for (i, operand) in operands.iter_mut().enumerate().take(n) {
+                    let s = sort(&mut table, widths[i]);
+                    table.push([4, s, 0, 0, 0]);
+                    *operand = table.len() as u64;
+                }
+                if matches!(kind, 18..=20) {
+                    operands[1..].copy_from_slice(&numbers);
+                }
+                let s = sort(&mut table, result);
+                table.push([kind, s, operands[0], operands[1], operands[2]]);
+                let line = table.len() as u64;
+                let bit = sort(&mut table, 1);
+                for i in 0..result {
+                    table.push([18, bit, line, i, i]);
+                    let mut last = table.len() as u64;
+                    if program {
+                        table.push([56, bit, last, 0, 0]);
+                        last += 1;
+                    }
+                    table.push([8, 0, last, 0, 0]);
+                }
+                let all = widths[..n].iter().sum::<u64>() <= 7;
+                let rows: Vec<u64> = if all && !program {
+                    (0..1u64 << widths[..n].iter().sum::<u64>())
+                        .flat_map(|x| {
+                            let mut rest = x;
+                            widths[..n]
+                                .iter()
+                                .map(move |&w| {
+                                    let word = rest & ((1 << w) - 1);
+                                    rest >>= w;
+                                    word
+                                })
+                                .collect::<Vec<u64>>()
+                        })
+                        .collect()
+                } else {
+                    (0..200 * n)
+                        .map(|_| match random.below(6) {
+                            0 => random.next() % (2 * w),
+                            1 => random.word_of(w),
+                            2 => 0u64.wrapping_sub(random.next() % 4) & independent::rules::ones(w),
+                            3 => 1 << (w - 1),
+                            _ => random.word(),
+                        })
+                        .collect()
+                };
+                let steps = rows.len() / n;
+                let run = Run {
+                    steps,
+                    starts: vec![],
+                    inputs: rows,
+                    signals: steps * result as usize,
+                    work: table.len(),
+                    answer: 3,
+                };
+                compared += steps;
+                assert!(matches!(both_run(random, both, &table.concat(), table.len(), &run), 0 | 100));
+            }
+        }
+    }
+    println!("operators: {compared} results compared");
+}
+
+/// A circuit, its flat circuit and its program give the same signals and the same first counted bad.
+#[cfg(all(feature = "flatten", feature = "translate", feature = "run_circuit", feature = "run_program"))]
+#[test]
+fn circuit_flat_circuit_and_program() {
+    cases("C, F and P", 10_000, &[0, 100], |random| {
+        let size = size(random);
+        let lines = circuit(random, size);
+        let (c, n) = (lines.records.concat(), lines.records.len());
+        let Some(known) = flat_of(&lines) else { return 12 };
+        let room = known.records.len() + random.below(3);
+        let mut f = random.words(5 * room);
+        let flat = gofeshan::flatten(&c, n, &mut f).unwrap();
+        // A mask behind each line at the most.
+        let mut p = random.words((10 * flat).min(5 * 16_384));
+        let Ok(program) = gofeshan::translate(&f, flat, &mut p) else { return 12 };
+        let k = 1 + random.below(12);
+        let (starts, inputs) = (random.words(lines.state_cells()), random.words(k * lines.inputs()));
+        let length = k * lines.signals();
+        let run = |of: usize, random: &mut Random| {
+            let (mut signals, mut work) = (random.bytes(length), random.words(3 * room.max(lines.work())));
+            let bad = match of {
+                0 => gofeshan::run_circuit(&c, n, k, &starts, &inputs, &mut signals, &mut work),
+                1 => gofeshan::run_circuit(&f, flat, k, &starts, &inputs, &mut signals, &mut work),
+                _ => gofeshan::run_program(&p, program, k, &starts, &inputs, &mut signals, &mut work),
+            };
+            (signals, bad.unwrap())
+        };
+        let (of_c, of_f, of_p) = (run(0, random), run(1, random), run(2, random));
+        assert!(of_c == of_f && of_f == of_p, "{of_c:?}\n{of_f:?}\n{of_p:?}\n{}", show(&c, n));
+        let signals = lines.run(k, &starts, &inputs);
+        let bad = lines.first_bad(k, &signals).map(|(step, place)| gofeshan::FirstBad { step, place });
+        assert!(of_c == (signals, bad));
+        100 * u64::from(bad.is_some())
+    });
+}
+
+/// The proved runs on flat circuits and programs that the independent implementation made.
+#[cfg(all(feature = "run_circuit", feature = "run_program"))]
+#[test]
+fn runs_of_circuit_flat_circuit_and_program() {
+    cases("runs of C, F and P", 10_000, &[0, 100], |random| {
+        let size = size(random);
+        let lines = circuit(random, size);
+        let Some(flat) = flat_of(&lines) else { return 12 };
+        let program = independent::translating::program_records(&flat);
+        if program.len() > independent::MOST_RECORDS {
+            return 12;
+        }
+        let k = 1 + random.below(12);
+        let (starts, inputs) = (random.words(lines.state_cells()), random.words(k * lines.inputs()));
+        let expected = lines.run(k, &starts, &inputs);
+        let bad = lines.first_bad(k, &expected).map(|(step, place)| gofeshan::FirstBad { step, place });
+        for (i, records) in [&lines.records, &flat.records, &program].into_iter().enumerate() {
+            let run = if i < 2 { gofeshan::run_circuit } else { gofeshan::run_program };
+            let (mut signals, mut work) =
+                (random.bytes(expected.len()), random.words(lines.work() + 3 * program.len()));
+            let told = run(&records.concat(), records.len(), k, &starts, &inputs, &mut signals, &mut work);
+            assert!(told == Ok(bad) && signals == expected, "{i}: {told:?}\n{}", show(&lines.records.concat(), 400));
+        }
+        100 * u64::from(bad.is_some())
+    });
+}
+
+/// The same of the independent implementation alone.
+#[test]
+fn independent_circuit_flat_circuit_and_program() {
+    cases("C, F and P, independent", 3_000, &[0], |random| {
+        let size = size(random);
+        let lines = circuit(random, size);
+        let Some(flat) = flat_of(&lines) else { return 12 };
+        let records = independent::translating::program_records(&flat);
+        let Some(program) = independent::rules::check_program(&records.concat(), records.len()) else {
+            assert!(records.len() > independent::MOST_RECORDS);
+            return 12;
+        };
+        let k = 1 + random.below(12);
+        let (starts, inputs) = (random.words(lines.state_cells()), random.words(k * lines.inputs()));
+        let of = |lines: &Lines| {
+            let signals = lines.run(k, &starts, &inputs);
+            let bad = lines.first_bad(k, &signals);
+            (signals, bad)
+        };
+        assert!(of(&lines) == of(&flat) && of(&flat) == of(&program), "{}", show(&lines.records.concat(), 400));
+        0
+    });
+}
+
+// Peek.
+
+#[cfg(feature = "peek")]
+fn peek_case(random: &mut Random) -> u64 {
+    let lines = {
+        let size =
+            Size { lines: if random.one_in(8) { 60 + random.below(8) } else { random.below(50) }, ..size(random) };
+        circuit(random, size)
+    };
+    let n = lines.records.len();
+    let (table, count) =
+        if random.one_in(4) { table_of(random, &lines.records, false) } else { (lines.records.concat(), n) };
+    let line = if random.one_in(15) { random.pick(&[0, n + 1, usize::MAX, 1 << 32]) } else { 1 + random.below(n) };
+    let cells = lines.line(line as u64).and_then(|l| l.sort).map_or(1, |s| s.cells());
+    let cell = if random.one_in(12) { random.pick(&[cells, usize::MAX, 1 << 32]) } else { random.below(cells) };
+    let (starts, row) = (lines.state_cells(), lines.inputs());
+    let (starts, row) = if random.one_in(4) { (length(random, starts), length(random, row)) } else { (starts, row) };
+    let answer = answer_length(random);
+    let (starts, row, dirt) = (random.words(starts), random.words(row), random.words(answer));
+    let mut words = dirt.clone();
+    let number = independent::peek(&table, count, line, cell, &starts, &row, &mut words);
+    let ours = Told { number, words: vec![words], bytes: vec![] };
+    let mut words = dirt;
+    let number = proved::peek(&table, count, line, cell, &starts, &row, &mut words);
+    let theirs = Told { number, words: vec![words], bytes: vec![] };
+    same(&ours, &theirs, || {
+        format!("peek, line {line}, cell {cell}, starts {starts:?}, row {row:?}\n{}", show(&table, count))
+    });
+    ours.number
+}
+
+#[cfg(feature = "peek")]
+#[test]
+fn peeking() {
+    cases("peek", 30_000, &[0, 1, 11, 14, 15, 18], peek_case);
+}
+
+/// Lines that each use the line before twice: every peek ends at once.
+#[cfg(feature = "peek")]
+#[test]
+fn peeking_at_doubling_lines() {
+    on_stack(|| {
+        let mut table = vec![1, 0, 64, 0, 0, 4, 1, 0, 0, 0];
+        (2..64).for_each(|i| table.extend([39, 1, i, i, 0]));
+        let began = std::time::Instant::now();
+        assert_eq!(gofeshan::peek(&table, 64, 64, 0, &[], &[1]), Ok(1 << 62));
+        println!("a peek at 64 doubling lines: {:?}", began.elapsed());
+        assert!(began.elapsed().as_millis() < 10);
+        // The same through an array: each line writes what it reads.
+        let mut table = vec![1, 0, 8, 0, 0, 2, 0, 1, 1, 0, 5, 2, 0, 0, 0, 4, 1, 0, 0, 0];
+        let (mut array, mut n) = (3, 4);
+        while n + 3 <= 64 {
+            table.extend([54, 1, array, 4, 0, 39, 1, n + 1, n + 1, 0, 55, 2, array, n + 2, n + 2]);
+            (array, n) = (n + 3, n + 3);
+        }
+        let starts: Vec<u64> = (0..256).map(|i| i * 7 % 256).collect();
+        for cell in 0..256 {
+            let mut words = [0; 3];
+            let number = independent::peek(&table, n as usize, array as usize, cell, &starts, &[3], &mut words);
+            assert_eq!(number, 0);
+            assert_eq!(gofeshan::peek(&table, n as usize, array as usize, cell, &starts, &[3]), Ok(words[0]));
+        }
+    });
+}
+
+// Name.
+
+#[cfg(feature = "name")]
+fn name_case(random: &mut Random) -> u64 {
+    let size = size(random);
+    let lines = circuit(random, size);
+    let text = match random.below(6) {
+        0 | 1 => damaged_text(random, &lines),
+        2 => {
+            // Any text has names, one that is too long to read as well.
+            let mut text = babble(random);
+            if random.one_in(100) {
+                text.splice(0..0, vec![b'\n'; 70_000]);
+            }
+            text
+        }
+        _ => text(random, &lines),
+    };
+    let id = match random.below(20) {
+        0 => random.word(),
+        1..=4 => random.below(5) as u64,
+        _ => random.below(lines.records.len() + 2) as u64,
+    };
+    let answer = answer_length(random);
+    let dirt = random.words(answer);
+    let (mut ours, mut theirs) = (dirt.clone(), dirt);
+    let number = independent::name(&text, id, &mut ours);
+    let other = proved::name(&text, id, &mut theirs);
+    if number == 0 && ours[1] == 0 && other == 0 && theirs[1] == 0 {
+        // Where the empty part stands is free.
+        assert!(theirs[0] <= text.len() as u64);
+        theirs[0] = 0;
+    }
+    let named = u64::from(number == 0 && ours[1] > 0);
+    same(
+        &Told { number, words: vec![ours], bytes: vec![] },
+        &Told { number: other, words: vec![theirs], bytes: vec![] },
+        || format!("name of {id}\n{}", String::from_utf8_lossy(&text)),
+    );
+    if named == 1 {
+        100
+    } else {
+        number
+    }
+}
+
+#[cfg(feature = "name")]
+#[test]
+fn naming() {
+    cases("name", 30_000, &[0, 1, 100], name_case);
+}

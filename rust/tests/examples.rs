@@ -1,0 +1,146 @@
+//! The files of `examples/`: what is accepted runs alike as circuit, flat circuit and program, and reaches the bads that
+//! its design says; what is refused is refused with the number that the README's table gives.
+#![cfg(all(
+    feature = "read",
+    feature = "flatten",
+    feature = "translate",
+    feature = "run_circuit",
+    feature = "run_program",
+    feature = "name"
+))]
+#![allow(dead_code)]
+
+mod generator;
+mod independent;
+
+use generator::Random;
+use gofeshan::FirstBad;
+
+fn file(name: &str) -> Vec<u8> {
+    let path = std::path::Path::new(env!("CARGO_MANIFEST_DIR")).join("../examples").join(name);
+    std::fs::read(&path).unwrap_or_else(|e| panic!("{}: {e}", path.display()))
+}
+
+/// The operations keep their notes on the stack; a test's thread has little.
+fn on_stack(work: impl FnOnce() + Send + 'static) {
+    let thread = std::thread::Builder::new().stack_size(2 * gofeshan::STACK).spawn(work).unwrap();
+    if let Err(panic) = thread.join() {
+        std::panic::resume_unwind(panic);
+    }
+}
+
+struct Example {
+    text: Vec<u8>,
+    table: Vec<u64>,
+    count: usize,
+    flat: (Vec<u64>, usize),
+    program: (Vec<u64>, usize),
+    lines: independent::rules::Lines,
+}
+
+impl Example {
+    fn new(name: &str) -> Example {
+        let text = file(name);
+        let mut table = vec![0; 5 * 1000];
+        let count = gofeshan::read(&text, &mut table).unwrap_or_else(|e| panic!("{name}: {e}"));
+        let room = 5 * gofeshan::MOST_RECORDS;
+        let (mut flat, mut program) = (vec![0; room], vec![0; room]);
+        let flat_count = gofeshan::flatten(&table, count, &mut flat).unwrap();
+        let program_count = gofeshan::translate(&flat, flat_count, &mut program).unwrap();
+        let lines = independent::rules::check_table(&table, count).unwrap();
+        println!("{name}: {count} records, {flat_count} flat, {program_count} in the program");
+        Example { text, table, count, flat: (flat, flat_count), program: (program, program_count), lines }
+    }
+
+    /// The first counted bad of a run, the same for circuit, flat circuit and program as their signals are.
+    fn run(&self, steps: usize, starts: &[u64], inputs: &[u64]) -> Option<FirstBad> {
+        let expected = self.lines.run(steps, starts, inputs);
+        let bad = self.lines.first_bad(steps, &expected).map(|(step, place)| FirstBad { step, place });
+        let (flat, program) = (&self.flat, &self.program);
+        for (i, (table, count)) in
+            [(&self.table, self.count), (&flat.0, flat.1), (&program.0, program.1)].into_iter().enumerate()
+        {
+            let run = if i < 2 { gofeshan::run_circuit } else { gofeshan::run_program };
+            let (mut signals, mut work) = (vec![7; expected.len()], vec![7; 100_000]);
+            assert_eq!(run(table, count, steps, starts, inputs, &mut signals, &mut work), Ok(bad));
+            assert!(signals == expected && work.iter().all(|&w| w == 0));
+        }
+        bad
+    }
+
+    /// A run from start words 0 whose inputs are given by their names.
+    fn driven(&self, steps: usize, input: impl Fn(&[u8], u64) -> u64) -> Option<(u64, u64)> {
+        let of_kind_4 = (1..).zip(&self.lines.records).filter(|(_, r)| r[0] == 4);
+        let names: Vec<&[u8]> = of_kind_4.map(|(id, _)| gofeshan::name(&self.text, id)).collect();
+        let inputs: Vec<u64> = (0..steps as u64)
+            .flat_map(|k| names.iter().map(move |name| (k, *name)))
+            .map(|(k, name)| input(name, k))
+            .collect();
+        self.run(steps, &vec![0; self.lines.state_cells()], &inputs).map(|bad| (bad.step, bad.place))
+    }
+
+    /// Runs on any words.
+    fn tried(&self) {
+        let mut random = Random::new(self.count as u64);
+        for steps in [0, 1, 2, 50, 300] {
+            let (starts, inputs) = (random.words(self.lines.state_cells()), random.words(steps * self.lines.inputs()));
+            self.run(steps, &starts, &inputs);
+        }
+    }
+}
+
+#[test]
+fn accepted() {
+    on_stack(|| {
+        let on = |names: &'static [&'static str]| {
+            move |name: &[u8], _: u64| u64::from(names.iter().any(|n| n.as_bytes() == name))
+        };
+        let letters = |name: &[u8], _: u64| if name == b"letter" || name == b"typed" { 65 } else { 0 };
+
+        let counter = Example::new("verilog/counter.btor2");
+        assert_eq!(counter.driven(300, on(&["enable"])), Some((200, 2)));
+        assert_eq!(counter.driven(300, on(&["reset"])), None);
+        // Both at once break the constraint, and nothing counts from then on.
+        assert_eq!(counter.driven(300, |name, k| u64::from(name == b"enable" || name == b"reset" && k == 7)), None);
+
+        let fifo = Example::new("verilog/fifo.btor2");
+        assert_eq!(fifo.driven(100, on(&["push"])), Some((9, 1)));
+        assert_eq!(fifo.driven(100, on(&["push", "pop"])), None);
+
+        let lfsr = Example::new("verilog/lfsr.btor2");
+        let (mut word, mut step) = (0xACE1u64, 0);
+        while word != 0x7CB9 {
+            let back = (word ^ word >> 2 ^ word >> 3 ^ word >> 5) & 1;
+            (word, step) = (back << 15 | word >> 1, step + 1);
+        }
+        assert_eq!(lfsr.driven(step as usize + 1, on(&["step"])), Some((step, 2)));
+        assert_eq!(lfsr.driven(300, on(&[])), None);
+
+        let caption = Example::new("verilog/caption.btor2");
+        assert_eq!(caption.driven(200, letters), Some((65, 1)));
+        assert_eq!(caption.driven(65, letters), None);
+        let own = Example::new("caption.btor2");
+        assert_eq!(own.driven(200, letters), Some((64, 1)));
+
+        let (alu, registers) = (Example::new("verilog/alu.btor2"), Example::new("verilog/registers.btor2"));
+        let mixed = |name: &[u8], k: u64| (k + 1).wrapping_mul(0x9e37_79b9_7f4a_7c15 + name.len() as u64) >> 7;
+        assert_eq!(alu.driven(1000, mixed), None);
+        assert_eq!(registers.driven(1000, mixed), None);
+
+        let worked = Example::new("worked.btor2");
+        assert_eq!(worked.run(3, &[0, 0], &[0, 0, 1]), Some(FirstBad { step: 1, place: 1 }));
+        for example in [counter, fifo, lfsr, caption, own, alu, registers, worked] {
+            example.tried();
+        }
+    });
+}
+
+#[test]
+fn refused() {
+    on_stack(|| {
+        for (name, number, line) in [("rom", 8, 22), ("deep", 9, 9), ("wide", 7, 4)] {
+            let told = gofeshan::read(&file(&format!("verilog/{name}.btor2")), &mut [0; 5 * 1000]);
+            assert_eq!(told.map_err(|r| (r.number, r.line)), Err((number, line)), "{name}");
+        }
+    });
+}

@@ -1,0 +1,744 @@
+//! A seeded generator: valid circuits as tables and as texts, and what is wrong with texts, tables and lists.
+#![allow(dead_code)]
+
+use crate::independent::kinds::{row, KINDS};
+use crate::independent::rules::{ones, Lines, Sort};
+use crate::independent::Record;
+
+/// Numbers from a seed (splitmix64).
+pub struct Random(u64);
+
+impl Random {
+    pub fn new(seed: u64) -> Random {
+        let mut r = Random(seed);
+        r.next();
+        r
+    }
+
+    pub fn next(&mut self) -> u64 {
+        self.0 = self.0.wrapping_add(0x9e37_79b9_7f4a_7c15);
+        let mut z = self.0;
+        z = (z ^ (z >> 30)).wrapping_mul(0xbf58_476d_1ce4_e5b9);
+        z = (z ^ (z >> 27)).wrapping_mul(0x94d0_49bb_1331_11eb);
+        z ^ (z >> 31)
+    }
+
+    /// From 0 to n - 1.
+    pub fn below(&mut self, n: usize) -> usize {
+        (self.next() % n.max(1) as u64) as usize
+    }
+
+    /// True once in n times.
+    pub fn one_in(&mut self, n: usize) -> bool {
+        self.below(n) == 0
+    }
+
+    pub fn pick<T: Copy>(&mut self, from: &[T]) -> T {
+        from[self.below(from.len())]
+    }
+
+    /// A word, often at an edge.
+    pub fn word(&mut self) -> u64 {
+        let bit = 1u64 << self.below(64);
+        match self.below(10) {
+            0 => 0,
+            1 => 1,
+            2 => u64::MAX,
+            3 => bit,
+            4 => bit - 1,
+            5 => self.next() % 4,
+            6 => self.next() % 256,
+            7 => !bit,
+            _ => self.next(),
+        }
+    }
+
+    /// A word of width w, often at an edge.
+    pub fn word_of(&mut self, w: u64) -> u64 {
+        self.word() & ones(w)
+    }
+
+    pub fn words(&mut self, n: usize) -> Vec<u64> {
+        (0..n).map(|_| self.word()).collect()
+    }
+
+    pub fn bytes(&mut self, n: usize) -> Vec<u8> {
+        (0..n).map(|_| self.next() as u8).collect()
+    }
+
+    fn width(&mut self) -> u64 {
+        match self.below(10) {
+            0..=2 => 1,
+            3..=4 => self.pick(&[2, 3, 4, 8]),
+            5 => self.pick(&[63, 64]),
+            6 => self.pick(&[31, 32, 33]),
+            7 => 64,
+            _ => 1 + self.next() % 64,
+        }
+    }
+
+    fn index_width(&mut self) -> u64 {
+        match self.below(40) {
+            0..=17 => 1,
+            18..=29 => 2,
+            30..=35 => 3,
+            36..=37 => 4,
+            38 => 5,
+            _ => 1 + self.next() % 8,
+        }
+    }
+}
+
+/// How large circuits are to be, and whether they have arrays.
+#[derive(Clone, Copy)]
+pub struct Size {
+    pub lines: usize,
+    pub arrays: bool,
+}
+
+/// Builds a circuit line by line; every line obeys the rules.
+struct Builder<'a> {
+    random: &'a mut Random,
+    lines: Lines,
+    arrays: bool,
+}
+
+impl Builder<'_> {
+    fn emit(&mut self, record: Record) -> u64 {
+        let fits = self.lines.classes_fit(&record) && self.lines.widths_fit(&record) && self.lines.states_fit(&record);
+        assert!(fits, "the generator made {record:?}");
+        self.lines.add(record);
+        self.lines.lines.len() as u64
+    }
+
+    /// The numbers of the lines that pass a test.
+    fn those(&self, test: impl Fn(u64, &crate::independent::rules::Line) -> bool) -> Vec<u64> {
+        (1u64..).zip(&self.lines.lines).filter(|(n, l)| test(*n, l)).map(|(n, _)| n).collect()
+    }
+
+    /// One of some lines, more often a late one.
+    fn choose(&mut self, from: &[u64]) -> Option<u64> {
+        if from.is_empty() {
+            return None;
+        }
+        let n = from.len();
+        let late = self.random.below(3) > 0;
+        let i = if late { n - 1 - self.random.below(n.min(6)) } else { self.random.below(n) };
+        Some(from[i])
+    }
+
+    /// A sort line, an old or a new one.
+    fn sort_line(&mut self, sort: Sort) -> u64 {
+        let old = self.those(|_, l| l.kind <= 2 && l.sort == Some(sort));
+        if !old.is_empty() && !self.random.one_in(12) {
+            return self.random.pick(&old);
+        }
+        match sort {
+            Sort::Word(w) => self.emit([1, 0, w, 0, 0]),
+            Sort::Array(i, e) => {
+                let (i, e) = (self.sort_line(Sort::Word(i)), self.sort_line(Sort::Word(e)));
+                self.emit([2, 0, i, e, 0])
+            }
+        }
+    }
+
+    fn values(&self, sort: Sort) -> Vec<u64> {
+        self.those(|_, l| l.kind > 2 && l.sort == Some(sort))
+    }
+
+    fn constant(&mut self, w: u64) -> u64 {
+        let (sort, value) = (self.sort_line(Sort::Word(w)), self.random.word_of(w));
+        self.emit([3, sort, value, 0, 0])
+    }
+
+    /// A value of a sort, an old or a new one.
+    fn value(&mut self, sort: Sort) -> u64 {
+        let old = self.values(sort);
+        if !self.random.one_in(8) {
+            if let Some(line) = self.choose(&old) {
+                return line;
+            }
+        }
+        let kind = match sort {
+            Sort::Word(w) if self.random.one_in(3) => return self.constant(w),
+            Sort::Word(_) => self.random.pick(&[4, 4, 5]),
+            Sort::Array(..) => 5,
+        };
+        let line = self.sort_line(sort);
+        self.emit([kind, line, 0, 0, 0])
+    }
+
+    fn word(&mut self, w: u64) -> u64 {
+        self.value(Sort::Word(w))
+    }
+
+    /// A word of any width.
+    fn any_word(&mut self) -> (u64, u64) {
+        let old = self.those(|_, l| l.kind > 2 && matches!(l.sort, Some(Sort::Word(_))));
+        match self.choose(&old) {
+            Some(line) if !self.random.one_in(6) => (line, self.lines.sort(line).width()),
+            _ => {
+                let w = self.random.width();
+                (self.word(w), w)
+            }
+        }
+    }
+
+    fn any_array(&mut self) -> (u64, Sort) {
+        let old = self.those(|_, l| l.kind > 2 && matches!(l.sort, Some(Sort::Array(..))));
+        match self.choose(&old) {
+            Some(line) if !self.random.one_in(10) => (line, self.lines.sort(line)),
+            _ => {
+                let sort = Sort::Array(self.random.index_width(), self.random.width());
+                (self.value(sort), sort)
+            }
+        }
+    }
+
+    /// An index, often a constant.
+    fn index(&mut self, w: u64) -> u64 {
+        if self.random.one_in(3) {
+            return self.constant(w);
+        }
+        self.word(w)
+    }
+
+    fn array_line(&mut self) {
+        let (array, sort) = self.any_array();
+        let Sort::Array(i, e) = sort else { unreachable!() };
+        match self.random.below(8) {
+            0..=2 => {
+                let (index, own) = (self.index(i), self.sort_line(Sort::Word(e)));
+                self.emit([54, own, array, index, 0]);
+            }
+            3..=5 => {
+                let (index, value, own) = (self.index(i), self.word(e), self.sort_line(sort));
+                self.emit([55, own, array, index, value]);
+            }
+            6 => {
+                let (condition, other, own) = (self.word(1), self.value(sort), self.sort_line(sort));
+                self.emit([53, own, condition, array, other]);
+            }
+            _ => {
+                let (other, own, kind) = (self.value(sort), self.sort_line(Sort::Word(1)), self.random.pick(&[21, 22]));
+                self.emit([kind, own, array, other, 0]);
+            }
+        }
+    }
+
+    fn init_line(&mut self) {
+        // A state without an init, and a fixed word below it; a new pair where there is none.
+        let states = self.those(|_, l| l.kind == 5 && !l.init);
+        if let Some(state) = self.choose(&states) {
+            let w = self.lines.sort(state).width();
+            let fixed = self.those(|n, l| l.kind > 2 && n < state && l.fixed && l.sort == Some(Sort::Word(w)));
+            if let Some(value) = self.choose(&fixed) {
+                let own = self.sort_line(self.lines.sort(state));
+                self.emit([6, own, state, value, 0]);
+                return;
+            }
+        }
+        let w = self.random.width();
+        let mut value = self.constant(w);
+        if self.random.one_in(2) {
+            let (kind, own) = (self.random.pick(&[11, 12, 13, 14]), self.sort_line(Sort::Word(w)));
+            value = self.emit([kind, own, value, 0, 0]);
+        }
+        let sort = if self.arrays && self.random.one_in(3) {
+            Sort::Array(self.random.index_width(), w)
+        } else {
+            Sort::Word(w)
+        };
+        let line = self.sort_line(sort);
+        let state = self.emit([5, line, 0, 0, 0]);
+        let own = self.sort_line(sort);
+        self.emit([6, own, state, value, 0]);
+    }
+
+    fn next_line(&mut self) {
+        let states = self.those(|_, l| l.kind == 5 && !l.next);
+        if let Some(state) = self.choose(&states) {
+            let sort = self.lines.sort(state);
+            let (value, own) = (self.value(sort), self.sort_line(sort));
+            self.emit([7, own, state, value, 0]);
+        }
+    }
+
+    fn signal_line(&mut self) {
+        let (kind, mut value) = (self.random.pick(&[8, 8, 8, 9, 10]), self.word(1));
+        if kind == 9 && self.random.below(4) > 0 {
+            // Most constraints hold most of the time.
+            let (other, own) = (self.word(1), self.sort_line(Sort::Word(1)));
+            value = self.emit([34, own, value, other, 0]);
+            value = self.emit([36, own, value, self.lines.records[value as usize - 1][2], 0]);
+        }
+        if kind == 10 {
+            value = self.any_word().0;
+        }
+        self.emit([kind, 0, value, 0, 0]);
+    }
+
+    fn word_line(&mut self) {
+        let (a, w) = self.any_word();
+        let kind = 11 + self.random.below(43) as u64;
+        let bit = Sort::Word(1);
+        match kind {
+            11..=14 => {
+                let own = self.sort_line(Sort::Word(w));
+                self.emit([kind, own, a, 0, 0]);
+            }
+            15..=17 => {
+                let own = self.sort_line(bit);
+                self.emit([kind, own, a, 0, 0]);
+            }
+            18 => {
+                let upper = self.random.next() % w;
+                let lower = self.random.next() % (upper + 1);
+                let own = self.sort_line(Sort::Word(upper - lower + 1));
+                self.emit([18, own, a, upper, lower]);
+            }
+            19 | 20 => {
+                let extra = self.random.next() % (65 - w);
+                let own = self.sort_line(Sort::Word(w + extra));
+                self.emit([kind, own, a, extra, 0]);
+            }
+            21..=30 => {
+                let (b, own) = (self.word(w), self.sort_line(bit));
+                self.emit([kind, own, a, b, 0]);
+            }
+            31 | 32 => {
+                let (a, b, own) = (self.word(1), self.word(1), self.sort_line(bit));
+                self.emit([kind, own, a, b, 0]);
+            }
+            33..=51 => {
+                let (mut b, own) = (self.word(w), self.sort_line(Sort::Word(w)));
+                if kind >= 47 && self.random.one_in(2) {
+                    // An amount near the width.
+                    let sort = self.sort_line(Sort::Word(w));
+                    let amount = (w + 2).saturating_sub(self.random.next() % 5) & ones(w);
+                    b = self.emit([3, sort, amount, 0, 0]);
+                }
+                self.emit([kind, own, a, b, 0]);
+            }
+            52 => {
+                let (a, w) = if w < 64 { (a, w) } else { (self.word(1), 1) };
+                let u = 1 + self.random.next() % (64 - w);
+                let b = self.word(u);
+                let own = self.sort_line(Sort::Word(w + u));
+                let (a, b) = if self.random.one_in(2) { (a, b) } else { (b, a) };
+                self.emit([52, own, a, b, 0]);
+            }
+            _ => {
+                let (condition, b, own) = (self.word(1), self.word(w), self.sort_line(Sort::Word(w)));
+                self.emit([53, own, condition, a, b]);
+            }
+        }
+    }
+}
+
+/// A valid circuit.
+pub fn circuit(random: &mut Random, size: Size) -> Lines {
+    let mut b = Builder { random, lines: Lines::default(), arrays: size.arrays };
+    while b.lines.lines.len() < size.lines {
+        match b.random.below(20) {
+            0..=10 => b.word_line(),
+            11..=14 if size.arrays => b.array_line(),
+            15 => b.init_line(),
+            16 | 17 => b.next_line(),
+            18 | 19 => b.signal_line(),
+            _ => b.word_line(),
+        }
+    }
+    b.lines
+}
+
+pub fn size(random: &mut Random) -> Size {
+    let lines = match random.below(8) {
+        0 => random.below(4),
+        1..=5 => 5 + random.below(30),
+        6 => 40 + random.below(60),
+        _ => 100 + random.below(150),
+    };
+    Size { lines, arrays: random.below(4) > 0 }
+}
+
+/// The text of records in some style: constants in any form, names, comments, blank lines, spaces.
+pub fn text(random: &mut Random, lines: &Lines) -> Vec<u8> {
+    let style = random.below(3);
+    let mut text = Vec::new();
+    for (i, r) in lines.records.iter().enumerate() {
+        while style > 0 && random.one_in(9) {
+            text.extend(random.pick(&[&b"\n"[..], b"; a comment\n", b"   \n", b"  ;\n", b";;1 2 3\n"]));
+        }
+        let mut tokens = tokens(i + 1, r);
+        if r[0] == 3 {
+            constant_form(random, &mut tokens, r[2], lines.sort(r[1]).width());
+        }
+        if style > 0 && random.one_in(3) {
+            tokens.push(
+                random
+                    .pick(&[&b"name"[..], b"7", b"0", b"\t", b"\r", b"\xff\x00", b"bad", b"a_long_name.with[4]"])
+                    .to_vec(),
+            );
+        }
+        let space =
+            |random: &mut Random| vec![b' '; if style == 2 && random.one_in(4) { 1 + random.below(4) } else { 1 }];
+        if style == 2 && random.one_in(6) {
+            text.push(b' ');
+        }
+        for (j, token) in tokens.iter().enumerate() {
+            if j > 0 {
+                text.extend(space(random));
+            }
+            text.extend(token);
+        }
+        if style > 0 && random.one_in(8) {
+            text.extend(random.pick(&[&b" ;x"[..], b";1 2", b"  ", b" ", b";"]));
+        }
+        if i + 1 < lines.records.len() || style == 0 || random.one_in(2) {
+            text.push(b'\n');
+        }
+    }
+    text
+}
+
+fn tokens(id: usize, r: &Record) -> Vec<Vec<u8>> {
+    let kind = row(r[0]);
+    let mut tokens: Vec<Vec<u8>> = vec![id.to_string().into_bytes()];
+    tokens.extend(kind.word.split(' ').map(|w| w.as_bytes().to_vec()));
+    if kind.sort.is_some() {
+        tokens.push(r[1].to_string().into_bytes());
+    }
+    tokens.extend(r[2..2 + kind.operands.len()].iter().map(|x| x.to_string().into_bytes()));
+    tokens
+}
+
+fn constant_form(random: &mut Random, tokens: &mut Vec<Vec<u8>>, value: u64, w: u64) {
+    match random.below(5) {
+        0 => {
+            tokens[1] = b"const".to_vec();
+            tokens[3] = format!("{value:0width$b}", width = w as usize).into_bytes();
+        }
+        1 => {
+            tokens[1] = b"consth".to_vec();
+            let width = random.below(17);
+            let hex = format!("{value:0width$x}");
+            tokens[3] = if random.one_in(2) { hex.to_uppercase() } else { hex }.into_bytes();
+        }
+        2 if value == 0 || value == 1 || value == ones(w) => {
+            let words: Vec<&str> = [("zero", 0), ("one", 1), ("ones", ones(w))]
+                .into_iter()
+                .filter(|&(_, v)| v == value)
+                .map(|(word, _)| word)
+                .collect();
+            tokens[1] = random.pick(&words).as_bytes().to_vec();
+            tokens.truncate(3);
+        }
+        _ => {}
+    }
+}
+
+/// Tokens that may stand in for others.
+pub const STRANGE: &[&[u8]] = &[
+    b"0",
+    b"00",
+    b"01",
+    b"1",
+    b"2",
+    b"-1",
+    b"+1",
+    b"64",
+    b"65",
+    b"9",
+    b"18446744073709551615",
+    b"18446744073709551616",
+    b"99999999999999999999999",
+    b"sort",
+    b"bitvec",
+    b"array",
+    b"const",
+    b"constd",
+    b"consth",
+    b"zero",
+    b"one",
+    b"ones",
+    b"justice",
+    b"fair",
+    b"mask",
+    b"ADD",
+    b"x",
+    b"\t",
+    b"\r",
+    b"5.",
+    b"1\t",
+    b"0x1",
+    b"ffffffffffffffff",
+    b"0ffffffffffffffff",
+    b"1111111111111111111111111111111111111111111111111111111111111111",
+    b"11111111111111111111111111111111111111111111111111111111111111111",
+    b"\xc3\xa4",
+    b"a;b",
+    b"bad",
+    b"state",
+    b"next",
+];
+
+/// A text that most often is refused: one or two faults in a valid one.
+pub fn damaged_text(random: &mut Random, lines: &Lines) -> Vec<u8> {
+    let mut lines = lines.clone();
+    if random.one_in(2) {
+        // A fault of the records, in valid syntax.
+        let mut words = lines.records.concat();
+        damage_records(random, &mut words, false);
+        if words.chunks_exact(5).all(|r| (1..=55).contains(&r[0])) {
+            let records: Vec<Record> = words.chunks_exact(5).map(|r| r.try_into().unwrap()).collect();
+            let mut printed: Vec<Vec<Vec<u8>>> = records.iter().enumerate().map(|(i, r)| tokens(i + 1, r)).collect();
+            for line in &mut printed {
+                if line[1] == b"constd" && random.one_in(4) {
+                    line[1] = random.pick(&[&b"const"[..], b"consth"]).to_vec();
+                }
+            }
+            return join(&printed);
+        }
+    }
+    let n = lines.records.len();
+    if n > 0 && random.one_in(2) {
+        lines.records.truncate(1 + random.below(n));
+    }
+    let mut text = text(random, &lines);
+    for _ in 0..1 + random.below(2) {
+        damage_text(random, &mut text);
+    }
+    text
+}
+
+/// Lines of a few tokens from a small vocabulary: ids that come again, words without operands, names of all sorts.
+pub fn babble(random: &mut Random) -> Vec<u8> {
+    const WORDS: &[&str] = &[
+        "sort",
+        "bitvec",
+        "array",
+        "const",
+        "constd",
+        "consth",
+        "zero",
+        "one",
+        "ones",
+        "input",
+        "state",
+        "init",
+        "bad",
+        "add",
+        "slice",
+        "ite",
+        "read",
+        "not",
+        "foo",
+        "sort bitvec",
+        "sort array",
+        "output",
+    ];
+    let mut text = Vec::new();
+    for line in 0..random.below(12) {
+        let id = if random.one_in(2) { line + 1 } else { random.below(4) };
+        text.extend(if random.one_in(9) { b"01".to_vec() } else { id.to_string().into_bytes() });
+        text.extend(random.pick(&[&b" "[..], b" ", b"  ", b";", b"\t"]));
+        text.extend(random.pick(WORDS).bytes());
+        for _ in 0..random.below(7) {
+            text.extend(random.pick(&[&b" "[..], b" ", b" ", b" ", b"  ", b";", b""]));
+            text.extend(random.pick(&[&b"1"[..], b"2", b"1", b"0", b"64", b"x", b"3", b"name", b"\xff"]));
+        }
+        text.extend(random.pick(&[&b"\n"[..], b"\n", b" \n", b"\n\n", b" ;c\n", b"\r\n"]));
+    }
+    if random.one_in(3) {
+        text.pop();
+    }
+    text
+}
+
+fn join(lines: &[Vec<Vec<u8>>]) -> Vec<u8> {
+    lines.iter().flat_map(|l| [l.join(&b' '), b"\n".to_vec()].concat()).collect()
+}
+
+fn damage_text(random: &mut Random, text: &mut Vec<u8>) {
+    let n = text.len();
+    match random.below(7) {
+        // A byte changed, put in, taken away; the end cut off.
+        0 if n > 0 => {
+            let at = random.below(n);
+            text[at] = random.pick(b" \n;019a\tz\r\0\xff");
+        }
+        1 => text.insert(random.below(n + 1), random.pick(b" \n;0159a\tz\r\0\xff-+")),
+        2 if n > 0 => {
+            text.remove(random.below(n));
+        }
+        3 => text.truncate(random.below(n + 1)),
+        // A token or a line changed.
+        _ => {
+            let mut lines: Vec<Vec<Vec<u8>>> =
+                text.split(|&b| b == b'\n').map(|l| l.split(|&b| b == b' ').map(|t| t.to_vec()).collect()).collect();
+            let at = random.below(lines.len());
+            let other = lines[random.below(lines.len())].clone();
+            let line = &mut lines[at];
+            let token = random.below(line.len());
+            let strange = random.pick(STRANGE).to_vec();
+            match random.below(12) {
+                0..=2 => line[token] = strange,
+                3 => line.insert(token, strange),
+                4 => line.push(strange),
+                5 => {
+                    line.push(strange.clone());
+                    line.push(strange);
+                }
+                6 => {
+                    line.remove(token);
+                }
+                7 => line.insert(token, line[token].clone()),
+                8 => line[token].insert(0, b'0'),
+                9 if line.len() > 1 => line[1] = KINDS[random.below(55)].word.as_bytes().to_vec(),
+                10 => lines.insert(at, other),
+                _ => {
+                    lines.remove(at);
+                }
+            }
+            *text = rejoin(&lines);
+        }
+    }
+}
+
+fn rejoin(lines: &[Vec<Vec<u8>>]) -> Vec<u8> {
+    let joined: Vec<Vec<u8>> = lines.iter().map(|l| l.join(&b' ')).collect();
+    joined.join(&b'\n')
+}
+
+/// Faults of a table's or a program's records; some are none.
+pub fn damage_records(random: &mut Random, table: &mut Vec<u64>, program: bool) {
+    let n = table.len() / 5;
+    if n == 0 {
+        let kind = random.word() % 60;
+        table.extend([kind, 0, 1, 0, 0]);
+        return;
+    }
+    for _ in 0..1 + random.below(2) {
+        let (at, other) = (5 * random.below(n), 5 * random.below(n));
+        let word = at + 1 + random.below(4);
+        match random.below(14) {
+            0 => table[at] = random.pick(&[0, 1, 2, 3, 53, 54, 55, 56, 57, 255, 256, 311, u64::MAX]),
+            1 => table[at] = 1 + random.next() % 56,
+            2..=4 => table[word] = 1 + random.next() % n as u64,
+            5 => table[word] = random.word(),
+            6 => table[word] = table[word].wrapping_add(random.pick(&[1, u64::MAX, 256, 1 << 32])),
+            7 => table.swap(at + 2, at + 3),
+            8 => table[at + 1] = table[other + 1],
+            9 => table[at + 2 + random.below(3)] = table[other + 2],
+            10 => (0..5).for_each(|i| table.swap(at + i, other + i)),
+            11 => {
+                // A record once more: a second init or next.
+                let again: Vec<u64> = table[at..at + 5].to_vec();
+                table.extend(again);
+            }
+            12 => late_init(random, table, program),
+            _ => {
+                // Among inits and nexts only.
+                let held: Vec<usize> = (0..n).filter(|i| matches!(table[5 * i], 6 | 7)).collect();
+                if !held.is_empty() {
+                    let at = 5 * random.pick(&held);
+                    table[at + random.pick(&[2, 3])] = 1 + random.next() % n as u64;
+                }
+            }
+        }
+    }
+}
+
+/// An init whose value fits the state in its sort, with any cone and any place.
+fn late_init(random: &mut Random, table: &mut Vec<u64>, program: bool) {
+    let check = crate::independent::rules::check_table;
+    let check_program = crate::independent::rules::check_program;
+    let n = table.len() / 5;
+    let Some(lines) = (if program { check_program(table, n) } else { check(table, n) }) else { return };
+    let states: Vec<usize> = (0..n).filter(|&i| lines.lines[i].kind == 5).collect();
+    if states.is_empty() {
+        return;
+    }
+    let state = random.pick(&states);
+    let w = lines.lines[state].sort.unwrap().width();
+    let values: Vec<usize> =
+        (0..n).filter(|&i| lines.lines[i].kind > 2 && lines.lines[i].sort == Some(Sort::Word(w))).collect();
+    if !values.is_empty() {
+        let value = random.pick(&values);
+        table.extend([6, lines.records[state][1], state as u64 + 1, value as u64 + 1, 0]);
+    }
+}
+
+/// A length near the exact one.
+pub fn length(random: &mut Random, exact: usize) -> usize {
+    match random.below(12) {
+        0 => exact + 1,
+        1 => exact.saturating_sub(1),
+        2 => exact + 1 + random.below(40),
+        3 => random.below(exact + 1),
+        _ => exact,
+    }
+}
+
+/// A length of a list of records, from the records that it should hold.
+pub fn table_length(random: &mut Random, exact: usize) -> usize {
+    match random.below(12) {
+        0 => 5 * exact + 1 + random.below(4),
+        1 => (5 * exact).saturating_sub(1),
+        2 => 5 * exact.saturating_sub(1),
+        3 => 5 * (exact + random.below(30)),
+        4 => 5 * random.below(exact + 1),
+        5 => 5 * (exact + 1),
+        _ => 5 * exact,
+    }
+}
+
+/// A count near the exact one, or far off.
+pub fn count(random: &mut Random, exact: usize) -> usize {
+    match random.below(20) {
+        0 => exact + 1,
+        1 => exact.saturating_sub(1),
+        2 => random.below(exact + 1),
+        3 => random.pick(&[16_384, 16_385, usize::MAX, usize::MAX / 5, usize::MAX / 5 + 2, 1 << 32, 1 << 63]),
+        _ => exact,
+    }
+}
+
+/// The length of an answer list: three, or seldom another.
+pub fn answer_length(random: &mut Random) -> usize {
+    if random.one_in(40) {
+        random.pick(&[0, 1, 2, 4, 5])
+    } else {
+        3
+    }
+}
+
+/// A program of a circuit without arrays, with masks anywhere or nowhere: its words need not be clean.
+pub fn wild_program(random: &mut Random, lines: &Lines) -> Vec<Record> {
+    let masks = random.below(3);
+    let mut number = vec![0u64; lines.records.len()];
+    let mut out: Vec<Record> = Vec::new();
+    for (n, r) in lines.records.iter().enumerate().filter(|(_, r)| r[0] != 1) {
+        let kind = row(r[0]);
+        let mut copy = *r;
+        if kind.sort.is_some() {
+            copy[1] = lines.sort(r[1]).width();
+        }
+        for (i, place) in kind.operands.iter().enumerate() {
+            if *place != crate::independent::kinds::Place::Number {
+                copy[2 + i] = number[r[2 + i] as usize - 1];
+            }
+        }
+        out.push(copy);
+        number[n] = out.len() as u64;
+        // A state is used by its own number.
+        if crate::independent::kinds::is_value(r[0]) && r[0] != 5 {
+            while masks > 0 && random.one_in(4) {
+                out.push([56, copy[1], number[n], 0, 0]);
+                number[n] = out.len() as u64;
+            }
+        }
+    }
+    out
+}

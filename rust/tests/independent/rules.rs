@@ -1,0 +1,205 @@
+//! The rules for tables and programs: 8 (classes), 9 (widths and bounds),
+//! 10 (second init or next, the init rule), and the checks 11 and 20.
+
+use super::kinds::{is_value, row, Place};
+use super::{Record, MOST_RECORDS};
+
+#[derive(Clone, Copy, PartialEq, Eq, Debug)]
+pub enum Sort {
+    Word(u64),
+    /// Index width, element width.
+    Array(u64, u64),
+}
+
+impl Sort {
+    /// The width of a word or of an element.
+    pub fn width(self) -> u64 {
+        match self {
+            Sort::Word(w) | Sort::Array(_, w) => w,
+        }
+    }
+
+    pub fn cells(self) -> usize {
+        match self {
+            Sort::Word(_) => 1,
+            Sort::Array(i, _) => 1 << i,
+        }
+    }
+}
+
+/// 2^w - 1.
+pub fn ones(w: u64) -> u64 {
+    ((1u128 << w) - 1) as u64
+}
+
+/// What later lines have to know of a line.
+#[derive(Clone, Copy, Debug)]
+pub struct Line {
+    pub kind: u64,
+    /// The sort that a sort line defines, or that a value line has.
+    pub sort: Option<Sort>,
+    /// The cone holds no input and no state.
+    pub fixed: bool,
+    /// A state with an init line, with a next line.
+    pub init: bool,
+    pub next: bool,
+}
+
+/// The lines so far. Line n stands at n - 1.
+#[derive(Clone, Default)]
+pub struct Lines {
+    pub lines: Vec<Line>,
+    pub records: Vec<Record>,
+    /// The sort words are widths, as in programs.
+    pub program: bool,
+}
+
+impl Lines {
+    pub fn line(&self, number: u64) -> Option<&Line> {
+        self.lines.get(usize::try_from(number.checked_sub(1)?).ok()?)
+    }
+
+    /// The sort of a sort line or value line that is known to exist.
+    pub fn sort(&self, number: u64) -> Sort {
+        self.line(number).unwrap().sort.unwrap()
+    }
+
+    fn stands(&self, place: Place, number: u64) -> bool {
+        if place == Place::Number {
+            return true;
+        }
+        let Some(line) = self.line(number) else { return false };
+        let word = matches!(line.sort, Some(Sort::Word(_)));
+        match place {
+            Place::Number => true,
+            Place::WordSort => line.kind == 1,
+            Place::ArraySort => line.kind == 2,
+            Place::AnySort => line.kind <= 2,
+            Place::State => line.kind == 5,
+            Place::Word => is_value(line.kind) && word,
+            Place::Array => is_value(line.kind) && !word,
+            Place::Value => is_value(line.kind),
+        }
+    }
+
+    /// The sort of a line to be added.
+    fn own_sort(&self, r: &Record) -> Option<Sort> {
+        match row(r[0]).sort {
+            None => None,
+            Some(_) if self.program => Some(Sort::Word(r[1])),
+            Some(_) => Some(self.sort(r[1])),
+        }
+    }
+
+    /// Rule 8: every operand is an earlier line of the right class.
+    pub fn classes_fit(&self, r: &Record) -> bool {
+        let kind = row(r[0]);
+        let sort = match kind.sort {
+            Some(place) if !self.program => self.stands(place, r[1]),
+            _ => true,
+        };
+        sort && kind.operands.iter().enumerate().all(|(i, &place)| self.stands(place, r[2 + i]))
+    }
+
+    /// Rule 9: sorts, widths, bounds and constants fit. Rule 8 holds already.
+    pub fn widths_fit(&self, r: &Record) -> bool {
+        let own = self.own_sort(r);
+        let w = own.map_or(0, Sort::width);
+        let sort = |i: usize| self.sort(r[1 + i]);
+        let width = |i: usize| sort(i).width();
+        match r[0] {
+            1 => (1..=64).contains(&r[2]),
+            2 => width(1) <= 8,
+            3 => r[2] <= ones(w),
+            4 | 5 => true,
+            6 => own == Some(sort(1)) && width(2) == w,
+            7 => own == Some(sort(1)) && sort(1) == sort(2),
+            8 | 9 => width(1) == 1,
+            10 => true,
+            11..=14 | 56 => width(1) == w,
+            15..=17 => w == 1,
+            18 => r[4] <= r[3] && r[3] < width(1) && w == r[3] - r[4] + 1,
+            19 | 20 => u128::from(w) == u128::from(width(1)) + u128::from(r[3]),
+            21 | 22 => w == 1 && sort(1) == sort(2),
+            23..=30 => w == 1 && width(1) == width(2),
+            31 | 32 => w == 1 && width(1) == 1 && width(2) == 1,
+            33..=51 => width(1) == w && width(2) == w,
+            52 => w == width(1) + width(2),
+            53 => width(1) == 1 && own == Some(sort(2)) && own == Some(sort(3)),
+            54 => matches!(sort(1), Sort::Array(i, e) if width(2) == i && w == e),
+            55 => own == Some(sort(1)) && matches!(sort(1), Sort::Array(i, e) if width(2) == i && width(3) == e),
+            _ => unreachable!("kinds are 1 to 56"),
+        }
+    }
+
+    /// Rule 10: no second init or next, and the init rule.
+    pub fn states_fit(&self, r: &Record) -> bool {
+        match r[0] {
+            6 => !self.line(r[2]).unwrap().init && r[3] < r[2] && self.line(r[3]).unwrap().fixed,
+            7 => !self.line(r[2]).unwrap().next,
+            _ => true,
+        }
+    }
+
+    /// Adds a line that breaks no rule.
+    pub fn add(&mut self, r: Record) {
+        let sort = match r[0] {
+            1 => Some(Sort::Word(r[2])),
+            2 => Some(Sort::Array(self.sort(r[2]).width(), self.sort(r[3]).width())),
+            k if is_value(k) => self.own_sort(&r),
+            _ => None,
+        };
+        let operands = row(r[0]).operands.iter().enumerate();
+        let fixed = r[0] != 4
+            && r[0] != 5
+            && operands.filter(|(_, &p)| p != Place::Number).all(|(i, _)| self.line(r[2 + i]).unwrap().fixed);
+        match r[0] {
+            6 => self.lines[r[2] as usize - 1].init = true,
+            7 => self.lines[r[2] as usize - 1].next = true,
+            _ => {}
+        }
+        self.lines.push(Line { kind: r[0], sort, fixed, init: false, next: false });
+        self.records.push(r);
+    }
+
+    fn accepts(&self, r: &Record) -> bool {
+        let known = if self.program { matches!(r[0], 3..=53 | 56) } else { matches!(r[0], 1..=55) };
+        if !known {
+            return false;
+        }
+        let kind = row(r[0]);
+        let sort_word = match kind.sort {
+            None => r[1] == 0,
+            Some(_) => !self.program || (1..=64).contains(&r[1]),
+        };
+        sort_word
+            && r[2 + kind.operands.len()..].iter().all(|&x| x == 0)
+            && self.classes_fit(r)
+            && self.widths_fit(r)
+            && self.states_fit(r)
+    }
+}
+
+fn check(table: &[u64], count: usize, program: bool) -> Option<Lines> {
+    if count > table.len() / 5 || count > MOST_RECORDS {
+        return None;
+    }
+    let mut lines = Lines { program, ..Lines::default() };
+    for r in super::records(table, count) {
+        if !lines.accepts(&r) {
+            return None;
+        }
+        lines.add(r);
+    }
+    Some(lines)
+}
+
+/// The lines of an accepted table with its count, or nothing where 11 holds.
+pub fn check_table(table: &[u64], count: usize) -> Option<Lines> {
+    check(table, count, false)
+}
+
+/// The lines of an accepted program with its count, or nothing where 20 holds.
+pub fn check_program(table: &[u64], count: usize) -> Option<Lines> {
+    check(table, count, true)
+}

@@ -1,0 +1,241 @@
+//! Reading, writing and naming.
+
+use super::kinds::{row, Place, KINDS};
+use super::rules::{check_table, ones, Lines, Sort};
+use super::{room, store, Record, MOST_TEXT};
+
+/// The lines of a text, each with its number from 1 and its tokens.
+fn lines(text: &[u8]) -> impl Iterator<Item = (u64, Vec<&[u8]>)> {
+    (1u64..).zip(text.split(|&b| b == b'\n')).map(|(number, line)| {
+        let code = line.split(|&b| b == b';').next().unwrap();
+        (number, code.split(|&b| b == b' ').filter(|t| !t.is_empty()).collect())
+    })
+}
+
+/// How the value of a constant is given.
+#[derive(Clone, Copy, PartialEq, Eq)]
+enum Constant {
+    Binary,
+    Decimal,
+    Hex,
+    Zero,
+    One,
+    Ones,
+}
+
+/// What a word promises of its line.
+struct Form {
+    kind: u64,
+    constant: Constant,
+    /// How many tokens stand for the id and the word.
+    head: usize,
+}
+
+impl Form {
+    /// The classes of the tokens after the word.
+    fn places(&self) -> Vec<Place> {
+        let mut places: Vec<Place> = row(self.kind).sort.into_iter().collect();
+        if !matches!(self.constant, Constant::Zero | Constant::One | Constant::Ones) {
+            places.extend(row(self.kind).operands);
+        }
+        places
+    }
+}
+
+fn form(tokens: &[&[u8]]) -> Option<Form> {
+    let word = *tokens.get(1)?;
+    let known = |kind, constant, head| Some(Form { kind, constant, head });
+    match word {
+        b"sort" => match *tokens.get(2)? {
+            b"bitvec" => known(1, Constant::Decimal, 3),
+            b"array" => known(2, Constant::Decimal, 3),
+            _ => None,
+        },
+        b"const" => known(3, Constant::Binary, 2),
+        b"consth" => known(3, Constant::Hex, 2),
+        b"zero" => known(3, Constant::Zero, 2),
+        b"one" => known(3, Constant::One, 2),
+        b"ones" => known(3, Constant::Ones, 2),
+        _ => {
+            let at = KINDS[2..55].iter().position(|k| k.word.as_bytes() == word)?;
+            known(at as u64 + 3, Constant::Decimal, 2)
+        }
+    }
+}
+
+enum Number {
+    Malformed,
+    TooLarge,
+    Is(u64),
+}
+
+fn digits(token: &[u8], base: u32) -> Option<Vec<u32>> {
+    token.iter().map(|&b| (b as char).to_digit(base)).collect()
+}
+
+fn value(digits: &[u32], base: u64) -> Option<u64> {
+    digits.iter().try_fold(0u64, |n, &d| n.checked_mul(base)?.checked_add(u64::from(d)))
+}
+
+fn number(token: &[u8]) -> Number {
+    match digits(token, 10) {
+        Some(d) if token == b"0" || d.first().is_some_and(|&d| d != 0) => {
+            value(&d, 10).map_or(Number::TooLarge, Number::Is)
+        }
+        _ => Number::Malformed,
+    }
+}
+
+/// Digits in base two or sixteen, at most so many.
+fn digits_number(token: &[u8], base: u32, most: usize) -> Number {
+    match digits(token, base) {
+        None => Number::Malformed,
+        Some(d) if d.len() > most => Number::TooLarge,
+        Some(d) => Number::Is(value(&d, u64::from(base)).unwrap()),
+    }
+}
+
+/// The record of a line, or the refusal's number.
+fn record(tokens: &[&[u8]], lines: &Lines, room: usize) -> Result<Record, u64> {
+    if tokens[0] != (lines.lines.len() + 1).to_string().as_bytes() {
+        return Err(3);
+    }
+    if lines.lines.len() >= room {
+        return Err(4);
+    }
+    let form = form(tokens).ok_or(5u64)?;
+    let places = form.places();
+    let rest = &tokens[form.head..];
+    if rest.len() < places.len() || rest.len() > places.len() + 1 {
+        return Err(6);
+    }
+    let numbers: Vec<Number> = (0..places.len())
+        .map(|i| match (form.constant, i) {
+            (Constant::Binary, 1) => digits_number(rest[i], 2, 64),
+            (Constant::Hex, 1) => digits_number(rest[i], 16, 16),
+            _ => number(rest[i]),
+        })
+        .collect();
+    if numbers.iter().any(|n| matches!(n, Number::Malformed)) {
+        return Err(6);
+    }
+    let mut r: Record = [form.kind, 0, 0, 0, 0];
+    let first = if row(form.kind).sort.is_some() { 1 } else { 2 };
+    for (i, n) in numbers.iter().enumerate() {
+        match n {
+            Number::Is(v) => r[first + i] = *v,
+            _ => return Err(7),
+        }
+    }
+    if form.kind == 1 && !(1..=64).contains(&r[2]) {
+        return Err(7);
+    }
+    if !lines.classes_fit(&r) {
+        return Err(8);
+    }
+    if form.kind == 3 {
+        let Sort::Word(w) = lines.sort(r[1]) else { unreachable!() };
+        match form.constant {
+            Constant::Binary if rest[1].len() as u64 != w => return Err(9),
+            Constant::One => r[2] = 1,
+            Constant::Ones => r[2] = ones(w),
+            _ => {}
+        }
+    }
+    if !lines.widths_fit(&r) {
+        return Err(9);
+    }
+    if !lines.states_fit(&r) {
+        return Err(10);
+    }
+    Ok(r)
+}
+
+/// answer[0] is the count, or the text line with 3 to 10.
+pub fn read(text: &[u8], table: &mut [u64], answer: &mut [u64]) -> u64 {
+    table.fill(0);
+    answer.fill(0);
+    if answer.len() != 3 || table.len() % 5 != 0 {
+        return 1;
+    }
+    if text.len() > MOST_TEXT {
+        return 2;
+    }
+    let room = room(table);
+    let mut known = Lines::default();
+    for (number, tokens) in lines(text) {
+        if tokens.is_empty() {
+            continue;
+        }
+        match record(&tokens, &known, room) {
+            Ok(r) => known.add(r),
+            Err(refusal) => {
+                answer[0] = number;
+                return refusal;
+            }
+        }
+    }
+    store(&known.records, table);
+    answer[0] = known.records.len() as u64;
+    0
+}
+
+/// The text of some records.
+pub fn print(records: &[Record]) -> Vec<u8> {
+    use std::io::Write;
+    let mut text = Vec::new();
+    for (i, r) in records.iter().enumerate() {
+        let kind = row(r[0]);
+        write!(text, "{} {}", i + 1, kind.word).unwrap();
+        if kind.sort.is_some() {
+            write!(text, " {}", r[1]).unwrap();
+        }
+        for operand in &r[2..2 + kind.operands.len()] {
+            write!(text, " {operand}").unwrap();
+        }
+        text.push(b'\n');
+    }
+    text
+}
+
+/// answer[0] is the number of bytes.
+pub fn write(table: &[u64], count: usize, text: &mut [u8], answer: &mut [u64]) -> u64 {
+    text.fill(0);
+    answer.fill(0);
+    if answer.len() != 3 || table.len() % 5 != 0 {
+        return 1;
+    }
+    let Some(lines) = check_table(table, count) else { return 11 };
+    let printed = print(&lines.records);
+    if printed.len() > text.len() {
+        return 21;
+    }
+    text[..printed.len()].copy_from_slice(&printed);
+    answer[0] = printed.len() as u64;
+    0
+}
+
+/// The name in the first line with this id: where it starts in the text, and its length.
+pub fn find_name(text: &[u8], id: u64) -> Option<(usize, usize)> {
+    let wanted = id.to_string();
+    let (_, tokens) = lines(text).find(|(_, t)| t.first().is_some_and(|t| *t == wanted.as_bytes()))?;
+    let form = form(&tokens)?;
+    if tokens.len() != form.head + form.places().len() + 1 {
+        return None;
+    }
+    let name = tokens.last().unwrap();
+    Some((name.as_ptr() as usize - text.as_ptr() as usize, name.len()))
+}
+
+/// answer[0] is the start of the name in the text, answer[1] its length. Where there is none, the length is 0 and the start free.
+pub fn name(text: &[u8], id: u64, answer: &mut [u64]) -> u64 {
+    answer.fill(0);
+    if answer.len() != 3 {
+        return 1;
+    }
+    if let Some((start, length)) = find_name(text, id) {
+        answer[0] = start as u64;
+        answer[1] = length as u64;
+    }
+    0
+}
