@@ -12,6 +12,7 @@ ghost use mathlib.Core.List.{List, [], _∷_};
 ghost use Prim.Native.Nat.{_+_, _*_, _≤_, _<_};
 ghost use lib.ListN.{length, set, replicate};
 ghost use Rattle.tables.specs.Pick.{all};
+ghost use Rattle.tables.specs.Kinds.{rows};
 ghost use Rattle.tables.specs.Lines.{lineOf, kindIn, firstIn, records, decode, counted};
 ghost use Rattle.tables.specs.Types.{recordType, noCtx, context};
 ghost use Rattle.tables.specs.Lists.{lookIn, givenIn, Shows, Ample, Noted, markedBy};
@@ -136,6 +137,7 @@ pub fn clear(xs: &mut [u8])
 // The record breaks no rule after the lines that the lists hold.
 fn keeps_rules(
     program: bool,
+    kinds: &[[u8; 16]; 55],
     rec: [u64; 5],
     cls: &[u8],
     idx: &[u8],
@@ -143,13 +145,14 @@ fn keeps_rules(
     ini: &[u8],
     nxt: &[u8],
 ) -> bool
+    requires { ⌜ now kinds ≡ rows ⌝ }
     ensures { λ r. ⌜ r ≡ keeps program (lookIn (now (cls .entry)) (now (idx .entry)) (now (wid .entry))) (givenIn (now (ini .entry)) (now (nxt .entry))) rec ⌝ }
 {
     let k = rec[0];
     if !known(program, k) {
         return false;
     }
-    let row = kinds::row(k);
+    let row = kinds::row_of(kinds, k);
     if !tidy(row, rec) {
         return false;
     }
@@ -157,8 +160,9 @@ fn keeps_rules(
 }
 
 // The record of the line n breaks no rule after the lines that the lists hold; then they hold it too.
-pub fn take_record(
+fn take_record(
     program: bool,
+    kinds: &[[u8; 16]; 55],
     rec: [u64; 5],
     n: u64,
     cls: &mut [u8],
@@ -167,9 +171,10 @@ pub fn take_record(
     ini: &mut [u8],
     nxt: &mut [u8],
 ) -> bool
+    requires { ⌜ now kinds ≡ rows ⌝ }
     ensures { λ r. ⌜ (r ≡ keeps program (lookIn (now (cls .entry)) (now (idx .entry)) (now (wid .entry))) (givenIn (now (ini .entry)) (now (nxt .entry))) rec) × (r ≡ true → Noted program rec n (now (cls .entry)) (now (idx .entry)) (now (wid .entry)) (now (ini .entry)) (now (nxt .entry)) (now (cls .exit)) (now (idx .exit)) (now (wid .exit)) (now (ini .exit)) (now (nxt .exit))) ⌝ }
 {
-    if !keeps_rules(program, rec, cls, idx, wid, ini, nxt) {
+    if !keeps_rules(program, kinds, rec, cls, idx, wid, ini, nxt) {
         return false;
     }
     note(program, rec, n, cls, idx, wid, ini, nxt);
@@ -179,6 +184,7 @@ pub fn take_record(
 // Every record breaks no rule, after those before it; then the lists, which are zero at the start, hold them all.
 fn lines(
     program: bool,
+    kinds: &[[u8; 16]; 55],
     table: &[u64],
     count: usize,
     cls: &mut [u8],
@@ -187,13 +193,13 @@ fn lines(
     ini: &mut [u8],
     nxt: &mut [u8],
 ) -> bool
-    requires { ⌜ (count ≤ 16384) × ((5 * count ≤ length (now table)) × (Ample (now cls) (now idx) (now wid) (now ini) (now nxt) × Shows (now cls) (now idx) (now wid) (now ini) (now nxt) noCtx)) ⌝ }
+    requires { ⌜ (now kinds ≡ rows) × ((count ≤ 16384) × ((5 * count ≤ length (now table)) × (Ample (now cls) (now idx) (now wid) (now ini) (now nxt) × Shows (now cls) (now idx) (now wid) (now ini) (now nxt) noCtx))) ⌝ }
     ensures { λ r. ⌜ (r ≡ lawful program noCtx (records (counted (now (table .entry)) count))) × (r ≡ true → Shows (now (cls .exit)) (now (idx .exit)) (now (wid .exit)) (now (ini .exit)) (now (nxt .exit)) (context program (decode (counted (now (table .entry)) count)))) ⌝ }
 {
     let mut i: usize = 0;
     while i < count {
         let rec = records::record(table, i);
-        if !take_record(program, rec, (i + 1) as u64, cls, idx, wid, ini, nxt) {
+        if !take_record(program, kinds, rec, (i + 1) as u64, cls, idx, wid, ini, nxt) {
             return false;
         }
         i += 1;
@@ -228,7 +234,8 @@ fn check_lines(
     ensures { λ r. ⌜ (r ≡ checked program (now (table .entry)) count) × (r ≡ Checked.Accepted → Shows (now (cls .exit)) (now (idx .exit)) (now (wid .exit)) (now (ini .exit)) (now (nxt .exit)) (context program (decode (counted (now (table .entry)) count)))) ⌝ }
 {
     clear_all(cls, idx, wid, ini, nxt);
-    if !lines(program, table, count, cls, idx, wid, ini, nxt) {
+    let kinds = kinds::all();
+    if !lines(program, &kinds, table, count, cls, idx, wid, ini, nxt) {
         return refused(program);
     }
     Checked::Accepted

@@ -1,7 +1,7 @@
 // The kinds: one constant table of their words, operand counts and operand classes, which reader, checker and writer index by kind.
 ghost use mathlib.Core.Path.{_≡_};
 ghost use Prim.Native.Nat.{_≤_, _<_};
-ghost use Rattle.tables.specs.Kinds.{placeOf, rowOf};
+ghost use Rattle.tables.specs.Kinds.{rows, placeOf, rowOf};
 
 // A row: the word's length, its letters, the class of the sort, the number of operands, their classes.
 pub const KINDS: [[u8; 16]; 55] = [
@@ -90,11 +90,27 @@ fn place(k: u64) -> usize
     (k - 1) as usize
 }
 
+// The rows of all kinds. A pass over many lines takes them once.
+pub fn all() -> [[u8; 16]; 55]
+    ensures { λ r. ⌜ r ≡ rows ⌝ }
+{
+    KINDS
+}
+
+// The row of a kind, from the rows of all.
+pub fn row_of(kinds: &[[u8; 16]; 55], k: u64) -> [u8; 16]
+    requires { ⌜ (1 ≤ k) × ((k ≤ 56) × (now kinds ≡ rows)) ⌝ }
+    ensures { λ r. ⌜ r ≡ rowOf k ⌝ }
+{
+    let i = place(k);
+    kinds[i]
+}
+
 // The row of a kind.
 pub fn row(k: u64) -> [u8; 16]
     requires { ⌜ (1 ≤ k) × (k ≤ 56) ⌝ }
     ensures { λ r. ⌜ r ≡ rowOf k ⌝ }
 {
-    let i = place(k);
-    KINDS[i]
+    let kinds = all();
+    row_of(&kinds, k)
 }

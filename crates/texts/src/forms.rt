@@ -16,13 +16,6 @@ pub const EXTRA: [[u8; 16]; 5] = [
     [4, 111, 110, 101, 115, 0, 0, 0, 0, 0, 0, 5, 0, 0, 0, 0],
 ];
 
-// The rows of all kinds, for a search.
-fn kinds() -> [[u8; 16]; 55]
-    ensures { λ r. ⌜ r ≡ rows ⌝ }
-{
-    tables::kinds::KINDS
-}
-
 fn others() -> [[u8; 16]; 5]
     ensures { λ r. ⌜ r ≡ extra ⌝ }
 {
@@ -115,7 +108,7 @@ pub fn find_kind(t: &[u8], k: usize, n: usize) -> usize
     requires { ⌜ (1 ≤ k) × (k + n ≤ 56) ⌝ }
     ensures { λ r. ⌜ r ≡ findIn k n (now (t .entry)) ⌝ }
 {
-    let rows = kinds();
+    let rows = tables::kinds::all();
     let e = k + n;
     let mut j = k;
     while j < e {

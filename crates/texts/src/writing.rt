@@ -10,7 +10,7 @@ ghost use mathlib.Core.List.{[], _∷_, _++_};
 ghost use Prim.Native.Nat.{_+_, _^_, _≤_, _<_};
 ghost use lib.ListN.{length, getD, set};
 ghost use lib.Seq.{sets};
-ghost use Rattle.tables.specs.Kinds.{wordOf};
+ghost use Rattle.tables.specs.Kinds.{rows, rowOf, wordOf};
 ghost use Rattle.tables.specs.Lines.{kindIn, records as recordsOf, counted};
 ghost use Rattle.tables.specs.Types.{noCtx};
 ghost use Rattle.tables.specs.Tables.{room, lawful, checked};
@@ -58,12 +58,11 @@ pub fn put_word(out: &mut [u8], at: usize, r: [u8; 16]) -> usize
     p
 }
 
-// A kind's word, or two for a sort, with a space before each.
-pub fn put_kind(out: &mut [u8], at: usize, k: u64) -> usize
-    requires { ⌜ (1 ≤ k) × ((k ≤ 55) × (at + length (spaced (kindTokens k)) < 2 ^ 63)) ⌝ }
+// The word of the kind k, whose row is r, or two words for a sort, with a space before each.
+pub fn put_kind(out: &mut [u8], at: usize, k: u64, r: [u8; 16]) -> usize
+    requires { ⌜ (1 ≤ k) × ((k ≤ 55) × ((r ≡ rowOf k) × (at + length (spaced (kindTokens k)) < 2 ^ 63))) ⌝ }
     ensures { λ x. ⌜ (x ≡ at + length (spaced (kindTokens k))) × (now (out .exit) ≡ sets (now (out .entry)) at (spaced (kindTokens k))) ⌝ }
 {
-    let r = kinds::row(k);
     if k <= 2 {
         let a = put(out, at, 32);
         let b = put_word(
@@ -96,16 +95,16 @@ pub fn put_numbers(out: &mut [u8], at: usize, m: usize, j: usize, rec: [u64; 5])
 }
 
 // The line of a record, with its LF.
-pub fn put_line(out: &mut [u8], at: usize, id: u64, rec: [u64; 5]) -> usize
-    requires { ⌜ (1 ≤ kindIn rec) × ((kindIn rec ≤ 55) × (at + length (join (tokensOf id rec) ++ (10 ∷ [])) < 2 ^ 63)) ⌝ }
+pub fn put_line(kinds: &[[u8; 16]; 55], out: &mut [u8], at: usize, id: u64, rec: [u64; 5]) -> usize
+    requires { ⌜ (now kinds ≡ rows) × ((1 ≤ kindIn rec) × ((kindIn rec ≤ 55) × (at + length (join (tokensOf id rec) ++ (10 ∷ [])) < 2 ^ 63))) ⌝ }
     ensures { λ x. ⌜ (x ≡ at + length (join (tokensOf id rec) ++ (10 ∷ []))) × (now (out .exit) ≡ sets (now (out .entry)) at (join (tokensOf id rec) ++ (10 ∷ []))) ⌝ }
 {
     let k = rec[0];
-    let row = kinds::row(k);
+    let row = kinds::row_of(kinds, k);
     let s = forms::sorted(row);
     let c = row[12] as usize;
     let a = put_number(out, at, id);
-    let b = put_kind(out, a, k);
+    let b = put_kind(out, a, k, row);
     let d = put_numbers(out, b, s + c, 2 - s, rec);
     put(out, d, 10)
 }
@@ -115,12 +114,13 @@ pub fn put_lines(out: &mut [u8], table: &[u64], count: usize) -> usize
     requires { ⌜ (count ≤ room (length (now table))) × (lawful false noCtx (recordsOf (counted (now table) count)) ≡ true) ⌝ }
     ensures { λ x. ⌜ (x ≡ length (writeText (counted (now (table .entry)) count))) × (now (out .exit) ≡ sets (now (out .entry)) 0 (writeText (counted (now (table .entry)) count))) ⌝ }
 {
+    let kinds = kinds::all();
     let mut at: usize = 0;
     let mut p: usize = 0;
     while p < count {
         let rec = records::record(table, p);
         p += 1;
-        at = put_line(out, at, p as u64, rec);
+        at = put_line(&kinds, out, at, p as u64, rec);
     }
     at
 }

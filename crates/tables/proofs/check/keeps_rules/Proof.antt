@@ -10,40 +10,40 @@ use Rattle.tables.proofs.check.keeps_rules.Reads as reads
 use Rattle.tables.proofs.check.keeps_rules.Lts as lts
 use Rattle.tables.proofs.check.known.Reads as known-reads
 use Rattle.tables.proofs.check.tidy.Reads as tidy-reads
-use Rattle.tables.proofs.kinds.row.Reads as row-reads
+use Rattle.tables.proofs.kinds.row_of.Reads as row-of-reads
 use Rattle.tables.proofs.rules.fault.Reads as fault-reads
 
--- src/check.rt:148:13
+-- src/check.rt:151:13
 array-read-k : tie.Need-array-read-k
 array-read-k c = search needs
 
--- src/check.rt:149:9
+-- src/check.rt:152:9
 known-requires : tie.Need-known-requires
 known-requires c κs = search needs
 
--- src/check.rt:150:9
-returns : tie.Need-returns
-returns c = let s = c .before .before .before .before .before .before .before .args in breaks-kind (s .program) (lookIn (s .cls .now) (s .idx .now) (s .wid .now)) (givenIn (s .ini .now) (s .nxt .now)) (s .t2) (s .t2) (sym (c .before .known .ensures) ∙ not-true _ (c .if1 .taken))
-
--- src/check.rt:152:9
-row-requires : tie.Need-row-requires
-row-requires c κs = let s = c .before .before .before .before .before .before .before .args in known-range (s .program) (kindIn (s .t2)) (sym (c .before .known .ensures) ∙ not-false _ (c .if1 .left))
-
 -- src/check.rt:153:9
+returns : tie.Need-returns
+returns c = let s = c .before .before .before .before .before .before .before .args in breaks-kind (s .program) (lookIn (s .cls .now) (s .idx .now) (s .wid .now)) (givenIn (s .ini .now) (s .nxt .now)) (s .t3) (s .t3) (sym (c .before .known .ensures) ∙ not-true _ (c .if1 .taken))
+
+-- src/check.rt:155:9
+row-of-requires : tie.Need-row-of-requires
+row-of-requires c κs = let s = c .before .before .before .before .before .before .before .args in let h = known-range (s .program) (kindIn (s .t3)) (sym (c .before .known .ensures) ∙ not-false _ (c .if1 .left)) in (h .0, (h .1, c .before .before .before .before .before .before .before .pre))
+
+-- src/check.rt:156:9
 tidy-requires : tie.Need-tidy-requires
 tidy-requires c κs = search needs
 
--- src/check.rt:154:9
+-- src/check.rt:157:9
 returns-2 : tie.Need-returns-2
-returns-2 c = let s = c .before .before .before .before .before .before .before .before .before .before .args in breaks-place (s .program) (lookIn (s .cls .now) (s .idx .now) (s .wid .now)) (givenIn (s .ini .now) (s .nxt .now)) (s .t2) (c .before .before .row .result) (sym (c .before .before .before .before .known .ensures) ∙ not-false _ (c .before .before .before .if1 .left)) (c .before .before .row .ensures) (sym (c .before .tidy .ensures) ∙ not-true _ (c .if2 .taken))
+returns-2 c = let s = c .before .before .before .before .before .before .before .before .before .before .args in breaks-place (s .program) (lookIn (s .cls .now) (s .idx .now) (s .wid .now)) (givenIn (s .ini .now) (s .nxt .now)) (s .t3) (c .before .before .row-of .result) (sym (c .before .before .before .before .known .ensures) ∙ not-false _ (c .before .before .before .if1 .left)) (c .before .before .row-of .ensures) (sym (c .before .tidy .ensures) ∙ not-true _ (c .if2 .taken))
 
--- src/check.rt:156:5
+-- src/check.rt:159:5
 fault-requires : tie.Need-fault-requires
 fault-requires c κs = search needs
 
--- src/check.rt:137:1
+-- src/check.rt:138:1
 returns-3 : tie.Need-returns-3
-returns-3 c = let s = c .before .before .before .before .before .before .before .before .before .before .before .args in by-fault (s .program) (lookIn (s .cls .now) (s .idx .now) (s .wid .now)) (givenIn (s .ini .now) (s .nxt .now)) (s .t2) (c .before .before .before .row .result) (sym (c .before .before .before .before .before .known .ensures) ∙ not-false _ (c .before .before .before .before .if1 .left)) (c .before .before .before .row .ensures) (sym (c .before .before .tidy .ensures) ∙ not-false _ (c .before .if2 .left)) (c .fault .ensures)
+returns-3 c = let s = c .before .before .before .before .before .before .before .before .before .before .before .args in by-fault (s .program) (lookIn (s .cls .now) (s .idx .now) (s .wid .now)) (givenIn (s .ini .now) (s .nxt .now)) (s .t3) (c .before .before .before .row-of .result) (sym (c .before .before .before .before .before .known .ensures) ∙ not-false _ (c .before .before .before .before .if1 .left)) (c .before .before .before .row-of .ensures) (sym (c .before .before .tidy .ensures) ∙ not-false _ (c .before .if2 .left)) (c .fault .ensures)
 
 pub keeps-rules-spec : {M : Type 1} → statement M
 keeps-rules-spec =
@@ -52,7 +52,7 @@ keeps-rules-spec =
     array-read-k
     known-requires
     returns
-    row-requires
+    row-of-requires
     tidy-requires
     returns-2
     fault-requires

@@ -15,13 +15,13 @@ use Rattle.tables.proofs.check.take_record.Reads as take-record-reads
 use Rattle.tables.proofs.records.record.Reads as record-reads
 
 abbrev Inv-loop : tie.InvT-loop
-Inv-loop program table count cls₀ idx₀ wid₀ ini₀ nxt₀ i₀ cls idx wid ini nxt i = Sofar program table count i cls idx wid ini nxt
+Inv-loop program kinds table count cls₀ idx₀ wid₀ ini₀ nxt₀ i₀ cls idx wid ini nxt i = Sofar program table count i cls idx wid ini nxt
 
 abbrev μ-loop : tie.MeasureT-loop
-μ-loop program table count cls₀ idx₀ wid₀ ini₀ nxt₀ i₀ cls idx wid ini nxt i = count - i
+μ-loop program kinds table count cls₀ idx₀ wid₀ ini₀ nxt₀ i₀ cls idx wid ini nxt i = count - i
 
 loop-holds : tie.Need-loop-holds Inv-loop μ-loop
-loop-holds c = begun (c .before .before .before .before .before .before .pre .1 .1 .0) (c .before .before .before .before .before .before .pre .1 .1 .1)
+loop-holds c = begun (c .before .before .before .before .before .before .pre .1 .1 .1 .0) (c .before .before .before .before .before .before .pre .1 .1 .1 .1)
 
 record-requires : tie.Need-record-requires Inv-loop μ-loop
 record-requires c κs = search needs
@@ -49,7 +49,7 @@ same-length-5 c = search needs
 
 returns : tie.Need-returns Inv-loop μ-loop
 returns c = let l = c .before .before .before .before .before .before .before .before .before .before .before .before .before .before .before .before .before .before .before .loop in
-    (stopped (l .inv) (c .before .before .before .before .before .before .before .before .before .before .before .before .before .before .before .before .before .before .before .before .before .before .before .before .before .before .pre .1 .0) (c .before .before .before .before .before .before .before .before .before .before .before .before .before .before .before .before .before .before .loop-test .taken) (c .before .before .before .before .before .before .before .before .before .before .before .before .before .before .before .before .before .before .before .before .before .before .before .before .before .before .pre .0) (c .before .before .before .before .before .before .before .before .before .before .before .before .before .before .before .before .before .«record» .ensures) (sym (c .before .before .before .before .before .before .before .before .before .before .before .take-record .ensures .0) ∙ not-true _ (c .if1 .taken)), λ e. absurd (no-yes e))
+    (stopped (l .inv) (c .before .before .before .before .before .before .before .before .before .before .before .before .before .before .before .before .before .before .before .before .before .before .before .before .before .before .pre .1 .1 .0) (c .before .before .before .before .before .before .before .before .before .before .before .before .before .before .before .before .before .before .loop-test .taken) (c .before .before .before .before .before .before .before .before .before .before .before .before .before .before .before .before .before .before .before .before .before .before .before .before .before .before .pre .1 .0) (c .before .before .before .before .before .before .before .before .before .before .before .before .before .before .before .before .before .«record» .ensures) (sym (c .before .before .before .before .before .before .before .before .before .before .before .take-record .ensures .0) ∙ not-true _ (c .if1 .taken)), λ e. absurd (no-yes e))
 
 add-i : tie.Need-add-i Inv-loop μ-loop
 add-i c = search needs
@@ -60,7 +60,7 @@ loop-less c = search needs
 loop-again : tie.Need-loop-again Inv-loop μ-loop
 loop-again c = let l = c .before .before .before .before .before .before .before .before .before .before .before .before .before .before .before .before .before .before .before .loop in
     let yes = not-false _ (c .if1 .left) in
-    further (l .inv) (c .before .before .before .before .before .before .before .before .before .before .before .before .before .before .before .before .before .before .before .before .before .before .before .before .before .before .pre .1 .0) (c .before .before .before .before .before .before .before .before .before .before .before .before .before .before .before .before .before .before .loop-test .taken) (c .before .before .before .before .before .before .before .before .before .before .before .before .before .before .before .before .before .before .before .before .before .before .before .before .before .before .pre .0) (c .before .before .before .before .before .before .before .before .before .before .before .before .before .before .before .before .before .«record» .ensures) (sym (c .before .before .before .before .before .before .before .before .before .before .before .take-record .ensures .0) ∙ yes) (c .before .before .before .before .before .before .before .before .before .before .before .take-record .ensures .1 yes)
+    further (l .inv) (c .before .before .before .before .before .before .before .before .before .before .before .before .before .before .before .before .before .before .before .before .before .before .before .before .before .before .pre .1 .1 .0) (c .before .before .before .before .before .before .before .before .before .before .before .before .before .before .before .before .before .before .loop-test .taken) (c .before .before .before .before .before .before .before .before .before .before .before .before .before .before .before .before .before .before .before .before .before .before .before .before .before .before .pre .1 .0) (c .before .before .before .before .before .before .before .before .before .before .before .before .before .before .before .before .before .«record» .ensures) (sym (c .before .before .before .before .before .before .before .before .before .before .before .take-record .ensures .0) ∙ yes) (c .before .before .before .before .before .before .before .before .before .before .before .take-record .ensures .1 yes)
 
 same-length-6 : tie.Need-same-length-6 Inv-loop μ-loop
 same-length-6 c = search needs
@@ -78,7 +78,7 @@ same-length-10 : tie.Need-same-length-10 Inv-loop μ-loop
 same-length-10 c = search needs
 
 returns-2 : tie.Need-returns-2 Inv-loop μ-loop
-returns-2 c = let l = c .before .loop in (all-lawful (l .inv) (c .before .before .before .before .before .before .before .before .pre .1 .0) (c .loop-test .left), λ e. all-shown (l .inv) (c .before .before .before .before .before .before .before .before .pre .1 .0) (c .loop-test .left))
+returns-2 c = let l = c .before .loop in (all-lawful (l .inv) (c .before .before .before .before .before .before .before .before .pre .1 .1 .0) (c .loop-test .left), λ e. all-shown (l .inv) (c .before .before .before .before .before .before .before .before .pre .1 .1 .0) (c .loop-test .left))
 
 pub lines-spec : {M : Type 1} → statement M
 lines-spec =

@@ -11,62 +11,62 @@ use Rattle.tables.proofs.check.take_record.Lts as lts
 use Rattle.tables.proofs.check.keeps_rules.Reads as keeps-rules-reads
 use Rattle.tables.proofs.check.note.Reads as note-reads
 
--- src/check.rt:172:9
+-- src/check.rt:177:9
 keeps-rules-requires : tie.Need-keeps-rules-requires
 keeps-rules-requires c κs = search needs
 
--- src/check.rt:173:9
+-- src/check.rt:178:9
 same-length : tie.Need-same-length
 same-length c = search needs
 
--- src/check.rt:173:9
+-- src/check.rt:178:9
 same-length-2 : tie.Need-same-length-2
 same-length-2 c = search needs
 
--- src/check.rt:173:9
+-- src/check.rt:178:9
 same-length-3 : tie.Need-same-length-3
 same-length-3 c = search needs
 
--- src/check.rt:173:9
+-- src/check.rt:178:9
 same-length-4 : tie.Need-same-length-4
 same-length-4 c = search needs
 
--- src/check.rt:173:9
+-- src/check.rt:178:9
 same-length-5 : tie.Need-same-length-5
 same-length-5 c = search needs
 
--- src/check.rt:173:9
+-- src/check.rt:178:9
 returns : tie.Need-returns
 returns c = (sym (not-true _ (c .if1 .taken)) ∙ c .before .keeps-rules .ensures, λ e. absurd (no-yes e))
 
--- src/check.rt:175:5
+-- src/check.rt:180:5
 note-requires : tie.Need-note-requires
 note-requires c κs = let s = c .before .before .before .before .before .before .before .before .before .before .before .before .before .before .before .before .before .args in
     let L = lookIn (s .cls .now) (s .idx .now) (s .wid .now) in
     let G = givenIn (s .ini .now) (s .nxt .now) in
     sort-width (s .program) L G (s .rec) (kept-fault (s .program) L G (s .rec) (sym (c .before .before .before .before .before .before .keeps-rules .ensures) ∙ not-false _ (c .before .before .before .before .before .if1 .left)))
 
--- src/check.rt:160:1
+-- src/check.rt:163:1
 same-length-6 : tie.Need-same-length-6
 same-length-6 c = search needs
 
--- src/check.rt:160:1
+-- src/check.rt:163:1
 same-length-7 : tie.Need-same-length-7
 same-length-7 c = search needs
 
--- src/check.rt:160:1
+-- src/check.rt:163:1
 same-length-8 : tie.Need-same-length-8
 same-length-8 c = search needs
 
--- src/check.rt:160:1
+-- src/check.rt:163:1
 same-length-9 : tie.Need-same-length-9
 same-length-9 c = search needs
 
--- src/check.rt:160:1
+-- src/check.rt:163:1
 same-length-10 : tie.Need-same-length-10
 same-length-10 c = search needs
 
--- src/check.rt:160:1
+-- src/check.rt:163:1
 returns-2 : tie.Need-returns-2
 returns-2 c = (sym (not-false _ (c .before .before .before .before .before .before .before .before .before .before .before .before .before .before .before .before .if1 .left)) ∙ c .before .before .before .before .before .before .before .before .before .before .before .before .before .before .before .before .before .keeps-rules .ensures, λ e. c .before .before .before .before .before .before .before .before .before .before .note .ensures)
 

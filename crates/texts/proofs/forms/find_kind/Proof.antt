@@ -20,14 +20,14 @@ Inv-loop t k n rows e j₀ j = (k ≤ j) × ((j ≤ e) × ((e ≡ k + n) × ((ro
 abbrev μ-loop : tie.MeasureT-loop
 μ-loop t k n rows e j₀ j = e - j
 
-kinds-requires : tie.Need-kinds-requires Inv-loop μ-loop
-kinds-requires c κs = search needs
+all-requires : tie.Need-all-requires Inv-loop μ-loop
+all-requires c κs = search needs
 
 add-e : tie.Need-add-e Inv-loop μ-loop
 add-e c = search needs
 
 loop-holds : tie.Need-loop-holds Inv-loop μ-loop
-loop-holds c = (search needs, (search needs, (search needs, (c .kinds .ensures, ap (λ (m : ℕ). findIn (c .before .before .args .k) m (c .before .before .args .t .now)) (omega arith)))))
+loop-holds c = (search needs, (search needs, (search needs, (c .all .ensures, ap (λ (m : ℕ). findIn (c .before .before .args .k) m (c .before .before .args .t .now)) (omega arith)))))
 
 sub-r : tie.Need-sub-r Inv-loop μ-loop
 sub-r c = search needs
@@ -78,7 +78,7 @@ find-kind-spec =
     (tie.spec
     Inv-loop
     μ-loop
-    kinds-requires
+    all-requires
     add-e
     loop-holds
     sub-r
