@@ -49,14 +49,12 @@ pub record Operand (Z : Layout) (n a : ℕ) : Type 0 where
   pub below : a < n
 
 module _ (A : Acc) (Z : Layout) (wid pos ini S R : List ℕ) (n c : ℕ) where
-  abbrev mine : ℕ
-  mine = getD (cellsAt A n) c 0
-
   pub record FactConst (v : ℕ) : Type 0 where
     pub flat : typeAt Z n .iw ≡ 0
     pub is : v ≡ wordAt A n
 
   pub record FactOne (k a x y : ℕ) : Type 0 where
+    pub most : k ≤ 20
     pub flat : typeAt Z n .iw ≡ 0
     pub arg : Arg Z n a
     pub op : FitWord false k (getD wid n 0) (getD wid a 0) 64 (wordAt A a) x y
@@ -175,18 +173,18 @@ module _ {t : List ℕ} {n : ℕ} {idx wid pos ini S R : List ℕ} (lk : Looks t
   A = step false false (linesOf t n) σ ι
 
   accepted : checked false t n ≡ Accepted
-  accepted = lk .typed .sized .accepted
+  accepted = lk .laid .typed .sized .accepted
 
-  pub zero-is : stepZero (linesOf t n) S R ≡ A
+  zero-is : stepZero (linesOf t n) S R ≡ A
   unfolding stepZero start
   zero-is = refl
 
   row-is : ι ≡ R
-  row-is = take-all (rowOf false (linesOf t n)) R (omega (arith, lk .row))
+  row-is = take-all (rowOf false (linesOf t n)) R (omega (arith, lk .laid .row))
 
   many : length σ ≡ Z .counts .states
   many =
-      held-whole t n accepted S (lk .starts) true ι .held .kept .many ∙ ap (λ (Y : Layout). Y .counts .states) (lay-whole t n accepted S (lk .starts) true ι)
+      held-whole t n accepted S (lk .laid .starts) true ι .held .kept .many ∙ ap (λ (Y : Layout). Y .counts .states) (lay-whole t n accepted S (lk .laid .starts) true ι)
 
   H : HeldBy (Z .counts .cells) σ A
   H = held-whole t n accepted σ many false ι
@@ -200,7 +198,7 @@ module _ {t : List ℕ} {n : ℕ} {idx wid pos ini S R : List ℕ} (lk : Looks t
   type-A : (a : ℕ) → typeAt (A .lay) a ≡ typeAt Z a
   type-A a = ap (λ (Y : Layout). typeAt Y a) lay-A
 
-  pub length-of : (a : ℕ) → 2 ≤ typeAt Z a .cls → length (cellsAt A a) ≡ size (typeAt Z a)
+  length-of : (a : ℕ) → 2 ≤ typeAt Z a .cls → length (cellsAt A a) ≡ size (typeAt Z a)
   length-of a q = cells-many H room a (subst (λ (y : Ty). 2 ≤ y .cls) (sym (type-A a)) q) ∙ ap size (type-A a)
 
   small : (a : ℕ) → 2 ≤ typeAt Z a .cls → (j : ℕ) → getD (cellsAt A a) j 0 < 2 ^ (typeAt Z a .w)
@@ -209,7 +207,7 @@ module _ {t : List ℕ} {n : ℕ} {idx wid pos ini S R : List ℕ} (lk : Looks t
   width-of : (a : ℕ) → 2 ≤ typeAt Z a .cls → Width (getD wid a 0)
   width-of a q =
       let k = all-sound false t n accepted .wide a (omega arith) in
-      let e = lk .typed .width a in
+      let e = lk .laid .typed .width a in
       record { least = omega (arith, k .least); most = omega (arith, k .most) }
 
   no-line : typeAt (layout false (linesOf t n)) 0 .cls ≡ 0
@@ -260,7 +258,7 @@ module _ {t : List ℕ} {n : ℕ} {idx wid pos ini S R : List ℕ} (lk : Looks t
     arg-word a q = ap (λ (x : List ℕ). getD x 0 0) (arg-cells a q)
 
     arg-width : (a : ℕ) → 1 ≤ typeAt (B .lay) a .cls → getD wid a 0 ≡ widthAt B a
-    arg-width a q = lk .typed .width a ∙ ap (λ (y : Ty). y .w) (arg-type a q)
+    arg-width a q = lk .laid .typed .width a ∙ ap (λ (y : Ty). y .w) (arg-type a q)
 
     arg-of : (a : ℕ) → IsWord (typeAt (B .lay) a) → Arg Z (suc i) a
     arg-of a q = record { word = subst IsWord (sym (arg-type a (omega (arith, q .is)))) q; below = arg-below a (omega (arith, q .is)) }
@@ -293,7 +291,7 @@ module _ {t : List ℕ} {n : ℕ} {idx wid pos ini S R : List ℕ} (lk : Looks t
       sort = sortAt false (tyAt (B .lay .ctx)) s
 
       expr-w : getD wid (suc i) 0 ≡ sort .w
-      expr-w = lk .typed .width (suc i) ∙ ap (λ (y : Ty). y .w) (own-type ∙ ap (typeOf false (B .lay)) el) ∙ val-w false (tyAt (B .lay .ctx)) s e
+      expr-w = lk .laid .typed .width (suc i) ∙ ap (λ (y : Ty). y .w) (own-type ∙ ap (typeOf false (B .lay)) el) ∙ val-w false (tyAt (B .lay .ctx)) s e
 
       expr-iw : typeAt Z (suc i) .iw ≡ sort .iw
       expr-iw = ap (λ (y : Ty). y .iw) (own-type ∙ ap (typeOf false (B .lay)) el) ∙ val-iw false (tyAt (B .lay .ctx)) s e
@@ -313,6 +311,7 @@ module _ {t : List ℕ} {n : ℕ} {idx wid pos ini S R : List ℕ} (lk : Looks t
         let e = Expr.one k a x y in
         let q : 1 ≤ typeAt (B .lay) a .cls = omega (arith, ok .arg .is) in
         record {
+          most = ok .kind .1;
           flat = expr-iw s e el ∙ ok .sort .flat;
           arg = arg-of a (ok .arg);
           op = fit-as (expr-w s e el) (arg-width a q) refl (arg-word a q) refl
@@ -397,12 +396,12 @@ module _ {t : List ℕ} {n : ℕ} {idx wid pos ini S R : List ℕ} (lk : Looks t
     fact-input s el flat c =
         let ty : typeAt Z (suc i) ≡ typeOf false (B .lay) (Line.input s) = own-type ∙ ap (typeOf false (B .lay)) el in
         let pl : placeAt Z (suc i) ≡ placeOf (B .lay) (Line.input s) = own-place ∙ ap (placeOf (B .lay)) el in
-        let ep : getD pos (suc i) 0 ≡ B .lay .counts .inputs = lk .placed (suc i) (omega arith) ∙ ap (λ (q : Place). q .at) pl in
-        let ew : getD wid (suc i) 0 ≡ typeOf false (B .lay) (Line.input s) .w = lk .typed .width (suc i) ∙ ap (λ (y : Ty). y .w) ty in
+        let ep : getD pos (suc i) 0 ≡ B .lay .counts .inputs = lk .laid .placed (suc i) (omega arith) ∙ ap (λ (q : Place). q .at) pl in
+        let ew : getD wid (suc i) 0 ≡ typeOf false (B .lay) (Line.input s) .w = lk .laid .typed .width (suc i) ∙ ap (λ (y : Ty). y .w) ty in
         let hi : suc (B .lay .counts .inputs) ≤ Z .counts .inputs = subst (λ (x : Line). lay false (B .lay) x .counts .inputs ≤ Z .counts .inputs) el (known .inputs) in
         record {
           flat = ap (λ (y : Ty). y .iw) ty ∙ flat;
-          inside = omega (arith, lk .row);
+          inside = omega (arith, lk .laid .row);
           wide = width-of (suc i) (subst (λ (y : Ty). 2 ≤ y .cls) (sym ty) (omega arith));
           is = ap₂ (λ (x : List ℕ) (m : ℕ). getD x (getD pos (suc i) 0) 0 % 2 ^ m) (sym row-is) ew ∙ ap (λ (m : ℕ). getD ι m 0 % 2 ^ (typeOf false (B .lay) (Line.input s) .w)) ep
               ∙ sym (ap (λ (x : List ℕ). getD x 0 0) (own-cells ∙ ap (cellsOf false false σ ι B) el));
@@ -416,19 +415,19 @@ module _ {t : List ℕ} {n : ℕ} {idx wid pos ini S R : List ℕ} (lk : Looks t
       own = typeOf false (accAt false true S ι (linesOf t n) i .lay) (Line.state s)
 
       begins : Begun S (step false true (linesOf t n) S ι) (suc i) (E .counts .states) (size own) (own .w) (initOf (suc i) (linesOf t n))
-      begins = begun t n accepted S ι (lk .starts) i h s el
+      begins = begun t n accepted S ι (lk .laid .starts) i h s el
 
       same-lay : B .lay ≡ E
-      same-lay = lay-is t n accepted σ many false ι i ∙ sym (lay-is t n accepted S (lk .starts) true ι i)
+      same-lay = lay-is t n accepted σ many false ι i ∙ sym (lay-is t n accepted S (lk .laid .starts) true ι i)
 
       state-type : typeAt Z (suc i) ≡ own
       state-type = own-type ∙ ap (typeOf false (B .lay)) el ∙ ap (λ (Y : Layout). typeOf false Y (Line.state s)) same-lay
 
       state-place : getD pos (suc i) 0 ≡ E .counts .states
-      state-place = lk .placed (suc i) (omega arith) ∙ ap (λ (q : Place). q .at) (own-place ∙ ap (placeOf (B .lay)) el) ∙ ap (λ (Y : Layout). Y .counts .states) same-lay
+      state-place = lk .laid .placed (suc i) (omega arith) ∙ ap (λ (q : Place). q .at) (own-place ∙ ap (placeOf (B .lay)) el) ∙ ap (λ (Y : Layout). Y .counts .states) same-lay
 
       state-wid : getD wid (suc i) 0 ≡ own .w
-      state-wid = lk .typed .width (suc i) ∙ ap (λ (y : Ty). y .w) state-type
+      state-wid = lk .laid .typed .width (suc i) ∙ ap (λ (y : Ty). y .w) state-type
 
       hm : c < size own
       hm = subst (λ (y : Ty). c < size y) state-type hc
@@ -444,7 +443,7 @@ module _ {t : List ℕ} {n : ℕ} {idx wid pos ini S R : List ℕ} (lk : Looks t
       some : (initOf (suc i) (linesOf t n) ≡ 0 → ⊥) → FactInit A Z wid pos ini S R (suc i) c (initOf (suc i) (linesOf t n))
       some z =
           let k = begins .settled in
-          let lz = lay-whole t n accepted S (lk .starts) true ι in
+          let lz = lay-whole t n accepted S (lk .laid .starts) true ι in
           let d : ℕ = initOf (suc i) (linesOf t n) in
           let td : typeAt (step false true (linesOf t n) S ι .lay) d ≡ typeAt Z d = ap (λ (Y : Layout). typeAt Y d) lz in
           let cls : typeAt Z d .cls ≡ 2 = sym (ap (λ (y : Ty). y .cls) td) ∙ k .fixed z in
@@ -459,11 +458,11 @@ module _ {t : List ℕ} {n : ℕ} {idx wid pos ini S R : List ℕ} (lk : Looks t
       none : initOf (suc i) (linesOf t n) ≡ 0 → FactStart A Z wid pos ini S R (suc i) c
       none z =
           let k = begins .settled in
-          let lz = lay-whole t n accepted S (lk .starts) true ι in
+          let lz = lay-whole t n accepted S (lk .laid .starts) true ι in
           let rm : E .counts .states + size own ≤ Z .counts .states = subst (λ (Y : Layout). E .counts .states + size own ≤ Y .counts .states) lz (k .room) in
           let w : ℕ = own .w in
           record {
-            inside = omega (arith, state-place, hm, lk .starts);
+            inside = omega (arith, state-place, hm, lk .laid .starts);
             wide = width-of (suc i) (subst (λ (y : Ty). 2 ≤ y .cls) (sym state-type) (omega arith));
             is = ap₂ (λ (m v : ℕ). getD S (m + c) 0 % 2 ^ v) state-place state-wid
                 ∙ sym (state-at ∙ ap (λ (y : List ℕ). getD y c 0 % 2 ^ w) (no-choose (initOf (suc i) (linesOf t n)) _ _ z) ∙ ap (λ (m : ℕ). m % 2 ^ w) (getD-lows w (part S (E .counts .states) (size own)) c)
@@ -505,3 +504,7 @@ module _ {t : List ℕ} {n : ℕ} {idx wid pos ini S R : List ℕ} (lk : Looks t
       subst (λ (X : Acc). Fact X Z wid pos ini S R m c (lineOf (recordAt t (m - 1)))) (sym zero-is)
       (subst (λ (k : ℕ). Fact A Z wid pos ini S R k c (lineOf (recordAt t (m - 1)))) e
       (fact-here (m - 1) (omega arith) c (subst (λ (k : ℕ). 2 ≤ typeAt Z k .cls) (sym e) q) (subst (λ (k : ℕ). c < size (typeAt Z k)) (sym e) hc)))
+
+  -- the number of cells of a value
+  pub cells-of : (a : ℕ) → 2 ≤ typeAt Z a .cls → length (cellsAt (stepZero (linesOf t n) S R) a) ≡ size (typeAt Z a)
+  cells-of a q = ap (λ (X : Acc). length (cellsAt X a)) zero-is ∙ length-of a q

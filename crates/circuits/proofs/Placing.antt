@@ -388,7 +388,7 @@ module _ (p : Bool) (t : List ℕ) (n : ℕ) (acc : checked p t n ≡ Accepted) 
       (omega (arith, words-few), (omega (arith, inputs-few), omega (arith, signals-few)))
 
 -- the check's lists hold the widths of all lines
-lay-ctx : (p : Bool) (Y : Layout) (C : List Line) → layAll p Y C .ctx ≡ growAll p (Y .ctx) C
+pub lay-ctx : (p : Bool) (Y : Layout) (C : List Line) → layAll p Y C .ctx ≡ growAll p (Y .ctx) C
 lay-ctx p Y [] = refl
 lay-ctx p Y (l ∷ C) = lay-ctx p (lay p Y l) C
 

@@ -84,6 +84,10 @@ peek-sort : peeked circuit 11 3 0 (3 ∷ 12 ∷ []) (1 ∷ []) ≡ Refused NoSuc
 unfolding peeked checked fault suits kindRow layout peekAt stepZero start step put
 peek-sort = refl
 
+peek-next : peeked circuit 11 8 0 (3 ∷ 12 ∷ []) (1 ∷ []) ≡ Refused NoSuchCell
+unfolding peeked checked fault suits kindRow layout peekAt stepZero start step put
+peek-next = refl
+
 -- an array state with an init: its word stands in every cell
 peek-init :
     peeked (five 1 0 1 0 0 ++ five 1 0 3 0 0 ++ five 2 0 1 2 0 ++ five 3 2 5 0 0 ++ five 5 3 0 0 0 ++ five 6 3 5 4 0) 6 5 1 (3 ∷ 12 ∷ []) [] ≡ Value 5
