@@ -40,7 +40,7 @@
  * pointer comes with its length, and that lists lent for writing share no words
  * with other lists; a pointer may be anything but NULL where the length is 0.
  *
- * The functions keep their notes on the stack: call them with 8 MB of it.
+ * The functions keep their notes on the stack, less than 1 MB: call them with 2 MB of it.
  */
 #ifndef GOFESHAN_H
 #define GOFESHAN_H

@@ -7,6 +7,5 @@ cd "$(dirname "$0")"
 if ! command -v z3 >/dev/null; then
   apt-get install -y z3
 fi
-ulimit -s 65536 2>/dev/null || true
 cargo run --release --offline --quiet --example operators
 cargo run --release --offline --quiet --example btor2tools

@@ -1,8 +1,7 @@
 //! The proved library against plain Rust: `bash bench/run` in the repository's root.
 //!
 //! Reading, writing, flattening and translating are compared with the independent implementation of rust/tests, runs
-//! with the two interpreters of this crate. Each is measured at three sizes; the time is the least of many calls, the
-//! sides taking turns. `bench profile OPERATION` calls one proved operation at its largest size and measures nothing;
+//! with the two interpreters of this crate. Each is measured at three sizes, the sides taking turns. `bench profile OPERATION` calls one proved operation at its largest size and measures nothing;
 //! `bench/profile` runs that under callgrind.
 #![allow(dead_code, unused_imports)]
 
@@ -32,24 +31,26 @@ fn profiled() -> bool {
     std::env::args().nth(1).is_some_and(|word| word == "profile")
 }
 
-/// The least time of a call of each of some functions, in turns, for some time. The first is the proved operation.
+/// The time of a call of each of some functions that only one call in twenty undercuts; they take turns for some time. The
+/// first is the proved operation.
 fn measure<const N: usize>(mut calls: [&mut dyn FnMut(); N]) -> [f64; N] {
     if profiled() {
         (0..3).for_each(|_| calls[0]());
         calls[1..].iter_mut().for_each(|call| call());
         return [1.0; N];
     }
-    let (mut least, began) = ([f64::MAX; N], Instant::now());
-    let mut rounds = 0;
-    while rounds < 5 || began.elapsed() < Duration::from_millis(1500) {
-        for (call, time) in calls.iter_mut().zip(&mut least) {
+    let (mut times, began) = ([(); N].map(|_| Vec::new()), Instant::now());
+    while times[0].len() < 5 || began.elapsed() < Duration::from_millis(1500) {
+        for (call, times) in calls.iter_mut().zip(&mut times) {
             let began = clock::thread();
             call();
-            *time = time.min(clock::thread() - began);
+            times.push(clock::thread() - began);
         }
-        rounds += 1;
     }
-    least
+    times.map(|mut times| {
+        times.sort_by(f64::total_cmp);
+        times[times.len() / 20]
+    })
 }
 
 /// The sizes to measure; to profile, the last alone.
@@ -368,7 +369,7 @@ fn edges() {
 }
 
 fn main() {
-    println!("Times are processor time in microseconds, the least of many calls, release builds, one thread, one machine, in turns.");
+    println!("Times are processor time in microseconds that one call in twenty undercuts, release builds, one thread, one machine, in turns.");
     println!("Every operation clears what is lent for writing first, on both sides; that is part of the times.");
     println!(
         "Growth, of either side: the time against the row above, divided by the growth of the work; 1.00 is linear."

@@ -13,9 +13,9 @@
 //!
 //! The archive `libexports.a` is built by `rt staticlib exports` in the
 //! repository's root; the environment variable `GOFESHAN_LIB` names another
-//! folder that holds it. The functions keep their notes on the stack, at most
-//! a few megabytes: call them from the main thread or from a thread with 8 MB
-//! ([`STACK`]).
+//! folder that holds it. The functions keep their notes on the stack, less than
+//! 1 MB: call them from the main thread or from a thread with 2 MB ([`STACK`]),
+//! which a thread of Rust has unless told otherwise.
 //!
 //! The functions of [`interface`] are the C functions on slices, one for one.
 //! Those beside them give the same answers as Rust values:
@@ -38,7 +38,7 @@ pub const MOST_TEXT: usize = 65_536;
 /// The longest run, in steps.
 pub const MOST_STEPS: usize = 4_096;
 /// A stack that is large enough for every operation, in bytes.
-pub const STACK: usize = 8 << 20;
+pub const STACK: usize = 2 << 20;
 
 /// The C functions on slices. Each returns the refusal's number, 0 when done,
 /// and writes its further values to `answer`, a list of three words; words

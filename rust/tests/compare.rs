@@ -95,9 +95,9 @@ fn cases(operation: &'static str, default: u64, listed: &'static [u64], case: fn
     });
 }
 
-/// The operations keep their notes on the stack; a test's thread has little.
+/// The operations run with the stack that is said to be enough for them.
 fn on_stack(work: impl FnOnce() + Send + 'static) {
-    let thread = std::thread::Builder::new().stack_size(2 * gofeshan::STACK).spawn(work).unwrap();
+    let thread = std::thread::Builder::new().stack_size(gofeshan::STACK).spawn(work).unwrap();
     if let Err(panic) = thread.join() {
         std::panic::resume_unwind(panic);
     }

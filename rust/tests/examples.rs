@@ -21,9 +21,9 @@ fn file(name: &str) -> Vec<u8> {
     std::fs::read(&path).unwrap_or_else(|e| panic!("{}: {e}", path.display()))
 }
 
-/// The operations keep their notes on the stack; a test's thread has little.
+/// The operations run with the stack that is said to be enough for them.
 fn on_stack(work: impl FnOnce() + Send + 'static) {
-    let thread = std::thread::Builder::new().stack_size(2 * gofeshan::STACK).spawn(work).unwrap();
+    let thread = std::thread::Builder::new().stack_size(gofeshan::STACK).spawn(work).unwrap();
     if let Err(panic) = thread.join() {
         std::panic::resume_unwind(panic);
     }
