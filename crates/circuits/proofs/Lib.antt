@@ -16,3 +16,4 @@ pub mod Looked
 pub mod Inits
 pub mod Peeking
 pub mod Seen
+pub mod ValueLines

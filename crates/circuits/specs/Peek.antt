@@ -1,7 +1,7 @@
 -- Peek: the word of a line, or one of its cells, at step 0. The answers are 1, 11, 14, 15, 18, the first that holds; else the value. Assumes nothing.
 use Prim.Native.Nat.{ℕ, suc}
 use mathlib.Core.Path.{_≡_, refl, ap}
-use mathlib.Core.Bool.{Bool, true, false, _&&_}
+use mathlib.Core.Bool.{Bool, true, false, _&&_, _||_}
 use mathlib.Core.List.{List, _∷_}
 use lib.Dec.{leb, ltb, eqb}
 use native.Mathlib.Nat.{le-refl}
@@ -11,7 +11,7 @@ use Rattle.tables.specs.declared.Refusal.the-variants.{StartWords, InputWords, 
 use Rattle.tables.specs.declared.Ty.{Ty}
 use Rattle.tables.specs.declared.Checked.{Checked}
 use Rattle.tables.specs.declared.Checked.the-variants.{Accepted, Refused}
-use Rattle.tables.specs.Pick.{pick}
+use Rattle.tables.specs.Pick.{pick, inside}
 use Rattle.tables.specs.Lines.{Line}
 use Rattle.tables.specs.Types.{isValue}
 use Rattle.tables.specs.Tables.{checked}
@@ -40,8 +40,12 @@ first-row C S I = ap (λ (ι : List ℕ). step false false C (step false true C 
 unfoldable pub peekAt : List Line → (S R : List ℕ) (line cell : ℕ) → ℕ
 peekAt C S R line cell = getD (cellsAt (stepZero C S R) line) cell 0
 
--- A line of the type y is a value and has the cell, among at most 64 records. Line 0 and lines past the count have no type; sorts and the lines that are no values
--- have other classes.
+-- the kinds of value lines
+abbrev pub valueKind : ℕ → Bool
+valueKind k = inside 3 5 k || inside 11 55 k
+
+-- A line of the type y is a value and has the cell, among at most 64 records. Line 0 and lines past the count have no type; of the others
+-- those of the kinds above have a value's (proofs/ValueLines).
 abbrev pub hasCell : Ty → (n cell : ℕ) → Bool
 hasCell y n cell = leb n 64 && (isValue y && ltb cell (size y))
 

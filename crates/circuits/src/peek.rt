@@ -52,13 +52,13 @@ fn find_inits(table: &[u64], count: usize, ini: &mut [u64])
     }
 }
 
-// The word v of the line n is kept.
-fn keep(vals: &mut [u64], known: &mut [u8], n: usize, v: u64) -> u64
-    requires { ⌜ (n < length (now vals)) × (n < length (now known)) ⌝ }
-    ensures { λ r. ⌜ (r ≡ v) × ((now (vals .exit) ≡ set (now (vals .entry)) n v) × (now (known .exit) ≡ set (now (known .entry)) n 1)) ⌝ }
+// The word v of the line n is kept: `has` marks the lines whose words are in `vals`.
+fn keep(vals: &mut [u64], has: &mut [u8], n: usize, v: u64) -> u64
+    requires { ⌜ (n < length (now vals)) × (n < length (now has)) ⌝ }
+    ensures { λ r. ⌜ (r ≡ v) × ((now (vals .exit) ≡ set (now (vals .entry)) n v) × (now (has .exit) ≡ set (now (has .entry)) n 1)) ⌝ }
 {
     vals[n] = v;
-    known[n] = 1;
+    has[n] = 1;
     v
 }
 
@@ -103,7 +103,7 @@ fn two(rec: [u64; 5], n: usize, wid: &[u8; 16385], x: u64, y: u64) -> u64
     eval::word(false, rec[0], w, u, v, x, y, 0)
 }
 
-// The word of the line n.
+// The word of the line n, from the start words `from` and the row; `ini` holds the lines of the states' init values.
 fn word(
     table: &[u64],
     count: usize,
@@ -278,7 +278,7 @@ fn find(
     let mut ini = [0u64; 65];
     find_inits(table, count, &mut ini);
     let mut vals = [0u64; 65];
-    let mut known = [0u8; 65];
+    let mut has = [0u8; 65];
     if idx[n] == 0 {
         return word(
             table,
@@ -290,7 +290,7 @@ fn find(
             starts,
             row,
             &mut vals,
-            &mut known,
+            &mut has,
             n,
         );
     }
@@ -304,7 +304,7 @@ fn find(
         starts,
         row,
         &mut vals,
-        &mut known,
+        &mut has,
         n,
         k,
     )

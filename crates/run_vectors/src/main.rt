@@ -1,4 +1,6 @@
 // Runs circuits on the cases of the request, and says what each answers.
+mod peeks; // peeks
+
 use circuits::Ran;
 use circuits::run;
 
@@ -447,4 +449,5 @@ fn main() {
     swap();
     constraints();
     captions();
+    peeks::peeks();
 }
