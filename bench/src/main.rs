@@ -1,8 +1,9 @@
 //! The proved library against plain Rust: `bash bench/run` in the repository's root.
 //!
 //! Reading, writing, flattening and translating are compared with the independent implementation of rust/tests, runs
-//! with the two interpreters of this crate. Each is measured at three sizes, the sides taking turns. `bench profile OPERATION` calls one proved operation at its largest size and measures nothing;
-//! `bench/profile` runs that under callgrind.
+//! with the two interpreters of this crate. Each is measured at three sizes, the sides taking turns.
+//! `bash bench/run -- write` measures one operation alone. `bench profile write` calls the proved one at its largest size
+//! and measures nothing; `bench/profile` runs that under callgrind.
 #![allow(dead_code, unused_imports)]
 
 mod clock;
@@ -388,12 +389,13 @@ fn main() {
         ("run_circuit", circuit_rows),
         ("run_program", program_rows),
     ];
+    let only = std::env::args().nth(if profiled() { 2 } else { 1 });
     for (operation, rows) in rows {
-        if !profiled() || std::env::args().nth(2).is_some_and(|word| word == operation) {
+        if only.as_deref().is_none_or(|word| word == operation) {
             rows();
         }
     }
-    if profiled() {
+    if only.is_some() {
         return;
     }
     println!();

@@ -1,4 +1,4 @@
-/* Reads the circuit below, flattens it and prints the flat text; then runs it and its program.
+/* Reads the circuit below, flattens it and prints the flat text; then runs it and its program, and peeks at a value.
  *
  *     rt staticlib exports
  *     cc -O2 -Iinclude examples/c/example.c target/staticlib/libexports.a -o example && ./example
@@ -65,6 +65,12 @@ int main(void) {
     if (refused("run", gofeshan_run_program(program, WORDS, program_count, STEPS, starts, 2, inputs, STEPS, signals, STEPS, work, WORDS, answer, 3)))
         return 1;
     print_run("program", signals);
+
+    /* Line 7 is the array with 5 written to the cell that the input names: its cell 1 at step 0, for the input 1. */
+    uint64_t row[1] = {1};
+    if (refused("peek", gofeshan_peek(circuit, WORDS, count, 7, 1, starts, 2, row, 1, answer, 3)))
+        return 1;
+    printf("; cell 1 of line 7: %llu\n", (unsigned long long)answer[0]);
 
     if (refused("name", gofeshan_name(source, length, 11, answer, 3)))
         return 1;

@@ -92,3 +92,23 @@ fn peeking() {
         assert!(took < MOST, "the peek took {took:?}");
     });
 }
+
+/// 64 lines of arrays of 256 cells: each pair compares the two arrays before it and chooses by the result.
+#[cfg(feature = "peek")]
+#[test]
+fn peeking_through_arrays() {
+    on_stack(|| {
+        let mut table = vec![1, 0, 8, 0, 0, 2, 0, 1, 1, 0, 1, 0, 1, 0, 0, 5, 2, 0, 0, 0, 5, 2, 0, 0, 0];
+        let (mut a, mut b, mut n) = (4, 5, 5);
+        while n + 2 < 64 {
+            table.extend([21, 3, a, b, 0, 53, 2, n + 1, b, a]);
+            (a, b, n) = (b, n + 2, n + 2);
+        }
+        table.extend([21, 3, a, b, 0]);
+        // All cells alike, so that every comparison goes through all of them.
+        let starts = vec![7; 512];
+        let took = least(|| assert_eq!(gofeshan::peek(&table, n as usize + 1, n as usize + 1, 0, &starts, &[]), Ok(1)));
+        println!("a peek through {} lines of arrays: {took:?}", n + 1);
+        assert!(took < MOST, "the peek took {took:?}");
+    });
+}

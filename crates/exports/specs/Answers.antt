@@ -17,6 +17,8 @@ use Rattle.programs.specs.declared.Translated.{Translated}
 use Rattle.programs.specs.declared.Translated.the-variants.{Done as ProgramDone, Refused as ProgramRefused}
 use Rattle.circuits.specs.declared.Ran.{Ran}
 use Rattle.circuits.specs.declared.Ran.the-variants.{Nothing, Bad, Refused as RunRefused}
+use Rattle.circuits.specs.declared.Peeked.{Peeked}
+use Rattle.circuits.specs.declared.Peeked.the-variants.{Value, Refused as PeekRefused}
 
 -- a list of three words is an answer list
 abbrev pub three : List ℕ → Bool
@@ -76,6 +78,15 @@ abbrev pub runWords : Ran → List ℕ
 runWords Nothing = 0 ∷ 0 ∷ 0 ∷ []
 runWords (Bad k p) = 1 ∷ k ∷ p ∷ []
 runWords (RunRefused r) = 0 ∷ 0 ∷ 0 ∷ []
+
+-- peek: the value
+abbrev pub peekNumber : Peeked → ℕ
+peekNumber (Value v) = 0
+peekNumber (PeekRefused r) = numberOf r
+
+abbrev pub peekWords : Peeked → List ℕ
+peekWords (Value v) = v ∷ 0 ∷ 0 ∷ []
+peekWords (PeekRefused r) = 0 ∷ 0 ∷ 0 ∷ []
 
 -- name: a start and a length, whose part of the text is the name; where an empty part stands is free
 pub record Named (text : List ℕ) (id : ℕ) (answer : List ℕ) : Type 0 where

@@ -1,4 +1,5 @@
 // The C interface: each function returns a refusal's number, 0 when done, and writes its further values to `answer`, a list of three words. A list of another length is refused by 1.
+use circuits::Peeked;
 use circuits::Ran;
 use flattening::Flattened;
 use programs::Translated;
@@ -14,9 +15,10 @@ ghost use lib.ListN.{length};
 ghost use Rattle.texts.specs.Reading.{readText, answerOf, tableOf};
 ghost use Rattle.texts.specs.Writing.{writeTable, writeAnswer, bufferOf};
 ghost use Rattle.circuits.specs.Answers.{ran, signalsLeft};
+ghost use Rattle.circuits.specs.Peek.{peeked};
 ghost use Rattle.programs.specs.Answers.{translated, targetLeft as programLeft};
 ghost use Rattle.flattening.specs.Answers.{flattened, targetLeft as flatLeft};
-ghost use Rattle.exports.specs.Answers.{three, given, zeros, Named, readNumber, readWords, writeNumber, writeWords, flatNumber, flatWords, programNumber, programWords, runNumber, runWords};
+ghost use Rattle.exports.specs.Answers.{three, given, zeros, Named, readNumber, readWords, writeNumber, writeWords, flatNumber, flatWords, programNumber, programWords, runNumber, runWords, peekNumber, peekWords};
 
 // Whether a list is an answer list; all its words are then 0.
 fn take(answer: &mut [u64]) -> bool
@@ -119,6 +121,23 @@ fn tell_run(r: Ran, answer: &mut [u64]) -> u64
             0
         }
         Ran::Refused(c) => {
+            tell(answer, 0, 0, 0);
+            tables::number(c)
+        }
+    }
+}
+
+// What a peek tells.
+fn tell_peek(r: Peeked, answer: &mut [u64]) -> u64
+    requires { ⌜ length (now answer) ≡ 3 ⌝ }
+    ensures { λ n. ⌜ (n ≡ peekNumber r) × (now (answer .exit) ≡ peekWords r) ⌝ }
+{
+    match r {
+        Peeked::Value(v) => {
+            tell(answer, v, 0, 0);
+            0
+        }
+        Peeked::Refused(c) => {
             tell(answer, 0, 0, 0);
             tables::number(c)
         }
@@ -250,6 +269,27 @@ pub extern "C" fn gofeshan_run_program(
     }
     let r = programs::run_program(table, count, steps, starts, inputs, signals, work);
     tell_run(r, answer)
+}
+
+// The value of a line's cell at step 0, from start words and one row of inputs. The answer's first word is the value.
+#[no_mangle]
+pub extern "C" fn gofeshan_peek(
+    table: &[u64],
+    count: usize,
+    line: usize,
+    cell: usize,
+    starts: &[u64],
+    row: &[u64],
+    answer: &mut [u64],
+) -> u64
+    ensures { λ n. ⌜ n ≡ given (three (now (answer .entry))) (peekNumber (peeked (now (table .entry)) count line cell (now (starts .entry)) (now (row .entry)))) 1 ⌝ }
+    ensures { λ _. ⌜ now (answer .exit) ≡ given (three (now (answer .entry))) (peekWords (peeked (now (table .entry)) count line cell (now (starts .entry)) (now (row .entry)))) (zeros (now (answer .entry))) ⌝ }
+{
+    if !take(answer) {
+        return 1;
+    }
+    let r = circuits::peek::peek(table, count, line, cell, starts, row);
+    tell_peek(r, answer)
 }
 
 // The name of the first line whose id is the given number: where it starts in the text, and its length; the length is 0 where it has none.

@@ -1,0 +1,47 @@
+-- The answer list first, then the peek. Assumes nothing.
+use mathlib.Core.Path.{_≡_, sym, ap, _∙_}
+use borrow.Author.Tests.{not-true, not-false}
+use Rattle.exports.specs.Answers.{peekNumber, peekWords}
+use Rattle.exports.proofs.Told.{three-length, is-told, is-refused}
+use borrow.Author.Needs.{needs}
+use Rattle.exports.proofs.gofeshan_peek.Statement.{statement}
+use Rattle.exports.proofs.gofeshan_peek.Tie as tie
+use Rattle.exports.proofs.gofeshan_peek.Reads as reads
+use Rattle.exports.proofs.gofeshan_peek.Lts as lts
+use Rattle.circuits.proofs.peek.peek.Reads as peek-reads
+use Rattle.exports.proofs.take.Reads as take-reads
+use Rattle.exports.proofs.tell_peek.Reads as tell-peek-reads
+
+take-requires : tie.Need-take-requires
+take-requires c κs = search needs
+
+same-length : tie.Need-same-length
+same-length c = search needs
+
+returns : tie.Need-returns
+returns c = let h = sym (c .before .before .before .take .ensures .0) ∙ not-true _ (c .if1 .taken) in (is-refused _ _ h, c .before .before .before .take .ensures .1 ∙ is-refused _ _ h)
+
+peek-requires : tie.Need-peek-requires
+peek-requires c κs = search needs
+
+tell-peek-requires : tie.Need-tell-peek-requires
+tell-peek-requires c κs = three-length (c .before .before .before .before .before .before .before .before .before .before .before .args .answer .now) (c .before .before .before .before .before .take .last .0) (sym (c .before .before .before .before .before .take .ensures .0) ∙ not-false _ (c .before .before .if1 .left)) (c .before .before .before .before .before .take .ensures .1)
+
+same-length-2 : tie.Need-same-length-2
+same-length-2 c = search needs
+
+returns-2 : tie.Need-returns-2
+returns-2 c = let h = sym (c .before .before .before .before .before .before .before .before .take .ensures .0) ∙ not-false _ (c .before .before .before .before .before .if1 .left) in
+    (c .before .before .tell-peek .ensures .0 ∙ (ap peekNumber (c .before .before .before .before .peek .ensures) ∙ is-told _ _ h), c .before .before .tell-peek .ensures .1 ∙ (ap peekWords (c .before .before .before .before .peek .ensures) ∙ is-told _ _ h))
+
+pub gofeshan-peek-spec : {M : Type 1} → statement M
+gofeshan-peek-spec =
+    tie.close
+    (tie.spec
+    take-requires
+    same-length
+    returns
+    peek-requires
+    tell-peek-requires
+    same-length-2
+    returns-2)
