@@ -10,10 +10,3 @@ pub mod Placing
 pub mod Rows
 pub mod Answering
 pub mod Earlier
-pub mod Whole
-pub mod Begun
-pub mod Looked
-pub mod Inits
-pub mod Peeking
-pub mod Seen
-pub mod ValueLines

@@ -4,7 +4,6 @@ use mathlib.Core.Path.{_≡_, refl}
 use mathlib.Core.Bool.{Bool, true, false}
 use mathlib.Core.List.{List, [], _∷_, _++_}
 use Rattle.tables.specs.declared.Checked.the-variants.{Accepted}
-use Rattle.tables.specs.declared.Refusal.the-variants.{NoSuchCell}
 use Rattle.tables.specs.Kinds.{rowOf as kindRow}
 use Rattle.tables.specs.Lines.{five}
 use Rattle.tables.specs.Types.{context}
@@ -17,9 +16,6 @@ use Rattle.circuits.specs.Layout.{layout}
 use Rattle.circuits.specs.Meaning.{step}
 use Rattle.circuits.specs.Run.{start, steps, run}
 use Rattle.circuits.specs.Answers.{ready, ran, signalsLeft}
-use Rattle.circuits.specs.declared.Peeked.{Peeked}
-use Rattle.circuits.specs.declared.Peeked.the-variants.{Value, Refused}
-use Rattle.circuits.specs.Peek.{stepZero, peekAt, peeked}
 
 -- 1 sort bitvec 1, 2 sort bitvec 3, 3 sort array 1 2, 4 state 3, 5 input 1, 6 constd 2 5, 7 write 3 4 5 6, 8 next 3 4 7, 9 read 2 4 5, 10 eq 1 9 6, 11 bad 10
 abbrev pub circuit : List ℕ
@@ -53,43 +49,3 @@ program-bad = refl
 start-masked : signalsLeft true (five 5 1 0 0 0 ++ five 8 0 1 0 0) 2 1 (2 ∷ []) [] 1 2 ≡ 0 ∷ []
 unfolding signalsLeft ready checked fault suits kindRow layout run start steps step put
 start-masked = refl
-
--- ---- peek: the first step of the request's circuit, from the start words 3 and 12, on the row 1
-
--- cell 1 of the state on line 4: its start word modulo 8
-peek-state : peeked circuit 11 4 1 (3 ∷ 12 ∷ []) (1 ∷ []) ≡ Value 4
-unfolding peeked checked fault suits kindRow layout peekAt stepZero start step put
-peek-state = refl
-
--- the write on line 7 changes cell 1, and leaves cell 0
-peek-write : peeked circuit 11 7 1 (3 ∷ 12 ∷ []) (1 ∷ []) ≡ Value 5
-unfolding peeked checked fault suits kindRow layout peekAt stepZero start step put
-peek-write = refl
-
-peek-left : peeked circuit 11 7 0 (3 ∷ 12 ∷ []) (1 ∷ []) ≡ Value 3
-unfolding peeked checked fault suits kindRow layout peekAt stepZero start step put
-peek-left = refl
-
--- the read on line 9 finds cell 1; it is a word and has cell 0 only
-peek-read : peeked circuit 11 9 0 (3 ∷ 12 ∷ []) (1 ∷ []) ≡ Value 4
-unfolding peeked checked fault suits kindRow layout peekAt stepZero start step put
-peek-read = refl
-
-peek-none : peeked circuit 11 9 1 (3 ∷ 12 ∷ []) (1 ∷ []) ≡ Refused NoSuchCell
-unfolding peeked checked fault suits kindRow layout peekAt stepZero start step put
-peek-none = refl
-
--- a sort line and a next line have no value
-peek-sort : peeked circuit 11 3 0 (3 ∷ 12 ∷ []) (1 ∷ []) ≡ Refused NoSuchCell
-unfolding peeked checked fault suits kindRow layout peekAt stepZero start step put
-peek-sort = refl
-
-peek-next : peeked circuit 11 8 0 (3 ∷ 12 ∷ []) (1 ∷ []) ≡ Refused NoSuchCell
-unfolding peeked checked fault suits kindRow layout peekAt stepZero start step put
-peek-next = refl
-
--- an array state with an init: its word stands in every cell
-peek-init :
-    peeked (five 1 0 1 0 0 ++ five 1 0 3 0 0 ++ five 2 0 1 2 0 ++ five 3 2 5 0 0 ++ five 5 3 0 0 0 ++ five 6 3 5 4 0) 6 5 1 (3 ∷ 12 ∷ []) [] ≡ Value 5
-unfolding peeked checked fault suits kindRow layout peekAt stepZero start step put
-peek-init = refl

@@ -3,7 +3,5 @@ pub mod Layout
 pub mod Meaning
 pub mod Run
 pub mod Answers
-pub mod Peek
 pub mod Model
-pub mod Looks
 pub mod Examples

@@ -1,8 +1,7 @@
-// Runs of circuits and of programs: every line of a step, the steps, the first counted bad; and peek.
+// Runs of circuits and of programs: every line of a step, the steps, the first counted bad.
 pub mod area; // runs of words in the work area
 pub mod bad; // the first counted bad
 pub mod eval; // one line
-pub mod peek; // one value at step 0
 pub mod places; // where each line has its cells
 pub mod run; // the answers of a run
 pub mod steps; // all lines of a step, and the steps
@@ -13,12 +12,6 @@ use tables::Refusal;
 pub enum Ran {
     Nothing,
     Bad(usize, usize),
-    Refused(Refusal),
-}
-
-// What a peek answers: a value, or a refusal.
-pub enum Peeked {
-    Value(u64),
     Refused(Refusal),
 }
 

@@ -17,8 +17,8 @@ use Rattle.programs.specs.declared.Translated.{Translated}
 use Rattle.programs.specs.declared.Translated.the-variants.{Done as ProgramDone, Refused as ProgramRefused}
 use Rattle.circuits.specs.declared.Ran.{Ran}
 use Rattle.circuits.specs.declared.Ran.the-variants.{Nothing, Bad, Refused as RunRefused}
-use Rattle.circuits.specs.declared.Peeked.{Peeked}
-use Rattle.circuits.specs.declared.Peeked.the-variants.{Value, Refused as PeekRefused}
+use Rattle.peeks.specs.declared.Peeked.{Peeked}
+use Rattle.peeks.specs.declared.Peeked.the-variants.{Value, Refused as PeekRefused}
 
 -- a list of three words is an answer list
 abbrev pub three : List ℕ → Bool

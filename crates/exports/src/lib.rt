@@ -1,7 +1,7 @@
 // The C interface: each function returns a refusal's number, 0 when done, and writes its further values to `answer`, a list of three words. A list of another length is refused by 1.
-use circuits::Peeked;
 use circuits::Ran;
 use flattening::Flattened;
+use peeks::Peeked;
 use programs::Translated;
 use tables::check;
 use tables::records;
@@ -15,7 +15,7 @@ ghost use lib.ListN.{length};
 ghost use Rattle.texts.specs.Reading.{readText, answerOf, tableOf};
 ghost use Rattle.texts.specs.Writing.{writeTable, writeAnswer, bufferOf};
 ghost use Rattle.circuits.specs.Answers.{ran, signalsLeft};
-ghost use Rattle.circuits.specs.Peek.{peeked};
+ghost use Rattle.peeks.specs.Peek.{peeked};
 ghost use Rattle.programs.specs.Answers.{translated, targetLeft as programLeft};
 ghost use Rattle.flattening.specs.Answers.{flattened, targetLeft as flatLeft};
 ghost use Rattle.exports.specs.Answers.{three, given, zeros, Named, readNumber, readWords, writeNumber, writeWords, flatNumber, flatWords, programNumber, programWords, runNumber, runWords, peekNumber, peekWords};
@@ -288,7 +288,7 @@ pub extern "C" fn gofeshan_peek(
     if !take(answer) {
         return 1;
     }
-    let r = circuits::peek::peek(table, count, line, cell, starts, row);
+    let r = peeks::peek::peek(table, count, line, cell, starts, row);
     tell_peek(r, answer)
 }
 

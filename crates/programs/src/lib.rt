@@ -2,6 +2,7 @@
 use circuits::Ran;
 use tables::Checked;
 use tables::Refusal;
+use tables::check;
 use tables::records;
 ghost use mathlib.Core.Path.{_≡_};
 ghost use mathlib.Core.Bool.{true};
@@ -9,7 +10,7 @@ ghost use lib.ListN.{length, replicate};
 ghost use Rattle.circuits.specs.Answers.{ran, signalsLeft};
 ghost use Rattle.programs.specs.Answers.{translated, targetLeft};
 
-pub mod make; // the check of the table, and the program where it fits
+pub mod make; // the program of an accepted table, where it fits
 pub mod notes; // what is kept of a line
 pub mod passes; // the passes over a table
 pub mod uses; // loose lines and needing uses
@@ -31,7 +32,7 @@ pub fn translate(table: &[u64], count: usize, target: &mut [u64]) -> Translated
     if !records::is_table(target.len()) {
         return Translated::Refused(Refusal::NotATable);
     }
-    match make::checking(table, count) {
+    match check::accept(false, table, count) {
         Checked::Refused(r) => {
             return Translated::Refused(r);
         }

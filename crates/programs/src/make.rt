@@ -1,9 +1,7 @@
-// The check of the table, and the program where it fits.
+// The program of an accepted table, where it fits.
 use crate::Translated;
 use crate::passes;
-use tables::Checked;
 use tables::Refusal;
-use tables::check;
 use tables::records;
 ghost use mathlib.Core.Path.{_≡_};
 ghost use mathlib.Core.Bool.{false};
@@ -16,27 +14,6 @@ ghost use Rattle.tables.specs.Tables.{checked};
 ghost use Rattle.circuits.specs.Answers.{linesOf};
 ghost use Rattle.programs.specs.Answers.{programOf, fitting, leftOf};
 ghost use Rattle.programs.specs.Records.{Marked};
-
-// The check of the table.
-pub fn checking(table: &[u64], count: usize) -> Checked
-    ensures { λ r. ⌜ r ≡ checked false (now (table .entry)) count ⌝ }
-{
-    let mut cls = [0u8; 16385];
-    let mut idx = [0u8; 16385];
-    let mut wid = [0u8; 16385];
-    let mut ini = [0u8; 16385];
-    let mut nxt = [0u8; 16385];
-    check::check(
-        false,
-        table,
-        count,
-        &mut cls,
-        &mut idx,
-        &mut wid,
-        &mut ini,
-        &mut nxt,
-    )
-}
 
 // How many instructions the program has.
 fn counting(table: &[u64], count: usize, marks: &[u8]) -> usize

@@ -1,5 +1,5 @@
 // Runs circuits on the cases of the request, and says what each answers.
-mod peeks; // peeks
+mod values; // peeks
 
 use circuits::Ran;
 use circuits::run;
@@ -449,5 +449,5 @@ fn main() {
     swap();
     constraints();
     captions();
-    peeks::peeks();
+    values::peeks();
 }

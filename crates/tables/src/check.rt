@@ -264,6 +264,27 @@ pub fn check(
     check_lines(program, table, count, cls, idx, wid, ini, nxt)
 }
 
+// The answer of the check alone.
+pub fn accept(program: bool, table: &[u64], count: usize) -> Checked
+    ensures { λ r. ⌜ r ≡ checked program (now (table .entry)) count ⌝ }
+{
+    let mut cls = [0u8; 16385];
+    let mut idx = [0u8; 16385];
+    let mut wid = [0u8; 16385];
+    let mut ini = [0u8; 16385];
+    let mut nxt = [0u8; 16385];
+    check(
+        program,
+        table,
+        count,
+        &mut cls,
+        &mut idx,
+        &mut wid,
+        &mut ini,
+        &mut nxt,
+    )
+}
+
 // 11, for a program 20.
 fn refused(program: bool) -> Checked
     ensures { λ r. ⌜ r ≡ Checked.Refused (broken program) ⌝ }

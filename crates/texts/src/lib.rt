@@ -95,7 +95,7 @@ pub fn write(table: &[u64], count: usize, text: &mut [u8]) -> WriteOutcome
     ensures { λ r. ⌜ (r ≡ writeAnswer (writeTable (now (table .entry)) count (length (now (text .entry))))) × (now (text .exit) ≡ bufferOf (length (now (text .entry))) (writeTable (now (table .entry)) count (length (now (text .entry))))) ⌝ }
 {
     check::clear(text);
-    let c = writing::accept(table, count);
+    let c = check::accept(false, table, count);
     match c {
         Checked::Refused(r) => WriteOutcome::Refused(r),
         Checked::Accepted => {

@@ -1,7 +1,5 @@
 // Writing: bytes go to a text one after the other. A byte past the end of the text is counted and dropped.
 use crate::forms;
-use tables::Checked;
-use tables::check;
 use tables::kinds;
 use tables::records;
 ghost use mathlib.Core.Path.{_≡_};
@@ -13,7 +11,7 @@ ghost use lib.Seq.{sets};
 ghost use Rattle.tables.specs.Kinds.{rows, rowOf, wordOf};
 ghost use Rattle.tables.specs.Lines.{kindIn, records as recordsOf, counted};
 ghost use Rattle.tables.specs.Types.{noCtx};
-ghost use Rattle.tables.specs.Tables.{room, lawful, checked};
+ghost use Rattle.tables.specs.Tables.{room, lawful};
 ghost use Rattle.texts.specs.Split.{spaced, join};
 ghost use Rattle.texts.specs.Decimal.{digits};
 ghost use Rattle.texts.specs.Writing.{numbers, kindTokens, tokensOf, writeText};
@@ -123,25 +121,4 @@ pub fn put_lines(out: &mut [u8], table: &[u64], count: usize) -> usize
         at = put_line(&kinds, out, at, p as u64, rec);
     }
     at
-}
-
-// The check of a circuit with its count.
-pub fn accept(table: &[u64], count: usize) -> Checked
-    ensures { λ r. ⌜ r ≡ checked false (now (table .entry)) count ⌝ }
-{
-    let mut cls = [0u8; 16385];
-    let mut idx = [0u8; 16385];
-    let mut wid = [0u8; 16385];
-    let mut ini = [0u8; 16385];
-    let mut nxt = [0u8; 16385];
-    check::check(
-        false,
-        table,
-        count,
-        &mut cls,
-        &mut idx,
-        &mut wid,
-        &mut ini,
-        &mut nxt,
-    )
 }

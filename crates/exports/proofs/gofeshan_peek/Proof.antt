@@ -8,7 +8,7 @@ use Rattle.exports.proofs.gofeshan_peek.Statement.{statement}
 use Rattle.exports.proofs.gofeshan_peek.Tie as tie
 use Rattle.exports.proofs.gofeshan_peek.Reads as reads
 use Rattle.exports.proofs.gofeshan_peek.Lts as lts
-use Rattle.circuits.proofs.peek.peek.Reads as peek-reads
+use Rattle.peeks.proofs.peek.peek.Reads as peek-reads
 use Rattle.exports.proofs.take.Reads as take-reads
 use Rattle.exports.proofs.tell_peek.Reads as tell-peek-reads
 

@@ -8,7 +8,7 @@ use Rattle.programs.proofs.translate.Statement.{statement}
 use Rattle.programs.proofs.translate.Tie as tie
 use Rattle.programs.proofs.translate.Reads as reads
 use Rattle.programs.proofs.translate.Lts as lts
-use Rattle.programs.proofs.make.checking.Reads as checking-reads
+use Rattle.tables.proofs.check.accept.Reads as accept-reads
 use Rattle.programs.proofs.make.make.Reads as make-reads
 use Rattle.programs.proofs.passes.has_array.Reads as has-array-reads
 use Rattle.tables.proofs.records.clear.Reads as clear-reads
@@ -35,8 +35,8 @@ same-length-2 c = search needs
 returns-2 : tie.Need-returns-2
 returns-2 c = no-target (c .before .before .before .before .before .before .before .before .before .before .args .table .now) (c .before .before .before .before .before .before .before .before .before .before .args .count) (length (c .before .before .before .before .before .before .before .before .before .before .args .target .now)) (c .before .before .before .before .before .before .clear .ensures) (sym (c .before .before .before .is-table .ensures) ∙ not-false _ (c .before .before .if1 .left)) (sym (c .before .is-table2 .ensures) ∙ not-true _ (c .if2 .taken))
 
-checking-requires : tie.Need-checking-requires
-checking-requires c κs = search needs
+accept-requires : tie.Need-accept-requires
+accept-requires c κs = search needs
 
 enum-known-r : tie.Need-enum-known-r
 enum-known-r c = search needs
@@ -45,28 +45,28 @@ same-length-3 : tie.Need-same-length-3
 same-length-3 c = search needs
 
 returns-3 : tie.Need-returns-3
-returns-3 c = not-accepted (c .before .before .before .before .before .before .before .before .before .before .before .before .before .before .args .table .now) (c .before .before .before .before .before .before .before .before .before .before .before .before .before .before .args .count) (length (c .before .before .before .before .before .before .before .before .before .before .before .before .before .before .args .target .now)) (c .before .before .before .before .before .before .before .before .before .before .clear .ensures) (sym (c .before .before .before .before .before .before .before .is-table .ensures) ∙ not-false _ (c .before .before .before .before .before .before .if1 .left)) (sym (c .before .before .before .before .before .is-table2 .ensures) ∙ not-false _ (c .before .before .before .before .if2 .left)) _ (sym (c .before .before .before .checking .ensures) ∙ c .before .r .given .1)
+returns-3 c = not-accepted (c .before .before .before .before .before .before .before .before .before .before .before .before .before .before .args .table .now) (c .before .before .before .before .before .before .before .before .before .before .before .before .before .before .args .count) (length (c .before .before .before .before .before .before .before .before .before .before .before .before .before .before .args .target .now)) (c .before .before .before .before .before .before .before .before .before .before .clear .ensures) (sym (c .before .before .before .before .before .before .before .is-table .ensures) ∙ not-false _ (c .before .before .before .before .before .before .if1 .left)) (sym (c .before .before .before .before .before .is-table2 .ensures) ∙ not-false _ (c .before .before .before .before .if2 .left)) _ (sym (c .before .before .before .accept .ensures) ∙ c .before .r .given .1)
 
 enum-told : tie.Need-enum-told
 enum-told c = search needs
 
 has-array-requires : tie.Need-has-array-requires
-has-array-requires c κs = sym (c .before .before .checking .ensures) ∙ c .enum-told .given .1
+has-array-requires c κs = sym (c .before .before .accept .ensures) ∙ c .enum-told .given .1
 
 same-length-4 : tie.Need-same-length-4
 same-length-4 c = search needs
 
 returns-4 : tie.Need-returns-4
-returns-4 c = array-there (c .before .before .before .before .before .before .before .before .before .before .before .before .before .before .before .args .table .now) (c .before .before .before .before .before .before .before .before .before .before .before .before .before .before .before .args .count) (length (c .before .before .before .before .before .before .before .before .before .before .before .before .before .before .before .args .target .now)) (c .before .before .before .before .before .before .before .before .before .before .before .clear .ensures) (sym (c .before .before .before .before .before .before .before .before .is-table .ensures) ∙ not-false _ (c .before .before .before .before .before .before .before .if1 .left)) (sym (c .before .before .before .before .before .before .is-table2 .ensures) ∙ not-false _ (c .before .before .before .before .before .if2 .left)) (sym (c .before .before .before .before .checking .ensures) ∙ c .before .before .enum-told .given .1) (sym (c .before .has-array .ensures) ∙ c .if3 .taken)
+returns-4 c = array-there (c .before .before .before .before .before .before .before .before .before .before .before .before .before .before .before .args .table .now) (c .before .before .before .before .before .before .before .before .before .before .before .before .before .before .before .args .count) (length (c .before .before .before .before .before .before .before .before .before .before .before .before .before .before .before .args .target .now)) (c .before .before .before .before .before .before .before .before .before .before .before .clear .ensures) (sym (c .before .before .before .before .before .before .before .before .is-table .ensures) ∙ not-false _ (c .before .before .before .before .before .before .before .if1 .left)) (sym (c .before .before .before .before .before .before .is-table2 .ensures) ∙ not-false _ (c .before .before .before .before .before .if2 .left)) (sym (c .before .before .before .before .accept .ensures) ∙ c .before .before .enum-told .given .1) (sym (c .before .has-array .ensures) ∙ c .if3 .taken)
 
 make-requires : tie.Need-make-requires
-make-requires c κs = (sym (c .before .before .before .before .before .checking .ensures) ∙ c .before .before .before .enum-told .given .1, zeros-self (length (c .before .before .before .before .before .before .before .before .before .before .before .before .before .before .before .before .args .target .now)) (c .before .before .before .before .before .before .before .before .before .before .before .before .clear .ensures))
+make-requires c κs = (sym (c .before .before .before .before .before .accept .ensures) ∙ c .before .before .before .enum-told .given .1, zeros-self (length (c .before .before .before .before .before .before .before .before .before .before .before .before .before .before .before .before .args .target .now)) (c .before .before .before .before .before .before .before .before .before .before .before .before .clear .ensures))
 
 same-length-5 : tie.Need-same-length-5
 same-length-5 c = search needs
 
 returns-5 : tie.Need-returns-5
-returns-5 c = made-is (c .before .before .before .before .before .before .before .before .before .before .before .before .before .before .before .before .before .before .before .args .table .now) (c .before .before .before .before .before .before .before .before .before .before .before .before .before .before .before .before .before .before .before .args .count) (length (c .before .before .before .before .before .before .before .before .before .before .before .before .before .before .before .before .before .before .before .args .target .now)) (c .before .before .before .before .before .before .before .before .before .before .before .before .before .before .before .clear .ensures) (sym (c .before .before .before .before .before .before .before .before .before .before .before .before .is-table .ensures) ∙ not-false _ (c .before .before .before .before .before .before .before .before .before .before .before .if1 .left)) (sym (c .before .before .before .before .before .before .before .before .before .before .is-table2 .ensures) ∙ not-false _ (c .before .before .before .before .before .before .before .before .before .if2 .left)) (sym (c .before .before .before .before .before .before .before .before .checking .ensures) ∙ c .before .before .before .before .before .before .enum-told .given .1) (sym (c .before .before .before .before .before .has-array .ensures) ∙ c .before .before .before .before .if3 .left) (c .before .before .make .ensures .0) (c .before .before .make .ensures .1)
+returns-5 c = made-is (c .before .before .before .before .before .before .before .before .before .before .before .before .before .before .before .before .before .before .before .args .table .now) (c .before .before .before .before .before .before .before .before .before .before .before .before .before .before .before .before .before .before .before .args .count) (length (c .before .before .before .before .before .before .before .before .before .before .before .before .before .before .before .before .before .before .before .args .target .now)) (c .before .before .before .before .before .before .before .before .before .before .before .before .before .before .before .clear .ensures) (sym (c .before .before .before .before .before .before .before .before .before .before .before .before .is-table .ensures) ∙ not-false _ (c .before .before .before .before .before .before .before .before .before .before .before .if1 .left)) (sym (c .before .before .before .before .before .before .before .before .before .before .is-table2 .ensures) ∙ not-false _ (c .before .before .before .before .before .before .before .before .before .if2 .left)) (sym (c .before .before .before .before .before .before .before .before .accept .ensures) ∙ c .before .before .before .before .before .before .enum-told .given .1) (sym (c .before .before .before .before .before .has-array .ensures) ∙ c .before .before .before .before .if3 .left) (c .before .before .make .ensures .0) (c .before .before .make .ensures .1)
 
 pub translate-spec : {M : Type 1} → statement M
 translate-spec =
@@ -79,7 +79,7 @@ translate-spec =
     is-table-requires-2
     same-length-2
     returns-2
-    checking-requires
+    accept-requires
     enum-known-r
     same-length-3
     returns-3

@@ -1,0 +1,510 @@
+-- What each line says of its cell c at step 0, in terms of the values of earlier lines: what peek's functions ask and find. Assumes nothing.
+use Prim.Native.Nat.{ℕ, zero, suc, _+_, _-_, _%_, _^_, _≤_, _<_}
+use mathlib.Core.Path.{_≡_, refl, sym, ap, ap₂, _∙_, subst}
+use mathlib.Core.Bool.{Bool, true, false}
+use mathlib.Core.List.{List, [], _∷_, _++_}
+use native.Mathlib.Omega.{arith}
+use native.Mathlib.Nat.{mod-eq-of-lt, mod-mod}
+use lib.Pow.{pow-pos}
+use lib.ListN.{length, take, drop, getD, set, replicate, getD-replicate}
+use lib.Seq.{take-all, getD-set-same, getD-set-other}
+use Rattle.words.specs.Word.{Width, bit}
+use Rattle.tables.specs.declared.Ty.{Ty}
+use Rattle.tables.specs.declared.Checked.the-variants.{Accepted}
+use Rattle.tables.specs.Lines.{Line, Expr, lineOf, recordAt}
+use Rattle.tables.specs.Types.{tyAt, given, sortAt}
+use Rattle.tables.specs.Tables.{checked}
+use Rattle.tables.proofs.Facts.{IsWord, IsArray, Ok, OkExpr}
+use Rattle.tables.proofs.Showing.{earlier}
+use Rattle.tables.proofs.Values.{val-iw, val-w}
+use Rattle.tables.proofs.Wide.{sort-wide}
+use Rattle.circuits.specs.Cells.{choose, say, same, lows, part}
+use Rattle.circuits.specs.Layout.{Place, Layout, typeAt, placeAt, size, typeOf, placeOf, noLayout, lay, layAll, layout}
+use Rattle.circuits.specs.Meaning.{opWord, cellsE, Acc, cellsAt, wordAt, widthAt, cellsOf, step}
+use Rattle.circuits.specs.Run.{rowOf, start}
+use Rattle.circuits.specs.Answers.{linesOf}
+use Rattle.peeks.specs.Peek.{stepZero}
+use Rattle.circuits.specs.Model.{FitWord}
+use Rattle.peeks.specs.Looks.{initOf, Looks}
+use Rattle.circuits.proofs.Fitting.{fit-as}
+use Rattle.circuits.proofs.Laid.{Sound, Later, later, grew, type-new, place-new, type-old, more-types, more-places}
+use Rattle.circuits.proofs.Held.{Held}
+use Rattle.circuits.proofs.Simulation.{word-one, word-two, is-sort}
+use Rattle.circuits.proofs.Walked.{accAt, lines-many, line-here, number-at, later-at, sound-at, Facts}
+use Rattle.circuits.proofs.Placing.{all-sound, lines-here}
+use Rattle.circuits.proofs.Earlier.{cells-first, cells-here, fixed-alike}
+use Rattle.peeks.proofs.Whole.{offs, ats, wids, nums, HeldBy, whole, lay-is, facts-of, held-at, held-whole, lay-whole, cells-many, cells-small}
+use Rattle.peeks.proofs.Begun.{startOf, Begun, begun}
+use Rattle.circuits.proofs.Puts as laws
+
+-- ---- what is known of the line n of the type that Z has for it, by its expression
+
+-- an operand that is a word, or any value, on an earlier line
+pub record Arg (Z : Layout) (n a : ℕ) : Type 0 where
+  pub word : IsWord (typeAt Z a)
+  pub below : a < n
+
+pub record Operand (Z : Layout) (n a : ℕ) : Type 0 where
+  pub value : 2 ≤ typeAt Z a .cls
+  pub below : a < n
+
+module _ (A : Acc) (Z : Layout) (wid pos ini S R : List ℕ) (n c : ℕ) where
+  pub record FactConst (v : ℕ) : Type 0 where
+    pub flat : typeAt Z n .iw ≡ 0
+    pub is : v ≡ wordAt A n
+
+  pub record FactOne (k a x y : ℕ) : Type 0 where
+    pub most : k ≤ 20
+    pub flat : typeAt Z n .iw ≡ 0
+    pub arg : Arg Z n a
+    pub op : FitWord false k (getD wid n 0) (getD wid a 0) 64 (wordAt A a) x y
+    pub is : opWord false k (getD wid a 0) 64 (wordAt A a) x y ≡ wordAt A n
+
+  pub record FactTwo (k a b : ℕ) : Type 0 where
+    pub flat : typeAt Z n .iw ≡ 0
+    pub left : Arg Z n a
+    pub right : Arg Z n b
+    pub op : FitWord false k (getD wid n 0) (getD wid a 0) (getD wid b 0) (wordAt A a) (wordAt A b) 0
+    pub is : opWord false k (getD wid a 0) (getD wid b 0) (wordAt A a) (wordAt A b) 0 ≡ wordAt A n
+
+  pub record FactCmp (e : Bool) (a b : ℕ) : Type 0 where
+    pub flat : typeAt Z n .iw ≡ 0
+    pub left : Operand Z n a
+    pub right : Operand Z n b
+    pub sorts : typeAt Z b .iw ≡ typeAt Z a .iw
+    pub is : bit (say e (same (cellsAt A a) (cellsAt A b))) ≡ wordAt A n
+
+  pub record FactIte (d a b : ℕ) : Type 0 where
+    pub cond : Arg Z n d
+    pub left : Operand Z n a
+    pub right : Operand Z n b
+    pub sortA : typeAt Z a .iw ≡ typeAt Z n .iw
+    pub sortB : typeAt Z b .iw ≡ typeAt Z n .iw
+    pub yes : (wordAt A d ≡ 0 → ⊥) → getD (cellsAt A a) c 0 ≡ getD (cellsAt A n) c 0
+    pub no : wordAt A d ≡ 0 → getD (cellsAt A b) c 0 ≡ getD (cellsAt A n) c 0
+
+  pub record FactRead (a i : ℕ) : Type 0 where
+    pub flat : typeAt Z n .iw ≡ 0
+    pub arr : IsArray (typeAt Z a)
+    pub belowA : a < n
+    pub index : Arg Z n i
+    pub inside : wordAt A i < size (typeAt Z a)
+    pub is : getD (cellsAt A a) (wordAt A i) 0 ≡ wordAt A n
+
+  pub record FactWrite (a i v : ℕ) : Type 0 where
+    pub arr : IsArray (typeAt Z a)
+    pub belowA : a < n
+    pub sortA : typeAt Z a .iw ≡ typeAt Z n .iw
+    pub index : Arg Z n i
+    pub value : Arg Z n v
+    pub hit : wordAt A i ≡ c → wordAt A v ≡ getD (cellsAt A n) c 0
+    pub miss : (wordAt A i ≡ c → ⊥) → getD (cellsAt A a) c 0 ≡ getD (cellsAt A n) c 0
+
+  pub record FactInput : Type 0 where
+    pub flat : typeAt Z n .iw ≡ 0
+    pub inside : getD pos n 0 < length R
+    pub wide : Width (getD wid n 0)
+    pub is : getD R (getD pos n 0) 0 % 2 ^ getD wid n 0 ≡ wordAt A n
+
+  -- a state whose init's value is on the line d, and one that has no init
+  pub record FactInit (d : ℕ) : Type 0 where
+    pub arg : Arg Z n d
+    pub is : wordAt A d ≡ getD (cellsAt A n) c 0
+
+  pub record FactStart : Type 0 where
+    pub inside : getD pos n 0 + c < length S
+    pub wide : Width (getD wid n 0)
+    pub is : getD S (getD pos n 0 + c) 0 % 2 ^ getD wid n 0 ≡ getD (cellsAt A n) c 0
+
+  pub record FactState : Type 0 where
+    pub init : (getD ini n 0 ≡ 0 → ⊥) → FactInit (getD ini n 0)
+    pub none : getD ini n 0 ≡ 0 → FactStart
+
+  abbrev pub FactE : Expr → Type 0
+  FactE (Expr.const v) = FactConst v
+  FactE (Expr.one k a x y) = FactOne k a x y
+  FactE (Expr.two k a b) = FactTwo k a b
+  FactE (Expr.cmp e a b) = FactCmp e a b
+  FactE (Expr.ite d a b) = FactIte d a b
+  FactE (Expr.read a i) = FactRead a i
+  FactE (Expr.write a i v) = FactWrite a i v
+
+  abbrev pub Fact : Line → Type 0
+  Fact (Line.bitvec w) = ⊥
+  Fact (Line.array i e) = ⊥
+  Fact (Line.input s) = FactInput
+  Fact (Line.state s) = FactState
+  Fact (Line.val s e) = FactE e
+  Fact (Line.give m s q v) = ⊥
+  Fact (Line.mark m a) = ⊥
+  Fact (Line.output a) = ⊥
+  Fact Line.junk = ⊥
+
+-- ---- small laws
+
+yes-choose : {X : Type 0} (d : ℕ) (x y : X) → (d ≡ 0 → ⊥) → choose d x y ≡ x
+yes-choose zero x y n = absurd (n refl)
+yes-choose (suc d) x y n = refl
+
+no-choose : {X : Type 0} (d : ℕ) (x y : X) → d ≡ 0 → choose d x y ≡ y
+no-choose d x y e = ap (λ (k : ℕ). choose k x y) e
+
+getD-lows : (w : ℕ) (xs : List ℕ) (c : ℕ) → getD (lows w xs) c 0 ≡ getD xs c 0 % 2 ^ w
+getD-lows w [] c = sym (mod-eq-of-lt (pow-pos w))
+getD-lows w (x ∷ xs) zero = refl
+getD-lows w (x ∷ xs) (suc c) = getD-lows w xs c
+
+-- ---- step 0 of an accepted circuit
+
+module _ {t : List ℕ} {n : ℕ} {idx wid pos ini S R : List ℕ} (lk : Looks t n idx wid pos ini S R) where
+  abbrev C : List Line
+  C = linesOf t n
+
+  abbrev Z : Layout
+  Z = layout false (linesOf t n)
+
+  abbrev ι : List ℕ
+  ι = take (rowOf false (linesOf t n)) R
+
+  abbrev σ : List ℕ
+  σ = step false true (linesOf t n) S (take (rowOf false (linesOf t n)) R) .sts
+
+  abbrev A : Acc
+  A = step false false (linesOf t n) σ ι
+
+  accepted : checked false t n ≡ Accepted
+  accepted = lk .laid .typed .sized .accepted
+
+  zero-is : stepZero (linesOf t n) S R ≡ A
+  unfolding stepZero start
+  zero-is = refl
+
+  row-is : ι ≡ R
+  row-is = take-all (rowOf false (linesOf t n)) R (omega (arith, lk .laid .row))
+
+  many : length σ ≡ Z .counts .states
+  many =
+      held-whole t n accepted S (lk .laid .starts) true ι .held .kept .many ∙ ap (λ (Y : Layout). Y .counts .states) (lay-whole t n accepted S (lk .laid .starts) true ι)
+
+  H : HeldBy (Z .counts .cells) σ A
+  H = held-whole t n accepted σ many false ι
+
+  lay-A : A .lay ≡ Z
+  lay-A = lay-whole t n accepted σ many false ι
+
+  room : A .lay .counts .cells ≤ Z .counts .cells
+  room = omega (arith, ap (λ (Y : Layout). Y .counts .cells) lay-A)
+
+  type-A : (a : ℕ) → typeAt (A .lay) a ≡ typeAt Z a
+  type-A a = ap (λ (Y : Layout). typeAt Y a) lay-A
+
+  length-of : (a : ℕ) → 2 ≤ typeAt Z a .cls → length (cellsAt A a) ≡ size (typeAt Z a)
+  length-of a q = cells-many H room a (subst (λ (y : Ty). 2 ≤ y .cls) (sym (type-A a)) q) ∙ ap size (type-A a)
+
+  small : (a : ℕ) → 2 ≤ typeAt Z a .cls → (j : ℕ) → getD (cellsAt A a) j 0 < 2 ^ (typeAt Z a .w)
+  small a q j = subst (λ (y : Ty). getD (cellsAt A a) j 0 < 2 ^ (y .w)) (type-A a) (cells-small H room a (subst (λ (y : Ty). 2 ≤ y .cls) (sym (type-A a)) q) j)
+
+  width-of : (a : ℕ) → 2 ≤ typeAt Z a .cls → Width (getD wid a 0)
+  width-of a q =
+      let k = all-sound false t n accepted .wide a (omega arith) in
+      let e = lk .laid .typed .width a in
+      record { least = omega (arith, k .least); most = omega (arith, k .most) }
+
+  no-line : typeAt (layout false (linesOf t n)) 0 .cls ≡ 0
+  unfolding layout
+  no-line = ap (λ (y : Ty). y .cls) (later false noLayout (linesOf t n) .type 0 (omega arith))
+
+  from-one : (a : ℕ) → 1 ≤ typeAt (layout false (linesOf t n)) a .cls → 1 ≤ a
+  from-one zero q = absurd (omega (arith, no-line))
+  from-one (suc a) q = omega arith
+
+  -- a line of some class has a number from 1 to the count
+  pub number-of : (a : ℕ) → 1 ≤ typeAt Z a .cls → (1 ≤ a) × (a ≤ n)
+  number-of a q = (from-one a q, omega (arith, earlier (Z .ctx .tys) a q, lines-here false t n accepted))
+
+  -- ---- the line at the place i
+
+  module _ (i : ℕ) (h : i < n) where
+    abbrev B : Acc
+    B = accAt false false σ ι (linesOf t n) i
+
+    abbrev l : Line
+    l = getD (linesOf t n) i Line.junk
+
+    known : Facts false (offs Z) (wids Z) (nums Z) (ats Z) (B .lay) l (Z .counts .cells) (length σ) (Z .counts .inputs) (Z .counts .signals)
+    known = facts-of t n accepted σ many false ι i h
+
+    held : HeldBy (Z .counts .cells) σ B
+    held = held-at t n accepted σ many false ι i (omega arith)
+
+    tall : length (B .lay .ctx .tys) ≡ i + 1
+    tall = ap (λ (Y : Layout). length (Y .ctx .tys)) (lay-is t n accepted σ many false ι i) ∙ number-at false t n accepted i (omega arith)
+
+    next : Later (lay false (B .lay) l) Z
+    next = subst (λ (Y : Layout). Later (lay false Y l) Z) (sym (lay-is t n accepted σ many false ι i)) (later-at false t n accepted i h)
+
+    arg-below : (a : ℕ) → 1 ≤ typeAt (B .lay) a .cls → a < suc i
+    arg-below a q = omega (arith, earlier (B .lay .ctx .tys) a q, tall)
+
+    arg-type : (a : ℕ) → 1 ≤ typeAt (B .lay) a .cls → typeAt Z a ≡ typeAt (B .lay) a
+    arg-type a q =
+        let b = earlier (B .lay .ctx .tys) a q in
+        next .type a (omega (arith, more-types false (B .lay) l)) ∙ type-old false (B .lay) l (held .held .sound .long) a (λ e. omega arith)
+
+    arg-cells : (a : ℕ) → 1 ≤ typeAt (B .lay) a .cls → cellsAt A a ≡ cellsAt B a
+    arg-cells a q = cells-first false false (linesOf t n) σ ι i a (omega (arith, lines-many false t n accepted)) (omega (arith, arg-below a q))
+
+    arg-word : (a : ℕ) → 1 ≤ typeAt (B .lay) a .cls → wordAt A a ≡ wordAt B a
+    arg-word a q = ap (λ (x : List ℕ). getD x 0 0) (arg-cells a q)
+
+    arg-width : (a : ℕ) → 1 ≤ typeAt (B .lay) a .cls → getD wid a 0 ≡ widthAt B a
+    arg-width a q = lk .laid .typed .width a ∙ ap (λ (y : Ty). y .w) (arg-type a q)
+
+    arg-of : (a : ℕ) → IsWord (typeAt (B .lay) a) → Arg Z (suc i) a
+    arg-of a q = record { word = subst IsWord (sym (arg-type a (omega (arith, q .is)))) q; below = arg-below a (omega (arith, q .is)) }
+
+    array-of : (a : ℕ) → IsArray (typeAt (B .lay) a) → IsArray (typeAt Z a)
+    array-of a q = subst IsArray (sym (arg-type a (omega (arith, q .is)))) q
+
+    operand-of : (a : ℕ) → 2 ≤ typeAt (B .lay) a .cls → Operand Z (suc i) a
+    operand-of a q = record { value = subst (λ (y : Ty). 2 ≤ y .cls) (sym (arg-type a (omega arith))) q; below = arg-below a (omega arith) }
+
+    own-cells : cellsAt A (suc i) ≡ cellsOf false false σ ι B l
+    own-cells = cells-here false false (linesOf t n) σ ι i (omega (arith, lines-many false t n accepted))
+
+    own-type : typeAt Z (suc i) ≡ typeOf false (B .lay) l
+    own-type =
+        let e : suc i ≡ length (B .lay .ctx .tys) = omega (arith, tall) in
+        next .type (suc i) (omega (arith, more-types false (B .lay) l)) ∙ ap (typeAt (lay false (B .lay) l)) e ∙ type-new false (B .lay) l (held .held .sound .long)
+
+    own-place : placeAt Z (suc i) ≡ placeOf (B .lay) l
+    own-place =
+        let e : suc i ≡ length (B .lay .ctx .tys) = omega (arith, tall) in
+        let g = held .held .sound .long in
+        next .place (suc i) (omega (arith, more-places false (B .lay) l)) ∙ ap (placeAt (lay false (B .lay) l)) e ∙ place-new false (B .lay) l g
+
+    cells-room : B .lay .counts .cells ≤ Z .counts .cells
+    cells-room = omega (arith, known .cells, grew (B .lay .counts) (size (typeOf false (B .lay) l)) l .cells)
+
+    module _ (s : ℕ) (e : Expr) (el : l ≡ Line.val s e) where
+      abbrev sort : Ty
+      sort = sortAt false (tyAt (B .lay .ctx)) s
+
+      expr-w : getD wid (suc i) 0 ≡ sort .w
+      expr-w = lk .laid .typed .width (suc i) ∙ ap (λ (y : Ty). y .w) (own-type ∙ ap (typeOf false (B .lay)) el) ∙ val-w false (tyAt (B .lay .ctx)) s e
+
+      expr-iw : typeAt Z (suc i) .iw ≡ sort .iw
+      expr-iw = ap (λ (y : Ty). y .iw) (own-type ∙ ap (typeOf false (B .lay)) el) ∙ val-iw false (tyAt (B .lay .ctx)) s e
+
+      expr-cells : cellsAt A (suc i) ≡ cellsE false (widthAt B) (wordAt B) (cellsAt B) e
+      expr-cells = own-cells ∙ ap (cellsOf false false σ ι B) el
+
+      expr-word : wordAt A (suc i) ≡ getD (cellsE false (widthAt B) (wordAt B) (cellsAt B) e) 0 0
+      expr-word = ap (λ (x : List ℕ). getD x 0 0) expr-cells
+
+      expr-wide : OkExpr false (tyAt (B .lay .ctx)) sort e → sort .w ≤ 64
+      expr-wide ok = sort-wide false (tyAt (B .lay .ctx)) s (held .held .sound .wide) (is-sort false (tyAt (B .lay .ctx)) sort e ok) .most
+
+    fact-expr : (s : ℕ) (e : Expr) → l ≡ Line.val s e → OkExpr false (tyAt (B .lay .ctx)) (sortAt false (tyAt (B .lay .ctx)) s) e → (c : ℕ) → c < size (typeAt Z (suc i)) → FactE A Z wid pos ini S R (suc i) c e
+    fact-expr s (Expr.const v) el ok c hc = record { flat = expr-iw s (Expr.const v) el ∙ ok .sort .flat; is = sym (expr-word s (Expr.const v) el) }
+    fact-expr s (Expr.one k a x y) el ok c hc =
+        let e = Expr.one k a x y in
+        let q : 1 ≤ typeAt (B .lay) a .cls = omega (arith, ok .arg .is) in
+        record {
+          most = ok .kind .1;
+          flat = expr-iw s e el ∙ ok .sort .flat;
+          arg = arg-of a (ok .arg);
+          op = fit-as (expr-w s e el) (arg-width a q) refl (arg-word a q) refl
+              (word-one (held .held) cells-room l (offs Z) (wids Z) (nums Z) (ats Z) (known .shows) (sortAt false (tyAt (B .lay .ctx)) s) k a x y (expr-wide s e el ok) ok);
+          is = ap₂ (λ (u v : ℕ). opWord false k u 64 v x y) (arg-width a q) (arg-word a q) ∙ sym (expr-word s e el);
+        }
+    fact-expr s (Expr.two k a b) el ok c hc =
+        let e = Expr.two k a b in
+        let qa : 1 ≤ typeAt (B .lay) a .cls = omega (arith, ok .left .is) in
+        let qb : 1 ≤ typeAt (B .lay) b .cls = omega (arith, ok .right .is) in
+        record {
+          flat = expr-iw s e el ∙ ok .sort .flat;
+          left = arg-of a (ok .left);
+          right = arg-of b (ok .right);
+          op = fit-as (expr-w s e el) (arg-width a qa) (arg-width b qb) (arg-word a qa) (arg-word b qb)
+              (word-two (held .held) cells-room l (offs Z) (wids Z) (nums Z) (ats Z) (known .shows) (sortAt false (tyAt (B .lay .ctx)) s) k a b (expr-wide s e el ok) ok);
+          is = ap₂ (λ (u v : ℕ). opWord false k u v (wordAt A a) (wordAt A b) 0) (arg-width a qa) (arg-width b qb)
+              ∙ ap₂ (λ (u v : ℕ). opWord false k (widthAt B a) (widthAt B b) u v 0) (arg-word a qa) (arg-word b qb) ∙ sym (expr-word s e el);
+        }
+    fact-expr s (Expr.cmp f a b) el ok c hc =
+        let e = Expr.cmp f a b in
+        let qa : 1 ≤ typeAt (B .lay) a .cls = omega (arith, ok .left .is) in
+        let qb : 1 ≤ typeAt (B .lay) b .cls = omega (arith, ok .right .is) in
+        record {
+          flat = expr-iw s e el ∙ ok .sort .flat;
+          left = operand-of a (ok .left .is);
+          right = operand-of b (ok .right .is);
+          sorts = ap (λ (y : Ty). y .iw) (arg-type b qb) ∙ ok .same .iw ∙ sym (ap (λ (y : Ty). y .iw) (arg-type a qa));
+          is = ap₂ (λ (x y : List ℕ). bit (say f (same x y))) (arg-cells a qa) (arg-cells b qb) ∙ sym (expr-word s e el);
+        }
+    fact-expr s (Expr.ite d a b) el ok c hc =
+        let e = Expr.ite d a b in
+        let qd : 1 ≤ typeAt (B .lay) d .cls = omega (arith, ok .cond .is) in
+        let qa : 1 ≤ typeAt (B .lay) a .cls = omega (arith, ok .left .is) in
+        let qb : 1 ≤ typeAt (B .lay) b .cls = omega (arith, ok .right .is) in
+        let own : getD (cellsAt A (suc i)) c 0 ≡ getD (choose (wordAt B d) (cellsAt B a) (cellsAt B b)) c 0 = ap (λ (x : List ℕ). getD x c 0) (expr-cells s e el) in
+        record {
+          cond = arg-of d (ok .cond);
+          left = operand-of a (ok .left .is);
+          right = operand-of b (ok .right .is);
+          sortA = ap (λ (y : Ty). y .iw) (arg-type a qa) ∙ ok .sameA .iw ∙ sym (expr-iw s e el);
+          sortB = ap (λ (y : Ty). y .iw) (arg-type b qb) ∙ ok .sameB .iw ∙ sym (expr-iw s e el);
+          yes = λ z. ap (λ (x : List ℕ). getD x c 0) (arg-cells a qa ∙ sym (yes-choose (wordAt B d) (cellsAt B a) (cellsAt B b) (λ y. z (arg-word d qd ∙ y)))) ∙ sym own;
+          no = λ z. ap (λ (x : List ℕ). getD x c 0) (arg-cells b qb ∙ sym (no-choose (wordAt B d) (cellsAt B a) (cellsAt B b) (sym (arg-word d qd) ∙ z))) ∙ sym own;
+        }
+    fact-expr s (Expr.read a x) el ok c hc =
+        let e = Expr.read a x in
+        let qa : 1 ≤ typeAt (B .lay) a .cls = omega (arith, ok .arr .is) in
+        let qx : 1 ≤ typeAt (B .lay) x .cls = omega (arith, ok .index .is) in
+        let index = arg-of x (ok .index) in
+        let wi : typeAt Z x .w ≡ typeAt Z a .iw = ap (λ (y : Ty). y .w) (arg-type x qx) ∙ ok .iw ∙ sym (ap (λ (y : Ty). y .iw) (arg-type a qa)) in
+        record {
+          flat = expr-iw s e el ∙ ok .sort .flat;
+          arr = array-of a (ok .arr);
+          belowA = arg-below a qa;
+          index = index;
+          inside = subst (λ (m : ℕ). wordAt A x < 2 ^ m) wi (small x (index .word .is) 0);
+          is = ap₂ (λ (y : List ℕ) (m : ℕ). getD y m 0) (arg-cells a qa) (arg-word x qx) ∙ sym (expr-word s e el);
+        }
+    fact-expr s (Expr.write a x v) el ok c hc =
+        let e = Expr.write a x v in
+        let qa : 1 ≤ typeAt (B .lay) a .cls = omega (arith, ok .arr .is) in
+        let qx : 1 ≤ typeAt (B .lay) x .cls = omega (arith, ok .index .is) in
+        let qv : 1 ≤ typeAt (B .lay) v .cls = omega (arith, ok .value .is) in
+        let sa : typeAt Z a .iw ≡ typeAt Z (suc i) .iw = ap (λ (y : Ty). y .iw) (arg-type a qa) ∙ ok .same .iw ∙ sym (expr-iw s e el) in
+        let la : length (cellsAt A a) ≡ size (typeAt Z (suc i)) = length-of a (array-of a (ok .arr) .is) ∙ ap (λ (m : ℕ). 2 ^ m) sa in
+        let own : getD (cellsAt A (suc i)) c 0 ≡ getD (set (cellsAt A a) (wordAt A x) (wordAt A v)) c 0 =
+        ap (λ (y : List ℕ). getD y c 0) (expr-cells s e el ∙ sym (ap₂ (λ (y : List ℕ) (m : ℕ). set y m (wordAt A v)) (arg-cells a qa) (arg-word x qx) ∙ ap (set (cellsAt B a) (wordAt B x)) (arg-word v qv))) in
+        record {
+          arr = array-of a (ok .arr);
+          belowA = arg-below a qa;
+          sortA = sa;
+          index = arg-of x (ok .index);
+          value = arg-of v (ok .value);
+          hit = λ z. sym (own ∙ ap (λ (m : ℕ). getD (set (cellsAt A a) m (wordAt A v)) c 0) z ∙ getD-set-same (cellsAt A a) c (wordAt A v) 0 (omega arith));
+          miss = λ z. sym (own ∙ getD-set-other (cellsAt A a) (wordAt A x) c (wordAt A v) 0 (λ y. z (sym y)));
+        }
+
+    -- ---- inputs and states
+
+    fact-input : (s : ℕ) → l ≡ Line.input s → typeAt (B .lay) s .iw ≡ 0 → (c : ℕ) → FactInput A Z wid pos ini S R (suc i) c
+    fact-input s el flat c =
+        let ty : typeAt Z (suc i) ≡ typeOf false (B .lay) (Line.input s) = own-type ∙ ap (typeOf false (B .lay)) el in
+        let pl : placeAt Z (suc i) ≡ placeOf (B .lay) (Line.input s) = own-place ∙ ap (placeOf (B .lay)) el in
+        let ep : getD pos (suc i) 0 ≡ B .lay .counts .inputs = lk .laid .placed (suc i) (omega arith) ∙ ap (λ (q : Place). q .at) pl in
+        let ew : getD wid (suc i) 0 ≡ typeOf false (B .lay) (Line.input s) .w = lk .laid .typed .width (suc i) ∙ ap (λ (y : Ty). y .w) ty in
+        let hi : suc (B .lay .counts .inputs) ≤ Z .counts .inputs = subst (λ (x : Line). lay false (B .lay) x .counts .inputs ≤ Z .counts .inputs) el (known .inputs) in
+        record {
+          flat = ap (λ (y : Ty). y .iw) ty ∙ flat;
+          inside = omega (arith, lk .laid .row);
+          wide = width-of (suc i) (subst (λ (y : Ty). 2 ≤ y .cls) (sym ty) (omega arith));
+          is = ap₂ (λ (x : List ℕ) (m : ℕ). getD x (getD pos (suc i) 0) 0 % 2 ^ m) (sym row-is) ew ∙ ap (λ (m : ℕ). getD ι m 0 % 2 ^ (typeOf false (B .lay) (Line.input s) .w)) ep
+              ∙ sym (ap (λ (x : List ℕ). getD x 0 0) (own-cells ∙ ap (cellsOf false false σ ι B) el));
+        }
+
+    module _ (s : ℕ) (el : l ≡ Line.state s) (c : ℕ) (hc : c < size (typeAt Z (suc i))) where
+      abbrev E : Layout
+      E = accAt false true S ι (linesOf t n) i .lay
+
+      abbrev own : Ty
+      own = typeOf false (accAt false true S ι (linesOf t n) i .lay) (Line.state s)
+
+      begins : Begun S (step false true (linesOf t n) S ι) (suc i) (E .counts .states) (size own) (own .w) (initOf (suc i) (linesOf t n))
+      begins = begun t n accepted S ι (lk .laid .starts) i h s el
+
+      same-lay : B .lay ≡ E
+      same-lay = lay-is t n accepted σ many false ι i ∙ sym (lay-is t n accepted S (lk .laid .starts) true ι i)
+
+      state-type : typeAt Z (suc i) ≡ own
+      state-type = own-type ∙ ap (typeOf false (B .lay)) el ∙ ap (λ (Y : Layout). typeOf false Y (Line.state s)) same-lay
+
+      state-place : getD pos (suc i) 0 ≡ E .counts .states
+      state-place = lk .laid .placed (suc i) (omega arith) ∙ ap (λ (q : Place). q .at) (own-place ∙ ap (placeOf (B .lay)) el) ∙ ap (λ (Y : Layout). Y .counts .states) same-lay
+
+      state-wid : getD wid (suc i) 0 ≡ own .w
+      state-wid = lk .laid .typed .width (suc i) ∙ ap (λ (y : Ty). y .w) state-type
+
+      hm : c < size own
+      hm = subst (λ (y : Ty). c < size y) state-type hc
+
+      state-cells : cellsAt A (suc i) ≡ lows (own .w) (startOf S (E .counts .states) (size own) (own .w) (initOf (suc i) (linesOf t n)) (wordAt (step false true (linesOf t n) S ι) (initOf (suc i) (linesOf t n))))
+      state-cells =
+          own-cells ∙ ap (cellsOf false false σ ι B) el
+          ∙ ap (λ (Y : Layout). lows (typeOf false Y (Line.state s) .w) (part σ (Y .counts .states) (size (typeOf false Y (Line.state s))))) same-lay ∙ ap (lows (own .w)) (begins .words)
+
+      state-at : getD (cellsAt A (suc i)) c 0 ≡ getD (startOf S (E .counts .states) (size own) (own .w) (initOf (suc i) (linesOf t n)) (wordAt (step false true (linesOf t n) S ι) (initOf (suc i) (linesOf t n)))) c 0 % 2 ^ (own .w)
+      state-at = ap (λ (y : List ℕ). getD y c 0) state-cells ∙ getD-lows (own .w) (startOf S (E .counts .states) (size own) (own .w) (initOf (suc i) (linesOf t n)) (wordAt (step false true (linesOf t n) S ι) (initOf (suc i) (linesOf t n)))) c
+
+      some : (initOf (suc i) (linesOf t n) ≡ 0 → ⊥) → FactInit A Z wid pos ini S R (suc i) c (initOf (suc i) (linesOf t n))
+      some z =
+          let k = begins .settled in
+          let lz = lay-whole t n accepted S (lk .laid .starts) true ι in
+          let d : ℕ = initOf (suc i) (linesOf t n) in
+          let td : typeAt (step false true (linesOf t n) S ι .lay) d ≡ typeAt Z d = ap (λ (Y : Layout). typeAt Y d) lz in
+          let cls : typeAt Z d .cls ≡ 2 = sym (ap (λ (y : Ty). y .cls) td) ∙ k .fixed z in
+          let wd : typeAt Z d .w ≡ own .w = sym (ap (λ (y : Ty). y .w) td) ∙ k .same z in
+          let xe : wordAt (step false true (linesOf t n) S ι) d ≡ wordAt A d = ap (λ (y : List ℕ). getD y 0 0) (fixed-alike false true false S σ ι ι (linesOf t n) d cls) in
+          record {
+            arg = record { word = record { is = omega arith; flat = sym (ap (λ (y : Ty). y .iw) td) ∙ k .flat z }; below = k .below };
+            is = sym (state-at ∙ ap (λ (y : List ℕ). getD y c 0 % 2 ^ (own .w)) (yes-choose d _ _ z) ∙ ap (λ (m : ℕ). m % 2 ^ (own .w)) (getD-replicate (size own) c _ 0 hm ∙ xe)
+                ∙ mod-eq-of-lt (subst (λ (m : ℕ). wordAt A d < 2 ^ m) wd (small d (omega arith) 0)));
+          }
+
+      none : initOf (suc i) (linesOf t n) ≡ 0 → FactStart A Z wid pos ini S R (suc i) c
+      none z =
+          let k = begins .settled in
+          let lz = lay-whole t n accepted S (lk .laid .starts) true ι in
+          let rm : E .counts .states + size own ≤ Z .counts .states = subst (λ (Y : Layout). E .counts .states + size own ≤ Y .counts .states) lz (k .room) in
+          let w : ℕ = own .w in
+          record {
+            inside = omega (arith, state-place, hm, lk .laid .starts);
+            wide = width-of (suc i) (subst (λ (y : Ty). 2 ≤ y .cls) (sym state-type) (omega arith));
+            is = ap₂ (λ (m v : ℕ). getD S (m + c) 0 % 2 ^ v) state-place state-wid
+                ∙ sym (state-at ∙ ap (λ (y : List ℕ). getD y c 0 % 2 ^ w) (no-choose (initOf (suc i) (linesOf t n)) _ _ z) ∙ ap (λ (m : ℕ). m % 2 ^ w) (getD-lows w (part S (E .counts .states) (size own)) c)
+                ∙ mod-mod (getD (part S (E .counts .states) (size own)) c 0) (2 ^ w) ∙ ap (λ (m : ℕ). m % 2 ^ w) (laws.part-getD S (E .counts .states) (size own) c hm));
+          }
+
+      fact-state : FactState A Z wid pos ini S R (suc i) c
+      fact-state =
+          let e : getD ini (suc i) 0 ≡ initOf (suc i) (linesOf t n) = lk .inits (suc i) (omega arith) in
+          record {
+            init = λ z. subst (FactInit A Z wid pos ini S R (suc i) c) (sym e) (some (λ y. z (e ∙ y)));
+            none = λ z. none (sym e ∙ z);
+          }
+
+    -- ---- the line
+
+    fact-line : (x : Line) → l ≡ x → Ok false (tyAt (B .lay .ctx)) (given (B .lay .ctx)) x → 2 ≤ typeOf false (B .lay) x .cls → (c : ℕ) → c < size (typeAt Z (suc i)) → Fact A Z wid pos ini S R (suc i) c x
+    fact-line (Line.bitvec w) el ok q c hc = omega arith
+    fact-line (Line.array a b) el ok q c hc = omega arith
+    fact-line (Line.input s) el ok q c hc = fact-input s el (ok .flat) c
+    fact-line (Line.state s) el ok q c hc = fact-state s el c hc
+    fact-line (Line.val s e) el ok q c hc = fact-expr s e el ok c hc
+    fact-line (Line.give m s a v) el ok q c hc = omega arith
+    fact-line (Line.mark m a) el ok q c hc = omega arith
+    fact-line (Line.output a) el ok q c hc = omega arith
+    fact-line Line.junk el ok q c hc = omega arith
+
+    fact-here : (c : ℕ) → 2 ≤ typeAt Z (suc i) .cls → c < size (typeAt Z (suc i)) → Fact A Z wid pos ini S R (suc i) c (lineOf (recordAt t i))
+    fact-here c q hc =
+        subst (Fact A Z wid pos ini S R (suc i) c) (line-here false t n accepted i h)
+        (fact-line l refl (known .ok) (subst (λ (y : Ty). 2 ≤ y .cls) own-type q) c hc)
+
+  -- what the record of the line m says of its cell c
+  pub facts : (m c : ℕ) → 2 ≤ typeAt Z m .cls → c < size (typeAt Z m) → Fact (stepZero (linesOf t n) S R) Z wid pos ini S R m c (lineOf (recordAt t (m - 1)))
+  facts m c q hc =
+      let b = number-of m (omega arith) in
+      let i : ℕ = m - 1 in
+      let e : suc i ≡ m = omega arith in
+      subst (λ (X : Acc). Fact X Z wid pos ini S R m c (lineOf (recordAt t (m - 1)))) (sym zero-is)
+      (subst (λ (k : ℕ). Fact A Z wid pos ini S R k c (lineOf (recordAt t (m - 1)))) e
+      (fact-here (m - 1) (omega arith) c (subst (λ (k : ℕ). 2 ≤ typeAt Z k .cls) (sym e) q) (subst (λ (k : ℕ). c < size (typeAt Z k)) (sym e) hc)))
+
+  -- the number of cells of a value
+  pub cells-of : (a : ℕ) → 2 ≤ typeAt Z a .cls → length (cellsAt (stepZero (linesOf t n) S R) a) ≡ size (typeAt Z a)
+  cells-of a q = ap (λ (X : Acc). length (cellsAt X a)) zero-is ∙ length-of a q

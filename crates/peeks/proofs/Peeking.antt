@@ -1,0 +1,223 @@
+-- What peek's two functions ask of the lines that they look at, and what they find. Assumes nothing.
+use Prim.Native.Nat.{ℕ, zero, suc, _+_, _-_, _*_, _^_, _≤_, _<_}
+use mathlib.Core.Path.{_≡_, refl, sym, ap, ap₂, _∙_, subst}
+use mathlib.Core.Logic.{inl, inr}
+use mathlib.Core.Bool.{Bool, true, false, _&&_}
+use mathlib.Core.List.{List, [], _∷_}
+use native.Mathlib.Omega.{arith}
+use lib.Dec.{eqb}
+use lib.Pow.{pow-pos}
+use lib.ListN.{length, drop, getD, set, length-set, drop-of-length-le}
+use lib.Seq.{getD-set-same, getD-set-other}
+use Rattle.tables.specs.declared.Checked.the-variants.{Accepted}
+use Rattle.tables.specs.Lines.{Line, Shape, isBitvec, isArray, isConst, isInput, isState, isOutput, isOne, isTwo, isIte, isRead, isWrite, isJunk, isGive, isMark, isCmp, shapeOf, build, lineOf, kindIn, sortIn, firstIn, secondIn, thirdIn, recordAt}
+use Rattle.tables.specs.Tables.{checked}
+use Rattle.tables.proofs.Facts.{IsArray}
+use Rattle.tables.proofs.Shapes.{KindOf, kind-of, line-as}
+use Rattle.tables.proofs.Showing.{by-place}
+use Rattle.circuits.specs.Cells.{same}
+use Rattle.circuits.specs.Layout.{Layout, typeAt, size, layout}
+use Rattle.circuits.specs.Meaning.{Acc, cellsAt, wordAt}
+use Rattle.circuits.specs.Answers.{linesOf}
+use Rattle.peeks.specs.Peek.{stepZero}
+use Rattle.peeks.specs.Looks.{Looks, Found, WordLine, ArrayLine, CellLine, Pair}
+use Rattle.circuits.proofs.Walked.{fits-table}
+use Rattle.circuits.proofs.Placing.{all-sound}
+use Rattle.peeks.proofs.Looked.{Arg, Operand, FactCmp, FactRead, Fact, number-of, facts, cells-of}
+use Rattle.circuits.proofs.Puts as laws
+
+-- ---- the words found so far
+
+-- one word more
+pub kept : {A : Acc} {vals known vals′ known′ : List ℕ} {n v r : ℕ} → n ≤ 64 → Found A vals known → v ≡ wordAt A n → r ≡ v → vals′ ≡ set vals n v → known′ ≡ set known n 1
+    → (r ≡ wordAt A n) × Found A vals′ known′
+kept {A} {vals} {known} {vals′} {known′} {n} {v} h f ev er e₁ e₂ = (
+  er ∙ ev,
+  record {
+    long = ap length e₁ ∙ length-set vals n v ∙ f .long;
+    marks = ap length e₂ ∙ length-set known n 1 ∙ f .marks;
+    are = λ a k.
+        by-place a n
+        (λ e. ap (λ (x : List ℕ). getD x a 0) e₁ ∙ ap (λ (i : ℕ). getD (set vals n v) i 0) e ∙ getD-set-same vals n v 0 (omega (arith, f .long)) ∙ ev ∙ ap (wordAt A) (sym e))
+        (λ ne.
+        ap (λ (x : List ℕ). getD x a 0) e₁ ∙ getD-set-other vals n a v 0 ne
+        ∙ f .are a (sym (getD-set-other known n a 1 0 ne) ∙ sym (ap (λ (x : List ℕ). getD x a 0) e₂) ∙ k));
+  },
+)
+
+-- ---- two values, of which the cells before c are the same
+
+pub record Alike (A : Acc) (a b : ℕ) (vals known : List ℕ) (m c : ℕ) : Type 0 where
+  pub most : c ≤ m
+  pub found : Found A vals known
+  pub rest : same (cellsAt A a) (cellsAt A b) ≡ same (drop c (cellsAt A a)) (drop c (cellsAt A b))
+
+-- ---- lines of an accepted table
+
+pub record Number (t : List ℕ) (n m : ℕ) : Type 0 where
+  pub least : 1 ≤ m
+  pub most : m ≤ 64
+  pub here : 5 * (m - 1) + 5 ≤ length t
+
+module _ {t : List ℕ} {n : ℕ} {idx wid pos ini S R : List ℕ} (lk : Looks t n idx wid pos ini S R) where
+  abbrev A : Acc
+  A = stepZero (linesOf t n) S R
+
+  abbrev Z : Layout
+  Z = layout false (linesOf t n)
+
+  accepted : checked false t n ≡ Accepted
+  accepted = lk .laid .typed .sized .accepted
+
+  pub number : (m : ℕ) → 2 ≤ typeAt Z m .cls → Number t n m
+  number m q =
+      let b = number-of lk m (omega arith) in
+      let f = fits-table false t n accepted in
+      record { least = b .0; most = omega (arith, lk .laid .few); here = omega (arith, f .1) }
+
+  -- ---- operands
+
+  pub word-arg : {m a : ℕ} → Arg Z m a → WordLine t n a
+  word-arg k = record { value = k .word .is; flat = k .word .flat }
+
+  pub word-same : {m a : ℕ} → WordLine t n m → Operand Z m a → typeAt Z a .iw ≡ typeAt Z m .iw → WordLine t n a
+  word-same w k e = record { value = k .value; flat = e ∙ w .flat }
+
+  pub cell-same : {m a c : ℕ} → CellLine t n m c → 2 ≤ typeAt Z a .cls → typeAt Z a .iw ≡ typeAt Z m .iw → CellLine t n a c
+  cell-same {m} {a} {c} w q e =
+      record { array = record { value = q; deep = subst (λ (x : ℕ). 0 < x) (sym e) (w .array .deep) }; inside = subst (λ (x : ℕ). c < 2 ^ x) (sym e) (w .inside) }
+
+  pub cell-read : {m a x i : ℕ} → FactRead A Z wid pos ini S R m 0 a x → i ≡ wordAt A x → CellLine t n a i
+  cell-read {m} {a} {x} {i} k e =
+      record { array = record { value = k .arr .is; deep = k .arr .deep }; inside = subst (λ (y : ℕ). y < size (typeAt Z a)) (sym e) (k .inside) }
+
+  pub pair : {m a b : ℕ} {f : Bool} → FactCmp A Z wid pos ini S R m 0 f a b → Pair t n a b
+  pair k = record { left = k .left .value; right = k .right .value; sorts = k .sorts }
+
+  -- ---- what a record says of its line, by its shape
+
+  module _ {r : List ℕ} (m c : ℕ) (q : 2 ≤ typeAt Z m .cls) (hc : c < size (typeAt Z m)) (er : r ≡ recordAt t (m - 1)) where
+    pub fact : (X : Shape) → shapeOf (kindIn r) ≡ X → Fact A Z wid pos ini S R m c (build X (kindIn r) (sortIn r) (firstIn r) (secondIn r) (thirdIn r))
+    fact X e = subst (Fact A Z wid pos ini S R m c) (ap lineOf (sym er) ∙ line-as r X e) (facts lk m c q hc)
+
+    -- an array's line that is no state and no ite is a write
+    pub is-write : 0 < typeAt Z m .iw → (kindIn r ≡ 5 → ⊥) → (kindIn r ≡ 53 → ⊥) → shapeOf (kindIn r) ≡ isWrite
+    is-write d n₅ n₅₃ = go (shapeOf (kindIn r)) refl (kind-of (kindIn r))
+      where
+        go : (X : Shape) → shapeOf (kindIn r) ≡ X → KindOf X (kindIn r) → shapeOf (kindIn r) ≡ isWrite
+        go isBitvec e k = absurd (fact isBitvec e)
+        go isArray e k = absurd (fact isArray e)
+        go isConst e k = absurd (omega (arith, fact isConst e .flat))
+        go isInput e k = absurd (omega (arith, fact isInput e .flat))
+        go isState e k = absurd (n₅ k)
+        go isOutput e k = absurd (fact isOutput e)
+        go isOne e k = absurd (omega (arith, fact isOne e .flat))
+        go isTwo e k = absurd (omega (arith, fact isTwo e .flat))
+        go isIte e k = absurd (n₅₃ k)
+        go isRead e k = absurd (omega (arith, fact isRead e .flat))
+        go isWrite e k = e
+        go isJunk e k = absurd (fact isJunk e)
+        go (isGive b) e k = absurd (fact (isGive b) e)
+        go (isMark b) e k = absurd (fact (isMark b) e)
+        go (isCmp b) e k = absurd (omega (arith, fact (isCmp b) e .flat))
+
+    -- a word's line of no other kind is an operator of two words
+    pub is-two : typeAt Z m .iw ≡ 0 → (kindIn r ≡ 3 → ⊥) → (kindIn r ≡ 4 → ⊥) → (kindIn r ≡ 5 → ⊥) → (11 ≤ kindIn r → kindIn r ≤ 20 → ⊥) → (kindIn r ≡ 21 → ⊥) → (kindIn r ≡ 22 → ⊥)
+        → (kindIn r ≡ 53 → ⊥) → (kindIn r ≡ 54 → ⊥) → shapeOf (kindIn r) ≡ isTwo
+    is-two flat n₃ n₄ n₅ none n₂₁ n₂₂ n₅₃ n₅₄ = go (shapeOf (kindIn r)) refl (kind-of (kindIn r))
+      where
+        go : (X : Shape) → shapeOf (kindIn r) ≡ X → KindOf X (kindIn r) → shapeOf (kindIn r) ≡ isTwo
+        go isBitvec e k = absurd (fact isBitvec e)
+        go isArray e k = absurd (fact isArray e)
+        go isConst e k = absurd (n₃ k)
+        go isInput e k = absurd (n₄ k)
+        go isState e k = absurd (n₅ k)
+        go isOutput e k = absurd (fact isOutput e)
+        go isOne e (inl k) = absurd (none (k .0) (k .1))
+        go isOne e (inr k) = absurd (omega (arith, fact isOne e .most))
+        go isTwo e k = e
+        go isIte e k = absurd (n₅₃ k)
+        go isRead e k = absurd (n₅₄ k)
+        go isWrite e k = absurd (omega (arith, fact isWrite e .arr .deep, fact isWrite e .sortA))
+        go isJunk e k = absurd (fact isJunk e)
+        go (isGive b) e k = absurd (fact (isGive b) e)
+        go (isMark b) e k = absurd (fact (isMark b) e)
+        go (isCmp true) e k = absurd (n₂₁ k)
+        go (isCmp false) e k = absurd (n₂₂ k)
+
+  pub first-cell : (m : ℕ) → 0 < size (typeAt Z m)
+  first-cell m = pow-pos (typeAt Z m .iw)
+
+  -- ---- two values of one sort
+
+  module _ (a b : ℕ) (k : Pair t n a b) where
+    pub deep : getD idx a 0 ≤ 8
+    deep = omega (arith, lk .laid .typed .sized .index a, all-sound false t n accepted .wide a (omega (arith, k .left)) .deep)
+
+    pub sized : {m : ℕ} → m ≡ 2 ^ getD idx a 0 → m ≡ size (typeAt Z a)
+    sized e = e ∙ ap (λ (x : ℕ). 2 ^ x) (lk .laid .typed .sized .index a)
+
+    pub left-word : getD idx a 0 ≡ 0 → WordLine t n a
+    left-word e = record { value = k .left; flat = sym (lk .laid .typed .sized .index a) ∙ e }
+
+    pub right-word : getD idx a 0 ≡ 0 → WordLine t n b
+    right-word e = record { value = k .right; flat = k .sorts ∙ sym (lk .laid .typed .sized .index a) ∙ e }
+
+    not-zero : (x : ℕ) → (x ≡ 0 → ⊥) → 0 < x
+    not-zero zero z = absurd (z refl)
+    not-zero (suc x) z = omega arith
+
+    pub left-cell : {m c : ℕ} → (getD idx a 0 ≡ 0 → ⊥) → m ≡ 2 ^ getD idx a 0 → c < m → CellLine t n a c
+    left-cell {m} {c} z e h =
+        record {
+          array = record { value = k .left; deep = not-zero (typeAt Z a .iw) (λ x. z (lk .laid .typed .sized .index a ∙ x)) };
+          inside = subst (λ (x : ℕ). c < x) (sized e) h;
+        }
+
+    pub right-cell : {m c : ℕ} → (getD idx a 0 ≡ 0 → ⊥) → m ≡ 2 ^ getD idx a 0 → c < m → CellLine t n b c
+    right-cell z e h = cell-same (left-cell z e h) (k .right) (k .sorts)
+
+    long-left : length (cellsAt A a) ≡ size (typeAt Z a)
+    long-left = cells-of lk a (k .left)
+
+    long-right : length (cellsAt A b) ≡ size (typeAt Z a)
+    long-right = cells-of lk b (k .right) ∙ ap (λ (x : ℕ). 2 ^ x) (k .sorts)
+
+    same-one : (xs ys : List ℕ) → length xs ≡ 1 → length ys ≡ 1 → eqb (getD xs 0 0) (getD ys 0 0) ≡ same xs ys
+    same-one [] ys e f = absurd (omega arith)
+    same-one (x ∷ []) [] e f = absurd (omega arith)
+    same-one (x ∷ []) (y ∷ ys) e f = and-true (eqb x y)
+      where
+        and-true : (u : Bool) → u ≡ (u && true)
+        and-true true = refl
+        and-true false = refl
+    same-one (x ∷ z ∷ xs) ys e f = absurd (omega arith)
+
+    pub same-words : {x y : ℕ} → getD idx a 0 ≡ 0 → x ≡ wordAt A a → y ≡ wordAt A b → eqb x y ≡ same (cellsAt A a) (cellsAt A b)
+    same-words z ex ey =
+        let one : size (typeAt Z a) ≡ 1 = ap (λ (x : ℕ). 2 ^ x) (sym (lk .laid .typed .sized .index a) ∙ z) in
+        ap₂ eqb ex ey ∙ same-one (cellsAt A a) (cellsAt A b) (long-left ∙ one) (long-right ∙ one)
+
+    pub alike-none : {vals known : List ℕ} (m : ℕ) → Found A vals known → Alike A a b vals known m 0
+    alike-none m f = record { most = omega arith; found = f; rest = refl }
+
+    pub alike-more : {vals known vals′ known′ : List ℕ} {m c x y : ℕ} → m ≡ 2 ^ getD idx a 0 → c < m → Alike A a b vals known m c → Found A vals′ known′
+        → x ≡ getD (cellsAt A a) c 0 → y ≡ getD (cellsAt A b) c 0 → x ≡ y → Alike A a b vals′ known′ m (c + 1)
+    alike-more {vals} {known} {vals′} {known′} {m} {c} e h s f ex ey exy =
+        let q = sized e in
+        record {
+          most = omega arith;
+          found = f;
+          rest = s .rest ∙ laws.same-more (cellsAt A a) (cellsAt A b) c (omega (arith, long-left)) (omega (arith, long-right)) (sym ex ∙ exy ∙ ey);
+        }
+
+    pub alike-not : {vals known : List ℕ} {m c x y : ℕ} → m ≡ 2 ^ getD idx a 0 → c < m → Alike A a b vals known m c → x ≡ getD (cellsAt A a) c 0 → y ≡ getD (cellsAt A b) c 0 → (x ≡ y → ⊥)
+        → false ≡ same (cellsAt A a) (cellsAt A b)
+    alike-not {vals} {known} {m} {c} e h s ex ey ne =
+        let q = sized e in
+        sym (s .rest ∙ laws.same-not (cellsAt A a) (cellsAt A b) c (omega (arith, long-left)) (omega (arith, long-right)) (λ z. ne (ex ∙ z ∙ sym ey)))
+
+    pub alike-all : {vals known : List ℕ} {m c : ℕ} → m ≡ 2 ^ getD idx a 0 → m ≤ c → Alike A a b vals known m c → true ≡ same (cellsAt A a) (cellsAt A b)
+    alike-all {vals} {known} {m} {c} e h s =
+        let q = sized e in
+        sym (s .rest ∙ ap (λ (x : List ℕ). same x (drop c (cellsAt A b))) (drop-of-length-le (cellsAt A a) {i = c} (omega (arith, long-left))))

@@ -1,0 +1,163 @@
+-- The answers of a peek, test by test, and the value where none holds. Assumes nothing.
+use Prim.Native.Nat.{ℕ, zero, suc, _+_, _^_, _≤_, _<_}
+use mathlib.Core.Path.{_≡_, refl, sym, ap, ap₂, _∙_, subst}
+use mathlib.Core.Logic.{⊎-elim}
+use mathlib.Core.Bool.{Bool, true, false, _&&_}
+use mathlib.Core.List.{List}
+use native.Mathlib.Omega.{arith}
+use lib.Dec.{leb, ltb, eqb}
+use lib.ListN.{length, getD, replicate, length-replicate, getD-replicate, List·getD-eq-default}
+use borrow.Author.Tests.{le-leb, lt-leb, lt-ltb, le-ltb, eq-eqb, ne-eqb, leb-true, ltb-true, eqb-true}
+use Rattle.tables.specs.declared.Ty.{Ty}
+use Rattle.tables.specs.declared.Refusal.{Refusal}
+use Rattle.tables.specs.declared.Refusal.the-variants.{StartWords, InputWords, NoSuchCell}
+use Rattle.tables.specs.declared.Checked.{Checked}
+use Rattle.tables.specs.declared.Checked.the-variants.{Accepted, Refused}
+use Rattle.tables.specs.Pick.{pick}
+use Rattle.tables.specs.Lists.{lookIn, Shows as Listed}
+use Rattle.tables.specs.Types.{isValue, context, tyAt, Ctx, growAll, noCtx}
+use Rattle.tables.specs.Tables.{checked}
+use Rattle.tables.proofs.Checking.{not-accepted}
+use Rattle.tables.proofs.Kept.{both}
+use Rattle.tables.proofs.Showing.{earlier}
+use Rattle.circuits.specs.declared.Totals.{Totals}
+use Rattle.peeks.specs.declared.Peeked.{Peeked}
+use Rattle.peeks.specs.declared.Peeked.the-variants.{Value, Refused as RefusedPeek}
+use Rattle.circuits.specs.Layout.{Counts, typeAt, size, noLayout, layAll, layout}
+use Rattle.circuits.specs.Meaning.{Acc, cellsAt, wordAt}
+use Rattle.circuits.specs.Answers.{linesOf}
+use Rattle.peeks.specs.Peek.{stepZero, peekAt, hasCell, mayPeek, seenAs, peeked}
+use Rattle.circuits.specs.Model.{countsOf, totalsOf, Sized, Typed, AllPlaced}
+use Rattle.peeks.specs.Looks.{initOf, Laid, Looks, Found, WordLine, CellLine, HasCell, Types, lentPeek}
+use Rattle.circuits.proofs.Placing.{all-sound, lines-here, lay-ctx}
+use Rattle.circuits.proofs.Puts as laws
+
+-- ---- 14, 15 and 18
+
+module _ (c : Counts) (y : Ty) (n k s i : ℕ) where
+  pub may-14 : (s ≡ c .states → ⊥) → Refused StartWords ≡ mayPeek c y n k s i
+  may-14 e = rw (ne-eqb s (c .states) e)
+
+  pub may-15 : s ≡ c .states → (i ≡ c .inputs → ⊥) → Refused InputWords ≡ mayPeek c y n k s i
+  may-15 e f = rw (eq-eqb s (c .states) e, ne-eqb i (c .inputs) f)
+
+  module _ (e : s ≡ c .states) (f : i ≡ c .inputs) where
+    pub may-many : 64 < n → Refused NoSuchCell ≡ mayPeek c y n k s i
+    may-many h = rw (eq-eqb s (c .states) e, eq-eqb i (c .inputs) f, lt-leb n 64 h)
+
+    pub may-class : n ≤ 64 → y .cls < 2 → Refused NoSuchCell ≡ mayPeek c y n k s i
+    may-class h q = rw (eq-eqb s (c .states) e, eq-eqb i (c .inputs) f, le-leb n 64 h, lt-leb 2 (y .cls) q)
+
+    pub may-cell : {m : ℕ} → m ≡ size y → n ≤ 64 → 2 ≤ y .cls → m ≤ k → Refused NoSuchCell ≡ mayPeek c y n k s i
+    may-cell {m} z h q l = rw (eq-eqb s (c .states) e, eq-eqb i (c .inputs) f, le-leb n 64 h, le-leb 2 (y .cls) q, le-ltb k (size y) (subst (λ (x : ℕ). x ≤ k) z l))
+
+    pub may-see : {m : ℕ} → m ≡ size y → n ≤ 64 → 2 ≤ y .cls → k < m → Accepted ≡ mayPeek c y n k s i
+    may-see {m} z h q l = rw (eq-eqb s (c .states) e, eq-eqb i (c .inputs) f, le-leb n 64 h, le-leb 2 (y .cls) q, lt-ltb k (size y) (subst (λ (x : ℕ). k < x) z l))
+
+pub record May (c : Counts) (y : Ty) (n k s i : ℕ) : Type 0 where
+  pub starts : s ≡ c .states
+  pub row : i ≡ c .inputs
+  pub few : n ≤ 64
+  pub value : 2 ≤ y .cls
+  pub inside : k < size y
+
+pub may-facts : (c : Counts) (y : Ty) (n k s i : ℕ) → mayPeek c y n k s i ≡ Accepted → May c y n k s i
+may-facts c y n k s i = go (eqb s (c .states)) (eqb i (c .inputs)) (hasCell y n k) refl refl refl
+  where
+    go : (a b d : Bool) → eqb s (c .states) ≡ a → eqb i (c .inputs) ≡ b → hasCell y n k ≡ d
+        → pick a (pick b (pick d Accepted (Refused NoSuchCell)) (Refused InputWords)) (Refused StartWords) ≡ Accepted → May c y n k s i
+    go true true true a b d z =
+        let h = both (leb n 64) _ d in
+        let l = both (isValue y) _ (h .1) in
+        record { starts = eqb-true s (c .states) a; row = eqb-true i (c .inputs) b; few = leb-true n 64 (h .0); value = leb-true 2 (y .cls) (l .0); inside = ltb-true k (size y) (l .1) }
+    go true true false a b d z = absurd (not-accepted NoSuchCell z)
+    go true false w a b d z = absurd (not-accepted InputWords z)
+    go false v w a b d z = absurd (not-accepted StartWords z)
+
+-- the tests on what the pass and the check have found
+pub may-on : (c : Counts) (z : Ty) (n k s i : ℕ) {t : Totals} {y : Ty} {d x : Checked} → t ≡ totalsOf c → y ≡ z → d ≡ mayPeek (countsOf t) y n k s i → d ≡ x → mayPeek c z n k s i ≡ x
+may-on c z n k s i et ey ed ex = sym (ed ∙ ap₂ (λ (t : Totals) (y : Ty). mayPeek (countsOf t) y n k s i) et ey) ∙ ex
+
+-- ---- what a peek begins with
+
+zeros : (n a : ℕ) → _≡_ {A = ℕ} (getD (replicate n 0) a 0) 0
+zeros n a =
+    ⊎-elim (λ h. getD-replicate {A = ℕ} n a 0 0 h) (λ h. List·getD-eq-default (replicate n 0) 0 {n = a} (omega (arith, length-replicate {A = ℕ} n 0))) (laws.lt-or-ge a n)
+
+pub found-none : (A : Acc) → Found A (replicate 65 0) (replicate 65 0)
+found-none A = record { long = length-replicate {A = ℕ} 65 0; marks = length-replicate {A = ℕ} 65 0; are = λ a e. absurd (omega (arith, zeros 65 a)) }
+
+pub looks-all : {t : List ℕ} {n : ℕ} {idx wid pos ini S R : List ℕ} → Laid t n idx wid pos S R → length ini ≡ length {A = ℕ} (replicate 65 0)
+    → ((q : ℕ) → q < 65 → getD ini q 0 ≡ initOf q (linesOf t n)) → Looks t n idx wid pos ini S R
+looks-all l e f = record { laid = l; many = e ∙ length-replicate {A = ℕ} 65 0; inits = λ q h. f q (omega (arith, l .few)) }
+
+module _ {t : List ℕ} {n : ℕ} {idx wid pos S R : List ℕ} (l : Laid t n idx wid pos S R) (m k : ℕ) (h : HasCell t n m k) where
+  pub word-here : getD idx m 0 ≡ 0 → WordLine t n m
+  word-here e = record { value = h .value; flat = sym (l .typed .sized .index m) ∙ e }
+
+  pub word-seen : {r : ℕ} → getD idx m 0 ≡ 0 → r ≡ wordAt (stepZero (linesOf t n) S R) m → r ≡ peekAt (linesOf t n) S R m k
+  unfolding peekAt
+  word-seen e er =
+      let one : size (typeAt (layout false (linesOf t n)) m) ≡ 1 = ap (λ (x : ℕ). 2 ^ x) (sym (l .typed .sized .index m) ∙ e) in
+      let z : 0 ≡ k = omega (arith, h .inside) in
+      er ∙ ap (λ (c : ℕ). getD (cellsAt (stepZero (linesOf t n) S R) m) c 0) z
+
+  not-zero : (x : ℕ) → (x ≡ 0 → ⊥) → 0 < x
+  not-zero zero z = absurd (z refl)
+  not-zero (suc x) z = omega arith
+
+  pub cell-here : (getD idx m 0 ≡ 0 → ⊥) → CellLine t n m k
+  cell-here z =
+      record { array = record { value = h .value; deep = not-zero (typeAt (layout false (linesOf t n)) m .iw) (λ e. z (l .typed .sized .index m ∙ e)) }; inside = h .inside }
+
+  pub cell-seen : {r : ℕ} → r ≡ getD (cellsAt (stepZero (linesOf t n) S R) m) k 0 → r ≡ peekAt (linesOf t n) S R m k
+  unfolding peekAt
+  cell-seen er = er
+
+  pub line-few : m ≤ 16384
+  line-few = omega (arith, earlier (layout false (linesOf t n) .ctx .tys) m (omega (arith, h .value)), lines-here false t n (l .typed .sized .accepted), l .few)
+
+-- ---- an accepted table
+
+module _ {t : List ℕ} {n : ℕ} {cls idx wid : List ℕ} (y : Types t n cls idx wid) where
+  pub types-sized : Sized false t n idx
+  types-sized = record { accepted = y .accepted; index = λ a. ap (λ (x : Ty). x .iw) (y .types a) }
+
+  types-typed : Typed false t n idx wid
+  types-typed = record { sized = types-sized; width = λ a. ap (λ (x : Ty). x .w) (y .types a) }
+
+  pub types-deep : (a : ℕ) {x : Ty} → x ≡ lookIn cls idx wid a → 2 ≤ x .cls → x .iw ≤ 8
+  types-deep a {x} e q =
+      let z : x ≡ typeAt (layout false (linesOf t n)) a = e ∙ y .types a in
+      omega (arith, ap (λ (u : Ty). u .iw) z, all-sound false t n (y .accepted) .wide a (omega (arith, ap (λ (u : Ty). u .cls) z)) .deep)
+
+  pub peek-laid : {off num pos S R : List ℕ} (m k : ℕ) → AllPlaced off num pos (layout false (linesOf t n))
+      → mayPeek (layout false (linesOf t n) .counts) (typeAt (layout false (linesOf t n)) m) n k (length S) (length R) ≡ Accepted → Laid t n idx wid pos S R × HasCell t n m k
+  peek-laid {off} {num} {pos} {S} {R} m k pl e =
+      let f = may-facts (layout false (linesOf t n) .counts) (typeAt (layout false (linesOf t n)) m) n k (length S) (length R) e in
+      let long = all-sound false t n (y .accepted) .long in
+      let many = lines-here false t n (y .accepted) in (
+        record { typed = types-typed; few = f .few; placed = λ a h. pl a (omega arith) .isPos; starts = f .starts; row = f .row },
+        record { value = f .value; inside = f .inside },
+      )
+
+module _ (t : List ℕ) (n m k : ℕ) (S R : List ℕ) where
+  pub lent-refused : (r : Refusal) → mayPeek (layout false (linesOf t n) .counts) (typeAt (layout false (linesOf t n)) m) n k (length S) (length R) ≡ Refused r → RefusedPeek r ≡ lentPeek t n m k S R
+  lent-refused r e = sym (ap (λ (d : Checked). seenAs d (peekAt (linesOf t n) S R m k)) e)
+
+  pub lent-value : {v : ℕ} → mayPeek (layout false (linesOf t n) .counts) (typeAt (layout false (linesOf t n)) m) n k (length S) (length R) ≡ Accepted → v ≡ peekAt (linesOf t n) S R m k
+      → Value v ≡ lentPeek t n m k S R
+  lent-value e ev = ap Value ev ∙ sym (ap (λ (d : Checked). seenAs d (peekAt (linesOf t n) S R m k)) e)
+
+  pub peek-refused : (r : Refusal) → checked false t n ≡ Refused r → RefusedPeek r ≡ peeked t n m k S R
+  unfolding peeked
+  peek-refused r e = rw e
+
+  pub peek-lent : checked false t n ≡ Accepted → lentPeek t n m k S R ≡ peeked t n m k S R
+  unfolding peeked
+  peek-lent e = rw e
+
+pub types-of : (t : List ℕ) (n : ℕ) {cls idx wid ini nxt : List ℕ} → checked false t n ≡ Accepted → Listed cls idx wid ini nxt (context false (linesOf t n)) → Types t n cls idx wid
+unfolding context layout
+types-of t n acc sh =
+    record { accepted = acc; types = λ a. sh .types a ∙ ap (λ (c : Ctx). tyAt c a) (sym (lay-ctx false noLayout (linesOf t n))) }

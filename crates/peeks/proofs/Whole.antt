@@ -1,0 +1,133 @@
+-- All lines of an accepted circuit as one step leaves them: each value has the cells of its type, each below 2 to its width. Assumes nothing.
+use Prim.Native.Nat.{ℕ, zero, suc, _+_, _^_, _≤_, _<_}
+use mathlib.Core.Path.{_≡_, refl, sym, ap, ap₂, _∙_, subst}
+use mathlib.Core.Logic.{⊎-elim}
+use mathlib.Core.Bool.{Bool, true, false}
+use mathlib.Core.List.{List, [], _∷_, _++_, map}
+use native.Mathlib.Omega.{arith}
+use lib.Pow.{pow-pos}
+use lib.ListN.{length, take, drop, getD, replicate, length-append, length-replicate, List·getD-eq-default}
+use lib.Seq.{drop-at, take-length}
+use Rattle.tables.specs.declared.Ty.{Ty}
+use Rattle.tables.specs.declared.Checked.the-variants.{Accepted}
+use Rattle.tables.specs.Lines.{Line}
+use Rattle.tables.specs.Types.{noTy}
+use Rattle.tables.specs.Tables.{checked}
+use Rattle.circuits.specs.Layout.{Place, Layout, noPlace, typeAt, placeAt, size, layAll, noLayout, layout}
+use Rattle.circuits.specs.Meaning.{Acc, cellsAt, evalAll, noAcc, step}
+use Rattle.circuits.specs.Answers.{linesOf}
+use Rattle.circuits.specs.Model.{workIn, Ready}
+use Rattle.circuits.proofs.Puts as laws
+use Rattle.circuits.proofs.Held.{Held, cells-at}
+use Rattle.circuits.proofs.Simulation.{sim}
+use Rattle.circuits.proofs.Walked.{accAt, acc-suc, acc-lay, lines-many, facts-at, Facts, walk-start}
+use Rattle.circuits.proofs.Placing.{all-sound, lines-here, few-here}
+
+getD-in : {A B : Type 0} (f : A → B) (xs : List A) (a : ℕ) (d : A) (e : B) → a < length xs → getD (map f xs) a e ≡ f (getD xs a d)
+getD-in f [] a d e h = absurd (omega arith)
+getD-in f (x ∷ xs) zero d e h = refl
+getD-in f (x ∷ xs) (suc a) d e h = getD-in f xs a d e (omega arith)
+
+abbrev pub offs : Layout → List ℕ
+offs Y = map (λ (q : Place). q .off) (Y .places)
+
+abbrev pub ats : Layout → List ℕ
+ats Y = map (λ (q : Place). q .at) (Y .places)
+
+abbrev pub wids : Layout → List ℕ
+wids Y = map (λ (t : Ty). t .w) (Y .ctx .tys)
+
+abbrev pub nums : Layout → List ℕ
+nums Y = map (λ (t : Ty). size t) (Y .ctx .tys)
+
+-- some work area holds the lines so far
+pub record HeldBy (all : ℕ) (σ : List ℕ) (A : Acc) : Type 0 where
+  pub work : List ℕ
+  pub held : Held false all σ work A
+
+module _ (t : List ℕ) (n : ℕ) (acc : checked false t n ≡ Accepted) where
+  abbrev pub whole : Layout
+  whole = layout false (linesOf t n)
+
+  module _ (σ : List ℕ) (many : length σ ≡ layout false (linesOf t n) .counts .states) where
+    pub ready-whole : Ready false t n (offs whole) (wids whole) (nums whole) (ats whole) (whole .counts .cells) (length σ) (whole .counts .inputs) (whole .counts .signals)
+    ready-whole =
+        let long = all-sound false t n acc .long in
+        let count = lines-here false t n acc in
+        let few = few-here false t n acc in
+        record {
+          accepted = acc;
+          shows = λ a h.
+              record {
+                known = omega arith;
+                isOff = getD-in (λ (q : Place). q .off) (whole .places) a noPlace 0 h;
+                isWid = getD-in (λ (y : Ty). y .w) (whole .ctx .tys) a noTy 0 (omega arith);
+                isNum = getD-in (λ (y : Ty). size y) (whole .ctx .tys) a noTy 0 (omega arith);
+                isPos = getD-in (λ (q : Place). q .at) (whole .places) a noPlace 0 h;
+              };
+          cells = refl;
+          states = sym many;
+          inputs = refl;
+          signals = refl;
+        }
+
+    module _ (f : Bool) (ι : List ℕ) where
+      pub lay-is : (i : ℕ) → accAt false f σ ι (linesOf t n) i .lay ≡ layAll false noLayout (take i (linesOf t n))
+      lay-is i = acc-lay false f σ ι noAcc (take i (linesOf t n))
+
+      pub facts-of : (i : ℕ) → i < n
+          → Facts false (offs whole) (wids whole) (nums whole) (ats whole) (accAt false f σ ι (linesOf t n) i .lay) (getD (linesOf t n) i Line.junk) (whole .counts .cells) (length σ) (whole .counts .inputs) (whole .counts .signals)
+      facts-of i h =
+          subst (λ (Y : Layout). Facts false (offs whole) (wids whole) (nums whole) (ats whole) Y (getD (linesOf t n) i Line.junk) (whole .counts .cells) (length σ) (whole .counts .inputs) (whole .counts .signals))
+          (sym (lay-is i)) (facts-at ready-whole i h)
+
+      pub held-at : (i : ℕ) → i ≤ n → HeldBy (whole .counts .cells) σ (accAt false f σ ι (linesOf t n) i)
+      held-at zero h =
+          let zeros : List ℕ = replicate (whole .counts .cells) 0 in
+          let lz : length zeros ≡ whole .counts .cells = length-replicate (whole .counts .cells) 0 in
+          record {
+            work = zeros ++ σ;
+            held = walk-start false f t n (offs whole) (wids whole) (nums whole) (ats whole) (whole .counts .cells) ι σ (whole .counts .inputs) (whole .counts .signals) ready-whole (zeros ++ σ)
+                (replicate (whole .counts .signals) 0) (sym (drop-at zeros σ (whole .counts .cells) lz)) (length-append zeros σ ∙ ap (λ (m : ℕ). m + length σ) lz) (length-replicate (whole .counts .signals) 0) .held;
+          }
+      held-at (suc i) h =
+          let A = accAt false f σ ι (linesOf t n) i in
+          let l = getD (linesOf t n) i Line.junk in
+          let H = held-at i (omega arith) in
+          let k = facts-of i h in
+          let w : List ℕ = workIn false f (offs whole) (wids whole) (nums whole) (ats whole) (whole .counts .cells) ι (H .work) (length (A .lay .ctx .tys)) l in
+          record {
+            work = w;
+            held = subst (λ (B : Acc). Held false (whole .counts .cells) σ w B) (sym (acc-suc false f σ ι (linesOf t n) i (omega (arith, lines-many false t n acc))))
+                (sim false f (offs whole) (wids whole) (nums whole) (ats whole) (whole .counts .cells) σ ι (H .work) A (H .held) l (k .ok) (k .shows) (k .cells) (k .states));
+          }
+
+      -- ---- all lines
+
+      pub all-lines : accAt false f σ ι (linesOf t n) n ≡ step false f (linesOf t n) σ ι
+      unfolding step
+      all-lines = ap (evalAll false f σ ι noAcc) (ap (λ (m : ℕ). take m (linesOf t n)) (sym (lines-many false t n acc)) ∙ take-length (linesOf t n))
+
+      pub held-whole : HeldBy (whole .counts .cells) σ (step false f (linesOf t n) σ ι)
+      held-whole = subst (HeldBy (whole .counts .cells) σ) all-lines (held-at n (omega arith))
+
+      pub lay-whole : step false f (linesOf t n) σ ι .lay ≡ whole
+      unfolding step layout
+      lay-whole = acc-lay false f σ ι noAcc (linesOf t n)
+
+-- ---- the cells of a value
+
+module _ {all : ℕ} {σ : List ℕ} {A : Acc} (H : HeldBy all σ A) (room : A .lay .counts .cells ≤ all) (a : ℕ) (q : 2 ≤ typeAt (A .lay) a .cls) where
+  pub cells-many : length (cellsAt A a) ≡ size (typeAt (A .lay) a)
+  cells-many =
+      let h = H .held .sound .low a q in
+      let l = H .held .kept .len in
+      ap length (sym (cells-at (H .held .sound) (H .held .holds) a q)) ∙ laws.length-part (H .work) (placeAt (A .lay) a .off) (size (typeAt (A .lay) a)) (omega arith)
+
+  pub cells-small : (j : ℕ) → getD (cellsAt A a) j 0 < 2 ^ (typeAt (A .lay) a .w)
+  cells-small j =
+      ⊎-elim (λ lt. subst (λ (x : ℕ). x < 2 ^ (typeAt (A .lay) a .w))
+      (sym (ap (λ (x : List ℕ). getD x j 0) (sym (cells-at (H .held .sound) (H .held .holds) a q)) ∙ laws.part-getD (H .work) (placeAt (A .lay) a .off) (size (typeAt (A .lay) a)) j lt))
+      (H .held .holds .small refl a q j lt))
+      (λ ge. subst (λ (x : ℕ). x < 2 ^ (typeAt (A .lay) a .w)) (sym (List·getD-eq-default (cellsAt A a) 0 (omega (arith, cells-many)))) (pow-pos (typeAt (A .lay) a .w)))
+      (laws.lt-or-ge j (size (typeAt (A .lay) a)))

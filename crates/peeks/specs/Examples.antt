@@ -1,0 +1,54 @@
+-- Peeks at the first step of the request's circuit, from the start words 3 and 12, on the row 1; computed. Assumes nothing.
+use mathlib.Core.Path.{_≡_, refl}
+use mathlib.Core.List.{List, [], _∷_, _++_}
+use Rattle.tables.specs.declared.Refusal.the-variants.{NoSuchCell}
+use Rattle.tables.specs.Kinds.{rowOf as kindRow}
+use Rattle.tables.specs.Lines.{five}
+use Rattle.tables.specs.Rules.{suits, fault}
+use Rattle.tables.specs.Tables.{checked}
+use Rattle.circuits.specs.Cells.{put}
+use Rattle.circuits.specs.Layout.{layout}
+use Rattle.circuits.specs.Meaning.{step}
+use Rattle.circuits.specs.Run.{start}
+use Rattle.circuits.specs.Examples.{circuit}
+use Rattle.peeks.specs.declared.Peeked.{Peeked}
+use Rattle.peeks.specs.declared.Peeked.the-variants.{Value, Refused}
+use Rattle.peeks.specs.Peek.{stepZero, peekAt, peeked}
+
+-- cell 1 of the state on line 4: its start word modulo 8
+peek-state : peeked circuit 11 4 1 (3 ∷ 12 ∷ []) (1 ∷ []) ≡ Value 4
+unfolding peeked checked fault suits kindRow layout peekAt stepZero start step put
+peek-state = refl
+
+-- the write on line 7 changes cell 1, and leaves cell 0
+peek-write : peeked circuit 11 7 1 (3 ∷ 12 ∷ []) (1 ∷ []) ≡ Value 5
+unfolding peeked checked fault suits kindRow layout peekAt stepZero start step put
+peek-write = refl
+
+peek-left : peeked circuit 11 7 0 (3 ∷ 12 ∷ []) (1 ∷ []) ≡ Value 3
+unfolding peeked checked fault suits kindRow layout peekAt stepZero start step put
+peek-left = refl
+
+-- the read on line 9 finds cell 1; it is a word and has cell 0 only
+peek-read : peeked circuit 11 9 0 (3 ∷ 12 ∷ []) (1 ∷ []) ≡ Value 4
+unfolding peeked checked fault suits kindRow layout peekAt stepZero start step put
+peek-read = refl
+
+peek-none : peeked circuit 11 9 1 (3 ∷ 12 ∷ []) (1 ∷ []) ≡ Refused NoSuchCell
+unfolding peeked checked fault suits kindRow layout peekAt stepZero start step put
+peek-none = refl
+
+-- a sort line and a next line have no value
+peek-sort : peeked circuit 11 3 0 (3 ∷ 12 ∷ []) (1 ∷ []) ≡ Refused NoSuchCell
+unfolding peeked checked fault suits kindRow layout peekAt stepZero start step put
+peek-sort = refl
+
+peek-next : peeked circuit 11 8 0 (3 ∷ 12 ∷ []) (1 ∷ []) ≡ Refused NoSuchCell
+unfolding peeked checked fault suits kindRow layout peekAt stepZero start step put
+peek-next = refl
+
+-- an array state with an init: its word stands in every cell
+peek-init :
+    peeked (five 1 0 1 0 0 ++ five 1 0 3 0 0 ++ five 2 0 1 2 0 ++ five 3 2 5 0 0 ++ five 5 3 0 0 0 ++ five 6 3 5 4 0) 6 5 1 (3 ∷ 12 ∷ []) [] ≡ Value 5
+unfolding peeked checked fault suits kindRow layout peekAt stepZero start step put
+peek-init = refl

@@ -1,0 +1,3 @@
+pub mod Peek
+pub mod Looks
+pub mod Examples

@@ -1,0 +1,68 @@
+-- Peek: the word of a line, or one of its cells, at step 0. The answers are 1, 11, 14, 15, 18, the first that holds; else the value. Assumes nothing.
+use Prim.Native.Nat.{ℕ, suc}
+use mathlib.Core.Path.{_≡_, refl, ap}
+use mathlib.Core.Bool.{Bool, true, false, _&&_, _||_}
+use mathlib.Core.List.{List, _∷_}
+use lib.Dec.{leb, ltb, eqb}
+use native.Mathlib.Nat.{le-refl}
+use lib.ListN.{length, take, drop, getD}
+use lib.Seq.{take-take}
+use Rattle.tables.specs.declared.Refusal.the-variants.{StartWords, InputWords, NoSuchCell}
+use Rattle.tables.specs.declared.Ty.{Ty}
+use Rattle.tables.specs.declared.Checked.{Checked}
+use Rattle.tables.specs.declared.Checked.the-variants.{Accepted, Refused}
+use Rattle.tables.specs.Pick.{pick, inside}
+use Rattle.tables.specs.Lines.{Line}
+use Rattle.tables.specs.Types.{isValue}
+use Rattle.tables.specs.Tables.{checked}
+use Rattle.peeks.specs.declared.Peeked.{Peeked}
+use Rattle.peeks.specs.declared.Peeked.the-variants.{Value, Refused as RefusedPeek}
+use Rattle.circuits.specs.Layout.{Counts, typeAt, size, layout}
+use Rattle.circuits.specs.Meaning.{Acc, cellsAt, step}
+use Rattle.circuits.specs.Run.{rowOf, start, steps, run}
+use Rattle.circuits.specs.Answers.{linesOf, andThen}
+
+-- all lines at step 0 of a run: from the start words S and the init values, on the first row of I
+unfoldable pub stepZero : List Line → (S I : List ℕ) → Acc
+stepZero C S I = step false false C (start false C S I) (take (rowOf false C) I)
+
+-- it is the step that a run begins with
+pub run-begins : (C : List Line) (k : ℕ) (S I : List ℕ) → run false C (suc k) S I ≡ stepZero C S I .sigs ∷ steps false C k (stepZero C S I .sts) (drop (rowOf false C) I)
+unfolding run steps stepZero
+run-begins C k S I = refl
+
+-- and it depends on the first row alone
+pub first-row : (C : List Line) (S I : List ℕ) → stepZero C S (take (rowOf false C) I) ≡ stepZero C S I
+unfolding stepZero start
+first-row C S I = ap (λ (ι : List ℕ). step false false C (step false true C S ι .sts) ι) (take-take (rowOf false C) (rowOf false C) I (le-refl (rowOf false C)))
+
+-- the value of a line's cell, from the start words and one row; a word is its cell 0
+unfoldable pub peekAt : List Line → (S R : List ℕ) (line cell : ℕ) → ℕ
+peekAt C S R line cell = getD (cellsAt (stepZero C S R) line) cell 0
+
+-- the kinds of value lines
+abbrev pub valueKind : ℕ → Bool
+valueKind k = inside 3 5 k || inside 11 55 k
+
+-- A line of the type y is a value and has the cell, among at most 64 records. Line 0 and lines past the count have no type; of the others
+-- those of the kinds above have a value's (proofs/ValueLines).
+abbrev pub hasCell : Ty → (n cell : ℕ) → Bool
+hasCell y n cell = leb n 64 && (isValue y && ltb cell (size y))
+
+-- the tests after the table's, for s start words and a row of i inputs
+abbrev pub mayPeek : Counts → Ty → (n cell s i : ℕ) → Checked
+mayPeek c y n cell s i =
+    pick (eqb s (c .states)) (
+    pick (eqb i (c .inputs)) (
+    pick (hasCell y n cell) Accepted
+    (Refused NoSuchCell)) (Refused InputWords)) (Refused StartWords)
+
+abbrev pub seenAs : Checked → ℕ → Peeked
+seenAs Accepted v = Value v
+seenAs (Refused r) v = RefusedPeek r
+
+-- what peek answers for the table t with its count n
+unfoldable pub peeked : (t : List ℕ) (n line cell : ℕ) (S R : List ℕ) → Peeked
+peeked t n line cell S R =
+    seenAs (andThen (checked false t n) (mayPeek (layout false (linesOf t n) .counts) (typeAt (layout false (linesOf t n)) line) n cell (length S) (length R)))
+    (peekAt (linesOf t n) S R line cell)
