@@ -231,14 +231,14 @@ module _ (t : List ℕ) (n : ℕ) (acc : checked false t n ≡ Accepted) where
 
   -- ---- what holds after the first i lines
 
-  module _ (idx wid : List ℕ) (eiw : (a : ℕ) → getD idx a 0 ≡ tyAt (context false C) a .iw) (ew : (a : ℕ) → getD wid a 0 ≡ tyAt (context false C) a .w) (len : ℕ) where
+  module _ (idx wid : List ℕ) (eiw : (a : ℕ) → getD idx a 0 ≡ tyAt (context false C) a .iw) (ew : (a : ℕ) → getD wid a 0 ≡ tyAt (context false C) a .w) (len size : ℕ) (wide : n < size) where
     pub record Pass (i p : ℕ) (at bit old key con target : List ℕ) : Type 0 where
       pub upto : i ≤ n
-      pub of-at : length at ≡ 16385
-      pub of-bit : length bit ≡ 16385
-      pub of-old : length old ≡ 16385
-      pub of-key : length key ≡ 16385
-      pub of-con : length con ≡ 16385
+      pub of-at : length at ≡ size
+      pub of-bit : length bit ≡ size
+      pub of-old : length old ≡ size
+      pub of-key : length key ≡ size
+      pub of-con : length con ≡ size
       pub neat : Neat (notes at bit old key con idx wid)
       pub rel : (a : ℕ) → NoteRel (notes at bit old key con idx wid) (typeAt (walked C i .lay) a) a (infoAt (sofar C i .infos) a)
       pub count : p ≡ length (sofar C i .lines)
@@ -349,7 +349,7 @@ module _ (t : List ℕ) (n : ℕ) (acc : checked false t n ≡ Accepted) where
       places : Holds (notes at bit old key con idx wid) (suc i)
       places =
           let q = many .0 in
-          record { at = omega (arith, s .of-at); bit = omega (arith, s .of-bit); old = omega (arith, s .of-old); key = omega (arith, s .of-key); con = omega (arith, s .of-con) }
+          record { at = omega (arith, s .of-at, wide); bit = omega (arith, s .of-bit, wide); old = omega (arith, s .of-old, wide); key = omega (arith, s .of-key, wide); con = omega (arith, s .of-con, wide) }
 
       module _ (g : p + flatCount (notes at bit old key con idx wid) (lineIn C i) ≤ room len) where
         abbrev m : Made
@@ -448,31 +448,31 @@ module _ (t : List ℕ) (n : ℕ) (acc : checked false t n ≡ Accepted) where
     none-info zero = refl
     none-info (suc a) = refl
 
-    pub begun : ((a : ℕ) → getD idx a 0 ≤ 8) → Pass 0 0 (replicate 16385 0) (replicate 16385 0) (replicate 16385 0) (replicate 16385 0) (replicate 16385 0) (replicate len 0)
+    pub begun : ((a : ℕ) → getD idx a 0 ≤ 8) → Pass 0 0 (replicate size 0) (replicate size 0) (replicate size 0) (replicate size 0) (replicate size 0) (replicate len 0)
     begun dp =
         record {
           upto = omega arith;
-          of-at = length-replicate {A = ℕ} 16385 0;
-          of-bit = length-replicate {A = ℕ} 16385 0;
-          of-old = length-replicate {A = ℕ} 16385 0;
-          of-key = length-replicate {A = ℕ} 16385 0;
-          of-con = length-replicate {A = ℕ} 16385 0;
+          of-at = length-replicate {A = ℕ} size 0;
+          of-bit = length-replicate {A = ℕ} size 0;
+          of-old = length-replicate {A = ℕ} size 0;
+          of-key = length-replicate {A = ℕ} size 0;
+          of-con = length-replicate {A = ℕ} size 0;
           neat =
               record {
-                sound = record { falls = λ a z. absurd (z (zeros-at 16385 a)); low = λ a. zero-le a 65536; few = λ a. zero-le a 256 };
+                sound = record { falls = λ a z. absurd (z (zeros-at size a)); low = λ a. zero-le a 65536; few = λ a. zero-le a 256 };
                 bit = λ a. zero-le a 65536;
                 con = λ a. zero-le a 256;
                 deep = dp;
               };
-          rel = λ a. subst⁻¹ (λ (x : Info). NoteRel (notes (replicate 16385 0) (replicate 16385 0) (replicate 16385 0) (replicate 16385 0) (replicate 16385 0) idx wid) (typeAt (noAcc .lay) a) a x) (none-info a)
-              (empty-note 16385 16385 16385 16385 16385 (typeAt (noAcc .lay) a) a (none-type a));
+          rel = λ a. subst⁻¹ (λ (x : Info). NoteRel (notes (replicate size 0) (replicate size 0) (replicate size 0) (replicate size 0) (replicate size 0) idx wid) (typeAt (noAcc .lay) a) a x) (none-info a)
+              (empty-note size size size size size (typeAt (noAcc .lay) a) a (none-type a));
           count = refl;
           fits = omega arith;
           words = ap (λ (x : ℕ). replicate {A = ℕ} x 0) (let e : len ≡ len - 5 * 0 = omega arith in e);
         }
       where
-        zero-le : (a c : ℕ) → getD {A = ℕ} (replicate 16385 0) a 0 ≤ c
-        zero-le a c = let e = zeros-at 16385 a in omega arith
+        zero-le : (a c : ℕ) → getD {A = ℕ} (replicate size 0) a 0 ≤ c
+        zero-le a c = let e = zeros-at size a in omega arith
 
     module _ (ev : whole len ≡ true) where
       answer : flattened t n len ≡ fitting (length (flatLines t n)) len
@@ -545,11 +545,15 @@ flat-at t n acc a h = grown-flat noCtx (decode (counted t n)) none-flat (accepte
     none-flat zero e = refl
     none-flat (suc a) e = refl
 
+-- the lines of an accepted table are fewer than 16,385
+pub few-lines : (t : List ℕ) (n : ℕ) → checked false t n ≡ Accepted → n < 16385
+few-lines t n acc = let q = roomy (length t) n (accepted-room false t n acc .1) .0 in omega arith
+
 -- ---- the loop's invariant
 
 abbrev pub Going : (t : List ℕ) (n : ℕ) (idx wid at₀ bit₀ old₀ key₀ con₀ target₀ : List ℕ) (i p : ℕ) (at bit old key con target : List ℕ) → Type 0
 Going t n idx wid at₀ bit₀ old₀ key₀ con₀ target₀ i p at bit old key con target =
-    (b : Begun t n idx wid at₀ bit₀ old₀ key₀ con₀ target₀) → Pass t n (b .accepted) idx wid (b .iw) (b .w) (length target₀) i p at bit old key con target
+    (b : Begun t n idx wid at₀ bit₀ old₀ key₀ con₀ target₀) → Pass t n (b .accepted) idx wid (b .iw) (b .w) (length target₀) (b .size) (b .wide) i p at bit old key con target
 
 module _ {t : List ℕ} {n : ℕ} {idx wid at₀ bit₀ old₀ key₀ con₀ target₀ : List ℕ} (b : Begun t n idx wid at₀ bit₀ old₀ key₀ con₀ target₀) where
   pub shallow : Shallow idx
@@ -560,22 +564,22 @@ module _ {t : List ℕ} {n : ℕ} {idx wid at₀ bit₀ old₀ key₀ con₀ tar
       go a (no h) = let e = b .iw a in let w = flat-at t n (b .accepted) a (omega arith) in omega arith
 
   pub going : Going t n idx wid at₀ bit₀ old₀ key₀ con₀ target₀ 0 0 at₀ bit₀ old₀ key₀ con₀ target₀
-  going q = subst⁻¹ (λ (x : List ℕ). Pass t n (q .accepted) idx wid (q .iw) (q .w) (length target₀) 0 0 x bit₀ old₀ key₀ con₀ target₀) (b .no-at)
-      (subst⁻¹ (λ (x : List ℕ). Pass t n (q .accepted) idx wid (q .iw) (q .w) (length target₀) 0 0 (replicate 16385 0) x old₀ key₀ con₀ target₀) (b .no-bit)
-      (subst⁻¹ (λ (x : List ℕ). Pass t n (q .accepted) idx wid (q .iw) (q .w) (length target₀) 0 0 (replicate 16385 0) (replicate 16385 0) x key₀ con₀ target₀) (b .no-old)
-      (subst⁻¹ (λ (x : List ℕ). Pass t n (q .accepted) idx wid (q .iw) (q .w) (length target₀) 0 0 (replicate 16385 0) (replicate 16385 0) (replicate 16385 0) x con₀ target₀) (b .no-key)
-      (subst⁻¹ (λ (x : List ℕ). Pass t n (q .accepted) idx wid (q .iw) (q .w) (length target₀) 0 0 (replicate 16385 0) (replicate 16385 0) (replicate 16385 0) (replicate 16385 0) x target₀) (b .no-con)
-      (subst⁻¹ (λ (x : List ℕ). Pass t n (q .accepted) idx wid (q .iw) (q .w) (length target₀) 0 0 (replicate 16385 0) (replicate 16385 0) (replicate 16385 0) (replicate 16385 0) (replicate 16385 0) x) (b .empty)
-      (begun t n (q .accepted) idx wid (q .iw) (q .w) (length target₀) (shallow .deep)))))))
+  going q = subst⁻¹ (λ (x : List ℕ). Pass t n (q .accepted) idx wid (q .iw) (q .w) (length target₀) (q .size) (q .wide) 0 0 x bit₀ old₀ key₀ con₀ target₀) (q .no-at)
+      (subst⁻¹ (λ (x : List ℕ). Pass t n (q .accepted) idx wid (q .iw) (q .w) (length target₀) (q .size) (q .wide) 0 0 (replicate (q .size) 0) x old₀ key₀ con₀ target₀) (q .no-bit)
+      (subst⁻¹ (λ (x : List ℕ). Pass t n (q .accepted) idx wid (q .iw) (q .w) (length target₀) (q .size) (q .wide) 0 0 (replicate (q .size) 0) (replicate (q .size) 0) x key₀ con₀ target₀) (q .no-old)
+      (subst⁻¹ (λ (x : List ℕ). Pass t n (q .accepted) idx wid (q .iw) (q .w) (length target₀) (q .size) (q .wide) 0 0 (replicate (q .size) 0) (replicate (q .size) 0) (replicate (q .size) 0) x con₀ target₀) (q .no-key)
+      (subst⁻¹ (λ (x : List ℕ). Pass t n (q .accepted) idx wid (q .iw) (q .w) (length target₀) (q .size) (q .wide) 0 0 (replicate (q .size) 0) (replicate (q .size) 0) (replicate (q .size) 0) (replicate (q .size) 0) x target₀) (q .no-con)
+      (subst⁻¹ (λ (x : List ℕ). Pass t n (q .accepted) idx wid (q .iw) (q .w) (length target₀) (q .size) (q .wide) 0 0 (replicate (q .size) 0) (replicate (q .size) 0) (replicate (q .size) 0) (replicate (q .size) 0) (replicate (q .size) 0) x) (q .empty)
+      (begun t n (q .accepted) idx wid (q .iw) (q .w) (length target₀) (q .size) (q .wide) (shallow .deep)))))))
 
   pub record-fits : (i : ℕ) → i < n → 5 * i + 5 ≤ length t
   record-fits i h = let q = roomy (length t) n (accepted-room false t n (b .accepted) .1) .1 in omega arith
 
-  pub line-fits : (i : ℕ) → i < n → i + 1 < 16385
-  line-fits i h = let q = roomy (length t) n (accepted-room false t n (b .accepted) .1) .0 in omega arith
+  pub line-fits : (i : ℕ) → i < n → (i + 1 ≤ 16384) × (i + 1 < b .size)
+  line-fits i h = let q = roomy (length t) n (accepted-room false t n (b .accepted) .1) .0 in let w = b .wide in (omega arith, omega arith)
 
   module _ {i p : ℕ} {at bit old key con target : List ℕ} (g : Going t n idx wid at₀ bit₀ old₀ key₀ con₀ target₀ i p at bit old key con target) (h : i < n) (r : List ℕ) (er : r ≡ recordAt t i) where
-    S : Pass t n (b .accepted) idx wid (b .iw) (b .w) (length target₀) i p at bit old key con target
+    S : Pass t n (b .accepted) idx wid (b .iw) (b .w) (length target₀) (b .size) (b .wide) i p at bit old key con target
     S = g b
 
     el : lineOf r ≡ lineIn (decode (counted t n)) i
@@ -585,20 +589,20 @@ module _ {t : List ℕ} {n : ℕ} {idx wid at₀ bit₀ old₀ key₀ con₀ tar
     rec-known = subst⁻¹ (λ (x : List ℕ). known false (kindIn x) ≡ true) er (record-known t n (b .accepted) i h)
 
     pub rec-deep : Deep (notes [] [] [] [] con idx wid) (lineOf r)
-    rec-deep = deep-same at bit old key con idx wid (lineOf r) (subst⁻¹ (λ (l : Line). Deep (notes at bit old key con idx wid) l) el (deep t n (b .accepted) idx wid (b .iw) (b .w) (length target₀) S h))
+    rec-deep = deep-same at bit old key con idx wid (lineOf r) (subst⁻¹ (λ (l : Line). Deep (notes at bit old key con idx wid) l) el (deep t n (b .accepted) idx wid (b .iw) (b .w) (length target₀) (b .size) (b .wide) S h))
 
     count-is : (c : ℕ) → c ≡ flatCount (notes [] [] [] [] con idx wid) (lineOf r) → c ≡ flatCount (notes at bit old key con idx wid) (lineIn (decode (counted t n)) i)
     count-is c e = e ∙ count-same at bit old key con idx wid (lineOf r) ∙ ap (flatCount (notes at bit old key con idx wid)) el
 
     pub rec-stop : (c m : ℕ) → c ≡ flatCount (notes [] [] [] [] con idx wid) (lineOf r) → m ≡ room (length target₀) → m - p < c → room (length target₀) < length (flatten (decode (counted t n)))
-    rec-stop c m e f z = too-many t n (b .accepted) idx wid (b .iw) (b .w) (length target₀) S h (omega (arith, count-is c e))
+    rec-stop c m e f z = too-many t n (b .accepted) idx wid (b .iw) (b .w) (length target₀) (b .size) (b .wide) S h (omega (arith, count-is c e))
 
     fits-in : (c m : ℕ) → c ≡ flatCount (notes [] [] [] [] con idx wid) (lineOf r) → m ≡ room (length target₀) → c ≤ m - p → p + flatCount (notes at bit old key con idx wid) (lineIn (decode (counted t n)) i) ≤ room (length target₀)
     fits-in c m e f z = let q = S .fits in omega (arith, count-is c e, q)
 
     pub rec-fit : (c m : ℕ) → c ≡ flatCount (notes [] [] [] [] con idx wid) (lineOf r) → m ≡ room (length target₀) → c ≤ m - p → Fit (notes at bit old key con idx wid) p (lineOf r) (length target)
     rec-fit c m e f z =
-        subst⁻¹ (λ (l : Line). Fit (notes at bit old key con idx wid) p l (length target)) el (fit t n (b .accepted) idx wid (b .iw) (b .w) (length target₀) S h (fits-in c m e f z))
+        subst⁻¹ (λ (l : Line). Fit (notes at bit old key con idx wid) p l (length target)) el (fit t n (b .accepted) idx wid (b .iw) (b .w) (length target₀) (b .size) (b .wide) S h (fits-in c m e f z))
 
   -- one line more
   pub rec-next : {i p : ℕ} {at bit old key con target : List ℕ} → Going t n idx wid at₀ bit₀ old₀ key₀ con₀ target₀ i p at bit old key con target → (h : i < n) (r : List ℕ) → r ≡ recordAt t i → (c m : ℕ)
@@ -609,11 +613,11 @@ module _ {t : List ℕ} {n : ℕ} {idx wid at₀ bit₀ old₀ key₀ con₀ tar
       let el = ap lineOf er ∙ record-line t n (q .accepted) i h in
       let e₁ : c ≡ flatCount (notes at bit old key con idx wid) (lineIn (decode (counted t n)) i) = e ∙ count-same at bit old key con idx wid (lineOf r) ∙ ap (flatCount (notes at bit old key con idx wid)) el in
       let fi = s .fits in
-      passed t n (q .accepted) idx wid (q .iw) (q .w) (length target₀) s h (omega arith) (i + 1) d (omega arith) (subst (λ (l : Line). Laid (notes at bit old key con idx wid) p l target target₁ d) el w)
+      passed t n (q .accepted) idx wid (q .iw) (q .w) (length target₀) (q .size) (q .wide) s h (omega arith) (i + 1) d (omega arith) (subst (λ (l : Line). Laid (notes at bit old key con idx wid) p l target target₁ d) el w)
 
   -- the lists keep their lengths
-  zero-length : {xs : List ℕ} → xs ≡ replicate 16385 0 → length xs ≡ 16385
-  zero-length e = ap length e ∙ length-replicate {A = ℕ} 16385 0
+  zero-length : {xs : List ℕ} → xs ≡ replicate (b .size) 0 → length xs ≡ b .size
+  zero-length e = ap length e ∙ length-replicate {A = ℕ} (b .size) 0
 
   module _ {i p : ℕ} {at bit old key con target : List ℕ} (g : Going t n idx wid at₀ bit₀ old₀ key₀ con₀ target₀ i p at bit old key con target) where
     pub same-at : length at ≡ length at₀

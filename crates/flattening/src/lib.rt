@@ -13,6 +13,7 @@ pub mod whole; // the pass over the lines
 
 ghost use mathlib.Core.Path.{_≡_};
 ghost use lib.ListN.{length};
+ghost use Prim.Native.Nat.{_<_};
 ghost use Rattle.flattening.specs.Answers.{flattened, targetLeft};
 ghost use Rattle.flattening.specs.Begun.{Ready};
 
@@ -74,8 +75,43 @@ pub fn flatten(table: &[u64], count: usize, target: &mut [u64]) -> Flattened
     }
 }
 
-// The same of a table that is accepted: idx and wid have the index widths and the widths of its lines.
+// The same of a table that is accepted: idx and wid have the index widths and the widths of its lines. A small circuit takes small lists, which are sooner zero.
 fn accepted(table: &[u64], count: usize, idx: &[u8], wid: &[u8], target: &mut [u64]) -> Flattened
+    requires { ⌜ Ready (now table) count (now idx) (now wid) (now target) ⌝ }
+    ensures { λ r. ⌜ (r ≡ flattened (now (table .entry)) count (length (now (target .entry)))) × (now (target .exit) ≡ targetLeft (now (table .entry)) count (length (now (target .entry)))) ⌝ }
+{
+    if count < 2048 {
+        return few(table, count, idx, wid, target);
+    }
+    many(table, count, idx, wid, target)
+}
+
+// At most 2,047 lines.
+fn few(table: &[u64], count: usize, idx: &[u8], wid: &[u8], target: &mut [u64]) -> Flattened
+    requires { ⌜ Ready (now table) count (now idx) (now wid) (now target) × (count < 2048) ⌝ }
+    ensures { λ r. ⌜ (r ≡ flattened (now (table .entry)) count (length (now (target .entry)))) × (now (target .exit) ≡ targetLeft (now (table .entry)) count (length (now (target .entry)))) ⌝ }
+{
+    let mut at = [0u64; 2048];
+    let mut bit = [0u64; 2048];
+    let mut old = [0u64; 2048];
+    let mut key = [0u64; 2048];
+    let mut con = [0u64; 2048];
+    whole::all_lines(
+        table,
+        count,
+        idx,
+        wid,
+        &mut at,
+        &mut bit,
+        &mut old,
+        &mut key,
+        &mut con,
+        target,
+    )
+}
+
+// As many lines as a table may have.
+fn many(table: &[u64], count: usize, idx: &[u8], wid: &[u8], target: &mut [u64]) -> Flattened
     requires { ⌜ Ready (now table) count (now idx) (now wid) (now target) ⌝ }
     ensures { λ r. ⌜ (r ≡ flattened (now (table .entry)) count (length (now (target .entry)))) × (now (target .exit) ≡ targetLeft (now (table .entry)) count (length (now (target .entry)))) ⌝ }
 {

@@ -12,13 +12,14 @@ use Rattle.circuits.specs.Answers.{linesOf}
 use Rattle.programs.specs.Uses.{needed}
 use Rattle.programs.specs.Translation.{Info, noInfo, widthOf, numberOf, made, translateFrom, translate}
 use Rattle.programs.specs.Answers.{programOf}
-use Rattle.programs.specs.Records.{numberAt, flagAt, emitted, Marked, Taken}
+use Rattle.programs.specs.Records.{numberAt, flagAt, emitted, Marked, Taken, Fresh}
 use Rattle.programs.proofs.Modelled.{Agrees, agrees}
 use Rattle.programs.proofs.Keeping.{Keeps, keeps-start, keeps-more, line-at, no-line, fits-table, few-emitted}
 
-pub record Walk (t : List ℕ) (n i b : ℕ) (wd num lo : List ℕ) : Type 0 where
+pub record Walk (z : ℕ) (t : List ℕ) (n i b : ℕ) (wd num lo : List ℕ) : Type 0 where
   pub J : List Info
-  pub keeps : Keeps J wd num lo
+  pub wide : n < z
+  pub keeps : Keeps z J wd num lo
   pub known : length J ≡ i + 1
   pub most : i ≤ n
   pub least : 1 ≤ b
@@ -28,16 +29,23 @@ pub record Walk (t : List ℕ) (n i b : ℕ) (wd num lo : List ℕ) : Type 0 whe
   pub place : length out + 1 ≡ b
   pub all : out ++ translateFrom (needed (linesOf t n)) J b (drop i (linesOf t n)) ≡ programOf t n
 
-pub walk-start : (t : List ℕ) (n : ℕ) {wd num lo : List ℕ} → wd ≡ replicate 16385 0 → num ≡ replicate 16385 0 → lo ≡ replicate 16385 0 → Walk t n 0 1 wd num lo
+start-lists : {n : ℕ} {wd num lo : List ℕ} → Fresh n wd num lo → Keeps (length wd) (noInfo ∷ []) wd num lo
+start-lists {n} {wd} {num} {lo} f =
+    let z = length wd in
+    subst⁻¹ (λ (x : List ℕ). Keeps z (noInfo ∷ []) x num lo) (f .no-wd)
+    (subst⁻¹ (λ (x : List ℕ). Keeps z (noInfo ∷ []) (replicate z 0) x lo) (f .no-num)
+    (subst⁻¹ (λ (x : List ℕ). Keeps z (noInfo ∷ []) (replicate z 0) (replicate z 0) x) (f .no-lo) (keeps-start z)))
+
+pub walk-start : (t : List ℕ) (n : ℕ) {wd num lo : List ℕ} → Fresh n wd num lo → Walk (length wd) t n 0 1 wd num lo
 unfolding translate
-walk-start t n ew en el =
-    record { J = noInfo ∷ []; keeps = rw (ew, en, el) keeps-start; known = refl; most = omega arith; least = omega arith; few = omega arith; out = []; place = refl; all = refl }
+walk-start t n {wd} {num} {lo} f =
+    record { J = noInfo ∷ []; wide = f .wide; keeps = start-lists f; known = refl; most = omega arith; least = omega arith; few = omega arith; out = []; place = refl; all = refl }
 
-pub start-out : (t : List ℕ) (n : ℕ) {wd num lo : List ℕ} (ew : wd ≡ replicate 16385 0) (en : num ≡ replicate 16385 0) (el : lo ≡ replicate 16385 0) → walk-start t n ew en el .out ≡ []
+pub start-out : (t : List ℕ) (n : ℕ) {wd num lo : List ℕ} (f : Fresh n wd num lo) → walk-start t n f .out ≡ []
 unfolding walk-start
-start-out t n ew en el = refl
+start-out t n f = refl
 
-module _ {t : List ℕ} {n i b : ℕ} {wd num lo : List ℕ} (K : Walk t n i b wd num lo) (e : checked false t n ≡ Accepted) where
+module _ {z : ℕ} {t : List ℕ} {n i b : ℕ} {wd num lo : List ℕ} (K : Walk z t n i b wd num lo) (e : checked false t n ≡ Accepted) where
   abbrev N : ℕ → Bool
   N = needed (linesOf t n)
 
@@ -68,13 +76,13 @@ module _ {t : List ℕ} {n i b : ℕ} {wd num lo : List ℕ} (K : Walk t n i b w
       pub count-is : length (made N (K .J) b (line-at t n i e l .line) .code) ≡ emitted (kindIn r) m
       count-is = at-hand .count ∙ ap (emitted (kindIn (recordAt t i))) (sym (taken .mask)) ∙ ap (λ (x : List ℕ). emitted (kindIn x) m) (sym er)
 
-      pub walk-more : Walk t n (i + 1) (b + emitted (kindIn r) m) wd₁ num₁ lo₁
+      pub walk-more : Walk z t n (i + 1) (b + emitted (kindIn r) m) wd₁ num₁ lo₁
       walk-more =
           let c = made N (K .J) b (line-at t n i e l .line) in
-          let f = fits-table t n e in
           record {
             J = K .J ++ (c .info ∷ []);
-            keeps = keeps-more (K .keeps) taken (K .known) (omega arith) (omega (arith, f .0)) (at-hand .info);
+            wide = K .wide;
+            keeps = keeps-more (K .keeps) taken (K .known) (omega arith) (omega (arith, K .wide)) (at-hand .info);
             known = length-append (K .J) (c .info ∷ []) ∙ ap (λ (x : ℕ). x + 1) (K .known);
             most = omega arith;
             least = omega (arith, K .least);

@@ -29,11 +29,11 @@ use Rattle.programs.proofs.Modelled.{Kinded, KindedExpr, infoIn}
 
 -- ---- the lists
 
-pub record Keeps (J : List Info) (wd num lo : List ℕ) : Type 0 where
+pub record Keeps (z : ℕ) (J : List Info) (wd num lo : List ℕ) : Type 0 where
   pub width : (a : ℕ) → numberAt wd a ≡ widthOf J a
   pub number : (a : ℕ) → numberAt num a ≡ numberOf J a
   pub loose : (a : ℕ) → flagAt lo a ≡ looseOf J a
-  pub size : Ample wd num lo
+  pub size : Ample z wd num lo
   pub none : widthOf J 0 ≡ 0
 
 pub zero-at : (n a : ℕ) → getD (replicate {A = ℕ} n 0) a 0 ≡ 0
@@ -44,8 +44,8 @@ zero-at n a = go (ltb a n) refl
     go false e = List·getD-eq-default (replicate {A = ℕ} n 0) 0 {n = a} (rw (length-replicate {A = ℕ} n 0) (ltb-false a n e))
 
 -- a list of zeros, with an entry for each line number
-pub zeros-length : (xs ys : List ℕ) → ys ≡ replicate 16385 0 → length xs ≡ 16385 → length xs ≡ length ys
-zeros-length xs ys e l = l ∙ sym (ap length e ∙ length-replicate {A = ℕ} 16385 0)
+pub zeros-length : (xs ys : List ℕ) {z : ℕ} → ys ≡ replicate z 0 → length xs ≡ z → length xs ≡ length ys
+zeros-length xs ys {z} e l = l ∙ sym (ap length e ∙ length-replicate {A = ℕ} z 0)
 
 -- a record's kind, where its table is accepted
 pub kind-of-record : (t : List ℕ) (i : ℕ) → kindIn (recordAt t i) ≤ 55 → {r : List ℕ} → r ≡ recordAt t i → kindIn r ≤ 55
@@ -59,13 +59,13 @@ few-emitted k m = go (leb k 2) m
     go false true = omega arith
     go false false = omega arith
 
-pub keeps-start : Keeps (noInfo ∷ []) (replicate 16385 0) (replicate 16385 0) (replicate 16385 0)
-keeps-start =
+pub keeps-start : (z : ℕ) → Keeps z (noInfo ∷ []) (replicate z 0) (replicate z 0) (replicate z 0)
+keeps-start z =
     record {
-      width = λ a. zero-at 16385 a ∙ sym (empty-width a);
-      number = λ a. zero-at 16385 a ∙ sym (empty-number a);
-      loose = λ a. ap (λ (x : ℕ). eqb x 1) (zero-at 16385 a) ∙ sym (empty-loose a);
-      size = record { of-wd = length-replicate {A = ℕ} 16385 0; of-num = length-replicate {A = ℕ} 16385 0; of-lo = length-replicate {A = ℕ} 16385 0 };
+      width = λ a. zero-at z a ∙ sym (empty-width a);
+      number = λ a. zero-at z a ∙ sym (empty-number a);
+      loose = λ a. ap (λ (x : ℕ). eqb x 1) (zero-at z a) ∙ sym (empty-loose a);
+      size = record { of-wd = length-replicate {A = ℕ} z 0; of-num = length-replicate {A = ℕ} z 0; of-lo = length-replicate {A = ℕ} z 0 };
       none = refl;
     }
   where
@@ -93,9 +93,9 @@ entry-more A g h J f xs n v e l k q a =
     (λ z. ap (λ (x : ℕ). h (getD (set xs n v) x 0)) z ∙ ap h (getD-set-same xs n v 0 l) ∙ q ∙ sym (ap (λ (x : ℕ). g (infoAt (J ++ (f ∷ [])) x)) z ∙ ap g (getD-at J f [] noInfo n e)))
     (λ z. ap h (getD-set-other xs n a v 0 z) ∙ k a ∙ sym (ap g (snoc-other J f noInfo a (λ y. z (y ∙ e)))))
 
-pub keeps-more : {J : List Info} {f : Info} {r wd num lo wd₁ num₁ lo₁ : List ℕ} {n b : ℕ} {nd m : Bool} → Keeps J wd num lo → Taken r n nd b wd num lo wd₁ num₁ lo₁ m → length J ≡ n → 1 ≤ n → n ≤ 16384
-    → f ≡ infoIn (numberAt wd) (numberAt num) (flagAt lo) nd b r → Keeps (J ++ (f ∷ [])) wd₁ num₁ lo₁
-keeps-more {J} {f} {r} {wd} {num} {lo} {n = n} {b} {nd} {m} k t e h l q =
+pub keeps-more : {z : ℕ} {J : List Info} {f : Info} {r wd num lo wd₁ num₁ lo₁ : List ℕ} {n b : ℕ} {nd m : Bool} → Keeps z J wd num lo → Taken r n nd b wd num lo wd₁ num₁ lo₁ m → length J ≡ n → 1 ≤ n → n < z
+    → f ≡ infoIn (numberAt wd) (numberAt num) (flagAt lo) nd b r → Keeps z (J ++ (f ∷ [])) wd₁ num₁ lo₁
+keeps-more {z} {J} {f} {r} {wd} {num} {lo} {n = n} {b} {nd} {m} k t e h l q =
     record {
       width = rw (t .widths) (entry-more ℕ (λ (x : Info). x .w) (λ (x : ℕ). x) J f wd n (widthIn (numberAt wd) r) e (omega (arith, k .size .of-wd)) (k .width) (sym (ap (λ (x : Info). x .w) q)));
       number = rw (t .numbers) (entry-more ℕ (λ (x : Info). x .num) (λ (x : ℕ). x) J f num n (numberIn (kindIn r) b m) e (omega (arith, k .size .of-num)) (k .number) (ap (numberIn (kindIn r) b) (t .mask) ∙ sym (ap (λ (x : Info). x .num) q)));

@@ -16,7 +16,7 @@ use Rattle.circuits.specs.Answers.{linesOf}
 use Rattle.programs.specs.Uses.{needed}
 use Rattle.programs.specs.Translation.{made, translateFrom}
 use Rattle.programs.specs.Answers.{programOf}
-use Rattle.programs.specs.Records.{numberAt, flagAt, instruction, maskWords, emitted, written, Taken}
+use Rattle.programs.specs.Records.{numberAt, flagAt, instruction, maskWords, emitted, written, Taken, Fresh}
 use Rattle.programs.proofs.Modelled.{codeIn, maskIn}
 use Rattle.programs.proofs.Keeping.{line-at}
 use Rattle.programs.proofs.Counting.{Walk, walk-start, at-hand, ahead, count-is, walk-more, walk-out, start-out, more-out}
@@ -69,19 +69,19 @@ encode-append (x ∷ xs) ys = ap (λ (l : List ℕ). wordsOf x ++ l) (encode-app
 
 -- ---- all records
 
-pub record Writes (t : List ℕ) (n i b len : ℕ) (wd num lo target : List ℕ) : Type 0 where
-  pub walk : Walk t n i b wd num lo
+pub record Writes (z : ℕ) (t : List ℕ) (n i b len : ℕ) (wd num lo target : List ℕ) : Type 0 where
+  pub walk : Walk z t n i b wd num lo
   pub holds : target ≡ encode (walk .out) ++ replicate (len - 5 * length (walk .out)) 0
   pub size : length target ≡ len
 
-pub writes-start : (t : List ℕ) (n len : ℕ) {wd num lo target : List ℕ} → wd ≡ replicate 16385 0 → num ≡ replicate 16385 0 → lo ≡ replicate 16385 0 → target ≡ replicate len 0 → Writes t n 0 1 len wd num lo target
-writes-start t n len ew en el et =
-    record { walk = walk-start t n ew en el; holds = et ∙ ap (λ (k : ℕ). replicate k 0) (same len) ∙ sym (ap (λ (x : List Line). encode x ++ replicate (len - 5 * length x) 0) (start-out t n ew en el)); size = ap length et ∙ length-replicate {A = ℕ} len 0 }
+pub writes-start : (t : List ℕ) (n len : ℕ) {wd num lo target : List ℕ} → Fresh n wd num lo → target ≡ replicate len 0 → Writes (length wd) t n 0 1 len wd num lo target
+writes-start t n len f et =
+    record { walk = walk-start t n f; holds = et ∙ ap (λ (k : ℕ). replicate k 0) (same len) ∙ sym (ap (λ (x : List Line). encode x ++ replicate (len - 5 * length x) 0) (start-out t n f)); size = ap length et ∙ length-replicate {A = ℕ} len 0 }
   where
     same : (k : ℕ) → k ≡ k - 5 * 0
     same k = omega arith
 
-module _ {t : List ℕ} {n i b len : ℕ} {wd num lo target : List ℕ} (S : Writes t n i b len wd num lo target) (e : checked false t n ≡ Accepted) (room : 5 * length (programOf t n) ≤ len) where
+module _ {z : ℕ} {t : List ℕ} {n i b len : ℕ} {wd num lo target : List ℕ} (S : Writes z t n i b len wd num lo target) (e : checked false t n ≡ Accepted) (room : 5 * length (programOf t n) ≤ len) where
   module _ (l : i < n) (nd : Bool) (en : nd ≡ needed (linesOf t n) (i + 1)) {m : Bool} {wd₁ num₁ lo₁ : List ℕ} {r : List ℕ} (er : r ≡ recordAt t i)
       (T : Taken r (i + 1) nd b wd num lo wd₁ num₁ lo₁ m) where
     -- there is room for the line's instructions
@@ -95,7 +95,7 @@ module _ {t : List ℕ} {n i b len : ℕ} {wd num lo target : List ℕ} (S : Wri
         omega (arith, a, d, count-is K e l nd en er T, K .place, S .size)
 
     pub writes-more : {w : ℕ} {ins target₁ : List ℕ} → ins ≡ instruction (numberAt wd) (numberAt num) r → w ≡ numberAt wd (sortIn r) → target₁ ≡ written (emitted (kindIn r) m) ins w b target
-        → Writes t n (i + 1) (b + emitted (kindIn r) m) len wd₁ num₁ lo₁ target₁
+        → Writes z t n (i + 1) (b + emitted (kindIn r) m) len wd₁ num₁ lo₁ target₁
     writes-more {w} {ins} {target₁} ei ew et =
         let K = S .walk in
         let c = made (needed (linesOf t n)) (K .J) b (line-at t n i e l .line) in

@@ -4,7 +4,7 @@ use mathlib.Core.Path.{_≡_}
 use mathlib.Core.Bool.{Bool, true, false, _&&_, _||_}
 use mathlib.Core.List.{List, [], _∷_}
 use lib.Dec.{leb, eqb}
-use lib.ListN.{length, getD, set}
+use lib.ListN.{length, getD, set, replicate}
 use Rattle.words.specs.Word.{bit}
 use Rattle.tables.specs.Pick.{pick, inside}
 use Rattle.tables.specs.Lines.{Line, five, kindIn, sortIn, firstIn, secondIn, thirdIn, recorded}
@@ -100,11 +100,18 @@ pub record Taken (r : List ℕ) (n : ℕ) (nd : Bool) (b : ℕ) (wd num lo wd₁
   pub numbers : num₁ ≡ set num n (numberIn (kindIn r) b m)
   pub flags : lo₁ ≡ set lo n (bit (looseIn (numberAt wd) (flagAt lo) r))
 
--- the lists have an entry for each line number
-pub record Ample (wd num lo : List ℕ) : Type 0 where
-  pub of-wd : length wd ≡ 16385
-  pub of-num : length num ≡ 16385
-  pub of-lo : length lo ≡ 16385
+-- the lists have as many entries
+pub record Ample (size : ℕ) (wd num lo : List ℕ) : Type 0 where
+  pub of-wd : length wd ≡ size
+  pub of-num : length num ≡ size
+  pub of-lo : length lo ≡ size
+
+-- lists of zeros, with more entries than there are lines
+pub record Fresh (n : ℕ) (wd num lo : List ℕ) : Type 0 where
+  pub wide : n < length wd
+  pub no-wd : wd ≡ replicate (length wd) 0
+  pub no-num : num ≡ replicate (length wd) 0
+  pub no-lo : lo ≡ replicate (length wd) 0
 
 -- a target with the e instructions of a line in it: the instruction i, of width w, at the number b, and its mask
 abbrev pub written : (e : ℕ) (i : List ℕ) (w b : ℕ) → List ℕ → List ℕ

@@ -6,7 +6,7 @@ use tables::records;
 ghost use mathlib.Core.Path.{_≡_};
 ghost use mathlib.Core.Bool.{false};
 ghost use mathlib.Core.List.{_++_};
-ghost use Prim.Native.Nat.{_-_, _*_, _≤_};
+ghost use Prim.Native.Nat.{_-_, _*_, _≤_, _<_};
 ghost use lib.ListN.{length, replicate};
 ghost use Rattle.tables.specs.declared.Checked.the-variants.{Accepted};
 ghost use Rattle.tables.specs.Lines.{encode};
@@ -15,8 +15,28 @@ ghost use Rattle.circuits.specs.Answers.{linesOf};
 ghost use Rattle.programs.specs.Answers.{programOf, fitting, leftOf};
 ghost use Rattle.programs.specs.Records.{Marked};
 
-// How many instructions the program has.
+// How many instructions the program has. A small circuit takes small lists, which are sooner zero.
 fn counting(table: &[u64], count: usize, marks: &[u8]) -> usize
+    requires { ⌜ (checked false (now table) count ≡ Accepted) × Marked (linesOf (now table) count) (now marks) ⌝ }
+    ensures { λ r. ⌜ r ≡ length (programOf (now (table .entry)) count) ⌝ }
+{
+    if count < 2048 {
+        return count_few(table, count, marks);
+    }
+    count_many(table, count, marks)
+}
+
+fn count_few(table: &[u64], count: usize, marks: &[u8]) -> usize
+    requires { ⌜ (checked false (now table) count ≡ Accepted) × (Marked (linesOf (now table) count) (now marks) × (count < 2048)) ⌝ }
+    ensures { λ r. ⌜ r ≡ length (programOf (now (table .entry)) count) ⌝ }
+{
+    let mut wd = [0u64; 2048];
+    let mut num = [0u64; 2048];
+    let mut lo = [0u8; 2048];
+    passes::count_all(table, count, marks, &mut wd, &mut num, &mut lo)
+}
+
+fn count_many(table: &[u64], count: usize, marks: &[u8]) -> usize
     requires { ⌜ (checked false (now table) count ≡ Accepted) × Marked (linesOf (now table) count) (now marks) ⌝ }
     ensures { λ r. ⌜ r ≡ length (programOf (now (table .entry)) count) ⌝ }
 {
@@ -28,6 +48,27 @@ fn counting(table: &[u64], count: usize, marks: &[u8]) -> usize
 
 // The instructions go to the target, which is zero.
 fn writing(table: &[u64], count: usize, marks: &[u8], target: &mut [u64])
+    requires { ⌜ (checked false (now table) count ≡ Accepted) × (Marked (linesOf (now table) count) (now marks) × ((now target ≡ replicate (length (now target)) 0) × (5 * length (programOf (now table) count) ≤ length (now target)))) ⌝ }
+    ensures { λ _. ⌜ now (target .exit) ≡ encode (programOf (now (table .entry)) count) ++ replicate (length (now (target .entry)) - 5 * length (programOf (now (table .entry)) count)) 0 ⌝ }
+{
+    if count < 2048 {
+        write_few(table, count, marks, target);
+        return;
+    }
+    write_many(table, count, marks, target);
+}
+
+fn write_few(table: &[u64], count: usize, marks: &[u8], target: &mut [u64])
+    requires { ⌜ (count < 2048) × ((checked false (now table) count ≡ Accepted) × (Marked (linesOf (now table) count) (now marks) × ((now target ≡ replicate (length (now target)) 0) × (5 * length (programOf (now table) count) ≤ length (now target))))) ⌝ }
+    ensures { λ _. ⌜ now (target .exit) ≡ encode (programOf (now (table .entry)) count) ++ replicate (length (now (target .entry)) - 5 * length (programOf (now (table .entry)) count)) 0 ⌝ }
+{
+    let mut wd = [0u64; 2048];
+    let mut num = [0u64; 2048];
+    let mut lo = [0u8; 2048];
+    passes::write_all(table, count, marks, &mut wd, &mut num, &mut lo, target);
+}
+
+fn write_many(table: &[u64], count: usize, marks: &[u8], target: &mut [u64])
     requires { ⌜ (checked false (now table) count ≡ Accepted) × (Marked (linesOf (now table) count) (now marks) × ((now target ≡ replicate (length (now target)) 0) × (5 * length (programOf (now table) count) ≤ length (now target)))) ⌝ }
     ensures { λ _. ⌜ now (target .exit) ≡ encode (programOf (now (table .entry)) count) ++ replicate (length (now (target .entry)) - 5 * length (programOf (now (table .entry)) count)) 0 ⌝ }
 {

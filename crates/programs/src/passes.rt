@@ -13,7 +13,7 @@ ghost use Rattle.tables.specs.Tables.{checked};
 ghost use Rattle.circuits.specs.Answers.{linesOf};
 ghost use Rattle.programs.specs.Translation.{hasArray};
 ghost use Rattle.programs.specs.Answers.{programOf};
-ghost use Rattle.programs.specs.Records.{Marked, written};
+ghost use Rattle.programs.specs.Records.{Marked, written, Fresh};
 
 // A counted record is an array sort.
 pub fn has_array(table: &[u64], count: usize) -> bool
@@ -53,7 +53,7 @@ pub fn count_all(
     num: &mut [u64],
     lo: &mut [u8],
 ) -> usize
-    requires { ⌜ (checked false (now table) count ≡ Accepted) × (Marked (linesOf (now table) count) (now marks) × ((now wd ≡ replicate 16385 0) × ((now num ≡ replicate 16385 0) × (now lo ≡ replicate 16385 0)))) ⌝ }
+    requires { ⌜ (checked false (now table) count ≡ Accepted) × (Marked (linesOf (now table) count) (now marks) × Fresh count (now wd) (now num) (now lo)) ⌝ }
     ensures { λ r. ⌜ r ≡ length (programOf (now (table .entry)) count) ⌝ }
 {
     let mut i: usize = 0;
@@ -93,7 +93,7 @@ pub fn write_all(
     lo: &mut [u8],
     target: &mut [u64],
 )
-    requires { ⌜ (checked false (now table) count ≡ Accepted) × (Marked (linesOf (now table) count) (now marks) × ((now wd ≡ replicate 16385 0) × ((now num ≡ replicate 16385 0) × ((now lo ≡ replicate 16385 0) × ((now target ≡ replicate (length (now target)) 0) × (5 * length (programOf (now table) count) ≤ length (now target))))))) ⌝ }
+    requires { ⌜ (checked false (now table) count ≡ Accepted) × (Marked (linesOf (now table) count) (now marks) × (Fresh count (now wd) (now num) (now lo) × ((now target ≡ replicate (length (now target)) 0) × (5 * length (programOf (now table) count) ≤ length (now target))))) ⌝ }
     ensures { λ _. ⌜ now (target .exit) ≡ encode (programOf (now (table .entry)) count) ++ replicate (length (now (target .entry)) - 5 * length (programOf (now (table .entry)) count)) 0 ⌝ }
 {
     let mut i: usize = 0;

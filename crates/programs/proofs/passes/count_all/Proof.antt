@@ -1,5 +1,6 @@
 -- The instructions so far and those ahead are the program's. Assumes nothing.
 use native.Mathlib.Omega.{arith}
+use lib.ListN.{length}
 use Prim.Native.Nat.{_+_, _-_}
 use Rattle.tables.specs.Lines.{kindIn}
 use borrow.Author.Needs.{needs}
@@ -15,13 +16,13 @@ use Rattle.programs.proofs.uses.used.Reads as used-reads
 use Rattle.tables.proofs.records.record.Reads as record-reads
 
 abbrev Inv-loop : tie.InvT-loop
-Inv-loop table count marks wd₀ num₀ lo₀ i₀ b₀ wd num lo i b = Walk table count i b wd num lo
+Inv-loop table count marks wd₀ num₀ lo₀ i₀ b₀ wd num lo i b = Walk (length wd₀) table count i b wd num lo
 
 abbrev μ-loop : tie.MeasureT-loop
 μ-loop table count marks wd₀ num₀ lo₀ i₀ b₀ wd num lo i b = count - i
 
 loop-holds : tie.Need-loop-holds Inv-loop μ-loop
-loop-holds c = walk-start (c .before .before .before .before .before .args .table .now) (c .before .before .before .before .before .args .count) (c .before .before .before .before .before .pre .1 .1 .0) (c .before .before .before .before .before .pre .1 .1 .1 .0) (c .before .before .before .before .before .pre .1 .1 .1 .1)
+loop-holds c = walk-start (c .before .before .before .before .before .args .table .now) (c .before .before .before .before .before .args .count) (c .before .before .before .before .before .pre .1 .1)
 
 record-requires : tie.Need-record-requires Inv-loop μ-loop
 record-requires c κs = omega (arith, fits-table (c .before .before .before .before .before .before .before .args .table .now) (c .before .before .before .before .before .before .before .args .count) (c .before .before .before .before .before .before .before .pre .0) .1, c .loop-test .taken)
@@ -57,13 +58,13 @@ sub-result : tie.Need-sub-result Inv-loop μ-loop
 sub-result c = omega (arith, c .before .loop .inv .least)
 
 same-length : tie.Need-same-length Inv-loop μ-loop
-same-length c = zeros-length (c .before .loop .wd) (c .before .before .before .before .before .before .before .args .wd .now) (c .before .before .before .before .before .before .before .pre .1 .1 .0) (c .before .loop .inv .keeps .size .of-wd)
+same-length c = zeros-length (c .before .loop .wd) (c .before .before .before .before .before .before .before .args .wd .now) (c .before .before .before .before .before .before .before .pre .1 .1 .no-wd) (c .before .loop .inv .keeps .size .of-wd)
 
 same-length-2 : tie.Need-same-length-2 Inv-loop μ-loop
-same-length-2 c = zeros-length (c .before .loop .num) (c .before .before .before .before .before .before .before .args .num .now) (c .before .before .before .before .before .before .before .pre .1 .1 .1 .0) (c .before .loop .inv .keeps .size .of-num)
+same-length-2 c = zeros-length (c .before .loop .num) (c .before .before .before .before .before .before .before .args .num .now) (c .before .before .before .before .before .before .before .pre .1 .1 .no-num) (c .before .loop .inv .keeps .size .of-num)
 
 same-length-3 : tie.Need-same-length-3 Inv-loop μ-loop
-same-length-3 c = zeros-length (c .before .loop .lo) (c .before .before .before .before .before .before .before .args .lo .now) (c .before .before .before .before .before .before .before .pre .1 .1 .1 .1) (c .before .loop .inv .keeps .size .of-lo)
+same-length-3 c = zeros-length (c .before .loop .lo) (c .before .before .before .before .before .before .before .args .lo .now) (c .before .before .before .before .before .before .before .pre .1 .1 .no-lo) (c .before .loop .inv .keeps .size .of-lo)
 
 returns : tie.Need-returns Inv-loop μ-loop
 returns c = omega (arith, walk-end (c .before .loop .inv) (c .before .before .before .before .before .before .before .pre .0) (c .loop-test .left))

@@ -1,32 +1,42 @@
 -- The lists are zero as they are made. Assumes nothing.
+use Prim.Native.Nat.{ℕ}
 use mathlib.Core.Path.{refl}
+use native.Mathlib.Omega.{arith}
+use lib.ListN.{length-replicate}
 use borrow.Author.Needs.{needs}
-use Rattle.programs.proofs.make.writing.Statement.{statement}
-use Rattle.programs.proofs.make.writing.Tie as tie
-use Rattle.programs.proofs.make.writing.Reads as reads
-use Rattle.programs.proofs.make.writing.Lts as lts
+use Rattle.programs.proofs.make.write_few.Statement.{statement}
+use Rattle.programs.proofs.make.write_few.Tie as tie
+use Rattle.programs.proofs.make.write_few.Reads as reads
+use Rattle.programs.proofs.make.write_few.Lts as lts
 use Rattle.programs.proofs.passes.write_all.Reads as write-all-reads
 
+-- src/make.rt:68:44
 slice-aggregate-write-all : tie.Need-slice-aggregate-write-all
 slice-aggregate-write-all c = search needs
 
+-- src/make.rt:68:53
 slice-aggregate-write-all-2 : tie.Need-slice-aggregate-write-all-2
 slice-aggregate-write-all-2 c = search needs
 
+-- src/make.rt:68:63
 slice-aggregate-write-all-3 : tie.Need-slice-aggregate-write-all-3
 slice-aggregate-write-all-3 c = search needs
 
+-- src/make.rt:68:5
 write-all-requires : tie.Need-write-all-requires
-write-all-requires c κs = (c .before .before .before .before .before .before .before .pre .0, (c .before .before .before .before .before .before .before .pre .1 .0, (refl, (refl, (refl, (c .before .before .before .before .before .before .before .pre .1 .1 .0, c .before .before .before .before .before .before .before .pre .1 .1 .1))))))
+write-all-requires c κs = let P = c .before .before .before .before .before .before .before .pre in
+    (P .1 .0, (P .1 .1 .0, (record { wide = omega (arith, P .0, length-replicate {A = ℕ} 2048 0); no-wd = refl; no-num = refl; no-lo = refl }, P .1 .1 .1)))
 
+-- src/make.rt:61:1
 same-length : tie.Need-same-length
 same-length c = search needs
 
+-- src/make.rt:61:1
 returns : tie.Need-returns
 returns c = search needs
 
-pub writing-spec : {M : Type 1} → statement M
-writing-spec =
+pub write-few-spec : {M : Type 1} → statement M
+write-few-spec =
     tie.close
     (tie.spec
     slice-aggregate-write-all
