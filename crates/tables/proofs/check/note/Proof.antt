@@ -29,23 +29,23 @@ mark-requires-2 c κs = search needs
 
 -- src/check.rt:97:1
 same-length : tie.Need-same-length
-same-length c = search needs
+same-length c = c .before .before .before .before .before .before .before .before .before .before .before .before .before .before .put-type .kept .1 .1 .0
 
 -- src/check.rt:97:1
 same-length-2 : tie.Need-same-length-2
-same-length-2 c = search needs
+same-length-2 c = c .before .before .before .before .before .before .before .before .before .before .before .before .before .before .put-type .kept .1 .1 .1 .0
 
 -- src/check.rt:97:1
 same-length-3 : tie.Need-same-length-3
-same-length-3 c = search needs
+same-length-3 c = c .before .before .before .before .before .before .before .before .before .before .before .before .before .before .put-type .kept .1 .1 .1 .1 .0
 
 -- src/check.rt:97:1
 same-length-4 : tie.Need-same-length-4
-same-length-4 c = search needs
+same-length-4 c = c .before .before .before .before .before .before .mark .kept .1 .1 .0
 
 -- src/check.rt:97:1
 same-length-5 : tie.Need-same-length-5
-same-length-5 c = search needs
+same-length-5 c = c .before .before .mark2 .kept .1 .1 .0
 
 -- src/check.rt:97:1
 returns : tie.Need-returns

@@ -1,9 +1,9 @@
+use mathlib.Core.Path.{refl}
 use mathlib.Core.Path.{sym, _∙_}
 use borrow.Author.Tests.{not-true, not-false}
 use Rattle.tables.specs.Lists.{lookIn, givenIn}
 use Rattle.tables.proofs.Answers.{sort-width}
 use Rattle.tables.proofs.Kept.{no-yes, kept-fault}
-use borrow.Author.Needs.{needs}
 use Rattle.tables.proofs.check.take_record.Statement.{statement}
 use Rattle.tables.proofs.check.take_record.Tie as tie
 use Rattle.tables.proofs.check.take_record.Reads as reads
@@ -13,27 +13,27 @@ use Rattle.tables.proofs.check.note.Reads as note-reads
 
 -- src/check.rt:177:9
 keeps-rules-requires : tie.Need-keeps-rules-requires
-keeps-rules-requires c κs = search needs
+keeps-rules-requires c κs = c .before .before .before .before .before .before .before .before .before .before .pre
 
 -- src/check.rt:178:9
 same-length : tie.Need-same-length
-same-length c = search needs
+same-length c = refl
 
 -- src/check.rt:178:9
 same-length-2 : tie.Need-same-length-2
-same-length-2 c = search needs
+same-length-2 c = refl
 
 -- src/check.rt:178:9
 same-length-3 : tie.Need-same-length-3
-same-length-3 c = search needs
+same-length-3 c = refl
 
 -- src/check.rt:178:9
 same-length-4 : tie.Need-same-length-4
-same-length-4 c = search needs
+same-length-4 c = refl
 
 -- src/check.rt:178:9
 same-length-5 : tie.Need-same-length-5
-same-length-5 c = search needs
+same-length-5 c = refl
 
 -- src/check.rt:178:9
 returns : tie.Need-returns
@@ -48,23 +48,23 @@ note-requires c κs = let s = c .before .before .before .before .before .before 
 
 -- src/check.rt:163:1
 same-length-6 : tie.Need-same-length-6
-same-length-6 c = search needs
+same-length-6 c = c .before .before .before .before .before .before .before .before .before .before .note .kept .1 .1 .1 .0
 
 -- src/check.rt:163:1
 same-length-7 : tie.Need-same-length-7
-same-length-7 c = search needs
+same-length-7 c = c .before .before .before .before .before .before .before .before .before .before .note .kept .1 .1 .1 .1 .0
 
 -- src/check.rt:163:1
 same-length-8 : tie.Need-same-length-8
-same-length-8 c = search needs
+same-length-8 c = c .before .before .before .before .before .before .before .before .before .before .note .kept .1 .1 .1 .1 .1 .0
 
 -- src/check.rt:163:1
 same-length-9 : tie.Need-same-length-9
-same-length-9 c = search needs
+same-length-9 c = c .before .before .before .before .before .before .before .before .before .before .note .kept .1 .1 .1 .1 .1 .1 .0
 
 -- src/check.rt:163:1
 same-length-10 : tie.Need-same-length-10
-same-length-10 c = search needs
+same-length-10 c = c .before .before .before .before .before .before .before .before .before .before .note .kept .1 .1 .1 .1 .1 .1 .1 .0
 
 -- src/check.rt:163:1
 returns-2 : tie.Need-returns-2
