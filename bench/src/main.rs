@@ -54,13 +54,14 @@ fn measure<const N: usize>(mut calls: [&mut dyn FnMut(); N]) -> [f64; N] {
     })
 }
 
-/// The sizes to measure; to profile, the last alone.
+/// The sizes to measure; to profile, one alone: that of the third word's place, or the last.
 fn sizes<T>(all: &[T]) -> &[T] {
-    if profiled() {
-        &all[all.len() - 1..]
-    } else {
-        all
+    if !profiled() {
+        return all;
     }
+    let last = all.len() - 1;
+    let at = std::env::args().nth(3).map_or(last, |word| word.parse::<usize>().unwrap().min(last));
+    &all[at..=at]
 }
 
 /// Prints the rows of an operation and how its time grows.
@@ -77,6 +78,10 @@ impl Table {
     /// `units` says how large the work is; the times are of the proved operation, the plain one, and for runs of the
     /// interpreter of the same shape.
     fn row(&mut self, operation: &str, size: &str, units: f64, unit: &str, times: &[f64]) {
+        if profiled() {
+            println!("units {units}");
+            return;
+        }
         let (proved, plain) = (times[0], times[1]);
         let growth = |now: f64, last: fn((f64, f64, f64)) -> f64| match self.last {
             Some(row) => format!("{:.2}", now / last(row) / (units / row.0)),
@@ -278,8 +283,8 @@ fn run_row(rows: &mut Table, operation: &str, run: Running, program: bool, lines
     rows.row(operation, &size, (n * steps) as f64, "record·step", &times);
 }
 
-/// Records and steps: more records, then more steps.
-const RUNS: [(usize, usize); 4] = [(100, 4000), (1000, 400), (10_000, 40), (10_000, 400)];
+/// Records and steps. The first circuit is so short that the processor foresees its branches; the others show how the cost grows.
+const RUNS: [(usize, usize); 4] = [(100, 300), (2000, 300), (5000, 300), (13_000, 300)];
 
 /// A circuit of additions alone.
 fn adds(lines: usize) -> Lines {

@@ -12,7 +12,6 @@ use lib.ListN.{length, take, getD, set, length-set, length-append}
 use lib.Seq.{getD-set-same, getD-set-other, take-suc-set, take-suc, take-length, length-take-le}
 use Rattle.tables.specs.declared.Ty.{Ty}
 use Rattle.tables.specs.Lines.{Line, Shape, isBitvec, isArray, isConst, isInput, isState, isOutput, isOne, isTwo, isIte, isRead, isWrite, isJunk, isGive, isMark, isCmp, shapeOf, build, lineOf, kindIn, sortIn, firstIn, secondIn, thirdIn, recordAt}
-use Rattle.tables.specs.Lists.{Shows as Listed}
 use Rattle.tables.specs.Types.{tyAt, Ctx, growAll, noCtx, context}
 use Rattle.tables.proofs.Shapes.{KindOf, kind-of, line-as, no-junk}
 use Rattle.tables.proofs.Showing.{by-place}
@@ -387,16 +386,17 @@ module _ (p : Bool) (t : List ℕ) (n : ℕ) (acc : checked p t n ≡ Accepted) 
       subst (λ (x : Totals). (x .cells + x .states < 4294967296) × ((x .inputs < 4294967296) × (x .signals < 4294967296))) (sym e)
       (omega (arith, words-few), (omega (arith, inputs-few), omega (arith, signals-few)))
 
--- the check's lists hold the widths of all lines
+-- lists of the widths of all lines
 pub lay-ctx : (p : Bool) (Y : Layout) (C : List Line) → layAll p Y C .ctx ≡ growAll p (Y .ctx) C
 lay-ctx p Y [] = refl
 lay-ctx p Y (l ∷ C) = lay-ctx p (lay p Y l) C
 
-pub typed : (p : Bool) (t : List ℕ) (n : ℕ) {cls idx wid ini nxt : List ℕ} → checked p t n ≡ Accepted → Listed cls idx wid ini nxt (context p (linesOf t n)) → Typed p t n idx wid
+pub typed : (p : Bool) (t : List ℕ) (n : ℕ) {idx wid : List ℕ} → checked p t n ≡ Accepted → ((a : ℕ) → getD idx a 0 ≡ tyAt (context p (linesOf t n)) a .iw)
+    → ((a : ℕ) → getD wid a 0 ≡ tyAt (context p (linesOf t n)) a .w) → Typed p t n idx wid
 unfolding context layout
-typed p t n acc sh =
+typed p t n acc hi hw =
     let e : layAll p noLayout (linesOf t n) .ctx ≡ growAll p noCtx (linesOf t n) = lay-ctx p noLayout (linesOf t n) in
     record {
-      sized = record { accepted = acc; index = λ a. ap (λ (x : Ty). x .iw) (sh .types a) ∙ ap (λ (c : Ctx). tyAt c a .iw) (sym e) };
-      width = λ a. ap (λ (x : Ty). x .w) (sh .types a) ∙ ap (λ (c : Ctx). tyAt c a .w) (sym e);
+      sized = record { accepted = acc; index = λ a. hi a ∙ ap (λ (c : Ctx). tyAt c a .iw) (sym e) };
+      width = λ a. hw a ∙ ap (λ (c : Ctx). tyAt c a .w) (sym e);
     }

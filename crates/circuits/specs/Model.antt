@@ -16,6 +16,8 @@ use Rattle.tables.specs.declared.Ty.{Ty}
 use Rattle.tables.specs.declared.Checked.the-variants.{Accepted}
 use Rattle.tables.specs.Pick.{pick, alike}
 use Rattle.tables.specs.Lines.{Line, Expr}
+use Rattle.tables.specs.Types.{context}
+use Rattle.tables.specs.Notes.{Shows as Listed}
 use Rattle.tables.specs.Tables.{checked}
 use Rattle.circuits.specs.Cells.{choose, part, put}
 use Rattle.circuits.specs.declared.Totals.{Totals}
@@ -75,6 +77,18 @@ sigsIn f off pos g w n (Line.give m s q v) = g
 sigsIn f off pos g w n (Line.mark m a) = pick f g (set g (getD pos n 0) (choose (wordIn off w a) 1 0))
 sigsIn f off pos g w n (Line.output a) = g
 sigsIn f off pos g w n Line.junk = g
+
+-- the work area after a line that may have an expression's value; any other leaves it
+abbrev pub valueIn : Bool → (off wid num w : List ℕ) → ℕ → Line → List ℕ
+valueIn p off wid num w n (Line.bitvec x) = w
+valueIn p off wid num w n (Line.array i e) = w
+valueIn p off wid num w n (Line.input s) = w
+valueIn p off wid num w n (Line.state s) = w
+valueIn p off wid num w n (Line.val s e) = put w (getD off n 0) (exprIn p off wid num w e)
+valueIn p off wid num w n (Line.give m s q v) = w
+valueIn p off wid num w n (Line.mark m a) = w
+valueIn p off wid num w n (Line.output a) = w
+valueIn p off wid num w n Line.junk = w
 
 -- ---- what a line asks of the lists and of the work area
 
@@ -195,6 +209,18 @@ FitL p off wid num pos all ins sigs w n (Line.mark m a) = FitMark off pos (lengt
 FitL p off wid num pos all ins sigs w n (Line.output a) = Unit {0}
 FitL p off wid num pos all ins sigs w n Line.junk = Unit {0}
 
+-- of an expression's line alone
+abbrev pub FitV : Bool → (off wid num w : List ℕ) → ℕ → Line → Type 0
+FitV p off wid num w n (Line.bitvec x) = Unit {0}
+FitV p off wid num w n (Line.array i e) = Unit {0}
+FitV p off wid num w n (Line.input s) = Unit {0}
+FitV p off wid num w n (Line.state s) = Unit {0}
+FitV p off wid num w n (Line.val s e) = FitVal p off wid num w n e
+FitV p off wid num w n (Line.give m s q v) = Unit {0}
+FitV p off wid num w n (Line.mark m a) = Unit {0}
+FitV p off wid num w n (Line.output a) = Unit {0}
+FitV p off wid num w n Line.junk = Unit {0}
+
 -- ---- all lines
 
 -- the lists hold what is known of the line a, and of all lines of a layout
@@ -289,6 +315,11 @@ sigRows bs zero g = []
 sigRows bs (suc k) g = zipSig bs g ∷ sigRows bs k (drop (length bs) g)
 
 -- ---- the answers of a run of an accepted table
+
+-- the notes are those of an accepted table's check
+pub record Noted (p : Bool) (t : List ℕ) (n : ℕ) (xs : List (List ℕ)) : Type 0 where
+  pub accepted : checked p t n ≡ Accepted
+  pub shows : Listed xs (context p (linesOf t n))
 
 -- the lists hold the index widths and the widths of an accepted table's lines
 pub record Typed (p : Bool) (t : List ℕ) (n : ℕ) (idx wid : List ℕ) : Type 0 where

@@ -7,6 +7,7 @@ use crate::steps;
 use tables::Checked;
 use tables::Refusal;
 use tables::check;
+use tables::notes;
 use tables::records;
 ghost use mathlib.Core.Path.{_≡_};
 ghost use mathlib.Core.Bool.{Bool, true, false};
@@ -15,7 +16,7 @@ ghost use Prim.Native.Nat.{_+_, _*_, _≤_, _<_};
 ghost use lib.ListN.{length, replicate};
 ghost use Rattle.circuits.specs.Run.{bytes, firstBad, run};
 ghost use Rattle.circuits.specs.Answers.{linesOf, lent as lentOf, ran, signalsLeft};
-ghost use Rattle.circuits.specs.Model.{countsOf, Ready, Typed, lentAnswer, lentSignals};
+ghost use Rattle.circuits.specs.Model.{countsOf, Ready, Typed, Noted, lentAnswer, lentSignals};
 
 // 13 to 17: s start words, i input words, g signal bytes and w words of work area are lent for k steps.
 fn lent(t: Totals, k: usize, s: usize, i: usize, g: usize, w: usize) -> Checked
@@ -129,6 +130,38 @@ fn run_checked(
     )
 }
 
+// A run of an accepted table, with the notes of its check; signals and work area are zero.
+fn run_noted(
+    program: bool,
+    table: &[u64],
+    count: usize,
+    notes: &[[u8; 5]],
+    k: usize,
+    starts: &[u64],
+    inputs: &[u64],
+    signals: &mut [u8],
+    work: &mut [u64],
+) -> Ran
+    requires { ⌜ Noted program (now table) count (now notes) × ((now signals ≡ replicate (length (now signals)) 0) × (now work ≡ replicate (length (now work)) 0)) ⌝ }
+    ensures { λ r. ⌜ (r ≡ lentAnswer program (now (table .entry)) count k (now (starts .entry)) (now (inputs .entry)) (length (now (signals .entry))) (length (now (work .entry)))) × ((now (signals .exit) ≡ lentSignals program (now (table .entry)) count k (now (starts .entry)) (now (inputs .entry)) (length (now (signals .entry))) (length (now (work .entry)))) × (now (work .exit) ≡ replicate (length (now (work .entry))) 0)) ⌝ }
+{
+    let mut idx = [0u8; 16385];
+    let mut wid = [0u8; 16385];
+    notes::widths(notes, count, &mut idx, &mut wid);
+    run_checked(
+        program,
+        table,
+        count,
+        &idx,
+        &wid,
+        k,
+        starts,
+        inputs,
+        signals,
+        work,
+    )
+}
+
 // A run of a circuit (program is false) or of a program, of k steps: 1, 11 (20 for a program), 13 to 17; else the first counted bad.
 pub fn run_table(
     program: bool,
@@ -144,32 +177,18 @@ pub fn run_table(
 {
     check::clear(signals);
     records::clear(work);
-    let mut cls = [0u8; 16385];
-    let mut idx = [0u8; 16385];
-    let mut wid = [0u8; 16385];
-    let mut ini = [0u8; 16385];
-    let mut nxt = [0u8; 16385];
-    match check::check(
-        program,
-        table,
-        count,
-        &mut cls,
-        &mut idx,
-        &mut wid,
-        &mut ini,
-        &mut nxt,
-    ) {
+    let mut notes = [[0u8; 5]; 16385];
+    match check::check(program, table, count, &mut notes) {
         Checked::Refused(r) => {
             return Ran::Refused(r);
         }
         Checked::Accepted => {}
     }
-    run_checked(
+    run_noted(
         program,
         table,
         count,
-        &idx,
-        &wid,
+        &notes,
         k,
         starts,
         inputs,

@@ -20,7 +20,7 @@ use Rattle.circuits.specs.Meaning.{Acc, cellsAt}
 use Rattle.flattening.specs.declared.Source.{Source}
 use Rattle.flattening.specs.Flat.{from, Info, infoAt, linesAt, lineAt, chunk, chunkRead, chunkWrite, givenLines, cmpLines, joinKind, joinAll, writeLines, readAll}
 use Rattle.flattening.specs.Model.{Held, cellIn, sourceAt, words, rowAt, pairAt}
-use Rattle.flattening.specs.Making.{run, still, of, runDown, ofDown, joinWords, readWords, writeWords, Notes, sortIn, wordIn, bitIn, conIn, sizeIn, small, givenFrom, flatWords, Neat}
+use Rattle.flattening.specs.Making.{deepIn, wideIn, run, still, of, runDown, ofDown, joinWords, readWords, writeWords, Notes, sortIn, wordIn, bitIn, conIn, sizeIn, small, givenFrom, flatWords, Neat}
 use Rattle.flattening.proofs.Walk.{holds-length}
 use Rattle.flattening.proofs.CellLaws.{from-at, length-from}
 use Rattle.flattening.proofs.Rel.{Inv, KnownRel, word-small}
@@ -44,8 +44,8 @@ pub record NoteRel (N : Notes) (t : Ty) (a : ℕ) (f : Info) : Type 0 where
 -- the index widths and widths are those of the lines so far
 pub record Told (A : Acc) (N : Notes) : Type 0 where
   pub none : typeAt (A .lay) 0 .cls ≡ 0
-  pub iw : (a : ℕ) → 1 ≤ typeAt (A .lay) a .cls → getD (N .idx) a 0 ≡ typeAt (A .lay) a .iw
-  pub w : (a : ℕ) → 1 ≤ typeAt (A .lay) a .cls → getD (N .wid) a 0 ≡ typeAt (A .lay) a .w
+  pub iw : (a : ℕ) → 1 ≤ typeAt (A .lay) a .cls → deepIn N a ≡ typeAt (A .lay) a .iw
+  pub w : (a : ℕ) → 1 ≤ typeAt (A .lay) a .cls → wideIn N a ≡ typeAt (A .lay) a .w
 
 -- ---- sources
 
@@ -135,7 +135,7 @@ module _ {A B : Acc} {I : List Info} (v : Inv A B I) (N : Notes) (ne : Neat N) (
   from-line a h j l = of-at (N .held) a j (getD (linesAt I a) j 0) (is-line a (omega arith)) (cell-of a h j l)
 
   pub word-line : (a : ℕ) → IsWord (typeAt (A .lay) a) → lineAt I a ≡ wordIn N a
-  word-line a k = sym (cell-of a (k .is) 0 (pow-pos (getD (N .idx) a 0)))
+  word-line a k = sym (cell-of a (k .is) 0 (pow-pos (deepIn N a)))
 
   pub elem-of : (s : ℕ) → typeAt (A .lay) s .cls ≡ 1 → infoAt I s .elem ≡ sortIn N s
   elem-of s e = sym (nr s .elem e)
@@ -150,7 +150,7 @@ module _ {A B : Acc} {I : List Info} (v : Inv A B I) (N : Notes) (ne : Neat N) (
   array-words : (i e : ℕ) → Ok false (tyAt (A .lay .ctx)) (given (A .lay .ctx)) (Line.array i e) → encode (chunk I (suc p) (Line.array i e) .lines) ≡ flatWords N p (Line.array i e)
   array-words i e k =
       let H = N .held in
-      let q : infoAt I i .width ≡ getD (N .wid) i 0 = v .rel i .sort (k .index .is) .wide ∙ sym (tl .w i (omega (arith, k .index .is))) in
+      let q : infoAt I i .width ≡ wideIn N i = v .rel i .sort (k .index .is) .wide ∙ sym (tl .w i (omega (arith, k .index .is))) in
       let n = 2 ^ (infoAt I i .width) in
       let s = infoAt I i .elem in
       ap (λ (w : List ℕ). five 1 0 1 0 0 ++ w)
@@ -223,7 +223,7 @@ module _ {A B : Acc} {I : List Info} (v : Inv A B I) (N : Notes) (ne : Neat N) (
       ∙ rows-as H n (cmpKind e) t (of x) (of y) (still 0) (λ j. getD (linesAt I x) j 0) (λ j. getD (linesAt I y) j 0) (λ j. 0) (λ j l. from-line x (k .left .is) j (subst (λ (m : ℕ). j < m) ex l))
       (λ j l. from-line y (k .right .is) j (subst (λ (m : ℕ). j < m) (ex ∙ sym exy) l)) (λ j l. still-at H 0 j)
       ∙ (λ i. words (ex i) (rowAt H (cmpKind e) (es i) (of x) (of y) (still 0))))
-      (joined-words H e t p n (subst⁻¹ (λ (m : ℕ). 0 < m) ex (pow-pos (getD (N .idx) x 0))) ∙ (λ i. joinWords H p (joinKind e) (es i) (ex i)))
+      (joined-words H e t p n (subst⁻¹ (λ (m : ℕ). 0 < m) ex (pow-pos (deepIn N x))) ∙ (λ i. joinWords H p (joinKind e) (es i) (ex i)))
 
   -- a constant index is small
   pub index-small : (i k : ℕ) → IsWord (typeAt (A .lay) i) → typeAt (A .lay) i .w ≤ 8 → cellsAt A i ≡ k ∷ [] → k < 256
@@ -262,7 +262,7 @@ module _ {A B : Acc} {I : List Info} (v : Inv A B I) (N : Notes) (ne : Neat N) (
       ha = k .arr .is
 
       deep : typeAt (A .lay) i .w ≤ 8
-      deep = let e : getD (N .idx) a 0 ≡ typeAt (A .lay) a .iw = tl .iw a (omega arith) in let f = ne .deep a in let g : typeAt (A .lay) i .w ≡ typeAt (A .lay) a .iw = k .iw in omega arith
+      deep = let e : deepIn N a ≡ typeAt (A .lay) a .iw = tl .iw a (omega arith) in let f = ne .deep a in let g : typeAt (A .lay) i .w ≡ typeAt (A .lay) a .iw = k .iw in omega arith
 
       go : (c : Option ℕ) → KnownRel c (cellsAt A i) → KnownNote c (conIn N i)
           → encode (chunkRead (infoAt I s) (infoAt I a) c (lineAt I i) (suc p) .lines) ≡ flatWords N p (Line.val s (Expr.read a i))
@@ -271,7 +271,7 @@ module _ {A B : Acc} {I : List Info} (v : Inv A B I) (N : Notes) (ne : Neat N) (
           sym (rw (ne-eqb (conIn N i) 0 (λ w. omega arith)))
       go none r z =
           let n = sizeIn N a in
-          let two : 2 ≤ n = size-two (getD (N .idx) a 0) (let e : getD (N .idx) a 0 ≡ typeAt (A .lay) a .iw = tl .iw a (omega arith) in let d : 0 < typeAt (A .lay) a .iw = k .arr .deep in omega arith) in
+          let two : 2 ≤ n = size-two (deepIn N a) (let e : deepIn N a ≡ typeAt (A .lay) a .iw = tl .iw a (omega arith) in let d : 0 < typeAt (A .lay) a .iw = k .arr .deep in omega arith) in
           (λ m. encode (readAll (sym (nr a .bit) m) (elem-of s (k .sort .is) m) (word-line i (k .index) m) (suc p) (index-list a n (index-length a ha (k .arr .deep)) m) (linesAt I a) .made))
           ∙ read-all (bitIn N a) (sortIn N s) (wordIn N i) a n (linesAt I a) (is-line a (omega arith)) two (size-of a ha) (cell-of a ha)
           ∙ sym (rw (eq-eqb (conIn N i) 0 z))
@@ -286,7 +286,7 @@ module _ {A B : Acc} {I : List Info} (v : Inv A B I) (N : Notes) (ne : Neat N) (
       is = k .sort .is
 
       deep : typeAt (A .lay) i .w ≤ 8
-      deep = let e : getD (N .idx) s 0 ≡ typeAt (A .lay) s .iw = tl .iw s (omega arith) in let f = ne .deep s in let g : typeAt (A .lay) i .w ≡ typeAt (A .lay) s .iw = k .iw in omega arith
+      deep = let e : deepIn N s ≡ typeAt (A .lay) s .iw = tl .iw s (omega arith) in let f = ne .deep s in let g : typeAt (A .lay) i .w ≡ typeAt (A .lay) s .iw = k .iw in omega arith
 
       same : sizeIn N a ≡ sizeIn N s
       same = ap (λ (j : ℕ). 2 ^ j) (tl .iw a (omega arith) ∙ k .same .iw ∙ sym (tl .iw s (omega arith)))

@@ -3,13 +3,15 @@ use Prim.Native.Nat.{ℕ, zero, suc, _+_, _-_, _*_, _≤_, _<_}
 use mathlib.Core.Path.{_≡_, refl, sym, ap, _∙_}
 use mathlib.Core.Logic.{_≢_}
 use mathlib.Core.Bool.{Bool, true, false}
+use mathlib.Core.List.{[], _∷_}
 use native.Mathlib.Nat.{mul-le-mul}
 use native.Mathlib.Omega.{arith}
 use lib.Dec.{eqb}
+use lib.ListN.{length, getD, replicate}
 use borrow.Author.Tests.{eqb-true, eqb-false, eq-eqb, ne-eqb}
 use Rattle.tables.specs.Pick.{pick}
 use Rattle.flattening.specs.declared.Source.{Source}
-use Rattle.flattening.specs.Model.{Held, atOf, oldOf, keyOf, cellBy, cellIn, Sound, Tame, turnAt, sourceAt}
+use Rattle.flattening.specs.Model.{Held, nothing, keptOf, atOf, oldOf, keyOf, cellBy, cellIn, Sound, Tame, turnAt, sourceAt}
 
 -- a step of a row
 pub product : (x j : ℕ) → x ≤ 256 → j < 256 → x * j ≤ 65536
@@ -96,3 +98,24 @@ source-own H s j i t e = ap (λ (x : ℕ). s .base + s .step * x) t ∙ rw (eq-e
 
 pub source-cell : (H : Held) (s : Source) (j i r : ℕ) → i ≡ turnAt s j → s .line ≢ 0 → r ≡ cellIn H (s .line) i → r ≡ sourceAt H s j
 source-cell H s j i r t d e = e ∙ ap (λ (x : ℕ). cellIn H (s .line) x) t ∙ rw (ne-eqb (s .line) 0 d)
+
+-- ---- nothing is kept yet
+
+pub nothing-at : (k : ℕ) → getD nothing k 0 ≡ 0
+nothing-at zero = refl
+nothing-at (suc zero) = refl
+nothing-at (suc (suc zero)) = refl
+nothing-at (suc (suc (suc zero))) = refl
+nothing-at (suc (suc (suc (suc zero)))) = refl
+nothing-at (suc (suc (suc (suc (suc k))))) = refl
+
+pub nothing-kept : (n k a : ℕ) → keptOf (replicate n nothing) k a ≡ 0
+nothing-kept zero k a = nothing-at k
+nothing-kept (suc n) k zero = nothing-at k
+nothing-kept (suc n) k (suc a) = nothing-kept n k a
+
+-- of a line that there is, whatever the default
+pub read-kept : (H : Held) (k a : ℕ) → a < length H → getD (getD H a []) k 0 ≡ keptOf H k a
+read-kept [] k a h = absurd (omega arith)
+read-kept (r ∷ H) k zero h = refl
+read-kept (r ∷ H) k (suc a) h = read-kept H k a (omega arith)

@@ -13,25 +13,24 @@ use lib.Seq.{getD-set-same, getD-set-other}
 use borrow.Author.Tests.{eqb-true, eqb-false}
 use Rattle.tables.specs.declared.Ty.{Ty}
 use Rattle.tables.specs.Pick.{pick}
+use Rattle.tables.specs.Lines.{five}
 use Rattle.flattening.specs.declared.Made.{Made}
 use Rattle.flattening.specs.Flat.{from, Info, writeCells, joined, joinedAll}
-use Rattle.flattening.specs.Model.{Held, held, atOf, oldOf, keyOf, cellBy, cellIn, Sound}
+use Rattle.flattening.specs.Model.{Held, nothing, keptOf, atOf, oldOf, keyOf, cellBy, cellIn, Sound}
 use Rattle.flattening.specs.Making.{Notes, notes}
 use Rattle.flattening.proofs.Holding.{cell-own, cell-new, cell-old}
 use Rattle.flattening.proofs.Agreeing.{KnownNote, NoteRel}
 
--- the lists with what is kept of the line n
+abbrev pub keptNow : Made → List ℕ
+keptNow m = five (m .at) (m .bit) (m .old) (m .key) (m .con)
+
+-- the list with what is kept of the line n
 abbrev pub noted : Notes → ℕ → Made → Notes
-noted N n m =
-    notes (set (N .held .at) n (m .at)) (set (N .bit) n (m .bit)) (set (N .held .old) n (m .old)) (set (N .held .key) n (m .key)) (set (N .con) n (m .con)) (N .idx) (N .wid)
+noted N n m = notes (set (N .held) n (keptNow m)) (N .types)
 
 -- there is a place for the line n
 pub record Holds (N : Notes) (n : ℕ) : Type 0 where
-  pub at : n < length (N .held .at)
-  pub bit : n < length (N .bit)
-  pub old : n < length (N .held .old)
-  pub key : n < length (N .held .key)
-  pub con : n < length (N .con)
+  pub place : n < length (N .held)
 
 module _ (N : Notes) (n : ℕ) (m : Made) where
   abbrev H : Held
@@ -40,14 +39,17 @@ module _ (N : Notes) (n : ℕ) (m : Made) where
   abbrev K : Held
   K = noted N n m .held
 
+  pub kept-other : (k a : ℕ) → a ≢ n → keptOf K k a ≡ keptOf H k a
+  kept-other k a d = ap (λ (r : List ℕ). getD r k 0) (getD-set-other (N .held) n a (keptNow m) nothing d)
+
   at-other : (a : ℕ) → a ≢ n → atOf K a ≡ atOf H a
-  at-other a d = getD-set-other (H .at) n a (m .at) 0 d
+  at-other a d = kept-other 0 a d
 
   old-other : (a : ℕ) → a ≢ n → oldOf K a ≡ oldOf H a
-  old-other a d = getD-set-other (H .old) n a (m .old) 0 d
+  old-other a d = kept-other 2 a d
 
   key-other : (a : ℕ) → a ≢ n → keyOf K a ≡ keyOf H a
-  key-other a d = getD-set-other (H .key) n a (m .key) 0 d
+  key-other a d = kept-other 3 a d
 
   -- an earlier line's cells are held where they were
   frame-by : Sound H → (k a j : ℕ) → a < n → cellBy K k a j ≡ cellBy H k a j
@@ -75,10 +77,10 @@ module _ (N : Notes) (n : ℕ) (m : Made) where
   note-other {f = f} s a d e r =
       record {
         elem = λ h. at-other a d ∙ r .elem h;
-        bit = getD-set-other (N .bit) n a (m .bit) 0 d ∙ r .bit;
+        bit = kept-other 1 a d ∙ r .bit;
         index = r .index;
         cells = λ j l. by (decLt a n) j l;
-        known = subst⁻¹ (λ (c : ℕ). KnownNote (f .known) c) (getD-set-other (N .con) n a (m .con) 0 d) (r .known);
+        known = subst⁻¹ (λ (c : ℕ). KnownNote (f .known) c) (kept-other 4 a d) (r .known);
       }
     where
       by : Dec (a < n) → (j : ℕ) → j < length (f .cells) → cellIn K a j ≡ getD (f .cells) j 0
@@ -86,14 +88,17 @@ module _ (N : Notes) (n : ℕ) (m : Made) where
       by (no h) j l = absurd (let z : length (f .cells) ≡ 0 = ap length (e (omega arith)) in omega arith)
 
   module _ (h : Holds N n) where
+    pub kept-new : (k : ℕ) → keptOf K k n ≡ getD (keptNow m) k 0
+    kept-new k = ap (λ (r : List ℕ). getD r k 0) (getD-set-same (N .held) n (keptNow m) nothing (h .place))
+
     at-new : atOf K n ≡ m .at
-    at-new = getD-set-same (H .at) n (m .at) 0 (h .at)
+    at-new = kept-new 0
 
     old-new : oldOf K n ≡ m .old
-    old-new = getD-set-same (H .old) n (m .old) 0 (h .old)
+    old-new = kept-new 2
 
     key-new : keyOf K n ≡ m .key
-    key-new = getD-set-same (H .key) n (m .key) 0 (h .key)
+    key-new = kept-new 3
 
     -- where the cells of lines are held stays sound
     pub sound-new : Sound H → (m .old ≢ 0 → m .old < n) → m .at ≤ 65536 → m .key ≤ 256 → Sound K

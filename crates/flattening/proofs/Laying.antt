@@ -1,12 +1,13 @@
 -- What one line is made, by its kind. Assumes nothing.
 use Prim.Native.Nat.{ℕ, suc, _+_, _-_, _*_, _^_, _≤_, _<_}
 use mathlib.Core.Path.{_≡_, refl, sym, ap, _∙_, subst, subst⁻¹}
-use mathlib.Core.Bool.{true, false}
+use mathlib.Core.Bool.{Bool, true, false}
 use mathlib.Core.Logic.{_≢_}
 use mathlib.Core.List.{List, []}
 use native.Mathlib.Omega.{arith}
+use lib.Dec.{eqb}
 use lib.Pow.{pow-mono}
-use borrow.Author.Tests.{eq-eqb, ne-eqb}
+use borrow.Author.Tests.{eq-eqb, ne-eqb, eqb-true, eqb-false}
 use lib.Arith.{lt-of-le-ne}
 use Rattle.tables.specs.Lines.{Line, Expr, Shape, isBitvec, isArray, isConst, isInput, isState, isOutput, isOne, isTwo, isIte, isRead, isWrite, isJunk, isGive, isMark, isCmp, shapeOf, build, lineOf, kindIn, sortIn as sortOf, firstIn, secondIn, thirdIn}
 use Rattle.tables.specs.Tables.{known}
@@ -70,19 +71,34 @@ as-key r n e = line-as r (shapeOf n) (ap shapeOf e)
 pub as-one : (r : List ℕ) → 10 < kindIn r → kindIn r ≤ 20 → lineOf r ≡ build isOne (kindIn r) (sortOf r) (firstIn r) (secondIn r) (thirdIn r)
 as-one r h l = line-as r isOne (shape-one (kindIn r) h l)
 
-pub as-two : (r : List ℕ) → 20 < kindIn r → known false (kindIn r) ≡ true → (kindIn r ≡ 21 → ⊥) → (kindIn r ≡ 22 → ⊥) → (kindIn r ≡ 53 → ⊥) → (kindIn r ≡ 54 → ⊥) → (kindIn r ≡ 55 → ⊥)
+pub as-two : (r : List ℕ) → 22 < kindIn r → known false (kindIn r) ≡ true → (kindIn r ≡ 53 → ⊥) → (kindIn r ≡ 54 → ⊥) → (kindIn r ≡ 55 → ⊥)
     → lineOf r ≡ build isTwo (kindIn r) (sortOf r) (firstIn r) (secondIn r) (thirdIn r)
-as-two r h e a b c d f = line-as r isTwo (shape-two (kindIn r) (past (past h a) b) (fewer (fewer (fewer (range 1 55 (kindIn r) e .1) f) d) c))
+as-two r h e c d f = line-as r isTwo (shape-two (kindIn r) h (fewer (fewer (fewer (range 1 55 (kindIn r) e .1) f) d) c))
   where
     fewer : {k n : ℕ} → k ≤ suc n → (k ≡ suc n → ⊥) → k ≤ n
     fewer x y = within (lt-of-le-ne x y)
 
-pub as-output : (r : List ℕ) → kindIn r ≤ 10 → known false (kindIn r) ≡ true → (kindIn r ≡ 1 → ⊥) → (kindIn r ≡ 2 → ⊥) → (kindIn r ≡ 3 → ⊥) → (kindIn r ≡ 4 → ⊥) → (kindIn r ≡ 5 → ⊥) → (kindIn r ≡ 6 → ⊥)
-    → (kindIn r ≡ 7 → ⊥) → (kindIn r ≡ 8 → ⊥) → (kindIn r ≡ 9 → ⊥) → lineOf r ≡ Line.output (firstIn r)
-as-output r h e a₁ a₂ a₃ a₄ a₅ a₆ a₇ a₈ a₉ = as-key r 10 (top h (past (past (past (past (past (past (past (past (past (range 1 55 (kindIn r) e .0) a₁) a₂) a₃) a₄) a₅) a₆) a₇) a₈) a₉))
+-- one of two kinds, n and the next
+as-either : (r : List ℕ) (n : ℕ) (F : Bool → Line) → n ≤ kindIn r → kindIn r ≤ suc n → (kindIn r ≡ n → lineOf r ≡ F true) → (kindIn r ≡ suc n → lineOf r ≡ F false) → lineOf r ≡ F (eqb (kindIn r) n)
+as-either r n F h l f g = go (eqb (kindIn r) n) refl
   where
-    top : kindIn r ≤ 10 → 10 ≤ kindIn r → kindIn r ≡ 10
-    top x y = omega arith
+    go : (b : Bool) → eqb (kindIn r) n ≡ b → lineOf r ≡ F b
+    go true e = f (eqb-true (kindIn r) n e)
+    go false e = let d = eqb-false (kindIn r) n e in g (top (past h d) l)
+      where
+        top : suc n ≤ kindIn r → kindIn r ≤ suc n → kindIn r ≡ suc n
+        top x y = omega arith
+
+pub as-cmp : (r : List ℕ) → 20 < kindIn r → kindIn r ≤ 22 → lineOf r ≡ Line.val (sortOf r) (Expr.cmp (eqb (kindIn r) 21) (firstIn r) (secondIn r))
+as-cmp r h l = as-either r 21 (λ b. Line.val (sortOf r) (Expr.cmp b (firstIn r) (secondIn r))) h l (as-key r 21) (as-key r 22)
+
+pub as-mark : (r : List ℕ) → 7 < kindIn r → kindIn r ≤ 10 → (kindIn r ≡ 10 → ⊥) → lineOf r ≡ Line.mark (eqb (kindIn r) 8) (firstIn r)
+as-mark r h l d = as-either r 8 (λ b. Line.mark b (firstIn r)) h (within (lt-of-le-ne l d)) (as-key r 8) (as-key r 9)
+
+pub as-give : (r : List ℕ) → known false (kindIn r) ≡ true → kindIn r ≤ 7 → (kindIn r ≡ 1 → ⊥) → (kindIn r ≡ 2 → ⊥) → (kindIn r ≡ 3 → ⊥) → (kindIn r ≡ 4 → ⊥) → (kindIn r ≡ 5 → ⊥)
+    → lineOf r ≡ Line.give (eqb (kindIn r) 6) (sortOf r) (firstIn r) (secondIn r)
+as-give r e l a₁ a₂ a₃ a₄ a₅ =
+    as-either r 6 (λ b. Line.give b (sortOf r) (firstIn r) (secondIn r)) (past (past (past (past (past (range 1 55 (kindIn r) e .0) a₁) a₂) a₃) a₄) a₅) l (as-key r 6) (as-key r 7)
 
 -- the kinds that leave one flat line
 pub count-rest : (N : Notes) (r : List ℕ) → known false (kindIn r) ≡ true → (kindIn r ≡ 2 → ⊥) → (kindIn r ≡ 5 → ⊥) → (kindIn r ≡ 6 → ⊥) → (kindIn r ≡ 7 → ⊥) → (kindIn r ≡ 21 → ⊥) → (kindIn r ≡ 22 → ⊥)

@@ -9,7 +9,7 @@ use native.Mathlib.Omega.{arith}
 use native.Mathlib.Decide.{decLt}
 use lib.Dec.{eqb}
 use lib.ListN.{length, getD, set, take, drop, replicate, length-append, length-replicate, length-set, List·getD-map, List·getD-eq-default}
-use lib.Seq.{take-append-seam, drop-append-add, getD-at, getD-set-same, getD-set-other}
+use lib.Seq.{take-append-seam, drop-append-add, getD-at}
 use lib.Pow.{pow-pos}
 use borrow.Author.Tests.{eqb-true, eqb-false, le-leb, lt-leb}
 use Rattle.tables.specs.declared.Ty.{Ty}
@@ -19,9 +19,10 @@ use Rattle.tables.specs.Pick.{pick}
 use Rattle.tables.specs.Lines.{Line, Expr, five, lineOf, kindIn, records, recordAt, decode, encode, counted, cmpKind, giveKind}
 use Rattle.tables.proofs.Values.{val-value}
 use Rattle.tables.specs.Types.{lineType, Ctx, noTy, tyAt, given, grow, growAll, noCtx, context}
+use Rattle.tables.specs.Notes.{lookIn}
 use Rattle.tables.specs.Tables.{whole, room, known, formed, keeps, lawful, checked}
 use Rattle.tables.proofs.Kept.{both}
-use Rattle.tables.proofs.Checking.{roomy, zeros-at}
+use Rattle.tables.proofs.Checking.{roomy}
 use Rattle.tables.proofs.Showing.{snoc-other}
 use Rattle.tables.proofs.Counted.{length-records, record-at}
 use Rattle.tables.proofs.Facts.{Ok, AllOk}
@@ -37,17 +38,18 @@ use Rattle.flattening.specs.declared.Flattened.the-variants.{Done, Refus
 use Rattle.flattening.specs.declared.Made.{Made}
 use Rattle.flattening.specs.Flat.{Info, noInfo, infoAt, chunk, flatten, flatLines, flatTable, joinKind}
 use Rattle.flattening.specs.Answers.{fitting, flattened, leftOf, targetLeft}
-use Rattle.flattening.specs.Model.{Held, words, rowAt, pairAt, cellIn}
-use Rattle.flattening.specs.Making.{run, still, of, runDown, ofDown, joinWords, readWords, writeWords, Notes, notes, sortIn, wordIn, sizeIn, bitIn, conIn, givenFrom, made, flatCount, flatWords, flatMade, Neat, Deep, Fit, Laid, Shallow}
+use Rattle.flattening.specs.Model.{Held, nothing, keptOf, words, rowAt, pairAt, cellIn}
+use Rattle.flattening.specs.Making.{deepIn, wideIn, run, still, of, runDown, ofDown, joinWords, readWords, writeWords, Notes, notes, sortIn, wordIn, sizeIn, bitIn, conIn, givenFrom, made, flatCount, flatWords, flatMade, Neat, Deep, Fit, Laid, Shallow}
 use Rattle.flattening.specs.Begun.{Begun}
 use Rattle.flattening.proofs.Walk.{new-type}
 use Rattle.flattening.proofs.Rel.{Inv}
+use Rattle.flattening.proofs.Holding.{nothing-kept}
 use Rattle.flattening.proofs.Placing.{length-row, length-pairs, join-some}
 use Rattle.flattening.proofs.Laying.{size-two}
 use Rattle.flattening.proofs.Rowing.{encode-append}
 use Rattle.flattening.proofs.Alike.{zeros, step-lay}
 use Rattle.flattening.proofs.Agreeing.{NoteRel, Told, line-words}
-use Rattle.flattening.proofs.Keeping.{noted, Holds, note-other, sound-new}
+use Rattle.flattening.proofs.Keeping.{keptNow, noted, Holds, kept-other, kept-new, note-other, sound-new}
 use Rattle.flattening.proofs.Remembering.{LineKept, line-kept}
 use Rattle.flattening.proofs.Passing.{lineIn, chunkAt, sofar, all-lines, lines-le, walked, flatWalked, walked-suc, ok-at, inv-at, flat-length, walked-ext, walked-length}
 
@@ -75,7 +77,7 @@ read-length H p o i s a n h =
 words-length : (N : Notes) (p : ℕ) (l : Line) → Deep N l → length (flatWords N p l) ≡ 5 * flatCount N l
 words-length N p (Line.bitvec w) d = refl
 words-length N p (Line.array i e) d =
-    let n = 2 ^ getD (N .wid) i 0 in
+    let n = 2 ^ wideIn N i in
     length-append (five 1 0 1 0 0) (words n (rowAt (N .held) 3 (sortIn N i) (run 0 1) (still 0) (still 0))) ∙ omega (arith, length-row (N .held) 3 (sortIn N i) (run 0 1) (still 0) (still 0) n)
 words-length N p (Line.input s) d = refl
 words-length N p (Line.state s) d = length-row (N .held) 5 (sortIn N s) (still 0) (still 0) (still 0) (sizeIn N s)
@@ -85,51 +87,16 @@ words-length N p (Line.val s (Expr.two k a b)) d = refl
 words-length N p (Line.val s (Expr.cmp e a b)) d =
     let n = sizeIn N a in
     length-append (words n (rowAt (N .held) (cmpKind e) (sortIn N s) (of a) (of b) (still 0))) (joinWords (N .held) p (joinKind e) (sortIn N s) n)
-    ∙ omega (arith, length-row (N .held) (cmpKind e) (sortIn N s) (of a) (of b) (still 0) n, join-length (N .held) p (joinKind e) (sortIn N s) n (pow-pos (getD (N .idx) a 0)))
+    ∙ omega (arith, length-row (N .held) (cmpKind e) (sortIn N s) (of a) (of b) (still 0) n, join-length (N .held) p (joinKind e) (sortIn N s) n (pow-pos (deepIn N a)))
 words-length N p (Line.val s (Expr.ite c a b)) d = length-row (N .held) 53 (sortIn N s) (still (wordIn N c)) (of a) (of b) (sizeIn N a)
 words-length N p (Line.val s (Expr.read a i)) d =
-    pick-length (eqb (conIn N i) 0) (readWords (N .held) p (bitIn N a) (wordIn N i) (sortIn N s) a (sizeIn N a)) (2 * (sizeIn N a - 1)) (read-length (N .held) p (bitIn N a) (wordIn N i) (sortIn N s) a (sizeIn N a) (size-two (getD (N .idx) a 0) d))
+    pick-length (eqb (conIn N i) 0) (readWords (N .held) p (bitIn N a) (wordIn N i) (sortIn N s) a (sizeIn N a)) (2 * (sizeIn N a - 1)) (read-length (N .held) p (bitIn N a) (wordIn N i) (sortIn N s) a (sizeIn N a) (size-two (deepIn N a) d))
 words-length N p (Line.val s (Expr.write a i x)) d =
     pick-length (eqb (conIn N i) 0) (writeWords (N .held) p (bitIn N s) (wordIn N i) (sortIn N s) (wordIn N x) a (sizeIn N s)) (2 * sizeIn N s) (length-pairs (N .held) p (bitIn N s) (wordIn N i) (sortIn N s) (run (bitIn N s + 1) 1) (still (wordIn N x)) (of a) (sizeIn N s) ∙ omega arith)
 words-length N p (Line.give m s q a) d = length-row (N .held) (giveKind m) (sortIn N s) (of q) (givenFrom N m a) (still 0) (sizeIn N q)
 words-length N p (Line.mark m a) d = refl
 words-length N p (Line.output a) d = refl
 words-length N p Line.junk d = refl
-
--- the count needs only the widths and the constants
-pub count-same : (at bit old key con idx wid : List ℕ) (l : Line) → flatCount (notes [] [] [] [] con idx wid) l ≡ flatCount (notes at bit old key con idx wid) l
-count-same at bit old key con idx wid (Line.bitvec w) = refl
-count-same at bit old key con idx wid (Line.array i e) = refl
-count-same at bit old key con idx wid (Line.input s) = refl
-count-same at bit old key con idx wid (Line.state s) = refl
-count-same at bit old key con idx wid (Line.val s (Expr.const c)) = refl
-count-same at bit old key con idx wid (Line.val s (Expr.one k a x y)) = refl
-count-same at bit old key con idx wid (Line.val s (Expr.two k a b)) = refl
-count-same at bit old key con idx wid (Line.val s (Expr.cmp e a b)) = refl
-count-same at bit old key con idx wid (Line.val s (Expr.ite c a b)) = refl
-count-same at bit old key con idx wid (Line.val s (Expr.read a i)) = refl
-count-same at bit old key con idx wid (Line.val s (Expr.write a i x)) = refl
-count-same at bit old key con idx wid (Line.give m s q a) = refl
-count-same at bit old key con idx wid (Line.mark m a) = refl
-count-same at bit old key con idx wid (Line.output a) = refl
-count-same at bit old key con idx wid Line.junk = refl
-
-pub deep-same : (at bit old key con idx wid : List ℕ) (l : Line) → Deep (notes at bit old key con idx wid) l → Deep (notes [] [] [] [] con idx wid) l
-deep-same at bit old key con idx wid (Line.bitvec w) d = d
-deep-same at bit old key con idx wid (Line.array i e) d = d
-deep-same at bit old key con idx wid (Line.input s) d = d
-deep-same at bit old key con idx wid (Line.state s) d = d
-deep-same at bit old key con idx wid (Line.val s (Expr.const c)) d = d
-deep-same at bit old key con idx wid (Line.val s (Expr.one k a x y)) d = d
-deep-same at bit old key con idx wid (Line.val s (Expr.two k a b)) d = d
-deep-same at bit old key con idx wid (Line.val s (Expr.cmp e a b)) d = d
-deep-same at bit old key con idx wid (Line.val s (Expr.ite c a b)) d = d
-deep-same at bit old key con idx wid (Line.val s (Expr.read a i)) d = d
-deep-same at bit old key con idx wid (Line.val s (Expr.write a i x)) d = d
-deep-same at bit old key con idx wid (Line.give m s q a) d = d
-deep-same at bit old key con idx wid (Line.mark m a) d = d
-deep-same at bit old key con idx wid (Line.output a) d = d
-deep-same at bit old key con idx wid Line.junk d = d
 
 next-of : (N : Notes) (p : ℕ) (l : Line) → flatMade N p l .next ≡ p + flatCount N l
 next-of N p (Line.bitvec w) = refl
@@ -231,31 +198,27 @@ module _ (t : List ℕ) (n : ℕ) (acc : checked false t n ≡ Accepted) where
 
   -- ---- what holds after the first i lines
 
-  module _ (idx wid : List ℕ) (eiw : (a : ℕ) → getD idx a 0 ≡ tyAt (context false C) a .iw) (ew : (a : ℕ) → getD wid a 0 ≡ tyAt (context false C) a .w) (len size : ℕ) (wide : n < size) where
-    pub record Pass (i p : ℕ) (at bit old key con target : List ℕ) : Type 0 where
+  module _ (types : List (List ℕ)) (eiw : (a : ℕ) → lookIn types a .iw ≡ tyAt (context false C) a .iw) (ew : (a : ℕ) → lookIn types a .w ≡ tyAt (context false C) a .w) (len size : ℕ) (wide : n < size) where
+    pub record Pass (i p : ℕ) (kept : List (List ℕ)) (target : List ℕ) : Type 0 where
       pub upto : i ≤ n
-      pub of-at : length at ≡ size
-      pub of-bit : length bit ≡ size
-      pub of-old : length old ≡ size
-      pub of-key : length key ≡ size
-      pub of-con : length con ≡ size
-      pub neat : Neat (notes at bit old key con idx wid)
-      pub rel : (a : ℕ) → NoteRel (notes at bit old key con idx wid) (typeAt (walked C i .lay) a) a (infoAt (sofar C i .infos) a)
+      pub of-kept : length kept ≡ size
+      pub neat : Neat (notes kept types)
+      pub rel : (a : ℕ) → NoteRel (notes kept types) (typeAt (walked C i .lay) a) a (infoAt (sofar C i .infos) a)
       pub count : p ≡ length (sofar C i .lines)
       pub fits : p ≤ room len
       pub words : target ≡ encode (sofar C i .lines) ++ replicate (len - 5 * p) 0
 
-    told : (i : ℕ) → i ≤ n → (at bit old key con : List ℕ) → Told (walked C i) (notes at bit old key con idx wid)
-    told i h at bit old key con =
+    told : (i : ℕ) → i ≤ n → (kept : List (List ℕ)) → Told (walked C i) (notes kept types)
+    told i h kept =
         record {
           none = type-none i h;
           iw = λ a k. eiw a ∙ sym (ap (λ (x : Ty). x .iw) (types-at i h a k .1));
           w = λ a k. ew a ∙ sym (ap (λ (x : Ty). x .w) (types-at i h a k .1));
         }
 
-    module _ {i p : ℕ} {at bit old key con target : List ℕ} (s : Pass i p at bit old key con target) (h : i < n) where
+    module _ {i p : ℕ} {kept : List (List ℕ)} {target : List ℕ} (s : Pass i p kept target) (h : i < n) where
       abbrev N : Notes
-      N = notes at bit old key con idx wid
+      N = notes kept types
 
       abbrev l : Line
       l = lineIn C i
@@ -269,10 +232,10 @@ module _ (t : List ℕ) (n : ℕ) (acc : checked false t n ≡ Accepted) where
       k : Ok false (tyAt (walked C i .lay .ctx)) (given (walked C i .lay .ctx)) (lineIn C i)
       k = ok-at C ok-C i (subst⁻¹ (λ (m : ℕ). i < m) size-C h)
 
-      tl : Told (walked C i) (notes at bit old key con idx wid)
-      tl = told i (s .upto) at bit old key con
+      tl : Told (walked C i) (notes kept types)
+      tl = told i (s .upto) kept
 
-      deep-of : (m : Line) → Ok false (tyAt (walked C i .lay .ctx)) (given (walked C i .lay .ctx)) m → Deep (notes at bit old key con idx wid) m
+      deep-of : (m : Line) → Ok false (tyAt (walked C i .lay .ctx)) (given (walked C i .lay .ctx)) m → Deep (notes kept types) m
       deep-of (Line.bitvec w) q = tt
       deep-of (Line.array x e) q = let z = q .index .is in let y = tl .w x (omega arith) in let g = q .most in omega arith
       deep-of (Line.input x) q = tt
@@ -289,32 +252,32 @@ module _ (t : List ℕ) (n : ℕ) (acc : checked false t n ≡ Accepted) where
       deep-of (Line.output a) q = tt
       deep-of Line.junk q = tt
 
-      pub deep : Deep (notes at bit old key con idx wid) (lineIn C i)
+      pub deep : Deep (notes kept types) (lineIn C i)
       deep = deep-of (lineIn C i) k
 
       -- the words of the line's chunk, and the number of its lines
-      chunk-words : encode (chunkAt (sofar C i) (lineIn C i) .lines) ≡ flatWords (notes at bit old key con idx wid) p (lineIn C i)
-      chunk-words = ap (λ (b : ℕ). encode (chunk (sofar C i .infos) (suc b) (lineIn C i) .lines)) (sym (s .count)) ∙ line-words v (notes at bit old key con idx wid) (s .neat) tl (s .rel) p (lineIn C i) k
+      chunk-words : encode (chunkAt (sofar C i) (lineIn C i) .lines) ≡ flatWords (notes kept types) p (lineIn C i)
+      chunk-words = ap (λ (b : ℕ). encode (chunk (sofar C i .infos) (suc b) (lineIn C i) .lines)) (sym (s .count)) ∙ line-words v (notes kept types) (s .neat) tl (s .rel) p (lineIn C i) k
 
-      chunk-length : length (chunkAt (sofar C i) (lineIn C i) .lines) ≡ flatCount (notes at bit old key con idx wid) (lineIn C i)
+      chunk-length : length (chunkAt (sofar C i) (lineIn C i) .lines) ≡ flatCount (notes kept types) (lineIn C i)
       chunk-length =
           let L = chunkAt (sofar C i) (lineIn C i) .lines in
-          let e = ap length chunk-words ∙ words-length (notes at bit old key con idx wid) p (lineIn C i) deep in
+          let e = ap length chunk-words ∙ words-length (notes kept types) p (lineIn C i) deep in
           omega (arith, e, length-encode L)
 
-      next-length : length (sofar C (suc i) .lines) ≡ p + flatCount (notes at bit old key con idx wid) (lineIn C i)
+      next-length : length (sofar C (suc i) .lines) ≡ p + flatCount (notes kept types) (lineIn C i)
       next-length = length-append (sofar C i .lines) (chunkAt (sofar C i) (lineIn C i) .lines) ∙ omega (arith, chunk-length, s .count)
 
       -- too many: so are all lines
-      pub too-many : room len < p + flatCount (notes at bit old key con idx wid) (lineIn C i) → room len < length (flatten C)
+      pub too-many : room len < p + flatCount (notes kept types) (lineIn C i) → room len < length (flatten C)
       too-many g = omega (arith, g, next-length, lines-le C (suc i) (subst⁻¹ (λ (m : ℕ). suc i ≤ m) size-C h))
 
       pub length-target : length target ≡ len
       length-target = ap length (s .words) ∙ length-append (encode (sofar C i .lines)) (replicate (len - 5 * p) 0) ∙ omega (arith, length-encode (sofar C i .lines), length-replicate {A = ℕ} (len - 5 * p) 0, s .count, roomy len p (s .fits) .1)
 
-      pub fit : p + flatCount (notes at bit old key con idx wid) (lineIn C i) ≤ room len → Fit (notes at bit old key con idx wid) p (lineIn C i) (length target)
+      pub fit : p + flatCount (notes kept types) (lineIn C i) ≤ room len → Fit (notes kept types) p (lineIn C i) (length target)
       fit g =
-          let r = roomy len (p + flatCount (notes at bit old key con idx wid) (lineIn C i)) g in
+          let r = roomy len (p + flatCount (notes kept types) (lineIn C i)) g in
           record {
             neat = s .neat;
             low = omega (arith, roomy len p (s .fits) .0);
@@ -346,66 +309,62 @@ module _ (t : List ℕ) (n : ℕ) (acc : checked false t n ≡ Accepted) where
       info-this : infoAt (sofar C (suc i) .infos) (suc i) ≡ chunkAt (sofar C i) (lineIn C i) .info
       info-this = getD-at (sofar C i .infos) (chunkAt (sofar C i) (lineIn C i) .info) [] noInfo (suc i) len-infos
 
-      places : Holds (notes at bit old key con idx wid) (suc i)
+      places : Holds (notes kept types) (suc i)
       places =
           let q = many .0 in
-          record { at = omega (arith, s .of-at, wide); bit = omega (arith, s .of-bit, wide); old = omega (arith, s .of-old, wide); key = omega (arith, s .of-key, wide); con = omega (arith, s .of-con, wide) }
+          record { place = omega (arith, s .of-kept, wide) }
 
-      module _ (g : p + flatCount (notes at bit old key con idx wid) (lineIn C i) ≤ room len) where
+      module _ (g : p + flatCount (notes kept types) (lineIn C i) ≤ room len) where
         abbrev m : Made
-        m = flatMade (notes at bit old key con idx wid) p (lineIn C i)
+        m = flatMade (notes kept types) p (lineIn C i)
 
-        lk : LineKept (notes at bit old key con idx wid) (suc i) (flatMade (notes at bit old key con idx wid) p (lineIn C i)) (typeOf false (walked C i .lay) (lineIn C i)) (chunk (sofar C i .infos) (suc p) (lineIn C i) .info)
+        lk : LineKept (notes kept types) (suc i) (flatMade (notes kept types) p (lineIn C i)) (typeOf false (walked C i .lay) (lineIn C i)) (chunk (sofar C i .infos) (suc p) (lineIn C i) .info)
         lk =
-            line-kept v (notes at bit old key con idx wid) (s .neat) tl (s .rel) p (suc i) places (ap suc (s .count) ∙ flat-length C i) (λ a z. types-at i (s .upto) a z .0) (lineIn C i) k
-            (roomy len (p + flatCount (notes at bit old key con idx wid) (lineIn C i)) g .0)
+            line-kept v (notes kept types) (s .neat) tl (s .rel) p (suc i) places (ap suc (s .count) ∙ flat-length C i) (λ a z. types-at i (s .upto) a z .0) (lineIn C i) k
+            (roomy len (p + flatCount (notes kept types) (lineIn C i)) g .0)
 
-        neat-by : (xs : List ℕ) (x c : ℕ) → suc i < length xs → ((a : ℕ) → getD xs a 0 ≤ c) → x ≤ c → (a : ℕ) → getD (set xs (suc i) x) a 0 ≤ c
-        neat-by xs x c b f e a = go (eqb a (suc i)) refl
+        neat-by : (k c : ℕ) → ((a : ℕ) → keptOf kept k a ≤ c) → getD (keptNow m) k 0 ≤ c → (a : ℕ) → keptOf (set kept (suc i) (keptNow m)) k a ≤ c
+        neat-by k c f e a = go (eqb a (suc i)) refl
           where
-            go : (y : Bool) → eqb a (suc i) ≡ y → getD (set xs (suc i) x) a 0 ≤ c
-            go true q = subst⁻¹ (λ (y : ℕ). y ≤ c) (ap (λ (y : ℕ). getD (set xs (suc i) x) y 0) (eqb-true a (suc i) q) ∙ getD-set-same xs (suc i) x 0 b) e
-            go false q = subst⁻¹ (λ (y : ℕ). y ≤ c) (getD-set-other xs (suc i) a x 0 (eqb-false a (suc i) q)) (f a)
+            go : (y : Bool) → eqb a (suc i) ≡ y → keptOf (set kept (suc i) (keptNow m)) k a ≤ c
+            go true q = subst⁻¹ (λ (y : ℕ). y ≤ c) (ap (λ (y : ℕ). keptOf (set kept (suc i) (keptNow m)) k y) (eqb-true a (suc i) q) ∙ kept-new (notes kept types) (suc i) m places k) e
+            go false q = subst⁻¹ (λ (y : ℕ). y ≤ c) (kept-other (notes kept types) (suc i) m k a (eqb-false a (suc i) q)) (f a)
 
-        rel-next : (a : ℕ) → NoteRel (noted (notes at bit old key con idx wid) (suc i) m) (typeAt (walked C (suc i) .lay) a) a (infoAt (sofar C (suc i) .infos) a)
+        rel-next : (a : ℕ) → NoteRel (noted (notes kept types) (suc i) m) (typeAt (walked C (suc i) .lay) a) a (infoAt (sofar C (suc i) .infos) a)
         rel-next a = go (eqb a (suc i)) refl
           where
             N′ : Notes
-            N′ = noted (notes at bit old key con idx wid) (suc i) m
+            N′ = noted (notes kept types) (suc i) m
 
-            go : (b : Bool) → eqb a (suc i) ≡ b → NoteRel (noted (notes at bit old key con idx wid) (suc i) m) (typeAt (walked C (suc i) .lay) a) a (infoAt (sofar C (suc i) .infos) a)
+            go : (b : Bool) → eqb a (suc i) ≡ b → NoteRel (noted (notes kept types) (suc i) m) (typeAt (walked C (suc i) .lay) a) a (infoAt (sofar C (suc i) .infos) a)
             go true q =
-                subst⁻¹ (λ (x : ℕ). NoteRel (noted (notes at bit old key con idx wid) (suc i) m) (typeAt (walked C (suc i) .lay) x) x (infoAt (sofar C (suc i) .infos) x)) (eqb-true a (suc i) q)
-                (subst⁻¹ (λ (x : Ty). NoteRel (noted (notes at bit old key con idx wid) (suc i) m) x (suc i) (infoAt (sofar C (suc i) .infos) (suc i))) type-this
-                (subst⁻¹ (λ (x : Info). NoteRel (noted (notes at bit old key con idx wid) (suc i) m) (typeOf false (walked C i .lay) (lineIn C i)) (suc i) x)
+                subst⁻¹ (λ (x : ℕ). NoteRel (noted (notes kept types) (suc i) m) (typeAt (walked C (suc i) .lay) x) x (infoAt (sofar C (suc i) .infos) x)) (eqb-true a (suc i) q)
+                (subst⁻¹ (λ (x : Ty). NoteRel (noted (notes kept types) (suc i) m) x (suc i) (infoAt (sofar C (suc i) .infos) (suc i))) type-this
+                (subst⁻¹ (λ (x : Info). NoteRel (noted (notes kept types) (suc i) m) (typeOf false (walked C i .lay) (lineIn C i)) (suc i) x)
                 (info-this ∙ ap (λ (b : ℕ). chunk (sofar C i .infos) (suc b) (lineIn C i) .info) (sym (s .count))) (lk .note)))
             go false q =
                 let d = eqb-false a (suc i) q in
-                subst⁻¹ (λ (x : Ty). NoteRel (noted (notes at bit old key con idx wid) (suc i) m) x a (infoAt (sofar C (suc i) .infos) a)) (type-other a d)
-                (subst⁻¹ (λ (x : Info). NoteRel (noted (notes at bit old key con idx wid) (suc i) m) (typeAt (walked C i .lay) a) a x) (info-other a d)
-                (note-other (notes at bit old key con idx wid) (suc i) m (s .neat .sound) a d
+                subst⁻¹ (λ (x : Ty). NoteRel (noted (notes kept types) (suc i) m) x a (infoAt (sofar C (suc i) .infos) a)) (type-other a d)
+                (subst⁻¹ (λ (x : Info). NoteRel (noted (notes kept types) (suc i) m) (typeAt (walked C i .lay) a) a x) (info-other a d)
+                (note-other (notes kept types) (suc i) m (s .neat .sound) a d
                 (λ z. ap (λ (x : Info). x .cells) (List·getD-eq-default (sofar C i .infos) noInfo {n = a} (omega (arith, len-infos)))) (s .rel a)))
 
-        further : {target₁ : List ℕ} → target₁ ≡ put target (5 * p) (flatWords (notes at bit old key con idx wid) p (lineIn C i))
-            → Pass (suc i) (m .next) (set at (suc i) (m .at)) (set bit (suc i) (m .bit)) (set old (suc i) (m .old)) (set key (suc i) (m .key)) (set con (suc i) (m .con)) target₁
+        further : {target₁ : List ℕ} → target₁ ≡ put target (5 * p) (flatWords (notes kept types) p (lineIn C i))
+            → Pass (suc i) (m .next) (set kept (suc i) (keptNow m)) target₁
         further e =
             record {
               upto = h;
-              of-at = length-set at (suc i) (m .at) ∙ s .of-at;
-              of-bit = length-set bit (suc i) (m .bit) ∙ s .of-bit;
-              of-old = length-set old (suc i) (m .old) ∙ s .of-old;
-              of-key = length-set key (suc i) (m .key) ∙ s .of-key;
-              of-con = length-set con (suc i) (m .con) ∙ s .of-con;
+              of-kept = length-set kept (suc i) (keptNow m) ∙ s .of-kept;
               neat =
                   record {
-                    sound = sound-new (notes at bit old key con idx wid) (suc i) m places (s .neat .sound) (lk .falls) (lk .low) (lk .few);
-                    bit = neat-by bit (m .bit) 65536 (places .bit) (s .neat .bit) (lk .bit);
-                    con = neat-by con (m .con) 256 (places .con) (s .neat .con) (lk .con);
+                    sound = sound-new (notes kept types) (suc i) m places (s .neat .sound) (lk .falls) (lk .low) (lk .few);
+                    bit = neat-by 1 65536 (s .neat .bit) (lk .bit);
+                    con = neat-by 4 256 (s .neat .con) (lk .con);
                     deep = s .neat .deep;
                   };
               rel = rel-next;
-              count = next-of (notes at bit old key con idx wid) p (lineIn C i) ∙ sym next-length;
-              fits = subst⁻¹ (λ (x : ℕ). x ≤ room len) (next-of (notes at bit old key con idx wid) p (lineIn C i)) g;
+              count = next-of (notes kept types) p (lineIn C i) ∙ sym next-length;
+              fits = subst⁻¹ (λ (x : ℕ). x ≤ room len) (next-of (notes kept types) p (lineIn C i)) g;
               words = e ∙ all-words;
             }
           where
@@ -416,29 +375,29 @@ module _ (t : List ℕ) (n : ℕ) (acc : checked false t n ≡ Accepted) where
             L = chunkAt (sofar C i) (lineIn C i) .lines
 
             q : ℕ
-            q = flatCount (notes at bit old key con idx wid) (lineIn C i)
+            q = flatCount (notes kept types) (lineIn C i)
 
-            all-words : put target (5 * p) (flatWords (notes at bit old key con idx wid) p (lineIn C i)) ≡ encode (sofar C (suc i) .lines) ++ replicate (len - 5 * m .next) 0
+            all-words : put target (5 * p) (flatWords (notes kept types) p (lineIn C i)) ≡ encode (sofar C (suc i) .lines) ++ replicate (len - 5 * m .next) 0
             all-words =
                 let e₁ : 5 * p ≡ length (encode (sofar C i .lines)) = omega (arith, length-encode (sofar C i .lines), s .count) in
-                let e₂ : len - 5 * p - 5 * flatCount (notes at bit old key con idx wid) (lineIn C i) ≡ len - 5 * m .next = omega (arith, next-of (notes at bit old key con idx wid) p (lineIn C i)) in
+                let e₂ : len - 5 * p - 5 * flatCount (notes kept types) (lineIn C i) ≡ len - 5 * m .next = omega (arith, next-of (notes kept types) p (lineIn C i)) in
                 ap₂ (λ (x y : List ℕ). put x (5 * p) y) (s .words) (sym chunk-words)
-                ∙ put-end (encode (sofar C i .lines)) (encode (chunkAt (sofar C i) (lineIn C i) .lines)) (5 * p) (len - 5 * p) (5 * flatCount (notes at bit old key con idx wid) (lineIn C i)) e₁
+                ∙ put-end (encode (sofar C i .lines)) (encode (chunkAt (sofar C i) (lineIn C i) .lines)) (5 * p) (len - 5 * p) (5 * flatCount (notes kept types) (lineIn C i)) e₁
                 (length-encode (chunkAt (sofar C i) (lineIn C i) .lines) ∙ ap (λ (x : ℕ). 5 * x) chunk-length)
                 ∙ ap₂ (λ (x : List ℕ) (y : ℕ). x ++ replicate y 0) (sym (encode-append (sofar C i .lines) (chunkAt (sofar C i) (lineIn C i) .lines))) e₂
 
         -- the same, as the code says it
-        pub passed : (q : ℕ) (r : Made) {target₁ : List ℕ} → q ≡ suc i → Laid (notes at bit old key con idx wid) p (lineIn C i) target target₁ r
-            → Pass q (r .next) (set at q (r .at)) (set bit q (r .bit)) (set old q (r .old)) (set key q (r .key)) (set con q (r .con)) target₁
+        pub passed : (q : ℕ) (r : Made) {target₁ : List ℕ} → q ≡ suc i → Laid (notes kept types) p (lineIn C i) target target₁ r
+            → Pass q (r .next) (set kept q (keptNow r)) target₁
         passed q r {target₁} e d =
-            subst⁻¹ (λ (x : ℕ). Pass x (r .next) (set at x (r .at)) (set bit x (r .bit)) (set old x (r .old)) (set key x (r .key)) (set con x (r .con)) target₁) e
-            (subst⁻¹ (λ (x : Made). Pass (suc i) (x .next) (set at (suc i) (x .at)) (set bit (suc i) (x .bit)) (set old (suc i) (x .old)) (set key (suc i) (x .key)) (set con (suc i) (x .con)) target₁) (d .kept) (further (d .words)))
+            subst⁻¹ (λ (x : ℕ). Pass x (r .next) (set kept x (keptNow r)) target₁) e
+            (subst⁻¹ (λ (x : Made). Pass (suc i) (x .next) (set kept (suc i) (keptNow x)) target₁) (d .kept) (further (d .words)))
 
     -- ---- the start and the answers
 
-    empty-note : {idx₁ wid₁ : List ℕ} (a₁ a₂ a₃ a₄ a₅ : ℕ) (t₁ : Ty) (a : ℕ) → t₁ .cls ≡ 0 → NoteRel (notes (replicate a₁ 0) (replicate a₂ 0) (replicate a₃ 0) (replicate a₄ 0) (replicate a₅ 0) idx₁ wid₁) t₁ a noInfo
-    empty-note a₁ a₂ a₃ a₄ a₅ t₁ a e =
-        record { elem = λ z. absurd (omega arith); bit = zeros-at a₂ a; index = refl; cells = λ j l. absurd (omega arith); known = zeros-at a₅ a }
+    empty-note : (t₁ : Ty) (a : ℕ) → t₁ .cls ≡ 0 → NoteRel (notes (replicate size nothing) types) t₁ a noInfo
+    empty-note t₁ a e =
+        record { elem = λ z. absurd (omega arith); bit = nothing-kept size 1 a; index = refl; cells = λ j l. absurd (omega arith); known = nothing-kept size 4 a }
 
     none-type : (a : ℕ) → typeAt (noAcc .lay) a .cls ≡ 0
     none-type zero = refl
@@ -448,31 +407,27 @@ module _ (t : List ℕ) (n : ℕ) (acc : checked false t n ≡ Accepted) where
     none-info zero = refl
     none-info (suc a) = refl
 
-    pub begun : ((a : ℕ) → getD idx a 0 ≤ 8) → Pass 0 0 (replicate size 0) (replicate size 0) (replicate size 0) (replicate size 0) (replicate size 0) (replicate len 0)
+    pub begun : ((a : ℕ) → lookIn types a .iw ≤ 8) → Pass 0 0 (replicate size nothing) (replicate len 0)
     begun dp =
         record {
           upto = omega arith;
-          of-at = length-replicate {A = ℕ} size 0;
-          of-bit = length-replicate {A = ℕ} size 0;
-          of-old = length-replicate {A = ℕ} size 0;
-          of-key = length-replicate {A = ℕ} size 0;
-          of-con = length-replicate {A = ℕ} size 0;
+          of-kept = length-replicate size nothing;
           neat =
               record {
-                sound = record { falls = λ a z. absurd (z (zeros-at size a)); low = λ a. zero-le a 65536; few = λ a. zero-le a 256 };
-                bit = λ a. zero-le a 65536;
-                con = λ a. zero-le a 256;
+                sound = record { falls = λ a z. absurd (z (nothing-kept size 2 a)); low = λ a. zero-le 0 a 65536; few = λ a. zero-le 3 a 256 };
+                bit = λ a. zero-le 1 a 65536;
+                con = λ a. zero-le 4 a 256;
                 deep = dp;
               };
-          rel = λ a. subst⁻¹ (λ (x : Info). NoteRel (notes (replicate size 0) (replicate size 0) (replicate size 0) (replicate size 0) (replicate size 0) idx wid) (typeAt (noAcc .lay) a) a x) (none-info a)
-              (empty-note size size size size size (typeAt (noAcc .lay) a) a (none-type a));
+          rel = λ a. subst⁻¹ (λ (x : Info). NoteRel (notes (replicate size nothing) types) (typeAt (noAcc .lay) a) a x) (none-info a)
+              (empty-note (typeAt (noAcc .lay) a) a (none-type a));
           count = refl;
           fits = omega arith;
           words = ap (λ (x : ℕ). replicate {A = ℕ} x 0) (let e : len ≡ len - 5 * 0 = omega arith in e);
         }
       where
-        zero-le : (a c : ℕ) → getD {A = ℕ} (replicate size 0) a 0 ≤ c
-        zero-le a c = let e = zeros-at size a in omega arith
+        zero-le : (k a c : ℕ) → keptOf (replicate size nothing) k a ≤ c
+        zero-le k a c = let e = nothing-kept size k a in omega arith
 
     module _ (ev : whole len ≡ true) where
       answer : flattened t n len ≡ fitting (length (flatLines t n)) len
@@ -486,7 +441,7 @@ module _ (t : List ℕ) (n : ℕ) (acc : checked false t n ≡ Accepted) where
       unfolding targetLeft
       stopped-target z = ap (λ (r : Flattened). leftOf r len (flatTable t n)) (stopped z)
 
-      module _ {p : ℕ} {at bit old key con target : List ℕ} (s : Pass n p at bit old key con target) where
+      module _ {p : ℕ} {kept : List (List ℕ)} {target : List ℕ} (s : Pass n p kept target) where
         whole-lines : sofar C n .lines ≡ flatten C
         whole-lines = ap (λ (i : ℕ). sofar C i .lines) (sym size-C) ∙ all-lines C
 
@@ -545,32 +500,25 @@ flat-at t n acc a h = grown-flat noCtx (decode (counted t n)) none-flat (accepte
     none-flat zero e = refl
     none-flat (suc a) e = refl
 
--- the lines of an accepted table are fewer than 16,385
-pub few-lines : (t : List ℕ) (n : ℕ) → checked false t n ≡ Accepted → n < 16385
-few-lines t n acc = let q = roomy (length t) n (accepted-room false t n acc .1) .0 in omega arith
-
 -- ---- the loop's invariant
 
-abbrev pub Going : (t : List ℕ) (n : ℕ) (idx wid at₀ bit₀ old₀ key₀ con₀ target₀ : List ℕ) (i p : ℕ) (at bit old key con target : List ℕ) → Type 0
-Going t n idx wid at₀ bit₀ old₀ key₀ con₀ target₀ i p at bit old key con target =
-    (b : Begun t n idx wid at₀ bit₀ old₀ key₀ con₀ target₀) → Pass t n (b .accepted) idx wid (b .iw) (b .w) (length target₀) (b .size) (b .wide) i p at bit old key con target
+abbrev pub Going : (t : List ℕ) (n : ℕ) (types kept₀ : List (List ℕ)) (target₀ : List ℕ) (i p : ℕ) (kept : List (List ℕ)) (target : List ℕ) → Type 0
+Going t n types kept₀ target₀ i p kept target =
+    (b : Begun t n types kept₀ target₀) → Pass t n (b .accepted) types (b .iw) (b .w) (length target₀) (b .size) (b .wide) i p kept target
 
-module _ {t : List ℕ} {n : ℕ} {idx wid at₀ bit₀ old₀ key₀ con₀ target₀ : List ℕ} (b : Begun t n idx wid at₀ bit₀ old₀ key₀ con₀ target₀) where
-  pub shallow : Shallow idx
+module _ {t : List ℕ} {n : ℕ} {types kept₀ : List (List ℕ)} {target₀ : List ℕ} (b : Begun t n types kept₀ target₀) where
+  pub shallow : Shallow types
   shallow = record { deep = λ a. go a (decLt 0 (tyAt (context false (decode (counted t n))) a .cls)) }
     where
-      go : (a : ℕ) → Dec (0 < tyAt (context false (decode (counted t n))) a .cls) → getD idx a 0 ≤ 8
+      go : (a : ℕ) → Dec (0 < tyAt (context false (decode (counted t n))) a .cls) → lookIn types a .iw ≤ 8
       go a (yes h) = let e = b .iw a in let w = wide-at t n (b .accepted) a h in omega arith
       go a (no h) = let e = b .iw a in let w = flat-at t n (b .accepted) a (omega arith) in omega arith
 
-  pub going : Going t n idx wid at₀ bit₀ old₀ key₀ con₀ target₀ 0 0 at₀ bit₀ old₀ key₀ con₀ target₀
-  going q = subst⁻¹ (λ (x : List ℕ). Pass t n (q .accepted) idx wid (q .iw) (q .w) (length target₀) (q .size) (q .wide) 0 0 x bit₀ old₀ key₀ con₀ target₀) (q .no-at)
-      (subst⁻¹ (λ (x : List ℕ). Pass t n (q .accepted) idx wid (q .iw) (q .w) (length target₀) (q .size) (q .wide) 0 0 (replicate (q .size) 0) x old₀ key₀ con₀ target₀) (q .no-bit)
-      (subst⁻¹ (λ (x : List ℕ). Pass t n (q .accepted) idx wid (q .iw) (q .w) (length target₀) (q .size) (q .wide) 0 0 (replicate (q .size) 0) (replicate (q .size) 0) x key₀ con₀ target₀) (q .no-old)
-      (subst⁻¹ (λ (x : List ℕ). Pass t n (q .accepted) idx wid (q .iw) (q .w) (length target₀) (q .size) (q .wide) 0 0 (replicate (q .size) 0) (replicate (q .size) 0) (replicate (q .size) 0) x con₀ target₀) (q .no-key)
-      (subst⁻¹ (λ (x : List ℕ). Pass t n (q .accepted) idx wid (q .iw) (q .w) (length target₀) (q .size) (q .wide) 0 0 (replicate (q .size) 0) (replicate (q .size) 0) (replicate (q .size) 0) (replicate (q .size) 0) x target₀) (q .no-con)
-      (subst⁻¹ (λ (x : List ℕ). Pass t n (q .accepted) idx wid (q .iw) (q .w) (length target₀) (q .size) (q .wide) 0 0 (replicate (q .size) 0) (replicate (q .size) 0) (replicate (q .size) 0) (replicate (q .size) 0) (replicate (q .size) 0) x) (q .empty)
-      (begun t n (q .accepted) idx wid (q .iw) (q .w) (length target₀) (q .size) (q .wide) (shallow .deep)))))))
+  pub going : Going t n types kept₀ target₀ 0 0 kept₀ target₀
+  going q =
+      subst⁻¹ (λ (x : List (List ℕ)). Pass t n (q .accepted) types (q .iw) (q .w) (length target₀) (q .size) (q .wide) 0 0 x target₀) (q .no-kept)
+      (subst⁻¹ (λ (x : List ℕ). Pass t n (q .accepted) types (q .iw) (q .w) (length target₀) (q .size) (q .wide) 0 0 (replicate (q .size) nothing) x) (q .empty)
+      (begun t n (q .accepted) types (q .iw) (q .w) (length target₀) (q .size) (q .wide) (shallow .deep)))
 
   pub record-fits : (i : ℕ) → i < n → 5 * i + 5 ≤ length t
   record-fits i h = let q = roomy (length t) n (accepted-room false t n (b .accepted) .1) .1 in omega arith
@@ -578,8 +526,8 @@ module _ {t : List ℕ} {n : ℕ} {idx wid at₀ bit₀ old₀ key₀ con₀ tar
   pub line-fits : (i : ℕ) → i < n → (i + 1 ≤ 16384) × (i + 1 < b .size)
   line-fits i h = let q = roomy (length t) n (accepted-room false t n (b .accepted) .1) .0 in let w = b .wide in (omega arith, omega arith)
 
-  module _ {i p : ℕ} {at bit old key con target : List ℕ} (g : Going t n idx wid at₀ bit₀ old₀ key₀ con₀ target₀ i p at bit old key con target) (h : i < n) (r : List ℕ) (er : r ≡ recordAt t i) where
-    S : Pass t n (b .accepted) idx wid (b .iw) (b .w) (length target₀) (b .size) (b .wide) i p at bit old key con target
+  module _ {i p : ℕ} {kept : List (List ℕ)} {target : List ℕ} (g : Going t n types kept₀ target₀ i p kept target) (h : i < n) (r : List ℕ) (er : r ≡ recordAt t i) where
+    S : Pass t n (b .accepted) types (b .iw) (b .w) (length target₀) (b .size) (b .wide) i p kept target
     S = g b
 
     el : lineOf r ≡ lineIn (decode (counted t n)) i
@@ -588,52 +536,58 @@ module _ {t : List ℕ} {n : ℕ} {idx wid at₀ bit₀ old₀ key₀ con₀ tar
     pub rec-known : known false (kindIn r) ≡ true
     rec-known = subst⁻¹ (λ (x : List ℕ). known false (kindIn x) ≡ true) er (record-known t n (b .accepted) i h)
 
-    pub rec-deep : Deep (notes [] [] [] [] con idx wid) (lineOf r)
-    rec-deep = deep-same at bit old key con idx wid (lineOf r) (subst⁻¹ (λ (l : Line). Deep (notes at bit old key con idx wid) l) el (deep t n (b .accepted) idx wid (b .iw) (b .w) (length target₀) (b .size) (b .wide) S h))
+    pub rec-deep : Deep (notes kept types) (lineOf r)
+    rec-deep = subst⁻¹ (λ (l : Line). Deep (notes kept types) l) el (deep t n (b .accepted) types (b .iw) (b .w) (length target₀) (b .size) (b .wide) S h)
 
-    count-is : (c : ℕ) → c ≡ flatCount (notes [] [] [] [] con idx wid) (lineOf r) → c ≡ flatCount (notes at bit old key con idx wid) (lineIn (decode (counted t n)) i)
-    count-is c e = e ∙ count-same at bit old key con idx wid (lineOf r) ∙ ap (flatCount (notes at bit old key con idx wid)) el
+    count-is : (c : ℕ) → c ≡ flatCount (notes kept types) (lineOf r) → c ≡ flatCount (notes kept types) (lineIn (decode (counted t n)) i)
+    count-is c e = e ∙ ap (flatCount (notes kept types)) el
 
-    pub rec-stop : (c m : ℕ) → c ≡ flatCount (notes [] [] [] [] con idx wid) (lineOf r) → m ≡ room (length target₀) → m - p < c → room (length target₀) < length (flatten (decode (counted t n)))
-    rec-stop c m e f z = too-many t n (b .accepted) idx wid (b .iw) (b .w) (length target₀) (b .size) (b .wide) S h (omega (arith, count-is c e))
+    pub rec-stop : (c m : ℕ) → c ≡ flatCount (notes kept types) (lineOf r) → m ≡ room (length target₀) → m - p < c → room (length target₀) < length (flatten (decode (counted t n)))
+    rec-stop c m e f z = too-many t n (b .accepted) types (b .iw) (b .w) (length target₀) (b .size) (b .wide) S h (omega (arith, count-is c e))
 
-    fits-in : (c m : ℕ) → c ≡ flatCount (notes [] [] [] [] con idx wid) (lineOf r) → m ≡ room (length target₀) → c ≤ m - p → p + flatCount (notes at bit old key con idx wid) (lineIn (decode (counted t n)) i) ≤ room (length target₀)
+    fits-in : (c m : ℕ) → c ≡ flatCount (notes kept types) (lineOf r) → m ≡ room (length target₀) → c ≤ m - p → p + flatCount (notes kept types) (lineIn (decode (counted t n)) i) ≤ room (length target₀)
     fits-in c m e f z = let q = S .fits in omega (arith, count-is c e, q)
 
-    pub rec-fit : (c m : ℕ) → c ≡ flatCount (notes [] [] [] [] con idx wid) (lineOf r) → m ≡ room (length target₀) → c ≤ m - p → Fit (notes at bit old key con idx wid) p (lineOf r) (length target)
+    pub rec-fit : (c m : ℕ) → c ≡ flatCount (notes kept types) (lineOf r) → m ≡ room (length target₀) → c ≤ m - p → Fit (notes kept types) p (lineOf r) (length target)
     rec-fit c m e f z =
-        subst⁻¹ (λ (l : Line). Fit (notes at bit old key con idx wid) p l (length target)) el (fit t n (b .accepted) idx wid (b .iw) (b .w) (length target₀) (b .size) (b .wide) S h (fits-in c m e f z))
+        subst⁻¹ (λ (l : Line). Fit (notes kept types) p l (length target)) el (fit t n (b .accepted) types (b .iw) (b .w) (length target₀) (b .size) (b .wide) S h (fits-in c m e f z))
 
   -- one line more
-  pub rec-next : {i p : ℕ} {at bit old key con target : List ℕ} → Going t n idx wid at₀ bit₀ old₀ key₀ con₀ target₀ i p at bit old key con target → (h : i < n) (r : List ℕ) → r ≡ recordAt t i → (c m : ℕ)
-      → c ≡ flatCount (notes [] [] [] [] con idx wid) (lineOf r) → m ≡ room (length target₀) → c ≤ m - p → (d : Made) {target₁ : List ℕ} → Laid (notes at bit old key con idx wid) p (lineOf r) target target₁ d
-      → Going t n idx wid at₀ bit₀ old₀ key₀ con₀ target₀ (i + 1) (d .next) (set at (i + 1) (d .at)) (set bit (i + 1) (d .bit)) (set old (i + 1) (d .old)) (set key (i + 1) (d .key)) (set con (i + 1) (d .con)) target₁
-  rec-next {i} {p} {at} {bit} {old} {key} {con} {target} g h r er c m e f z d {target₁} w q =
+  pub rec-next : {i p : ℕ} {kept : List (List ℕ)} {target : List ℕ} → Going t n types kept₀ target₀ i p kept target → (h : i < n) (r : List ℕ) → r ≡ recordAt t i → (c m : ℕ)
+      → c ≡ flatCount (notes kept types) (lineOf r) → m ≡ room (length target₀) → c ≤ m - p → (d : Made) {target₁ : List ℕ} → Laid (notes kept types) p (lineOf r) target target₁ d
+      → Going t n types kept₀ target₀ (i + 1) (d .next) (set kept (i + 1) (keptNow d)) target₁
+  rec-next {i} {p} {kept} {target} g h r er c m e f z d {target₁} w q =
       let s = g q in
       let el = ap lineOf er ∙ record-line t n (q .accepted) i h in
-      let e₁ : c ≡ flatCount (notes at bit old key con idx wid) (lineIn (decode (counted t n)) i) = e ∙ count-same at bit old key con idx wid (lineOf r) ∙ ap (flatCount (notes at bit old key con idx wid)) el in
+      let e₁ : c ≡ flatCount (notes kept types) (lineIn (decode (counted t n)) i) = e ∙ ap (flatCount (notes kept types)) el in
       let fi = s .fits in
-      passed t n (q .accepted) idx wid (q .iw) (q .w) (length target₀) (q .size) (q .wide) s h (omega arith) (i + 1) d (omega arith) (subst (λ (l : Line). Laid (notes at bit old key con idx wid) p l target target₁ d) el w)
+      passed t n (q .accepted) types (q .iw) (q .w) (length target₀) (q .size) (q .wide) s h (omega arith) (i + 1) d (omega arith) (subst (λ (l : Line). Laid (notes kept types) p l target target₁ d) el w)
+
+  -- a line that has no room ends the pass
+  pub rec-stopped : {i p : ℕ} {kept : List (List ℕ)} {target target₁ : List ℕ} → Going t n types kept₀ target₀ i p kept target → (h : i < n) (r : List ℕ) → r ≡ recordAt t i → (c m : ℕ)
+      → c ≡ flatCount (notes kept types) (lineOf r) → m ≡ room (length target₀) → m - p < c → target₁ ≡ replicate (length target) 0
+      → (Refused TargetTooSmall ≡ flattened t n (length target₀)) × (target₁ ≡ targetLeft t n (length target₀))
+  rec-stopped {target = target} g h r er c m e f z k =
+      let y = rec-stop g h r er c m e f z in
+      let l = length-target t n (b .accepted) types (b .iw) (b .w) (length target₀) (b .size) (b .wide) (g b) h in (
+        stopped t n (b .accepted) types (b .iw) (b .w) (length target₀) (b .size) (b .wide) (b .even) y,
+        k ∙ ap (λ (x : ℕ). replicate x 0) l ∙ stopped-target t n (b .accepted) types (b .iw) (b .w) (length target₀) (b .size) (b .wide) (b .even) y,
+      )
+
+  -- all lines are made flat
+  pub rec-done : {i p : ℕ} {kept : List (List ℕ)} {target : List ℕ} → Going t n types kept₀ target₀ i p kept target → n ≤ i
+      → (Done p ≡ flattened t n (length target₀)) × (target ≡ targetLeft t n (length target₀))
+  rec-done {i} {p} {kept} {target} g h =
+      let e : i ≡ n = omega (arith, g b .upto) in
+      let s = subst (λ (x : ℕ). Pass t n (b .accepted) types (b .iw) (b .w) (length target₀) (b .size) (b .wide) x p kept target) e (g b) in (
+        done t n (b .accepted) types (b .iw) (b .w) (length target₀) (b .size) (b .wide) (b .even) s,
+        done-target t n (b .accepted) types (b .iw) (b .w) (length target₀) (b .size) (b .wide) (b .even) s,
+      )
 
   -- the lists keep their lengths
-  zero-length : {xs : List ℕ} → xs ≡ replicate (b .size) 0 → length xs ≡ b .size
-  zero-length e = ap length e ∙ length-replicate {A = ℕ} (b .size) 0
-
-  module _ {i p : ℕ} {at bit old key con target : List ℕ} (g : Going t n idx wid at₀ bit₀ old₀ key₀ con₀ target₀ i p at bit old key con target) where
-    pub same-at : length at ≡ length at₀
-    same-at = g b .of-at ∙ sym (zero-length (b .no-at))
-
-    pub same-bit : length bit ≡ length bit₀
-    same-bit = g b .of-bit ∙ sym (zero-length (b .no-bit))
-
-    pub same-old : length old ≡ length old₀
-    same-old = g b .of-old ∙ sym (zero-length (b .no-old))
-
-    pub same-key : length key ≡ length key₀
-    same-key = g b .of-key ∙ sym (zero-length (b .no-key))
-
-    pub same-con : length con ≡ length con₀
-    same-con = g b .of-con ∙ sym (zero-length (b .no-con))
+  module _ {i p : ℕ} {kept : List (List ℕ)} {target : List ℕ} (g : Going t n types kept₀ target₀ i p kept target) where
+    pub same-kept : length kept ≡ length kept₀
+    same-kept = g b .of-kept ∙ sym (ap length (b .no-kept) ∙ length-replicate (b .size) nothing)
 
     pub same-target : length target ≡ length target₀
     same-target =

@@ -8,7 +8,6 @@ use mathlib.Core.List.{List, [], _∷_}
 use native.Mathlib.Omega.{arith}
 use lib.Dec.{ltb}
 use lib.ListN.{length, getD, set, length-set}
-use lib.Seq.{getD-set-same}
 use lib.Pow.{pow-pos}
 use borrow.Author.Tests.{ltb-true, ne-eqb}
 use Rattle.tables.specs.declared.Ty.{Ty}
@@ -21,14 +20,14 @@ use Rattle.circuits.specs.Meaning.{Acc, cellsAt}
 use Rattle.flattening.specs.declared.Made.{Made}
 use Rattle.flattening.specs.Flat.{from, Info, noInfo, infoAt, linesAt, lineAt, valInfo, chunk, chunkRead, chunkWrite, readAll, writeCells}
 use Rattle.flattening.specs.Model.{cellIn}
-use Rattle.flattening.specs.Making.{Notes, sortIn, wordIn, bitIn, conIn, sizeIn, small, made, flatCount, flatMade, Neat}
+use Rattle.flattening.specs.Making.{deepIn, Notes, wordIn, bitIn, conIn, sizeIn, small, made, flatCount, flatMade, Neat}
 use Rattle.flattening.proofs.CellLaws.{from-at, length-from}
 use Rattle.flattening.proofs.Rel.{Inv, KnownRel, no-sort, word-small}
 use Rattle.flattening.proofs.SimStates.{held-below}
 use Rattle.flattening.proofs.Laying.{size-two, read-con, read-any, read-any-count, write-con, write-any, write-any-count}
 use Rattle.flattening.proofs.Rowing.{before, read-words}
 use Rattle.flattening.proofs.Agreeing.{KnownNote, NoteRel, Told, is-line, size-of, cell-of, word-line, elem-of, index-small, con-some, index-length, index-sort}
-use Rattle.flattening.proofs.Keeping.{noted, Holds, sound-new, cell-step, cell-swap, write-cell, write-length, joined-all}
+use Rattle.flattening.proofs.Keeping.{noted, Holds, kept-new, sound-new, cell-step, cell-swap, write-cell, write-length, joined-all}
 
 -- what is kept of the line n, and that the numbers stay small
 pub record LineKept (N : Notes) (n : ℕ) (m : Made) (t : Ty) (f : Info) : Type 0 where
@@ -51,10 +50,10 @@ no-old e d = absurd (d e)
 
 module _ (N : Notes) (n : ℕ) (h : Holds N n) where
   bit-new : (m : Made) → bitIn (noted N n m) n ≡ m .bit
-  bit-new m = getD-set-same (N .bit) n (m .bit) 0 (h .bit)
+  bit-new m = kept-new N n m h 1
 
   con-new : (m : Made) → conIn (noted N n m) n ≡ m .con
-  con-new m = getD-set-same (N .con) n (m .con) 0 (h .con)
+  con-new m = kept-new N n m h 4
 
   -- a value of the sort f, whose cells are the flat lines ps
   val-note : (m : Made) (f : Info) (ps : List ℕ) (k : Option ℕ) (t : Ty) → t .cls ≢ 1 → m .bit ≡ f .bit → f .index ≡ from (suc (f .bit)) (length (f .index)) → KnownNote k (m .con)
@@ -134,7 +133,7 @@ module _ {A B : Acc} {I : List Info} (v : Inv A B I) (N : Notes) (ne : Neat N) (
       r .end ∙ f ∙ omega arith
 
   deep-index : (a i : ℕ) → 1 ≤ typeAt (A .lay) a .cls → typeAt (A .lay) i .w ≡ typeAt (A .lay) a .iw → typeAt (A .lay) i .w ≤ 8
-  deep-index a i h e = let q : getD (N .idx) a 0 ≡ typeAt (A .lay) a .iw = tl .iw a h in let f = ne .deep a in omega arith
+  deep-index a i h e = let q : deepIn N a ≡ typeAt (A .lay) a .iw = tl .iw a h in let f = ne .deep a in omega arith
 
   -- a constant index lies among the cells
   index-in : (a i k : ℕ) → 1 ≤ typeAt (A .lay) a .cls → IsWord (typeAt (A .lay) i) → typeAt (A .lay) i .w ≡ typeAt (A .lay) a .iw → cellsAt A i ≡ k ∷ [] → k < sizeIn N a
@@ -162,7 +161,7 @@ module _ {A B : Acc} {I : List Info} (v : Inv A B I) (N : Notes) (ne : Neat N) (
           (word-kept (made p (cellIn (N .held) a (conIn N i - 1)) (bitIn N s) 0 1 0) s (getD (linesAt I a) x 0) none t d refl refl at refl refl (omega arith) (omega (arith, cell-of v N ne tl nr p a ha x l)))
       go none r z =
           let c = sizeIn N a in
-          let two : 2 ≤ c = size-two (getD (N .idx) a 0) (let e : getD (N .idx) a 0 ≡ typeAt (A .lay) a .iw = tl .iw a (omega arith) in let d : 0 < typeAt (A .lay) a .iw = k .arr .deep in omega arith) in
+          let two : 2 ≤ c = size-two (deepIn N a) (let e : deepIn N a ≡ typeAt (A .lay) a .iw = tl .iw a (omega arith) in let d : 0 < typeAt (A .lay) a .iw = k .arr .deep in omega arith) in
           let e = read-end (infoAt I a .bit) (infoAt I s .elem) (lineAt I i) c (infoAt I a .index) (linesAt I a) two (size-of v N ne tl nr p a ha) (omega (arith, index-length v N ne tl nr p a ha (k .arr .deep))) in
           let f = read-any-count N p s a i z in
           kept-as (read-any N p s a i z)
@@ -189,7 +188,7 @@ module _ {A B : Acc} {I : List Info} (v : Inv A B I) (N : Notes) (ne : Neat N) (
           let e : conIn N i - 1 ≡ y = omega arith in
           let w = word-line v N ne tl nr p x (k .value) in
           let m = made p (wordIn N x) (bitIn N s) a (conIn N i - 1) 0 in
-          let lo = line-low x 0 (k .value .is) (pow-pos (getD (N .idx) x 0)) in
+          let lo = line-low x 0 (k .value .is) (pow-pos (deepIn N x)) in
           let an = below a (omega arith) in
           let sK = sound-new N n m hn (ne .sound) (λ u. an) (omega arith) (omega arith) in
           kept-as (write-con N p s a i x (λ u. omega arith))
@@ -236,7 +235,7 @@ module _ {A B : Acc} {I : List Info} (v : Inv A B I) (N : Notes) (ne : Neat N) (
         few = omega arith;
         bit = omega arith;
         con = omega arith;
-        note = record { elem = λ e. getD-set-same (N .held .at) n (p + 1) 0 (hn .at) ∙ omega arith; bit = bit-new N n hn m; index = refl; cells = λ j l. absurd (omega arith); known = con-new N n hn m };
+        note = record { elem = λ e. kept-new N n m hn 0 ∙ omega arith; bit = bit-new N n hn m; index = refl; cells = λ j l. absurd (omega arith); known = con-new N n hn m };
       }
   line-kept (Line.array i e) k top =
       let m = flatMade N p (Line.array i e) in
@@ -249,7 +248,7 @@ module _ {A B : Acc} {I : List Info} (v : Inv A B I) (N : Notes) (ne : Neat N) (
         con = omega arith;
         note =
             record {
-              elem = λ z. getD-set-same (N .held .at) n (sortIn N e) 0 (hn .at) ∙ sym (elem-of v N ne tl nr p e (k .element .is));
+              elem = λ z. kept-new N n m hn 0 ∙ sym (elem-of v N ne tl nr p e (k .element .is));
               bit = bit-new N n hn m ∙ omega arith;
               index = ap (λ (x : ℕ). from (suc (suc p)) x) (sym (length-from (suc (suc p)) c));
               cells = λ j l. absurd (omega arith);
@@ -266,7 +265,7 @@ module _ {A B : Acc} {I : List Info} (v : Inv A B I) (N : Notes) (ne : Neat N) (
   line-kept (Line.val s (Expr.cmp e a b)) k top =
       let c = length (linesAt I a) in
       let ec = size-of v N ne tl nr p a (k .left .is) in
-      let q = joined-all p c (subst⁻¹ (λ (x : ℕ). 0 < x) ec (pow-pos (getD (N .idx) a 0))) ∙ ap (λ (x : ℕ). p + (x + (x - 1))) ec in
+      let q = joined-all p c (subst⁻¹ (λ (x : ℕ). 0 < x) ec (pow-pos (deepIn N a))) ∙ ap (λ (x : ℕ). p + (x + (x - 1))) ec in
       word-kept (flatMade N p (Line.val s (Expr.cmp e a b))) s _ none (typeOf false (A .lay) (Line.val s (Expr.cmp e a b))) (not-sort (isFixed (typeAt (A .lay) a) && isFixed (typeAt (A .lay) b))) refl refl (sym q) refl refl (omega arith) (omega (arith, q))
   line-kept (Line.val s (Expr.ite c a b)) k top =
       run-kept (flatMade N p (Line.val s (Expr.ite c a b))) s (length (linesAt I a)) (typeOf false (A .lay) (Line.val s (Expr.ite c a b))) (not-sort (isFixed (typeAt (A .lay) c) && (isFixed (typeAt (A .lay) a) && isFixed (typeAt (A .lay) b)))) refl refl refl refl refl (omega arith)

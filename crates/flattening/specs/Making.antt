@@ -4,14 +4,14 @@ use mathlib.Core.Path.{_≡_}
 use mathlib.Core.Bool.{Bool, true, false}
 use mathlib.Core.List.{List, [], _++_}
 use lib.Dec.{eqb, leb, ltb}
-use lib.ListN.{getD}
 use Rattle.tables.specs.Pick.{pick}
 use Rattle.tables.specs.Lines.{Line, Expr, five, giveKind, markKind, cmpKind}
+use Rattle.tables.specs.Notes.{lookIn}
 use Rattle.circuits.specs.Cells.{put}
 use Rattle.flattening.specs.declared.Source.{Source}
 use Rattle.flattening.specs.declared.Made.{Made}
 use Rattle.flattening.specs.Flat.{joinKind}
-use Rattle.flattening.specs.Model.{Held, held, atOf, cellIn, Sound, words, rowAt, pairAt}
+use Rattle.flattening.specs.Model.{Held, atOf, bitOf, conOf, cellIn, Sound, words, rowAt, pairAt}
 
 -- ---- sources
 
@@ -54,16 +54,13 @@ writeWords H p o i s v a n = words n (pairAt H p o i s (run (o + 1) 1) (still v)
 
 -- ---- one line
 
--- what is kept of the lines so far, and the index widths and widths of all lines
+-- what is kept of the lines so far, and the types of all lines, as a check notes them
 pub record Notes : Type 0 where
   pub held : Held
-  pub bit : List ℕ
-  pub con : List ℕ
-  pub idx : List ℕ
-  pub wid : List ℕ
+  pub types : List (List ℕ)
 
-abbrev pub notes : (at bit old key con idx wid : List ℕ) → Notes
-notes a b o k c i w = record { held = held a o k; bit = b; con = c; idx = i; wid = w }
+abbrev pub notes : Held → (types : List (List ℕ)) → Notes
+notes H t = record { held = H; types = t }
 
 abbrev pub sortIn : Notes → ℕ → ℕ
 sortIn N s = atOf (N .held) s
@@ -72,13 +69,20 @@ abbrev pub wordIn : Notes → ℕ → ℕ
 wordIn N a = cellIn (N .held) a 0
 
 abbrev pub bitIn : Notes → ℕ → ℕ
-bitIn N a = getD (N .bit) a 0
+bitIn N a = bitOf (N .held) a
 
 abbrev pub conIn : Notes → ℕ → ℕ
-conIn N a = getD (N .con) a 0
+conIn N a = conOf (N .held) a
+
+-- the index width and the width of a line
+abbrev pub deepIn : Notes → ℕ → ℕ
+deepIn N a = lookIn (N .types) a .iw
+
+abbrev pub wideIn : Notes → ℕ → ℕ
+wideIn N a = lookIn (N .types) a .w
 
 abbrev pub sizeIn : Notes → ℕ → ℕ
-sizeIn N a = 2 ^ getD (N .idx) a 0
+sizeIn N a = 2 ^ deepIn N a
 
 -- a small constant is kept as its value plus one
 abbrev pub small : ℕ → ℕ
@@ -105,7 +109,7 @@ exprCount N s (Expr.write a i v) = writeCount (conIn N i) (sizeIn N s)
 
 abbrev pub flatCount : Notes → Line → ℕ
 flatCount N (Line.bitvec w) = 1
-flatCount N (Line.array i e) = 1 + 2 ^ getD (N .wid) i 0
+flatCount N (Line.array i e) = 1 + 2 ^ wideIn N i
 flatCount N (Line.input s) = 1
 flatCount N (Line.state s) = sizeIn N s
 flatCount N (Line.val s e) = exprCount N s e
@@ -131,7 +135,7 @@ givenFrom N false v = of v
 
 abbrev pub flatWords : Notes → ℕ → Line → List ℕ
 flatWords N p (Line.bitvec w) = five 1 0 w 0 0
-flatWords N p (Line.array i e) = arrayWords (N .held) (sortIn N i) (2 ^ getD (N .wid) i 0)
+flatWords N p (Line.array i e) = arrayWords (N .held) (sortIn N i) (2 ^ wideIn N i)
 flatWords N p (Line.input s) = five 4 (sortIn N s) 0 0 0
 flatWords N p (Line.state s) = words (sizeIn N s) (rowAt (N .held) 5 (sortIn N s) (still 0) (still 0) (still 0))
 flatWords N p (Line.val s e) = exprWords N p s e
@@ -172,7 +176,7 @@ pub record Neat (N : Notes) : Type 0 where
   pub sound : Sound (N .held)
   pub bit : (a : ℕ) → bitIn N a ≤ 65536
   pub con : (a : ℕ) → conIn N a ≤ 256
-  pub deep : (a : ℕ) → getD (N .idx) a 0 ≤ 8
+  pub deep : (a : ℕ) → deepIn N a ≤ 8
 
 -- the index width of an array sort is at most 8, and a read takes an array
 abbrev pub DeepE : Notes → Expr → Type 0
@@ -181,12 +185,12 @@ DeepE N (Expr.one k a x y) = Unit {0}
 DeepE N (Expr.two k a b) = Unit {0}
 DeepE N (Expr.cmp e a b) = Unit {0}
 DeepE N (Expr.ite c a b) = Unit {0}
-DeepE N (Expr.read a i) = 0 < getD (N .idx) a 0
+DeepE N (Expr.read a i) = 0 < deepIn N a
 DeepE N (Expr.write a i v) = Unit {0}
 
 abbrev pub Deep : Notes → Line → Type 0
 Deep N (Line.bitvec w) = Unit {0}
-Deep N (Line.array i e) = getD (N .wid) i 0 ≤ 8
+Deep N (Line.array i e) = wideIn N i ≤ 8
 Deep N (Line.input s) = Unit {0}
 Deep N (Line.state s) = Unit {0}
 Deep N (Line.val s e) = DeepE N e
@@ -208,5 +212,5 @@ pub record Laid (N : Notes) (p : ℕ) (l : Line) (target target₁ : List ℕ) (
   pub words : target₁ ≡ put target (5 * p) (flatWords N p l)
 
 -- no line has more than 256 cells
-pub record Shallow (idx : List ℕ) : Type 0 where
-  pub deep : (a : ℕ) → getD idx a 0 ≤ 8
+pub record Shallow (types : List (List ℕ)) : Type 0 where
+  pub deep : (a : ℕ) → lookIn types a .iw ≤ 8

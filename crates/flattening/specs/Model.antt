@@ -1,4 +1,4 @@
--- How the code keeps what later lines need: a few numbers for each line, in lists whose index is the line's number. Assumes nothing.
+-- How the code keeps what later lines need: five numbers for each line, in a list whose index is the line's number. Assumes nothing.
 use Prim.Native.Nat.{ℕ, zero, suc, _+_, _-_, _*_, _≤_, _<_}
 use mathlib.Core.Logic.{_≢_}
 use mathlib.Core.List.{List, [], _++_}
@@ -8,24 +8,33 @@ use Rattle.tables.specs.Pick.{pick}
 use Rattle.tables.specs.Lines.{five}
 use Rattle.flattening.specs.declared.Source.{Source}
 
--- Where the cells of lines are held. Of a line whose entry in `old` is 0, the cell j is held by the flat line at + key * j. A write by a constant index swaps one cell:
--- the cell `key` is held by the flat line `at`, and the others as those of the line `old` that it writes over.
-pub record Held : Type 0 where
-  pub at : List ℕ
-  pub old : List ℕ
-  pub key : List ℕ
+-- What is kept of each line: at, bit, old, key, con. Of a line whose `old` is 0, the cell j is held by the flat line at + key * j. A write by a constant index swaps one
+-- cell: the cell `key` is held by the flat line `at`, and the others as those of the line `old` that it writes over.
+abbrev pub Held : Type 0
+Held = List (List ℕ)
 
-abbrev pub held : (at old key : List ℕ) → Held
-held a o k = record { at = a; old = o; key = k }
+-- what is kept of no line
+abbrev pub nothing : List ℕ
+nothing = five 0 0 0 0 0
+
+-- the number k of what is kept of the line m
+abbrev pub keptOf : Held → (k m : ℕ) → ℕ
+keptOf H k m = getD (getD H m nothing) k 0
 
 abbrev pub atOf : Held → ℕ → ℕ
-atOf H m = getD (H .at) m 0
+atOf H m = keptOf H 0 m
+
+abbrev pub bitOf : Held → ℕ → ℕ
+bitOf H m = keptOf H 1 m
 
 abbrev pub oldOf : Held → ℕ → ℕ
-oldOf H m = getD (H .old) m 0
+oldOf H m = keptOf H 2 m
 
 abbrev pub keyOf : Held → ℕ → ℕ
-keyOf H m = getD (H .key) m 0
+keyOf H m = keptOf H 3 m
+
+abbrev pub conOf : Held → ℕ → ℕ
+conOf H m = keptOf H 4 m
 
 -- the flat line of the cell j of the line m, along at most k writes
 abbrev pub cellBy : Held → (k m j : ℕ) → ℕ

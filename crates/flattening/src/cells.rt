@@ -2,33 +2,33 @@
 use crate::Source;
 ghost use mathlib.Core.Path.{_≡_};
 ghost use Prim.Native.Nat.{_≤_, _<_};
-ghost use lib.ListN.{getD};
-ghost use Rattle.flattening.specs.Model.{held, cellIn, turnAt, sourceAt, Sound, Tame};
+ghost use Rattle.flattening.specs.Model.{keptOf, cellIn, turnAt, sourceAt, Sound, Tame};
 
-// The entry of the line a; 0 past the end.
-pub fn entry(xs: &[u64], a: u64) -> u64
-    ensures { λ r. ⌜ r ≡ getD (now (xs .entry)) a 0 ⌝ }
+// The number k of what is kept of the line a; 0 past the end.
+pub fn entry(kept: &[[u64; 5]], k: usize, a: u64) -> u64
+    requires { ⌜ k < 5 ⌝ }
+    ensures { λ r. ⌜ r ≡ keptOf (now (kept .entry)) k a ⌝ }
 {
-    if a < xs.len() as u64 {
+    if a < kept.len() as u64 {
         let i = a as usize;
-        return xs[i];
+        return kept[i][k];
     }
     0
 }
 
 // The flat line of the cell j of the line a.
-pub fn cell(at: &[u64], old: &[u64], key: &[u64], a: u64, j: u64) -> u64
-    requires { ⌜ Sound (held (now at) (now old) (now key)) × (j < 256) ⌝ }
-    ensures { λ r. ⌜ r ≡ cellIn (held (now (at .entry)) (now (old .entry)) (now (key .entry))) a j ⌝ }
+pub fn cell(kept: &[[u64; 5]], a: u64, j: u64) -> u64
+    requires { ⌜ Sound (now kept) × (j < 256) ⌝ }
+    ensures { λ r. ⌜ r ≡ cellIn (now (kept .entry)) a j ⌝ }
 {
     let mut m = a;
-    while entry(old, m) != 0 {
-        if entry(key, m) == j {
-            return entry(at, m);
+    while entry(kept, 2, m) != 0 {
+        if entry(kept, 3, m) == j {
+            return entry(kept, 0, m);
         }
-        m = entry(old, m);
+        m = entry(kept, 2, m);
     }
-    entry(at, m) + entry(key, m) * j
+    entry(kept, 0, m) + entry(kept, 3, m) * j
 }
 
 // The place of the word j of a source.
@@ -45,13 +45,13 @@ pub fn turn(s: Source, j: u64) -> u64
 }
 
 // The word j of a source.
-pub fn source(at: &[u64], old: &[u64], key: &[u64], s: Source, j: u64) -> u64
-    requires { ⌜ Sound (held (now at) (now old) (now key)) × (Tame s × (j < 256)) ⌝ }
-    ensures { λ r. ⌜ r ≡ sourceAt (held (now (at .entry)) (now (old .entry)) (now (key .entry))) s j ⌝ }
+pub fn source(kept: &[[u64; 5]], s: Source, j: u64) -> u64
+    requires { ⌜ Sound (now kept) × (Tame s × (j < 256)) ⌝ }
+    ensures { λ r. ⌜ r ≡ sourceAt (now (kept .entry)) s j ⌝ }
 {
     let i = turn(s, j);
     if s.line == 0 {
         return s.base + s.step * i;
     }
-    cell(at, old, key, s.line, i)
+    cell(kept, s.line, i)
 }

@@ -1,12 +1,9 @@
 // The number of flat lines that a line leaves.
 use crate::cells;
 use crate::making;
-use tables::types;
 ghost use mathlib.Core.Path.{_≡_};
 ghost use mathlib.Core.Bool.{true, false};
-ghost use mathlib.Core.List.{List, []};
 ghost use Prim.Native.Nat.{_+_, _-_, _≤_};
-ghost use lib.ListN.{getD};
 ghost use Rattle.tables.specs.Lines.{lineOf, kindIn};
 ghost use Rattle.tables.specs.Tables.{known as knownOf};
 ghost use Rattle.flattening.specs.Making.{notes, flatCount, readCount, writeCount, Deep, Shallow};
@@ -34,24 +31,24 @@ pub fn count_write(c: u64, n: usize) -> usize
 }
 
 // The line of a record.
-pub fn count_line(rec: [u64; 5], con: &[u64], idx: &[u8], wid: &[u8]) -> usize
-    requires { ⌜ (knownOf false (kindIn rec) ≡ true) × (Shallow (now idx) × Deep (notes [] [] [] [] (now con) (now idx) (now wid)) (lineOf rec)) ⌝ }
-    ensures { λ r. ⌜ r ≡ flatCount (notes [] [] [] [] (now (con .entry)) (now (idx .entry)) (now (wid .entry))) (lineOf rec) ⌝ }
+pub fn count_line(rec: [u64; 5], kept: &[[u64; 5]], types: &[[u8; 5]]) -> usize
+    requires { ⌜ (knownOf false (kindIn rec) ≡ true) × (Shallow (now types) × Deep (notes (now kept) (now types)) (lineOf rec)) ⌝ }
+    ensures { λ r. ⌜ r ≡ flatCount (notes (now (kept .entry)) (now (types .entry))) (lineOf rec) ⌝ }
 {
     let k = rec[0];
     let s = rec[1];
     let a = rec[2];
     let b = rec[3];
     match k {
-        2 => 1 + making::power(types::at(wid, a)),
-        5 => making::size(idx, s),
-        6 => making::size(idx, a),
-        7 => making::size(idx, a),
-        21 => count_tests(making::size(idx, a)),
-        22 => count_tests(making::size(idx, a)),
-        53 => making::size(idx, b),
-        54 => count_read(cells::entry(con, b), making::size(idx, a)),
-        55 => count_write(cells::entry(con, b), making::size(idx, s)),
+        2 => 1 + making::index_size(types, a),
+        5 => making::size(types, s),
+        6 => making::size(types, a),
+        7 => making::size(types, a),
+        21 => count_tests(making::size(types, a)),
+        22 => count_tests(making::size(types, a)),
+        53 => making::size(types, b),
+        54 => count_read(cells::entry(kept, 4, b), making::size(types, a)),
+        55 => count_write(cells::entry(kept, 4, b), making::size(types, s)),
         _ => 1,
     }
 }

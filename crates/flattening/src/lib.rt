@@ -15,7 +15,7 @@ ghost use mathlib.Core.Path.{_≡_};
 ghost use lib.ListN.{length};
 ghost use Prim.Native.Nat.{_<_};
 ghost use Rattle.flattening.specs.Answers.{flattened, targetLeft};
-ghost use Rattle.flattening.specs.Begun.{Ready};
+ghost use Rattle.flattening.specs.Begun.{Clear, Blank};
 
 // What flattening answers: the number of records of the flat circuit, or a refusal.
 pub enum Flattened {
@@ -43,7 +43,7 @@ pub struct Made {
     pub con: u64,
 }
 
-// The flat circuit of a table goes to the target.
+// The flat circuit of a table goes to the target. A small circuit takes small lists, which are sooner zero.
 pub fn flatten(table: &[u64], count: usize, target: &mut [u64]) -> Flattened
     ensures { λ r. ⌜ (r ≡ flattened (now (table .entry)) count (length (now (target .entry)))) × (now (target .exit) ≡ targetLeft (now (table .entry)) count (length (now (target .entry)))) ⌝ }
 {
@@ -54,82 +54,45 @@ pub fn flatten(table: &[u64], count: usize, target: &mut [u64]) -> Flattened
     if !records::is_table(target.len()) {
         return Flattened::Refused(Refusal::NotATable);
     }
-    let mut cls = [0u8; 16385];
-    let mut idx = [0u8; 16385];
-    let mut wid = [0u8; 16385];
-    let mut ini = [0u8; 16385];
-    let mut nxt = [0u8; 16385];
-    let c = check::check(
-        false,
-        table,
-        count,
-        &mut cls,
-        &mut idx,
-        &mut wid,
-        &mut ini,
-        &mut nxt,
-    );
-    match c {
-        Checked::Accepted => accepted(table, count, &idx, &wid, target),
-        Checked::Refused(r) => Flattened::Refused(r),
+    if count < 512 {
+        return few(table, count, target);
     }
+    many(table, count, target)
 }
 
-// The same of a table that is accepted: idx and wid have the index widths and the widths of its lines. A small circuit takes small lists, which are sooner zero.
-fn accepted(table: &[u64], count: usize, idx: &[u8], wid: &[u8], target: &mut [u64]) -> Flattened
-    requires { ⌜ Ready (now table) count (now idx) (now wid) (now target) ⌝ }
+// At most 511 lines.
+fn few(table: &[u64], count: usize, target: &mut [u64]) -> Flattened
+    requires { ⌜ Clear (now table) (now target) × (count < 512) ⌝ }
     ensures { λ r. ⌜ (r ≡ flattened (now (table .entry)) count (length (now (target .entry)))) × (now (target .exit) ≡ targetLeft (now (table .entry)) count (length (now (target .entry)))) ⌝ }
 {
-    if count < 2048 {
-        return few(table, count, idx, wid, target);
-    }
-    many(table, count, idx, wid, target)
-}
-
-// At most 2,047 lines.
-fn few(table: &[u64], count: usize, idx: &[u8], wid: &[u8], target: &mut [u64]) -> Flattened
-    requires { ⌜ Ready (now table) count (now idx) (now wid) (now target) × (count < 2048) ⌝ }
-    ensures { λ r. ⌜ (r ≡ flattened (now (table .entry)) count (length (now (target .entry)))) × (now (target .exit) ≡ targetLeft (now (table .entry)) count (length (now (target .entry)))) ⌝ }
-{
-    let mut at = [0u64; 2048];
-    let mut bit = [0u64; 2048];
-    let mut old = [0u64; 2048];
-    let mut key = [0u64; 2048];
-    let mut con = [0u64; 2048];
-    whole::all_lines(
-        table,
-        count,
-        idx,
-        wid,
-        &mut at,
-        &mut bit,
-        &mut old,
-        &mut key,
-        &mut con,
-        target,
-    )
+    let mut notes = [[0u8; 5]; 512];
+    let mut kept = [[0u64; 5]; 512];
+    checked(table, count, &mut notes, &mut kept, target)
 }
 
 // As many lines as a table may have.
-fn many(table: &[u64], count: usize, idx: &[u8], wid: &[u8], target: &mut [u64]) -> Flattened
-    requires { ⌜ Ready (now table) count (now idx) (now wid) (now target) ⌝ }
+fn many(table: &[u64], count: usize, target: &mut [u64]) -> Flattened
+    requires { ⌜ Clear (now table) (now target) ⌝ }
     ensures { λ r. ⌜ (r ≡ flattened (now (table .entry)) count (length (now (target .entry)))) × (now (target .exit) ≡ targetLeft (now (table .entry)) count (length (now (target .entry)))) ⌝ }
 {
-    let mut at = [0u64; 16385];
-    let mut bit = [0u64; 16385];
-    let mut old = [0u64; 16385];
-    let mut key = [0u64; 16385];
-    let mut con = [0u64; 16385];
-    whole::all_lines(
-        table,
-        count,
-        idx,
-        wid,
-        &mut at,
-        &mut bit,
-        &mut old,
-        &mut key,
-        &mut con,
-        target,
-    )
+    let mut notes = [[0u8; 5]; 16385];
+    let mut kept = [[0u64; 5]; 16385];
+    checked(table, count, &mut notes, &mut kept, target)
+}
+
+// The table is checked, and then its lines are made flat.
+fn checked(
+    table: &[u64],
+    count: usize,
+    notes: &mut [[u8; 5]],
+    kept: &mut [[u64; 5]],
+    target: &mut [u64],
+) -> Flattened
+    requires { ⌜ Blank (now table) count (now notes) (now kept) (now target) ⌝ }
+    ensures { λ r. ⌜ (r ≡ flattened (now (table .entry)) count (length (now (target .entry)))) × (now (target .exit) ≡ targetLeft (now (table .entry)) count (length (now (target .entry)))) ⌝ }
+{
+    match check::check(false, table, count, notes) {
+        Checked::Accepted => whole::all_lines(table, count, notes, kept, target),
+        Checked::Refused(r) => Flattened::Refused(r),
+    }
 }

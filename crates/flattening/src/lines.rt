@@ -4,7 +4,6 @@ use crate::cells;
 use crate::making;
 use crate::rows;
 use tables::records;
-use tables::types;
 ghost use mathlib.Core.Path.{_≡_};
 ghost use mathlib.Core.Bool.{Bool, true, false};
 ghost use Prim.Native.Nat.{_+_, _*_, _≤_, _<_};
@@ -80,18 +79,13 @@ pub fn join_kind(e: bool) -> u64
 // A word sort is copied.
 pub fn line_bitvec(
     w: u64,
-    at: &[u64],
-    bit: &[u64],
-    old: &[u64],
-    key: &[u64],
-    con: &[u64],
-    idx: &[u8],
-    wid: &[u8],
+    kept: &[[u64; 5]],
+    types: &[[u8; 5]],
     p: usize,
     target: &mut [u64],
 ) -> Made
-    requires { ⌜ Fit (notes (now at) (now bit) (now old) (now key) (now con) (now idx) (now wid)) p (Line.bitvec w) (length (now target)) ⌝ }
-    ensures { λ r. ⌜ Laid (notes (now (at .entry)) (now (bit .entry)) (now (old .entry)) (now (key .entry)) (now (con .entry)) (now (idx .entry)) (now (wid .entry))) p (Line.bitvec w) (now (target .entry)) (now (target .exit)) r ⌝ }
+    requires { ⌜ Fit (notes (now kept) (now types)) p (Line.bitvec w) (length (now target)) ⌝ }
+    ensures { λ r. ⌜ Laid (notes (now (kept .entry)) (now (types .entry))) p (Line.bitvec w) (now (target .entry)) (now (target .exit)) r ⌝ }
 {
     single([1, 0, w, 0, 0], p, (p + 1) as u64, 0, 0, 0, target)
 }
@@ -100,24 +94,19 @@ pub fn line_bitvec(
 pub fn line_array(
     i: u64,
     e: u64,
-    at: &[u64],
-    bit: &[u64],
-    old: &[u64],
-    key: &[u64],
-    con: &[u64],
-    idx: &[u8],
-    wid: &[u8],
+    kept: &[[u64; 5]],
+    types: &[[u8; 5]],
     p: usize,
     target: &mut [u64],
 ) -> Made
-    requires { ⌜ Fit (notes (now at) (now bit) (now old) (now key) (now con) (now idx) (now wid)) p (Line.array i e) (length (now target)) ⌝ }
-    ensures { λ r. ⌜ Laid (notes (now (at .entry)) (now (bit .entry)) (now (old .entry)) (now (key .entry)) (now (con .entry)) (now (idx .entry)) (now (wid .entry))) p (Line.array i e) (now (target .entry)) (now (target .exit)) r ⌝ }
+    requires { ⌜ Fit (notes (now kept) (now types)) p (Line.array i e) (length (now target)) ⌝ }
+    ensures { λ r. ⌜ Laid (notes (now (kept .entry)) (now (types .entry))) p (Line.array i e) (now (target .entry)) (now (target .exit)) r ⌝ }
 {
-    let n = making::power(types::at(wid, i));
-    making::array_lines(at, old, key, cells::entry(at, i), n, p, target);
+    let n = making::index_size(types, i);
+    making::array_lines(kept, cells::entry(kept, 0, i), n, p, target);
     Made {
         next: p + (1 + n),
-        at: cells::entry(at, e),
+        at: cells::entry(kept, 0, e),
         bit: (p + 1) as u64,
         old: 0,
         key: 0,
@@ -128,24 +117,19 @@ pub fn line_array(
 // An input is copied.
 pub fn line_input(
     s: u64,
-    at: &[u64],
-    bit: &[u64],
-    old: &[u64],
-    key: &[u64],
-    con: &[u64],
-    idx: &[u8],
-    wid: &[u8],
+    kept: &[[u64; 5]],
+    types: &[[u8; 5]],
     p: usize,
     target: &mut [u64],
 ) -> Made
-    requires { ⌜ Fit (notes (now at) (now bit) (now old) (now key) (now con) (now idx) (now wid)) p (Line.input s) (length (now target)) ⌝ }
-    ensures { λ r. ⌜ Laid (notes (now (at .entry)) (now (bit .entry)) (now (old .entry)) (now (key .entry)) (now (con .entry)) (now (idx .entry)) (now (wid .entry))) p (Line.input s) (now (target .entry)) (now (target .exit)) r ⌝ }
+    requires { ⌜ Fit (notes (now kept) (now types)) p (Line.input s) (length (now target)) ⌝ }
+    ensures { λ r. ⌜ Laid (notes (now (kept .entry)) (now (types .entry))) p (Line.input s) (now (target .entry)) (now (target .exit)) r ⌝ }
 {
     single(
-        [4, cells::entry(at, s), 0, 0, 0],
+        [4, cells::entry(kept, 0, s), 0, 0, 0],
         p,
         (p + 1) as u64,
-        cells::entry(bit, s),
+        cells::entry(kept, 1, s),
         1,
         0,
         target,
@@ -155,37 +139,21 @@ pub fn line_input(
 // One state for each cell.
 pub fn line_state(
     s: u64,
-    at: &[u64],
-    bit: &[u64],
-    old: &[u64],
-    key: &[u64],
-    con: &[u64],
-    idx: &[u8],
-    wid: &[u8],
+    kept: &[[u64; 5]],
+    types: &[[u8; 5]],
     p: usize,
     target: &mut [u64],
 ) -> Made
-    requires { ⌜ Fit (notes (now at) (now bit) (now old) (now key) (now con) (now idx) (now wid)) p (Line.state s) (length (now target)) ⌝ }
-    ensures { λ r. ⌜ Laid (notes (now (at .entry)) (now (bit .entry)) (now (old .entry)) (now (key .entry)) (now (con .entry)) (now (idx .entry)) (now (wid .entry))) p (Line.state s) (now (target .entry)) (now (target .exit)) r ⌝ }
+    requires { ⌜ Fit (notes (now kept) (now types)) p (Line.state s) (length (now target)) ⌝ }
+    ensures { λ r. ⌜ Laid (notes (now (kept .entry)) (now (types .entry))) p (Line.state s) (now (target .entry)) (now (target .exit)) r ⌝ }
 {
-    let n = making::size(idx, s);
-    rows::rows(
-        at,
-        old,
-        key,
-        target,
-        p,
-        n,
-        5,
-        cells::entry(at, s),
-        making::run(0, 0),
-        making::run(0, 0),
-        making::run(0, 0),
-    );
+    let n = making::size(types, s);
+    let z = making::run(0, 0);
+    rows::rows(kept, target, p, n, 5, cells::entry(kept, 0, s), z, z, z);
     Made {
         next: p + n,
         at: (p + 1) as u64,
-        bit: cells::entry(bit, s),
+        bit: cells::entry(kept, 1, s),
         old: 0,
         key: 1,
         con: 0,
@@ -196,24 +164,19 @@ pub fn line_state(
 pub fn line_const(
     s: u64,
     v: u64,
-    at: &[u64],
-    bit: &[u64],
-    old: &[u64],
-    key: &[u64],
-    con: &[u64],
-    idx: &[u8],
-    wid: &[u8],
+    kept: &[[u64; 5]],
+    types: &[[u8; 5]],
     p: usize,
     target: &mut [u64],
 ) -> Made
-    requires { ⌜ Fit (notes (now at) (now bit) (now old) (now key) (now con) (now idx) (now wid)) p (Line.val s (Expr.const v)) (length (now target)) ⌝ }
-    ensures { λ r. ⌜ Laid (notes (now (at .entry)) (now (bit .entry)) (now (old .entry)) (now (key .entry)) (now (con .entry)) (now (idx .entry)) (now (wid .entry))) p (Line.val s (Expr.const v)) (now (target .entry)) (now (target .exit)) r ⌝ }
+    requires { ⌜ Fit (notes (now kept) (now types)) p (Line.val s (Expr.const v)) (length (now target)) ⌝ }
+    ensures { λ r. ⌜ Laid (notes (now (kept .entry)) (now (types .entry))) p (Line.val s (Expr.const v)) (now (target .entry)) (now (target .exit)) r ⌝ }
 {
     single(
-        [3, cells::entry(at, s), v, 0, 0],
+        [3, cells::entry(kept, 0, s), v, 0, 0],
         p,
         (p + 1) as u64,
-        cells::entry(bit, s),
+        cells::entry(kept, 1, s),
         1,
         small(v),
         target,
@@ -227,30 +190,19 @@ pub fn line_one(
     a: u64,
     x: u64,
     y: u64,
-    at: &[u64],
-    bit: &[u64],
-    old: &[u64],
-    key: &[u64],
-    con: &[u64],
-    idx: &[u8],
-    wid: &[u8],
+    kept: &[[u64; 5]],
+    types: &[[u8; 5]],
     p: usize,
     target: &mut [u64],
 ) -> Made
-    requires { ⌜ Fit (notes (now at) (now bit) (now old) (now key) (now con) (now idx) (now wid)) p (Line.val s (Expr.one k a x y)) (length (now target)) ⌝ }
-    ensures { λ r. ⌜ Laid (notes (now (at .entry)) (now (bit .entry)) (now (old .entry)) (now (key .entry)) (now (con .entry)) (now (idx .entry)) (now (wid .entry))) p (Line.val s (Expr.one k a x y)) (now (target .entry)) (now (target .exit)) r ⌝ }
+    requires { ⌜ Fit (notes (now kept) (now types)) p (Line.val s (Expr.one k a x y)) (length (now target)) ⌝ }
+    ensures { λ r. ⌜ Laid (notes (now (kept .entry)) (now (types .entry))) p (Line.val s (Expr.one k a x y)) (now (target .entry)) (now (target .exit)) r ⌝ }
 {
     single(
-        [
-            k,
-            cells::entry(at, s),
-            cells::cell(at, old, key, a, 0),
-            x,
-            y,
-        ],
+        [k, cells::entry(kept, 0, s), cells::cell(kept, a, 0), x, y],
         p,
         (p + 1) as u64,
-        cells::entry(bit, s),
+        cells::entry(kept, 1, s),
         1,
         0,
         target,
@@ -263,30 +215,25 @@ pub fn line_two(
     s: u64,
     a: u64,
     b: u64,
-    at: &[u64],
-    bit: &[u64],
-    old: &[u64],
-    key: &[u64],
-    con: &[u64],
-    idx: &[u8],
-    wid: &[u8],
+    kept: &[[u64; 5]],
+    types: &[[u8; 5]],
     p: usize,
     target: &mut [u64],
 ) -> Made
-    requires { ⌜ Fit (notes (now at) (now bit) (now old) (now key) (now con) (now idx) (now wid)) p (Line.val s (Expr.two k a b)) (length (now target)) ⌝ }
-    ensures { λ r. ⌜ Laid (notes (now (at .entry)) (now (bit .entry)) (now (old .entry)) (now (key .entry)) (now (con .entry)) (now (idx .entry)) (now (wid .entry))) p (Line.val s (Expr.two k a b)) (now (target .entry)) (now (target .exit)) r ⌝ }
+    requires { ⌜ Fit (notes (now kept) (now types)) p (Line.val s (Expr.two k a b)) (length (now target)) ⌝ }
+    ensures { λ r. ⌜ Laid (notes (now (kept .entry)) (now (types .entry))) p (Line.val s (Expr.two k a b)) (now (target .entry)) (now (target .exit)) r ⌝ }
 {
     single(
         [
             k,
-            cells::entry(at, s),
-            cells::cell(at, old, key, a, 0),
-            cells::cell(at, old, key, b, 0),
+            cells::entry(kept, 0, s),
+            cells::cell(kept, a, 0),
+            cells::cell(kept, b, 0),
             0,
         ],
         p,
         (p + 1) as u64,
-        cells::entry(bit, s),
+        cells::entry(kept, 1, s),
         1,
         0,
         target,
@@ -299,27 +246,20 @@ pub fn line_cmp(
     s: u64,
     x: u64,
     y: u64,
-    at: &[u64],
-    bit: &[u64],
-    old: &[u64],
-    key: &[u64],
-    con: &[u64],
-    idx: &[u8],
-    wid: &[u8],
+    kept: &[[u64; 5]],
+    types: &[[u8; 5]],
     p: usize,
     target: &mut [u64],
 ) -> Made
-    requires { ⌜ Fit (notes (now at) (now bit) (now old) (now key) (now con) (now idx) (now wid)) p (Line.val s (Expr.cmp e x y)) (length (now target)) ⌝ }
-    ensures { λ r. ⌜ Laid (notes (now (at .entry)) (now (bit .entry)) (now (old .entry)) (now (key .entry)) (now (con .entry)) (now (idx .entry)) (now (wid .entry))) p (Line.val s (Expr.cmp e x y)) (now (target .entry)) (now (target .exit)) r ⌝ }
+    requires { ⌜ Fit (notes (now kept) (now types)) p (Line.val s (Expr.cmp e x y)) (length (now target)) ⌝ }
+    ensures { λ r. ⌜ Laid (notes (now (kept .entry)) (now (types .entry))) p (Line.val s (Expr.cmp e x y)) (now (target .entry)) (now (target .exit)) r ⌝ }
 {
-    let n = making::size(idx, x);
+    let n = making::size(types, x);
     making::cmp_lines(
-        at,
-        old,
-        key,
+        kept,
         cmp_kind(e),
         join_kind(e),
-        cells::entry(at, s),
+        cells::entry(kept, 0, s),
         x,
         y,
         n,
@@ -330,7 +270,7 @@ pub fn line_cmp(
     Made {
         next: q,
         at: q as u64,
-        bit: cells::entry(bit, s),
+        bit: cells::entry(kept, 1, s),
         old: 0,
         key: 1,
         con: 0,
@@ -343,37 +283,30 @@ pub fn line_ite(
     c: u64,
     x: u64,
     y: u64,
-    at: &[u64],
-    bit: &[u64],
-    old: &[u64],
-    key: &[u64],
-    con: &[u64],
-    idx: &[u8],
-    wid: &[u8],
+    kept: &[[u64; 5]],
+    types: &[[u8; 5]],
     p: usize,
     target: &mut [u64],
 ) -> Made
-    requires { ⌜ Fit (notes (now at) (now bit) (now old) (now key) (now con) (now idx) (now wid)) p (Line.val s (Expr.ite c x y)) (length (now target)) ⌝ }
-    ensures { λ r. ⌜ Laid (notes (now (at .entry)) (now (bit .entry)) (now (old .entry)) (now (key .entry)) (now (con .entry)) (now (idx .entry)) (now (wid .entry))) p (Line.val s (Expr.ite c x y)) (now (target .entry)) (now (target .exit)) r ⌝ }
+    requires { ⌜ Fit (notes (now kept) (now types)) p (Line.val s (Expr.ite c x y)) (length (now target)) ⌝ }
+    ensures { λ r. ⌜ Laid (notes (now (kept .entry)) (now (types .entry))) p (Line.val s (Expr.ite c x y)) (now (target .entry)) (now (target .exit)) r ⌝ }
 {
-    let n = making::size(idx, x);
+    let n = making::size(types, x);
     rows::rows(
-        at,
-        old,
-        key,
+        kept,
         target,
         p,
         n,
         53,
-        cells::entry(at, s),
-        making::run(cells::cell(at, old, key, c, 0), 0),
+        cells::entry(kept, 0, s),
+        making::run(cells::cell(kept, c, 0), 0),
         making::of(x),
         making::of(y),
     );
     Made {
         next: p + n,
         at: (p + 1) as u64,
-        bit: cells::entry(bit, s),
+        bit: cells::entry(kept, 1, s),
         old: 0,
         key: 1,
         con: 0,
@@ -385,39 +318,32 @@ pub fn line_read(
     s: u64,
     a: u64,
     i: u64,
-    at: &[u64],
-    bit: &[u64],
-    old: &[u64],
-    key: &[u64],
-    con: &[u64],
-    idx: &[u8],
-    wid: &[u8],
+    kept: &[[u64; 5]],
+    types: &[[u8; 5]],
     p: usize,
     target: &mut [u64],
 ) -> Made
-    requires { ⌜ Fit (notes (now at) (now bit) (now old) (now key) (now con) (now idx) (now wid)) p (Line.val s (Expr.read a i)) (length (now target)) ⌝ }
-    ensures { λ r. ⌜ Laid (notes (now (at .entry)) (now (bit .entry)) (now (old .entry)) (now (key .entry)) (now (con .entry)) (now (idx .entry)) (now (wid .entry))) p (Line.val s (Expr.read a i)) (now (target .entry)) (now (target .exit)) r ⌝ }
+    requires { ⌜ Fit (notes (now kept) (now types)) p (Line.val s (Expr.read a i)) (length (now target)) ⌝ }
+    ensures { λ r. ⌜ Laid (notes (now (kept .entry)) (now (types .entry))) p (Line.val s (Expr.read a i)) (now (target .entry)) (now (target .exit)) r ⌝ }
 {
-    let c = cells::entry(con, i);
-    let b = cells::entry(bit, s);
+    let c = cells::entry(kept, 4, i);
+    let b = cells::entry(kept, 1, s);
     if c != 0 {
         return Made {
             next: p,
-            at: cells::cell(at, old, key, a, c - 1),
+            at: cells::cell(kept, a, c - 1),
             bit: b,
             old: 0,
             key: 1,
             con: 0,
         };
     }
-    let n = making::size(idx, a);
+    let n = making::size(types, a);
     making::read_lines(
-        at,
-        old,
-        key,
-        cells::entry(bit, a),
-        cells::cell(at, old, key, i, 0),
-        cells::entry(at, s),
+        kept,
+        cells::entry(kept, 1, a),
+        cells::cell(kept, i, 0),
+        cells::entry(kept, 0, s),
         a,
         n,
         p,
@@ -440,22 +366,17 @@ pub fn line_write(
     a: u64,
     i: u64,
     v: u64,
-    at: &[u64],
-    bit: &[u64],
-    old: &[u64],
-    key: &[u64],
-    con: &[u64],
-    idx: &[u8],
-    wid: &[u8],
+    kept: &[[u64; 5]],
+    types: &[[u8; 5]],
     p: usize,
     target: &mut [u64],
 ) -> Made
-    requires { ⌜ Fit (notes (now at) (now bit) (now old) (now key) (now con) (now idx) (now wid)) p (Line.val s (Expr.write a i v)) (length (now target)) ⌝ }
-    ensures { λ r. ⌜ Laid (notes (now (at .entry)) (now (bit .entry)) (now (old .entry)) (now (key .entry)) (now (con .entry)) (now (idx .entry)) (now (wid .entry))) p (Line.val s (Expr.write a i v)) (now (target .entry)) (now (target .exit)) r ⌝ }
+    requires { ⌜ Fit (notes (now kept) (now types)) p (Line.val s (Expr.write a i v)) (length (now target)) ⌝ }
+    ensures { λ r. ⌜ Laid (notes (now (kept .entry)) (now (types .entry))) p (Line.val s (Expr.write a i v)) (now (target .entry)) (now (target .exit)) r ⌝ }
 {
-    let c = cells::entry(con, i);
-    let o = cells::entry(bit, s);
-    let x = cells::cell(at, old, key, v, 0);
+    let c = cells::entry(kept, 4, i);
+    let o = cells::entry(kept, 1, s);
+    let x = cells::cell(kept, v, 0);
     if c != 0 {
         return Made {
             next: p,
@@ -466,17 +387,15 @@ pub fn line_write(
             con: 0,
         };
     }
-    let n = making::size(idx, s);
+    let n = making::size(types, s);
     rows::pairs(
-        at,
-        old,
-        key,
+        kept,
         target,
         p,
         n,
         o,
-        cells::cell(at, old, key, i, 0),
-        cells::entry(at, s),
+        cells::cell(kept, i, 0),
+        cells::entry(kept, 0, s),
         making::run(o + 1, 1),
         making::run(x, 0),
         making::of(a),
@@ -497,27 +416,20 @@ pub fn line_give(
     s: u64,
     q: u64,
     v: u64,
-    at: &[u64],
-    bit: &[u64],
-    old: &[u64],
-    key: &[u64],
-    con: &[u64],
-    idx: &[u8],
-    wid: &[u8],
+    kept: &[[u64; 5]],
+    types: &[[u8; 5]],
     p: usize,
     target: &mut [u64],
 ) -> Made
-    requires { ⌜ Fit (notes (now at) (now bit) (now old) (now key) (now con) (now idx) (now wid)) p (Line.give m s q v) (length (now target)) ⌝ }
-    ensures { λ r. ⌜ Laid (notes (now (at .entry)) (now (bit .entry)) (now (old .entry)) (now (key .entry)) (now (con .entry)) (now (idx .entry)) (now (wid .entry))) p (Line.give m s q v) (now (target .entry)) (now (target .exit)) r ⌝ }
+    requires { ⌜ Fit (notes (now kept) (now types)) p (Line.give m s q v) (length (now target)) ⌝ }
+    ensures { λ r. ⌜ Laid (notes (now (kept .entry)) (now (types .entry))) p (Line.give m s q v) (now (target .entry)) (now (target .exit)) r ⌝ }
 {
-    let n = making::size(idx, q);
-    let t = cells::entry(at, s);
+    let n = making::size(types, q);
+    let t = cells::entry(kept, 0, s);
     if m {
-        let x = cells::cell(at, old, key, v, 0);
+        let x = cells::cell(kept, v, 0);
         rows::rows(
-            at,
-            old,
-            key,
+            kept,
             target,
             p,
             n,
@@ -530,9 +442,7 @@ pub fn line_give(
         return no_value(p + n);
     }
     rows::rows(
-        at,
-        old,
-        key,
+        kept,
         target,
         p,
         n,
@@ -549,20 +459,15 @@ pub fn line_give(
 pub fn line_mark(
     m: bool,
     a: u64,
-    at: &[u64],
-    bit: &[u64],
-    old: &[u64],
-    key: &[u64],
-    con: &[u64],
-    idx: &[u8],
-    wid: &[u8],
+    kept: &[[u64; 5]],
+    types: &[[u8; 5]],
     p: usize,
     target: &mut [u64],
 ) -> Made
-    requires { ⌜ Fit (notes (now at) (now bit) (now old) (now key) (now con) (now idx) (now wid)) p (Line.mark m a) (length (now target)) ⌝ }
-    ensures { λ r. ⌜ Laid (notes (now (at .entry)) (now (bit .entry)) (now (old .entry)) (now (key .entry)) (now (con .entry)) (now (idx .entry)) (now (wid .entry))) p (Line.mark m a) (now (target .entry)) (now (target .exit)) r ⌝ }
+    requires { ⌜ Fit (notes (now kept) (now types)) p (Line.mark m a) (length (now target)) ⌝ }
+    ensures { λ r. ⌜ Laid (notes (now (kept .entry)) (now (types .entry))) p (Line.mark m a) (now (target .entry)) (now (target .exit)) r ⌝ }
 {
-    let x = cells::cell(at, old, key, a, 0);
+    let x = cells::cell(kept, a, 0);
     if m {
         return single([8, 0, x, 0, 0], p, 0, 0, 0, 0, target);
     }
@@ -572,21 +477,16 @@ pub fn line_mark(
 // An output is copied.
 pub fn line_output(
     a: u64,
-    at: &[u64],
-    bit: &[u64],
-    old: &[u64],
-    key: &[u64],
-    con: &[u64],
-    idx: &[u8],
-    wid: &[u8],
+    kept: &[[u64; 5]],
+    types: &[[u8; 5]],
     p: usize,
     target: &mut [u64],
 ) -> Made
-    requires { ⌜ Fit (notes (now at) (now bit) (now old) (now key) (now con) (now idx) (now wid)) p (Line.output a) (length (now target)) ⌝ }
-    ensures { λ r. ⌜ Laid (notes (now (at .entry)) (now (bit .entry)) (now (old .entry)) (now (key .entry)) (now (con .entry)) (now (idx .entry)) (now (wid .entry))) p (Line.output a) (now (target .entry)) (now (target .exit)) r ⌝ }
+    requires { ⌜ Fit (notes (now kept) (now types)) p (Line.output a) (length (now target)) ⌝ }
+    ensures { λ r. ⌜ Laid (notes (now (kept .entry)) (now (types .entry))) p (Line.output a) (now (target .entry)) (now (target .exit)) r ⌝ }
 {
     single(
-        [10, 0, cells::cell(at, old, key, a, 0), 0, 0],
+        [10, 0, cells::cell(kept, a, 0), 0, 0],
         p,
         0,
         0,
@@ -599,18 +499,13 @@ pub fn line_output(
 // The line of a record of an operator.
 fn operator(
     rec: [u64; 5],
-    at: &[u64],
-    bit: &[u64],
-    old: &[u64],
-    key: &[u64],
-    con: &[u64],
-    idx: &[u8],
-    wid: &[u8],
+    kept: &[[u64; 5]],
+    types: &[[u8; 5]],
     p: usize,
     target: &mut [u64],
 ) -> Made
-    requires { ⌜ (knownOf false (kindIn rec) ≡ true) × ((10 < kindIn rec) × Fit (notes (now at) (now bit) (now old) (now key) (now con) (now idx) (now wid)) p (lineOf rec) (length (now target))) ⌝ }
-    ensures { λ r. ⌜ Laid (notes (now (at .entry)) (now (bit .entry)) (now (old .entry)) (now (key .entry)) (now (con .entry)) (now (idx .entry)) (now (wid .entry))) p (lineOf rec) (now (target .entry)) (now (target .exit)) r ⌝ }
+    requires { ⌜ (knownOf false (kindIn rec) ≡ true) × ((10 < kindIn rec) × Fit (notes (now kept) (now types)) p (lineOf rec) (length (now target))) ⌝ }
+    ensures { λ r. ⌜ Laid (notes (now (kept .entry)) (now (types .entry))) p (lineOf rec) (now (target .entry)) (now (target .exit)) r ⌝ }
 {
     let k = rec[0];
     let s = rec[1];
@@ -618,51 +513,49 @@ fn operator(
     let b = rec[3];
     let c = rec[4];
     if k <= 20 {
-        return line_one(k, s, a, b, c, at, bit, old, key, con, idx, wid, p, target);
+        return line_one(k, s, a, b, c, kept, types, p, target);
+    }
+    if k <= 22 {
+        return line_cmp(k == 21, s, a, b, kept, types, p, target);
     }
     match k {
-        21 => line_cmp(true, s, a, b, at, bit, old, key, con, idx, wid, p, target),
-        22 => line_cmp(false, s, a, b, at, bit, old, key, con, idx, wid, p, target),
-        53 => line_ite(s, a, b, c, at, bit, old, key, con, idx, wid, p, target),
-        54 => line_read(s, a, b, at, bit, old, key, con, idx, wid, p, target),
-        55 => line_write(s, a, b, c, at, bit, old, key, con, idx, wid, p, target),
-        _ => line_two(k, s, a, b, at, bit, old, key, con, idx, wid, p, target),
+        53 => line_ite(s, a, b, c, kept, types, p, target),
+        54 => line_read(s, a, b, kept, types, p, target),
+        55 => line_write(s, a, b, c, kept, types, p, target),
+        _ => line_two(k, s, a, b, kept, types, p, target),
     }
 }
 
 // The line of a record of a circuit.
 pub fn line(
     rec: [u64; 5],
-    at: &[u64],
-    bit: &[u64],
-    old: &[u64],
-    key: &[u64],
-    con: &[u64],
-    idx: &[u8],
-    wid: &[u8],
+    kept: &[[u64; 5]],
+    types: &[[u8; 5]],
     p: usize,
     target: &mut [u64],
 ) -> Made
-    requires { ⌜ (knownOf false (kindIn rec) ≡ true) × Fit (notes (now at) (now bit) (now old) (now key) (now con) (now idx) (now wid)) p (lineOf rec) (length (now target)) ⌝ }
-    ensures { λ r. ⌜ Laid (notes (now (at .entry)) (now (bit .entry)) (now (old .entry)) (now (key .entry)) (now (con .entry)) (now (idx .entry)) (now (wid .entry))) p (lineOf rec) (now (target .entry)) (now (target .exit)) r ⌝ }
+    requires { ⌜ (knownOf false (kindIn rec) ≡ true) × Fit (notes (now kept) (now types)) p (lineOf rec) (length (now target)) ⌝ }
+    ensures { λ r. ⌜ Laid (notes (now (kept .entry)) (now (types .entry))) p (lineOf rec) (now (target .entry)) (now (target .exit)) r ⌝ }
 {
     let k = rec[0];
     if 10 < k {
-        return operator(rec, at, bit, old, key, con, idx, wid, p, target);
+        return operator(rec, kept, types, p, target);
     }
     let s = rec[1];
     let a = rec[2];
     let b = rec[3];
+    if 7 < k {
+        if k == 10 {
+            return line_output(a, kept, types, p, target);
+        }
+        return line_mark(k == 8, a, kept, types, p, target);
+    }
     match k {
-        1 => line_bitvec(a, at, bit, old, key, con, idx, wid, p, target),
-        2 => line_array(a, b, at, bit, old, key, con, idx, wid, p, target),
-        3 => line_const(s, a, at, bit, old, key, con, idx, wid, p, target),
-        4 => line_input(s, at, bit, old, key, con, idx, wid, p, target),
-        5 => line_state(s, at, bit, old, key, con, idx, wid, p, target),
-        6 => line_give(true, s, a, b, at, bit, old, key, con, idx, wid, p, target),
-        7 => line_give(false, s, a, b, at, bit, old, key, con, idx, wid, p, target),
-        8 => line_mark(true, a, at, bit, old, key, con, idx, wid, p, target),
-        9 => line_mark(false, a, at, bit, old, key, con, idx, wid, p, target),
-        _ => line_output(a, at, bit, old, key, con, idx, wid, p, target),
+        1 => line_bitvec(a, kept, types, p, target),
+        2 => line_array(a, b, kept, types, p, target),
+        3 => line_const(s, a, kept, types, p, target),
+        4 => line_input(s, kept, types, p, target),
+        5 => line_state(s, kept, types, p, target),
+        _ => line_give(k == 6, s, a, b, kept, types, p, target),
     }
 }

@@ -3,15 +3,16 @@ use crate::Made;
 use crate::Source;
 use crate::cells;
 use crate::rows;
+use tables::notes;
 use tables::records;
-use tables::types;
 ghost use mathlib.Core.Path.{_≡_};
 ghost use Prim.Native.Nat.{_+_, _-_, _*_, _^_, _≤_, _<_};
 ghost use mathlib.Core.List.{_++_};
-ghost use lib.ListN.{length, getD};
+ghost use lib.ListN.{length};
 ghost use Rattle.tables.specs.Lines.{five};
+ghost use Rattle.tables.specs.Notes.{lookIn};
 ghost use Rattle.circuits.specs.Cells.{put};
-ghost use Rattle.flattening.specs.Model.{held, cellIn, Sound, Tame, words, rowAt, pairAt};
+ghost use Rattle.flattening.specs.Model.{cellIn, Sound, Tame, words, rowAt, pairAt};
 ghost use Rattle.flattening.specs.Making.{run, still, of, runDown, ofDown, arrayWords, joinWords, cmpWords, readWords, writeWords};
 
 // 2 to the power of w.
@@ -33,11 +34,21 @@ pub fn power(w: u8) -> usize
 }
 
 // The cells of the line a.
-pub fn size(idx: &[u8], a: u64) -> usize
-    requires { ⌜ getD (now idx) a 0 ≤ 8 ⌝ }
-    ensures { λ r. ⌜ r ≡ 2 ^ getD (now (idx .entry)) a 0 ⌝ }
+pub fn size(types: &[[u8; 5]], a: u64) -> usize
+    requires { ⌜ lookIn (now types) a .iw ≤ 8 ⌝ }
+    ensures { λ r. ⌜ r ≡ 2 ^ (lookIn (now (types .entry)) a .iw) ⌝ }
 {
-    power(types::at(idx, a))
+    let y = notes::look(types, a);
+    power(y.iw)
+}
+
+// The cells of an array whose index sort is the line a.
+pub fn index_size(types: &[[u8; 5]], a: u64) -> usize
+    requires { ⌜ lookIn (now types) a .w ≤ 8 ⌝ }
+    ensures { λ r. ⌜ r ≡ 2 ^ (lookIn (now (types .entry)) a .w) ⌝ }
+{
+    let y = notes::look(types, a);
+    power(y.w)
 }
 
 // A row of numbers, base + step * j.
@@ -102,56 +113,26 @@ pub fn less(n: usize, k: usize) -> usize
 }
 
 // An array sort of n cells, whose index sort has the flat line s: a width-1 sort, then the index constants.
-pub fn array_lines(
-    at: &[u64],
-    old: &[u64],
-    key: &[u64],
-    s: u64,
-    n: usize,
-    p: usize,
-    target: &mut [u64],
-)
-    requires { ⌜ Sound (held (now at) (now old) (now key)) × ((n ≤ 256) × (5 * (p + (1 + n)) ≤ length (now target))) ⌝ }
-    ensures { λ _. ⌜ now (target .exit) ≡ put (now (target .entry)) (5 * p) (arrayWords (held (now (at .entry)) (now (old .entry)) (now (key .entry))) s n) ⌝ }
+pub fn array_lines(kept: &[[u64; 5]], s: u64, n: usize, p: usize, target: &mut [u64])
+    requires { ⌜ Sound (now kept) × ((n ≤ 256) × (5 * (p + (1 + n)) ≤ length (now target))) ⌝ }
+    ensures { λ _. ⌜ now (target .exit) ≡ put (now (target .entry)) (5 * p) (arrayWords (now (kept .entry)) s n) ⌝ }
 {
     records::put(target, p, [1, 0, 1, 0, 0]);
-    rows::rows(
-        at,
-        old,
-        key,
-        target,
-        p + 1,
-        n,
-        3,
-        s,
-        run(0, 1),
-        run(0, 0),
-        run(0, 0),
-    );
+    let z = run(0, 0);
+    rows::rows(kept, target, p + 1, n, 3, s, run(0, 1), z, z);
 }
 
 // The ands, or ors, of n tests that begin at the place p, from the left.
-pub fn join_lines(
-    at: &[u64],
-    old: &[u64],
-    key: &[u64],
-    j: u64,
-    s: u64,
-    n: usize,
-    p: usize,
-    target: &mut [u64],
-)
-    requires { ⌜ Sound (held (now at) (now old) (now key)) × ((n ≤ 256) × ((p ≤ 65536) × (5 * (p + (n + (n - 1))) ≤ length (now target)))) ⌝ }
-    ensures { λ _. ⌜ now (target .exit) ≡ put (now (target .entry)) (5 * (p + n)) (joinWords (held (now (at .entry)) (now (old .entry)) (now (key .entry))) p j s n) ⌝ }
+pub fn join_lines(kept: &[[u64; 5]], j: u64, s: u64, n: usize, p: usize, target: &mut [u64])
+    requires { ⌜ Sound (now kept) × ((n ≤ 256) × ((p ≤ 65536) × (5 * (p + (n + (n - 1))) ≤ length (now target)))) ⌝ }
+    ensures { λ _. ⌜ now (target .exit) ≡ put (now (target .entry)) (5 * (p + n)) (joinWords (now (kept .entry)) p j s n) ⌝ }
 {
     if n < 2 {
         return;
     }
     records::put(target, p + n, [j, s, (p + 1) as u64, (p + 2) as u64, 0]);
     rows::rows(
-        at,
-        old,
-        key,
+        kept,
         target,
         p + n + 1,
         n - 2,
@@ -165,9 +146,7 @@ pub fn join_lines(
 
 // eq or neq, of the kind k, of two values of n cells: a test for each cell, then their ands, or ors, of the kind j.
 pub fn cmp_lines(
-    at: &[u64],
-    old: &[u64],
-    key: &[u64],
+    kept: &[[u64; 5]],
     k: u64,
     j: u64,
     s: u64,
@@ -177,18 +156,16 @@ pub fn cmp_lines(
     p: usize,
     target: &mut [u64],
 )
-    requires { ⌜ Sound (held (now at) (now old) (now key)) × ((n ≤ 256) × ((p ≤ 65536) × (5 * (p + (n + (n - 1))) ≤ length (now target)))) ⌝ }
-    ensures { λ _. ⌜ now (target .exit) ≡ put (now (target .entry)) (5 * p) (cmpWords (held (now (at .entry)) (now (old .entry)) (now (key .entry))) p k j s x y n) ⌝ }
+    requires { ⌜ Sound (now kept) × ((n ≤ 256) × ((p ≤ 65536) × (5 * (p + (n + (n - 1))) ≤ length (now target)))) ⌝ }
+    ensures { λ _. ⌜ now (target .exit) ≡ put (now (target .entry)) (5 * p) (cmpWords (now (kept .entry)) p k j s x y n) ⌝ }
 {
-    rows::rows(at, old, key, target, p, n, k, s, of(x), of(y), run(0, 0));
-    join_lines(at, old, key, j, s, n, p, target);
+    rows::rows(kept, target, p, n, k, s, of(x), of(y), run(0, 0));
+    join_lines(kept, j, s, n, p, target);
 }
 
 // A read of the cells of a by the index i, from the last cell: o is the width-1 sort line, and the index constants stand after it.
 pub fn read_lines(
-    at: &[u64],
-    old: &[u64],
-    key: &[u64],
+    kept: &[[u64; 5]],
     o: u64,
     i: u64,
     s: u64,
@@ -197,15 +174,13 @@ pub fn read_lines(
     p: usize,
     target: &mut [u64],
 )
-    requires { ⌜ Sound (held (now at) (now old) (now key)) × ((2 ≤ n) × ((n ≤ 256) × ((p ≤ 60000) × ((o ≤ 65536) × (5 * (p + 2 * (n - 1)) ≤ length (now target)))))) ⌝ }
-    ensures { λ _. ⌜ now (target .exit) ≡ put (now (target .entry)) (5 * p) (readWords (held (now (at .entry)) (now (old .entry)) (now (key .entry))) p o i s a n) ⌝ }
+    requires { ⌜ Sound (now kept) × ((2 ≤ n) × ((n ≤ 256) × ((p ≤ 60000) × ((o ≤ 65536) × (5 * (p + 2 * (n - 1)) ≤ length (now target)))))) ⌝ }
+    ensures { λ _. ⌜ now (target .exit) ≡ put (now (target .entry)) (5 * p) (readWords (now (kept .entry)) p o i s a n) ⌝ }
 {
-    let last = cells::cell(at, old, key, a, (n - 1) as u64);
+    let last = cells::cell(kept, a, (n - 1) as u64);
     let m = n - 2;
     rows::pairs(
-        at,
-        old,
-        key,
+        kept,
         target,
         p,
         1,
@@ -218,9 +193,7 @@ pub fn read_lines(
     );
     let t = less(n, 3);
     rows::pairs(
-        at,
-        old,
-        key,
+        kept,
         target,
         p + 2,
         m,

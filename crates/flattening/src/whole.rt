@@ -13,16 +13,11 @@ ghost use Rattle.flattening.specs.Begun.{Begun};
 pub fn all_lines(
     table: &[u64],
     count: usize,
-    idx: &[u8],
-    wid: &[u8],
-    at: &mut [u64],
-    bit: &mut [u64],
-    old: &mut [u64],
-    key: &mut [u64],
-    con: &mut [u64],
+    types: &[[u8; 5]],
+    kept: &mut [[u64; 5]],
     target: &mut [u64],
 ) -> Flattened
-    requires { ⌜ Begun (now table) count (now idx) (now wid) (now at) (now bit) (now old) (now key) (now con) (now target) ⌝ }
+    requires { ⌜ Begun (now table) count (now types) (now kept) (now target) ⌝ }
     ensures { λ r. ⌜ (r ≡ flattened (now (table .entry)) count (length (now (target .entry)))) × (now (target .exit) ≡ targetLeft (now (table .entry)) count (length (now (target .entry)))) ⌝ }
 {
     let room = records::room_of(target.len());
@@ -30,18 +25,14 @@ pub fn all_lines(
     let mut p: usize = 0;
     while i < count {
         let rec = records::record(table, i);
-        let c = counting::count_line(rec, con, idx, wid);
+        let c = counting::count_line(rec, kept, types);
         if room - p < c {
             records::clear(target);
             return Flattened::Refused(Refusal::TargetTooSmall);
         }
-        let m = lines::line(rec, at, bit, old, key, con, idx, wid, p, target);
+        let m = lines::line(rec, kept, types, p, target);
         let n = i + 1;
-        at[n] = m.at;
-        bit[n] = m.bit;
-        old[n] = m.old;
-        key[n] = m.key;
-        con[n] = m.con;
+        kept[n] = [m.at, m.bit, m.old, m.key, m.con];
         p = m.next;
         i = n;
     }

@@ -142,7 +142,7 @@ module _ (A : Acc) (Z : Layout) (wid pos ini S R : List ℕ) (n c : ℕ) where
 
 -- ---- small laws
 
-yes-choose : {X : Type 0} (d : ℕ) (x y : X) → (d ≡ 0 → ⊥) → choose d x y ≡ x
+pub yes-choose : {X : Type 0} (d : ℕ) (x y : X) → (d ≡ 0 → ⊥) → choose d x y ≡ x
 yes-choose zero x y n = absurd (n refl)
 yes-choose (suc d) x y n = refl
 

@@ -1,5 +1,5 @@
 -- What peek's two functions ask of the lines that they look at, and what they find. Assumes nothing.
-use Prim.Native.Nat.{ℕ, zero, suc, _+_, _-_, _*_, _^_, _≤_, _<_}
+use Prim.Native.Nat.{ℕ, zero, suc, _+_, _-_, _*_, _%_, _^_, _≤_, _<_}
 use mathlib.Core.Path.{_≡_, refl, sym, ap, ap₂, _∙_, subst}
 use mathlib.Core.Logic.{inl, inr}
 use mathlib.Core.Bool.{Bool, true, false, _&&_}
@@ -15,15 +15,16 @@ use Rattle.tables.specs.Tables.{checked}
 use Rattle.tables.proofs.Facts.{IsArray}
 use Rattle.tables.proofs.Shapes.{KindOf, kind-of, line-as}
 use Rattle.tables.proofs.Showing.{by-place}
-use Rattle.circuits.specs.Cells.{same}
+use Rattle.words.specs.Word.{Width}
+use Rattle.circuits.specs.Cells.{choose, same}
 use Rattle.circuits.specs.Layout.{Layout, typeAt, size, layout}
 use Rattle.circuits.specs.Meaning.{Acc, cellsAt, wordAt}
 use Rattle.circuits.specs.Answers.{linesOf}
 use Rattle.peeks.specs.Peek.{stepZero}
-use Rattle.peeks.specs.Looks.{Looks, Found, WordLine, ArrayLine, CellLine, Pair}
+use Rattle.peeks.specs.Looks.{Looks, Found, WordLine, ArrayLine, CellLine, StateLine, Pair}
 use Rattle.circuits.proofs.Walked.{fits-table}
 use Rattle.circuits.proofs.Placing.{all-sound}
-use Rattle.peeks.proofs.Looked.{Arg, Operand, FactCmp, FactRead, Fact, number-of, facts, cells-of}
+use Rattle.peeks.proofs.Looked.{Arg, FactCmp, FactRead, FactIte, Fact, number-of, facts, cells-of}
 use Rattle.circuits.proofs.Puts as laws
 
 -- ---- the words found so far
@@ -54,6 +55,13 @@ pub record Alike (A : Acc) (a b : ℕ) (vals known : List ℕ) (m c : ℕ) : Typ
 
 -- ---- lines of an accepted table
 
+-- a line that the line m takes for its own value
+pub record Chosen (A : Acc) (Z : Layout) (m c e : ℕ) : Type 0 where
+  pub below : e < m
+  pub value : 2 ≤ typeAt Z e .cls
+  pub sort : typeAt Z e .iw ≡ typeAt Z m .iw
+  pub is : getD (cellsAt A e) c 0 ≡ getD (cellsAt A m) c 0
+
 pub record Number (t : List ℕ) (n m : ℕ) : Type 0 where
   pub least : 1 ≤ m
   pub most : m ≤ 64
@@ -80,8 +88,8 @@ module _ {t : List ℕ} {n : ℕ} {idx wid pos ini S R : List ℕ} (lk : Looks t
   pub word-arg : {m a : ℕ} → Arg Z m a → WordLine t n a
   word-arg k = record { value = k .word .is; flat = k .word .flat }
 
-  pub word-same : {m a : ℕ} → WordLine t n m → Operand Z m a → typeAt Z a .iw ≡ typeAt Z m .iw → WordLine t n a
-  word-same w k e = record { value = k .value; flat = e ∙ w .flat }
+  pub word-same : {m a : ℕ} → WordLine t n m → Chosen A Z m 0 a → WordLine t n a
+  word-same w k = record { value = k .value; flat = k .sort ∙ w .flat }
 
   pub cell-same : {m a c : ℕ} → CellLine t n m c → 2 ≤ typeAt Z a .cls → typeAt Z a .iw ≡ typeAt Z m .iw → CellLine t n a c
   cell-same {m} {a} {c} w q e =
@@ -121,19 +129,84 @@ module _ {t : List ℕ} {n : ℕ} {idx wid pos ini S R : List ℕ} (lk : Looks t
         go (isMark b) e k = absurd (fact (isMark b) e)
         go (isCmp b) e k = absurd (omega (arith, fact (isCmp b) e .flat))
 
-    -- a word's line of no other kind is an operator of two words
-    pub is-two : typeAt Z m .iw ≡ 0 → (kindIn r ≡ 3 → ⊥) → (kindIn r ≡ 4 → ⊥) → (kindIn r ≡ 5 → ⊥) → (11 ≤ kindIn r → kindIn r ≤ 20 → ⊥) → (kindIn r ≡ 21 → ⊥) → (kindIn r ≡ 22 → ⊥)
-        → (kindIn r ≡ 53 → ⊥) → (kindIn r ≡ 54 → ⊥) → shapeOf (kindIn r) ≡ isTwo
-    is-two flat n₃ n₄ n₅ none n₂₁ n₂₂ n₅₃ n₅₄ = go (shapeOf (kindIn r)) refl (kind-of (kindIn r))
+    -- a word's line of a kind below 5 is a constant or an input
+    pub given-asks : kindIn r < 5 → (kindIn r ≡ 3 → ⊥) → (m ≤ 16384) × ((getD pos m 0 < length R) × Width (getD wid m 0))
+    given-asks h n₃ = go (shapeOf (kindIn r)) refl (kind-of (kindIn r))
+      where
+        go : (X : Shape) → shapeOf (kindIn r) ≡ X → KindOf X (kindIn r) → (m ≤ 16384) × ((getD pos m 0 < length R) × Width (getD wid m 0))
+        go isBitvec e k = absurd (fact isBitvec e)
+        go isArray e k = absurd (fact isArray e)
+        go isConst e k = absurd (n₃ k)
+        go isInput e k = let F = fact isInput e in (omega (arith, number m q .most), (F .inside, F .wide))
+        go isState e k = absurd (omega arith)
+        go isOutput e k = absurd (fact isOutput e)
+        go isOne e (inl k) = absurd (omega arith)
+        go isOne e (inr k) = absurd (omega arith)
+        go isTwo e k = absurd (omega arith)
+        go isIte e k = absurd (omega arith)
+        go isRead e k = absurd (omega arith)
+        go isWrite e k = absurd (omega arith)
+        go isJunk e k = absurd (fact isJunk e)
+        go (isGive b) e k = absurd (fact (isGive b) e)
+        go (isMark b) e k = absurd (fact (isMark b) e)
+        go (isCmp true) e k = absurd (omega arith)
+        go (isCmp false) e k = absurd (omega arith)
+
+    pub given-is : {v : ℕ} → kindIn r < 5 → (kindIn r ≡ 3 → v ≡ firstIn r) × ((kindIn r ≡ 3 → ⊥) → v ≡ getD R (getD pos m 0) 0 % 2 ^ getD wid m 0) → v ≡ wordAt A m
+    given-is {v} h w = go (shapeOf (kindIn r)) refl (kind-of (kindIn r))
+      where
+        go : (X : Shape) → shapeOf (kindIn r) ≡ X → KindOf X (kindIn r) → v ≡ wordAt A m
+        go isBitvec e k = absurd (fact isBitvec e)
+        go isArray e k = absurd (fact isArray e)
+        go isConst e k = w .0 k ∙ fact isConst e .is
+        go isInput e k = w .1 (λ z. omega arith) ∙ fact isInput e .is
+        go isState e k = absurd (omega arith)
+        go isOutput e k = absurd (fact isOutput e)
+        go isOne e (inl k) = absurd (omega arith)
+        go isOne e (inr k) = absurd (omega arith)
+        go isTwo e k = absurd (omega arith)
+        go isIte e k = absurd (omega arith)
+        go isRead e k = absurd (omega arith)
+        go isWrite e k = absurd (omega arith)
+        go isJunk e k = absurd (fact isJunk e)
+        go (isGive b) e k = absurd (fact (isGive b) e)
+        go (isMark b) e k = absurd (fact (isMark b) e)
+        go (isCmp true) e k = absurd (omega arith)
+        go (isCmp false) e k = absurd (omega arith)
+
+    -- one of a kind from 6 to 20 is an operator of one word, and one past 22 that is no ite and no read of two
+    pub is-one : 5 ≤ kindIn r → kindIn r < 21 → (kindIn r ≡ 5 → ⊥) → shapeOf (kindIn r) ≡ isOne
+    is-one h l n₅ = go (shapeOf (kindIn r)) refl (kind-of (kindIn r))
+      where
+        go : (X : Shape) → shapeOf (kindIn r) ≡ X → KindOf X (kindIn r) → shapeOf (kindIn r) ≡ isOne
+        go isBitvec e k = absurd (fact isBitvec e)
+        go isArray e k = absurd (fact isArray e)
+        go isConst e k = absurd (omega arith)
+        go isInput e k = absurd (omega arith)
+        go isState e k = absurd (n₅ k)
+        go isOutput e k = absurd (fact isOutput e)
+        go isOne e k = e
+        go isTwo e k = absurd (omega arith)
+        go isIte e k = absurd (omega arith)
+        go isRead e k = absurd (omega arith)
+        go isWrite e k = absurd (omega arith)
+        go isJunk e k = absurd (fact isJunk e)
+        go (isGive b) e k = absurd (fact (isGive b) e)
+        go (isMark b) e k = absurd (fact (isMark b) e)
+        go (isCmp true) e k = absurd (omega arith)
+        go (isCmp false) e k = absurd (omega arith)
+
+    pub is-two : typeAt Z m .iw ≡ 0 → 23 ≤ kindIn r → (kindIn r ≡ 53 → ⊥) → (kindIn r ≡ 54 → ⊥) → shapeOf (kindIn r) ≡ isTwo
+    is-two flat h n₅₃ n₅₄ = go (shapeOf (kindIn r)) refl (kind-of (kindIn r))
       where
         go : (X : Shape) → shapeOf (kindIn r) ≡ X → KindOf X (kindIn r) → shapeOf (kindIn r) ≡ isTwo
         go isBitvec e k = absurd (fact isBitvec e)
         go isArray e k = absurd (fact isArray e)
-        go isConst e k = absurd (n₃ k)
-        go isInput e k = absurd (n₄ k)
-        go isState e k = absurd (n₅ k)
+        go isConst e k = absurd (omega arith)
+        go isInput e k = absurd (omega arith)
+        go isState e k = absurd (omega arith)
         go isOutput e k = absurd (fact isOutput e)
-        go isOne e (inl k) = absurd (none (k .0) (k .1))
+        go isOne e (inl k) = absurd (omega arith)
         go isOne e (inr k) = absurd (omega (arith, fact isOne e .most))
         go isTwo e k = e
         go isIte e k = absurd (n₅₃ k)
@@ -142,11 +215,23 @@ module _ {t : List ℕ} {n : ℕ} {idx wid pos ini S R : List ℕ} (lk : Looks t
         go isJunk e k = absurd (fact isJunk e)
         go (isGive b) e k = absurd (fact (isGive b) e)
         go (isMark b) e k = absurd (fact (isMark b) e)
-        go (isCmp true) e k = absurd (n₂₁ k)
-        go (isCmp false) e k = absurd (n₂₂ k)
+        go (isCmp true) e k = absurd (omega arith)
+        go (isCmp false) e k = absurd (omega arith)
 
   pub first-cell : (m : ℕ) → 0 < size (typeAt Z m)
   first-cell m = pow-pos (typeAt Z m .iw)
+
+  pub state-fact : {m c : ℕ} → StateLine t n m c → Fact A Z wid pos ini S R m c (build isState (kindIn (recordAt t (m - 1))) (sortIn (recordAt t (m - 1))) (firstIn (recordAt t (m - 1))) (secondIn (recordAt t (m - 1))) (thirdIn (recordAt t (m - 1))))
+  state-fact {m} {c} k = fact m c (k .value) (k .inside) refl isState (ap shapeOf (k .state))
+
+  -- the line that an ite takes
+  pub chosen : {m c d a b x e : ℕ} → FactIte A Z wid pos ini S R m c d a b → x ≡ wordAt A d → e ≡ choose x a b → Chosen A Z m c e
+  chosen {m} {c} {d} {a} {b} {x} {e} f ex ee = go x refl
+    where
+      go : (y : ℕ) → x ≡ y → Chosen A Z m c e
+      go zero z = subst (Chosen A Z m c) (sym (ee ∙ ap (λ (k : ℕ). choose k a b) z)) (record { below = f .right .below; value = f .right .value; sort = f .sortB; is = f .no (sym ex ∙ z) })
+      go (suc y) z =
+          subst (Chosen A Z m c) (sym (ee ∙ ap (λ (k : ℕ). choose k a b) z)) (record { below = f .left .below; value = f .left .value; sort = f .sortA; is = f .yes (λ w. omega (arith, ex)) })
 
   -- ---- two values of one sort
 

@@ -1,12 +1,11 @@
 -- The answers of a peek, test by test, and the value where none holds. Assumes nothing.
 use Prim.Native.Nat.{ℕ, zero, suc, _+_, _^_, _≤_, _<_}
 use mathlib.Core.Path.{_≡_, refl, sym, ap, ap₂, _∙_, subst}
-use mathlib.Core.Logic.{⊎-elim}
 use mathlib.Core.Bool.{Bool, true, false, _&&_}
 use mathlib.Core.List.{List}
 use native.Mathlib.Omega.{arith}
 use lib.Dec.{leb, ltb, eqb}
-use lib.ListN.{length, getD, replicate, length-replicate, getD-replicate, List·getD-eq-default}
+use lib.ListN.{length, getD, replicate, length-replicate}
 use borrow.Author.Tests.{le-leb, lt-leb, lt-ltb, le-ltb, eq-eqb, ne-eqb, leb-true, ltb-true, eqb-true}
 use Rattle.tables.specs.declared.Ty.{Ty}
 use Rattle.tables.specs.declared.Refusal.{Refusal}
@@ -14,10 +13,11 @@ use Rattle.tables.specs.declared.Refusal.the-variants.{StartWords, InputWords, 
 use Rattle.tables.specs.declared.Checked.{Checked}
 use Rattle.tables.specs.declared.Checked.the-variants.{Accepted, Refused}
 use Rattle.tables.specs.Pick.{pick}
-use Rattle.tables.specs.Lists.{lookIn, Shows as Listed}
+use Rattle.tables.specs.Notes.{lookIn, Spread}
 use Rattle.tables.specs.Types.{isValue, context, tyAt, Ctx, growAll, noCtx}
 use Rattle.tables.specs.Tables.{checked}
-use Rattle.tables.proofs.Checking.{not-accepted}
+use Rattle.tables.proofs.Checking.{not-accepted, zeros-at}
+use Rattle.tables.proofs.Spreading.{index-widths, word-widths}
 use Rattle.tables.proofs.Kept.{both}
 use Rattle.tables.proofs.Showing.{earlier}
 use Rattle.circuits.specs.declared.Totals.{Totals}
@@ -27,10 +27,9 @@ use Rattle.circuits.specs.Layout.{Counts, typeAt, size, noLayout, layAll, layou
 use Rattle.circuits.specs.Meaning.{Acc, cellsAt, wordAt}
 use Rattle.circuits.specs.Answers.{linesOf}
 use Rattle.peeks.specs.Peek.{stepZero, peekAt, hasCell, mayPeek, seenAs, peeked}
-use Rattle.circuits.specs.Model.{countsOf, totalsOf, Sized, Typed, AllPlaced}
+use Rattle.circuits.specs.Model.{countsOf, totalsOf, AllPlaced, Noted}
 use Rattle.peeks.specs.Looks.{initOf, Laid, Looks, Found, WordLine, CellLine, HasCell, Types, lentPeek}
-use Rattle.circuits.proofs.Placing.{all-sound, lines-here, lay-ctx}
-use Rattle.circuits.proofs.Puts as laws
+use Rattle.circuits.proofs.Placing.{all-sound, lines-here, lay-ctx, typed}
 
 -- ---- 14, 15 and 18
 
@@ -80,12 +79,8 @@ may-on c z n k s i et ey ed ex = sym (ed ∙ ap₂ (λ (t : Totals) (y : Ty). ma
 
 -- ---- what a peek begins with
 
-zeros : (n a : ℕ) → _≡_ {A = ℕ} (getD (replicate n 0) a 0) 0
-zeros n a =
-    ⊎-elim (λ h. getD-replicate {A = ℕ} n a 0 0 h) (λ h. List·getD-eq-default (replicate n 0) 0 {n = a} (omega (arith, length-replicate {A = ℕ} n 0))) (laws.lt-or-ge a n)
-
 pub found-none : (A : Acc) → Found A (replicate 65 0) (replicate 65 0)
-found-none A = record { long = length-replicate {A = ℕ} 65 0; marks = length-replicate {A = ℕ} 65 0; are = λ a e. absurd (omega (arith, zeros 65 a)) }
+found-none A = record { long = length-replicate {A = ℕ} 65 0; marks = length-replicate {A = ℕ} 65 0; are = λ a e. absurd (omega (arith, zeros-at 65 a)) }
 
 pub looks-all : {t : List ℕ} {n : ℕ} {idx wid pos ini S R : List ℕ} → Laid t n idx wid pos S R → length ini ≡ length {A = ℕ} (replicate 65 0)
     → ((q : ℕ) → q < 65 → getD ini q 0 ≡ initOf q (linesOf t n)) → Looks t n idx wid pos ini S R
@@ -119,25 +114,19 @@ module _ {t : List ℕ} {n : ℕ} {idx wid pos S R : List ℕ} (l : Laid t n idx
 
 -- ---- an accepted table
 
-module _ {t : List ℕ} {n : ℕ} {cls idx wid : List ℕ} (y : Types t n cls idx wid) where
-  pub types-sized : Sized false t n idx
-  types-sized = record { accepted = y .accepted; index = λ a. ap (λ (x : Ty). x .iw) (y .types a) }
+module _ {t : List ℕ} {n : ℕ} {idx wid : List ℕ} {m : ℕ} {y : Ty} (z : Types t n idx wid m y) where
+  pub type-deep : 2 ≤ y .cls → y .iw ≤ 8
+  type-deep q =
+      let e = z .type in
+      omega (arith, ap (λ (u : Ty). u .iw) e, all-sound false t n (z .typed .sized .accepted) .wide m (omega (arith, ap (λ (u : Ty). u .cls) e)) .deep)
 
-  types-typed : Typed false t n idx wid
-  types-typed = record { sized = types-sized; width = λ a. ap (λ (x : Ty). x .w) (y .types a) }
-
-  pub types-deep : (a : ℕ) {x : Ty} → x ≡ lookIn cls idx wid a → 2 ≤ x .cls → x .iw ≤ 8
-  types-deep a {x} e q =
-      let z : x ≡ typeAt (layout false (linesOf t n)) a = e ∙ y .types a in
-      omega (arith, ap (λ (u : Ty). u .iw) z, all-sound false t n (y .accepted) .wide a (omega (arith, ap (λ (u : Ty). u .cls) z)) .deep)
-
-  pub peek-laid : {off num pos S R : List ℕ} (m k : ℕ) → AllPlaced off num pos (layout false (linesOf t n))
+  pub peek-laid : {off num pos S R : List ℕ} (k : ℕ) → AllPlaced off num pos (layout false (linesOf t n))
       → mayPeek (layout false (linesOf t n) .counts) (typeAt (layout false (linesOf t n)) m) n k (length S) (length R) ≡ Accepted → Laid t n idx wid pos S R × HasCell t n m k
-  peek-laid {off} {num} {pos} {S} {R} m k pl e =
+  peek-laid {off} {num} {pos} {S} {R} k pl e =
       let f = may-facts (layout false (linesOf t n) .counts) (typeAt (layout false (linesOf t n)) m) n k (length S) (length R) e in
-      let long = all-sound false t n (y .accepted) .long in
-      let many = lines-here false t n (y .accepted) in (
-        record { typed = types-typed; few = f .few; placed = λ a h. pl a (omega arith) .isPos; starts = f .starts; row = f .row },
+      let long = all-sound false t n (z .typed .sized .accepted) .long in
+      let many = lines-here false t n (z .typed .sized .accepted) in (
+        record { typed = z .typed; few = f .few; placed = λ a h. pl a (omega arith) .isPos; starts = f .starts; row = f .row },
         record { value = f .value; inside = f .inside },
       )
 
@@ -157,7 +146,13 @@ module _ (t : List ℕ) (n m k : ℕ) (S R : List ℕ) where
   unfolding peeked
   peek-lent e = rw e
 
-pub types-of : (t : List ℕ) (n : ℕ) {cls idx wid ini nxt : List ℕ} → checked false t n ≡ Accepted → Listed cls idx wid ini nxt (context false (linesOf t n)) → Types t n cls idx wid
+pub types-of : {t : List ℕ} {n : ℕ} {xs : List (List ℕ)} {idx wid : List ℕ} (m : ℕ) {y : Ty} → Noted false t n xs → Spread xs (n + 1) (replicate 16385 0) (replicate 16385 0) idx wid
+    → y ≡ lookIn xs m → Types t n idx wid m y
 unfolding context layout
-types-of t n acc sh =
-    record { accepted = acc; types = λ a. sh .types a ∙ ap (λ (c : Ctx). tyAt c a) (sym (lay-ctx false noLayout (linesOf t n))) }
+types-of {t} {n} m h sp e =
+    let acc = h .accepted in
+    let z = zeros-at 16385 in
+    record {
+      typed = typed false t n acc (index-widths false t n acc (h .shows) sp z z) (word-widths false t n acc (h .shows) sp z z);
+      type = e ∙ h .shows .types m ∙ ap (λ (c : Ctx). tyAt c m) (sym (lay-ctx false noLayout (linesOf t n)));
+    }

@@ -1,16 +1,14 @@
 -- What peek keeps while it looks for a value: the value lines of the states' inits, the lists that say what is known of each line, and the words found so far.
 -- Assumes nothing.
-use Prim.Native.Nat.{ℕ, _≤_, _<_}
+use Prim.Native.Nat.{ℕ, _-_, _≤_, _<_}
 use mathlib.Core.Path.{_≡_}
 use mathlib.Core.Bool.{Bool, true, false}
 use mathlib.Core.List.{List, [], _∷_}
 use lib.Dec.{eqb}
 use lib.ListN.{length, getD}
-use Rattle.tables.specs.declared.Checked.the-variants.{Accepted}
+use Rattle.tables.specs.declared.Ty.{Ty}
 use Rattle.tables.specs.Pick.{pick}
-use Rattle.tables.specs.Lines.{Line}
-use Rattle.tables.specs.Lists.{lookIn}
-use Rattle.tables.specs.Tables.{checked}
+use Rattle.tables.specs.Lines.{Line, kindIn, recordAt}
 use Rattle.peeks.specs.declared.Peeked.{Peeked}
 use Rattle.circuits.specs.Layout.{typeAt, placeAt, size, layout}
 use Rattle.circuits.specs.Meaning.{Acc, wordAt}
@@ -72,6 +70,12 @@ pub record CellLine (t : List ℕ) (n a c : ℕ) : Type 0 where
   pub array : ArrayLine t n a
   pub inside : c < size (typeAt (layout false (linesOf t n)) a)
 
+-- the line a is a state that has the cell c
+pub record StateLine (t : List ℕ) (n a c : ℕ) : Type 0 where
+  pub value : 2 ≤ typeAt (layout false (linesOf t n)) a .cls
+  pub inside : c < size (typeAt (layout false (linesOf t n)) a)
+  pub state : kindIn (recordAt t (a - 1)) ≡ 5
+
 -- the line a is a value that has the cell c
 pub record HasCell (t : List ℕ) (n a c : ℕ) : Type 0 where
   pub value : 2 ≤ typeAt (layout false (linesOf t n)) a .cls
@@ -85,10 +89,10 @@ pub record Pair (t : List ℕ) (n a b : ℕ) : Type 0 where
 
 -- ---- a peek at an accepted table
 
--- the lists hold the types of its lines
-pub record Types (t : List ℕ) (n : ℕ) (cls idx wid : List ℕ) : Type 0 where
-  pub accepted : checked false t n ≡ Accepted
-  pub types : (a : ℕ) → lookIn cls idx wid a ≡ typeAt (layout false (linesOf t n)) a
+-- the lists hold the index widths and the widths of its lines, and y is the type of the line m
+pub record Types (t : List ℕ) (n : ℕ) (idx wid : List ℕ) (m : ℕ) (y : Ty) : Type 0 where
+  pub typed : Typed false t n idx wid
+  pub type : y ≡ typeAt (layout false (linesOf t n)) m
 
 abbrev pub lentPeek : (t : List ℕ) (n line cell : ℕ) (S R : List ℕ) → Peeked
 lentPeek t n line cell S R =

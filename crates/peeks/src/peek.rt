@@ -8,8 +8,8 @@ use tables::Checked;
 use tables::Refusal;
 use tables::Ty;
 use tables::check;
+use tables::notes;
 use tables::records;
-use tables::types;
 ghost use mathlib.Core.Path.{_≡_};
 ghost use mathlib.Core.Bool.{Bool, true, false};
 ghost use mathlib.Core.List.{List};
@@ -18,12 +18,12 @@ ghost use lib.ListN.{length, getD, set, replicate};
 ghost use Rattle.words.specs.Word.{Width};
 ghost use Rattle.tables.specs.Lines.{lineOf, kindIn, firstIn, secondIn, thirdIn};
 ghost use Rattle.tables.specs.Tables.{checked};
-ghost use Rattle.circuits.specs.Cells.{same};
+ghost use Rattle.circuits.specs.Cells.{choose, same};
 ghost use Rattle.circuits.specs.Meaning.{opWord, cellsAt, wordAt};
 ghost use Rattle.circuits.specs.Answers.{linesOf};
 ghost use Rattle.peeks.specs.Peek.{stepZero, peekAt, mayPeek, peeked};
-ghost use Rattle.circuits.specs.Model.{FitWord, countsOf};
-ghost use Rattle.peeks.specs.Looks.{noteInit, initOf, Laid, Looks, Found, WordLine, CellLine, HasCell, Pair, Types, lentPeek};
+ghost use Rattle.circuits.specs.Model.{FitWord, Noted, countsOf};
+ghost use Rattle.peeks.specs.Looks.{noteInit, initOf, Laid, Looks, Found, WordLine, CellLine, StateLine, HasCell, Pair, Types, lentPeek};
 
 // An init's record notes the line of its value at its state.
 fn note_init(rec: [u64; 5], ini: &mut [u64])
@@ -103,6 +103,27 @@ fn two(rec: [u64; 5], n: usize, wid: &[u8; 16385], x: u64, y: u64) -> u64
     eval::word(false, rec[0], w, u, v, x, y, 0)
 }
 
+// The word of the constant or of the input on the line n.
+fn given(rec: [u64; 5], n: usize, wid: &[u8; 16385], pos: &[u32; 16385], row: &[u64]) -> u64
+    requires { ⌜ ((kindIn rec ≡ 3 → ⊥) → (n ≤ 16384) × ((getD (now pos) n 0 < length (now row)) × Width (getD (now wid) n 0))) ⌝ }
+    ensures { λ r. ⌜ ((kindIn rec ≡ 3 → r ≡ firstIn rec) × ((kindIn rec ≡ 3 → ⊥) → r ≡ getD (now (row .entry)) (getD (now (pos .entry)) n 0) 0 % 2 ^ getD (now (wid .entry)) n 0)) ⌝ }
+{
+    if rec[0] == 3 {
+        return rec[2];
+    }
+    input_word(n, wid, pos, row)
+}
+
+// The line that an ite takes where its condition is d.
+fn chosen(d: u64, b: u64, c: u64) -> usize
+    ensures { λ r. ⌜ r ≡ choose d b c ⌝ }
+{
+    if d != 0 {
+        return b as usize;
+    }
+    c as usize
+}
+
 // The word of the line n, from the start words `from` and the row; `ini` holds the lines of the states' init values.
 fn word(
     table: &[u64],
@@ -123,62 +144,83 @@ fn word(
     if has[n] == 1 {
         return vals[n];
     }
+    let v = value(table, count, idx, wid, pos, ini, from, row, vals, has, n);
+    keep(vals, has, n, v)
+}
+
+// The same, looked for anew.
+fn value(
+    table: &[u64],
+    count: usize,
+    idx: &[u8; 16385],
+    wid: &[u8; 16385],
+    pos: &[u32; 16385],
+    ini: &[u64],
+    from: &[u64],
+    row: &[u64],
+    vals: &mut [u64],
+    has: &mut [u8],
+    n: usize,
+) -> u64
+    requires { ⌜ Looks (now table) count (now idx) (now wid) (now pos) (now ini) (now from) (now row) × (WordLine (now table) count n × Found (stepZero (linesOf (now table) count) (now from) (now row)) (now vals) (now has)) ⌝ }
+    ensures { λ r. ⌜ (r ≡ wordAt (stepZero (linesOf (now (table .entry)) count) (now (from .entry)) (now (row .entry))) n) × Found (stepZero (linesOf (now (table .entry)) count) (now (from .entry)) (now (row .entry))) (now (vals .exit)) (now (has .exit)) ⌝ }
+{
     let rec = records::record(table, n - 1);
     let k = rec[0];
     let a = rec[2] as usize;
     let b = rec[3] as usize;
-    let c = rec[4] as usize;
+    // no line of the kinds 0 to 2 and 6 to 10 has a word
     match k {
-        3 => keep(vals, has, n, rec[2]),
-        4 => {
-            let v = input_word(n, wid, pos, row);
-            keep(vals, has, n, v)
-        }
-        5 => {
-            let d = ini[n] as usize;
-            if d == 0 {
-                let v = start_word(n, 0, wid, pos, from);
-                return keep(vals, has, n, v);
-            }
-            let v = word(table, count, idx, wid, pos, ini, from, row, vals, has, d);
-            keep(vals, has, n, v)
-        }
-        11..=20 => {
+        0..=4 => given(rec, n, wid, pos, row),
+        5 => state(table, count, idx, wid, pos, ini, from, row, vals, has, n, 0),
+        6..=20 => {
             let x = word(table, count, idx, wid, pos, ini, from, row, vals, has, a);
-            let v = one(rec, n, wid, x);
-            keep(vals, has, n, v)
+            one(rec, n, wid, x)
         }
-        21 => {
+        21..=22 => {
             let s = alike(table, count, idx, wid, pos, ini, from, row, vals, has, a, b);
-            let v = eval::says(true, s);
-            keep(vals, has, n, v)
-        }
-        22 => {
-            let s = alike(table, count, idx, wid, pos, ini, from, row, vals, has, a, b);
-            let v = eval::says(false, s);
-            keep(vals, has, n, v)
+            eval::says(k == 21, s)
         }
         53 => {
             let d = word(table, count, idx, wid, pos, ini, from, row, vals, has, a);
-            if d != 0 {
-                let v = word(table, count, idx, wid, pos, ini, from, row, vals, has, b);
-                return keep(vals, has, n, v);
-            }
-            let v = word(table, count, idx, wid, pos, ini, from, row, vals, has, c);
-            keep(vals, has, n, v)
+            let e = chosen(d, rec[3], rec[4]);
+            word(table, count, idx, wid, pos, ini, from, row, vals, has, e)
         }
         54 => {
             let i = word(table, count, idx, wid, pos, ini, from, row, vals, has, b) as usize;
-            let v = cell(table, count, idx, wid, pos, ini, from, row, vals, has, a, i);
-            keep(vals, has, n, v)
+            cell(table, count, idx, wid, pos, ini, from, row, vals, has, a, i)
         }
         _ => {
             let x = word(table, count, idx, wid, pos, ini, from, row, vals, has, a);
             let y = word(table, count, idx, wid, pos, ini, from, row, vals, has, b);
-            let v = two(rec, n, wid, x, y);
-            keep(vals, has, n, v)
+            two(rec, n, wid, x, y)
         }
     }
+}
+
+// The cell k of the state on the line n, a word or an array.
+fn state(
+    table: &[u64],
+    count: usize,
+    idx: &[u8; 16385],
+    wid: &[u8; 16385],
+    pos: &[u32; 16385],
+    ini: &[u64],
+    from: &[u64],
+    row: &[u64],
+    vals: &mut [u64],
+    has: &mut [u8],
+    n: usize,
+    k: usize,
+) -> u64
+    requires { ⌜ Looks (now table) count (now idx) (now wid) (now pos) (now ini) (now from) (now row) × (StateLine (now table) count n k × Found (stepZero (linesOf (now table) count) (now from) (now row)) (now vals) (now has)) ⌝ }
+    ensures { λ r. ⌜ (r ≡ getD (cellsAt (stepZero (linesOf (now (table .entry)) count) (now (from .entry)) (now (row .entry))) n) k 0) × Found (stepZero (linesOf (now (table .entry)) count) (now (from .entry)) (now (row .entry))) (now (vals .exit)) (now (has .exit)) ⌝ }
+{
+    let d = ini[n] as usize;
+    if d == 0 {
+        return start_word(n, k, wid, pos, from);
+    }
+    word(table, count, idx, wid, pos, ini, from, row, vals, has, d)
 }
 
 // The cell k of the array on the line n: a state's, an ite's, or else a write's.
@@ -202,23 +244,17 @@ fn cell(
     let rec = records::record(table, n - 1);
     let a = rec[2] as usize;
     let b = rec[3] as usize;
-    let c = rec[4] as usize;
     if rec[0] == 5 {
-        let d = ini[n] as usize;
-        if d == 0 {
-            return start_word(n, k, wid, pos, from);
-        }
-        return word(table, count, idx, wid, pos, ini, from, row, vals, has, d);
+        return state(table, count, idx, wid, pos, ini, from, row, vals, has, n, k);
     }
     if rec[0] == 53 {
         let d = word(table, count, idx, wid, pos, ini, from, row, vals, has, a);
-        if d != 0 {
-            return cell(table, count, idx, wid, pos, ini, from, row, vals, has, b, k);
-        }
-        return cell(table, count, idx, wid, pos, ini, from, row, vals, has, c, k);
+        let e = chosen(d, rec[3], rec[4]);
+        return cell(table, count, idx, wid, pos, ini, from, row, vals, has, e, k);
     }
     let i = word(table, count, idx, wid, pos, ini, from, row, vals, has, b) as usize;
     if i == k {
+        let c = rec[4] as usize;
         return word(table, count, idx, wid, pos, ini, from, row, vals, has, c);
     }
     cell(table, count, idx, wid, pos, ini, from, row, vals, has, a, k)
@@ -335,11 +371,11 @@ fn may_peek(t: Totals, y: Ty, count: usize, k: usize, s: usize, i: usize) -> Che
     Checked::Accepted
 }
 
-// A peek at an accepted table, with the classes, the index widths and the widths of its lines.
+// A peek at an accepted table, with the index widths and the widths of its lines, and the type y of the line that is peeked at.
 fn peek_checked(
     table: &[u64],
     count: usize,
-    cls: &[u8; 16385],
+    y: Ty,
     idx: &[u8; 16385],
     wid: &[u8; 16385],
     line: usize,
@@ -347,14 +383,13 @@ fn peek_checked(
     starts: &[u64],
     row: &[u64],
 ) -> Peeked
-    requires { ⌜ Types (now table) count (now cls) (now idx) (now wid) ⌝ }
+    requires { ⌜ Types (now table) count (now idx) (now wid) line y ⌝ }
     ensures { λ r. ⌜ r ≡ lentPeek (now (table .entry)) count line k (now (starts .entry)) (now (row .entry)) ⌝ }
 {
     let mut off = [0u32; 16385];
     let mut num = [0u32; 16385];
     let mut pos = [0u32; 16385];
     let t = places::lay_out(false, table, count, idx, &mut off, &mut num, &mut pos);
-    let y = types::look(cls, idx, wid, line as u64);
     match may_peek(t, y, count, k, starts.len(), row.len()) {
         Checked::Refused(r) => {
             return Peeked::Refused(r);
@@ -362,6 +397,26 @@ fn peek_checked(
         Checked::Accepted => {}
     }
     Peeked::Value(find(table, count, idx, wid, &pos, starts, row, line, k))
+}
+
+// A peek at an accepted table, with the notes of its check.
+fn peek_noted(
+    table: &[u64],
+    count: usize,
+    notes: &[[u8; 5]],
+    line: usize,
+    k: usize,
+    starts: &[u64],
+    row: &[u64],
+) -> Peeked
+    requires { ⌜ Noted false (now table) count (now notes) ⌝ }
+    ensures { λ r. ⌜ r ≡ lentPeek (now (table .entry)) count line k (now (starts .entry)) (now (row .entry)) ⌝ }
+{
+    let mut idx = [0u8; 16385];
+    let mut wid = [0u8; 16385];
+    notes::widths(notes, count, &mut idx, &mut wid);
+    let y = notes::look(notes, line as u64);
+    peek_checked(table, count, y, &idx, &wid, line, k, starts, row)
 }
 
 // The value of a line's cell at step 0, from the start words and one row: 1, 11, 14, 15, 18; else the value.
@@ -375,25 +430,12 @@ pub fn peek(
 ) -> Peeked
     ensures { λ r. ⌜ r ≡ peeked (now (table .entry)) count line cell (now (starts .entry)) (now (row .entry)) ⌝ }
 {
-    let mut cls = [0u8; 16385];
-    let mut idx = [0u8; 16385];
-    let mut wid = [0u8; 16385];
-    let mut ini = [0u8; 16385];
-    let mut nxt = [0u8; 16385];
-    match check::check(
-        false,
-        table,
-        count,
-        &mut cls,
-        &mut idx,
-        &mut wid,
-        &mut ini,
-        &mut nxt,
-    ) {
+    let mut notes = [[0u8; 5]; 16385];
+    match check::check(false, table, count, &mut notes) {
         Checked::Refused(r) => {
             return Peeked::Refused(r);
         }
         Checked::Accepted => {}
     }
-    peek_checked(table, count, &cls, &idx, &wid, line, cell, starts, row)
+    peek_noted(table, count, &notes, line, cell, starts, row)
 }

@@ -1,6 +1,7 @@
 -- The laws of programs. For other crates: `Runs` (a flat circuit and its program run alike), `LaidLines` (they have as many state words, inputs and signals), `Accepted` (the
 -- program keeps the rules), `Done` (what a translation leaves is accepted), `Sample` (the request's example meets the premises). The rest serves these.
 pub mod Lists
+pub mod Sets
 pub mod Grew
 pub mod Laid
 pub mod LaidLines

@@ -20,19 +20,19 @@ fn counting(table: &[u64], count: usize, marks: &[u8]) -> usize
     requires { ⌜ (checked false (now table) count ≡ Accepted) × Marked (linesOf (now table) count) (now marks) ⌝ }
     ensures { λ r. ⌜ r ≡ length (programOf (now (table .entry)) count) ⌝ }
 {
-    if count < 2048 {
+    if count < 512 {
         return count_few(table, count, marks);
     }
     count_many(table, count, marks)
 }
 
 fn count_few(table: &[u64], count: usize, marks: &[u8]) -> usize
-    requires { ⌜ (checked false (now table) count ≡ Accepted) × (Marked (linesOf (now table) count) (now marks) × (count < 2048)) ⌝ }
+    requires { ⌜ (checked false (now table) count ≡ Accepted) × (Marked (linesOf (now table) count) (now marks) × (count < 512)) ⌝ }
     ensures { λ r. ⌜ r ≡ length (programOf (now (table .entry)) count) ⌝ }
 {
-    let mut wd = [0u64; 2048];
-    let mut num = [0u64; 2048];
-    let mut lo = [0u8; 2048];
+    let mut wd = [0u64; 512];
+    let mut num = [0u64; 512];
+    let mut lo = [0u8; 512];
     passes::count_all(table, count, marks, &mut wd, &mut num, &mut lo)
 }
 
@@ -51,7 +51,7 @@ fn writing(table: &[u64], count: usize, marks: &[u8], target: &mut [u64])
     requires { ⌜ (checked false (now table) count ≡ Accepted) × (Marked (linesOf (now table) count) (now marks) × ((now target ≡ replicate (length (now target)) 0) × (5 * length (programOf (now table) count) ≤ length (now target)))) ⌝ }
     ensures { λ _. ⌜ now (target .exit) ≡ encode (programOf (now (table .entry)) count) ++ replicate (length (now (target .entry)) - 5 * length (programOf (now (table .entry)) count)) 0 ⌝ }
 {
-    if count < 2048 {
+    if count < 512 {
         write_few(table, count, marks, target);
         return;
     }
@@ -59,12 +59,12 @@ fn writing(table: &[u64], count: usize, marks: &[u8], target: &mut [u64])
 }
 
 fn write_few(table: &[u64], count: usize, marks: &[u8], target: &mut [u64])
-    requires { ⌜ (count < 2048) × ((checked false (now table) count ≡ Accepted) × (Marked (linesOf (now table) count) (now marks) × ((now target ≡ replicate (length (now target)) 0) × (5 * length (programOf (now table) count) ≤ length (now target))))) ⌝ }
+    requires { ⌜ (count < 512) × ((checked false (now table) count ≡ Accepted) × (Marked (linesOf (now table) count) (now marks) × ((now target ≡ replicate (length (now target)) 0) × (5 * length (programOf (now table) count) ≤ length (now target))))) ⌝ }
     ensures { λ _. ⌜ now (target .exit) ≡ encode (programOf (now (table .entry)) count) ++ replicate (length (now (target .entry)) - 5 * length (programOf (now (table .entry)) count)) 0 ⌝ }
 {
-    let mut wd = [0u64; 2048];
-    let mut num = [0u64; 2048];
-    let mut lo = [0u8; 2048];
+    let mut wd = [0u64; 512];
+    let mut num = [0u64; 512];
+    let mut lo = [0u8; 512];
     passes::write_all(table, count, marks, &mut wd, &mut num, &mut lo, target);
 }
 

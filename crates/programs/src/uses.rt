@@ -3,77 +3,43 @@ use tables::check;
 use tables::types;
 ghost use mathlib.Core.Bool.{_&&_};
 ghost use mathlib.Core.Path.{_≡_};
-ghost use Prim.Native.Nat.{_≤_};
+ghost use Prim.Native.Nat.{_≤_, _/_, _%_, _^_};
 ghost use Rattle.tables.specs.Lines.{kindIn};
 ghost use Rattle.programs.specs.Records.{usesOf, looseHow, firstLine, secondLine, thirdLine, hasValue, markIf, marked, flagAt};
 
-// Of each kind: whether its first operand has to be clean, whether its second does, and when its line is loose.
-pub const USES: [[u8; 3]; 56] = [
-    [0, 0, 0],
-    [0, 0, 0],
-    [0, 0, 0],
-    [0, 0, 0],
-    [0, 0, 1],
-    [0, 0, 0],
-    [1, 1, 0],
-    [1, 1, 0],
-    [1, 0, 0],
-    [1, 0, 0],
-    [1, 0, 0],
-    [0, 0, 1],
-    [0, 0, 1],
-    [0, 0, 1],
-    [0, 0, 1],
-    [1, 0, 0],
-    [1, 0, 0],
-    [1, 0, 0],
-    [0, 0, 1],
-    [1, 0, 0],
-    [1, 0, 0],
-    [1, 1, 0],
-    [1, 1, 0],
-    [1, 1, 0],
-    [1, 1, 0],
-    [1, 1, 0],
-    [1, 1, 0],
-    [1, 1, 0],
-    [1, 1, 0],
-    [1, 1, 0],
-    [1, 1, 0],
-    [0, 0, 1],
-    [0, 0, 1],
-    [0, 0, 2],
-    [0, 0, 3],
-    [0, 0, 3],
-    [0, 0, 1],
-    [0, 0, 1],
-    [0, 0, 1],
-    [0, 0, 1],
-    [0, 0, 1],
-    [0, 0, 1],
-    [1, 1, 0],
-    [1, 1, 0],
-    [1, 1, 0],
-    [1, 1, 0],
-    [1, 1, 0],
-    [0, 1, 1],
-    [1, 1, 0],
-    [1, 1, 0],
-    [1, 1, 0],
-    [1, 1, 0],
-    [0, 1, 5],
-    [1, 0, 4],
-    [0, 0, 0],
-    [0, 0, 0],
-];
+// Sets of kinds, a bit for each: those whose first operand has to be clean, those whose second operand does, and the three bits of the number that says when a kind's line
+// is loose. A constant array would be built anew at each use.
+const CLEAN_FIRST: u64 = 0x2f7c007ffb87c0;
 
-// The row of a kind.
+const CLEAN_SECOND: u64 = 0x1ffc007fe000c0;
+
+const LOOSE_1: u64 = 0x1083fd80047810;
+
+const LOOSE_2: u64 = 0xe00000000;
+
+const LOOSE_4: u64 = 0x30000000000000;
+
+// 1 if the kind k is in the set, else 0.
+fn member(set: u64, k: u64) -> u8
+    requires { ⌜ k ≤ 55 ⌝ }
+    ensures { λ r. ⌜ (r ≡ set / 2 ^ k % 2) × (r ≤ 1) ⌝ }
+{
+    ((set >> k) % 2) as u8
+}
+
+// Of a kind: whether its first operand has to be clean, whether its second does, and when its line is loose.
 pub fn row(k: u64) -> [u8; 3]
     requires { ⌜ k ≤ 55 ⌝ }
     ensures { λ r. ⌜ r ≡ usesOf k ⌝ }
 {
-    let i = k as usize;
-    USES[i]
+    let x = member(LOOSE_1, k);
+    let y = member(LOOSE_2, k);
+    let z = member(LOOSE_4, k);
+    [
+        member(CLEAN_FIRST, k),
+        member(CLEAN_SECOND, k),
+        x + 2 * y + 4 * z,
+    ]
 }
 
 // The line is loose, by its row and its operands.

@@ -1,5 +1,5 @@
 -- Laws of tests. Assumes nothing.
-use Prim.Native.Nat.{ℕ, suc, _+_, _*_, _/_, _%_, _<_, _≤_}
+use Prim.Native.Nat.{ℕ, zero, suc, _+_, _*_, _/_, _%_, _<_, _≤_}
 use mathlib.Core.Path.{_≡_, refl, sym, ap, _∙_, subst}
 use mathlib.Core.List.{List, [], _∷_}
 use lib.ListN.{length, getD, take, drop}
@@ -54,3 +54,9 @@ past h f = lt-of-le-ne h (λ e. f (sym e))
 
 pub within : {n k : ℕ} → k < suc n → k ≤ n
 within h = omega arith
+
+-- an entry that is there is the same whatever stands for none
+pub getD-in : {A : Type 0} (xs : List A) (n : ℕ) (d e : A) → n < length xs → getD xs n d ≡ getD xs n e
+getD-in [] n d e h = absurd (omega arith)
+getD-in (x ∷ xs) zero d e h = refl
+getD-in (x ∷ xs) (suc n) d e h = getD-in xs n d e (omega arith)

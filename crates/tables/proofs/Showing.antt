@@ -1,4 +1,4 @@
--- The lists that a check keeps go on holding the context, line after line. Assumes nothing.
+-- The notes that a check keeps go on holding the context, line after line. Assumes nothing.
 use Prim.Native.Nat.{ℕ, zero, suc, _+_, _≤_, _<_}
 use mathlib.Core.Path.{_≡_, refl, sym, ap, ap₂, _∙_, subst}
 use mathlib.Core.Logic.{_⊎_, inl, inr}
@@ -7,7 +7,7 @@ use mathlib.Core.List.{List, [], _∷_, _++_}
 use native.Mathlib.Omega.{arith}
 use lib.Dec.{T, eqb, leb}
 use lib.ListN.{length, getD, set, length-set, length-append, List·getD-append, List·getD-eq-default}
-use lib.Seq.{getD-set-same, getD-set-other, getD-at}
+use lib.Seq.{getD-set-same, getD-set-other, getD-at, set-out}
 use borrow.Author.Tests.{eqb-true, eqb-false, eq-eqb, ne-eqb, leb-true, leb-false}
 use Rattle.tables.specs.declared.Ty.{Ty}
 use Rattle.tables.specs.Pick.{pick, all, among, alike}
@@ -16,7 +16,7 @@ use Rattle.tables.specs.Lines.{Line, Shape, isBitvec, isArray, isConst, 
 use Rattle.tables.specs.Types.{ty, noTy, isState, sortAt, recordType, lineType, Ctx, tyAt, givenBy, given, givenAfter, grow}
 use Rattle.tables.specs.Rules.{suits, classes, fault}
 use Rattle.tables.specs.Tables.{formed, keeps}
-use Rattle.tables.specs.Lists.{lookIn, givenIn, Shows, Ample, markedBy, Noted}
+use Rattle.tables.specs.Notes.{blank, noteAt, lookIn, markIn, givenIn, Shows, typed, marked, markedBy, noted}
 use Rattle.tables.proofs.Laws.{or-true, or-false}
 use Rattle.tables.proofs.Shapes.{KindOf, kind-of, line-as, no-junk}
 use Rattle.tables.proofs.Answers.{Passed, passed}
@@ -103,13 +103,17 @@ given-as m c r = go (shapeOf (kindIn r)) refl (kind-of (kindIn r))
     go (isCmp false) e q = rest (isCmp false) e refl (other m (kindIn r) (λ z. omega arith) (λ z. omega arith))
 
 -- a mark at the state q
-marked-at : (marks : List ℕ) (xs : List ℕ) (q : ℕ) → q < length marks → ((n : ℕ) → eqb (getD marks n 0) 1 ≡ among n xs)
-    → (n : ℕ) → eqb (getD (set marks q 1) n 0) 1 ≡ among n (xs ++ (q ∷ []))
-marked-at marks xs q h f n =
+marked-at : (m : Bool) (notes : List (List ℕ)) (xs : List ℕ) (q : ℕ) → q < length notes → ((n : ℕ) → givenIn notes m n ≡ among n xs)
+    → (n : ℕ) → givenIn (set notes q (marked m (noteAt notes q))) m n ≡ among n (xs ++ (q ∷ []))
+marked-at m notes xs q h f n =
     by-place n q
-    (λ e. subst (λ (j : ℕ). eqb (getD (set marks q 1) j 0) 1 ≡ among j (xs ++ (q ∷ []))) (sym e)
-    (rw (getD-set-same marks q 1 0 h, among-snoc q xs q, eq-eqb q q refl, or-true)))
-    (λ e. rw (getD-set-other marks q n 1 0 e, among-snoc n xs q, ne-eqb n q e, or-false) (f n))
+    (λ e. subst (λ (j : ℕ). givenIn (set notes q (marked m (noteAt notes q))) m j ≡ among j (xs ++ (q ∷ []))) (sym e)
+    (ap (λ (r : List ℕ). eqb (markIn m r) 1) (getD-set-same notes q (marked m (noteAt notes q)) blank h) ∙ own m ∙ sym (among-snoc q xs q ∙ rw (eq-eqb q q refl, or-true))))
+    (λ e. ap (λ (r : List ℕ). eqb (markIn m r) 1) (getD-set-other notes q n (marked m (noteAt notes q)) blank e) ∙ f n ∙ sym (among-snoc n xs q ∙ rw (ne-eqb n q e, or-false)))
+  where
+    own : (m : Bool) → eqb (markIn m (marked m (noteAt notes q))) 1 ≡ true
+    own true = refl
+    own false = refl
 
 state-first : (k : ℕ) (t a b c : Ty) → firstClass (rowOf k) ≡ 4 → all (classes (rowOf k) t a b c) ≡ true → isState a ≡ true
 unfolding suits
@@ -142,12 +146,59 @@ earlier ts a h = by-length (leb (length ts) a) refl
     by-length true e = absurd (omega (arith, subst (λ (t : Ty). 1 ≤ t .cls) (List·getD-eq-default ts noTy {n = a} (leb-true (length ts) a e)) h))
     by-length false e = leb-false (length ts) a e
 
+-- ---- the parts of a note
+
+-- a property of notes that the new note at q shares with the old one
+same-at : {B : Type 0} (g : List ℕ → B) (notes : List (List ℕ)) (q : ℕ) (r : List ℕ) → g r ≡ g (noteAt notes q) → (a : ℕ) → g (noteAt (set notes q r) a) ≡ g (noteAt notes a)
+same-at g notes q r e a = go (leb (length notes) q) refl
+  where
+    go : (b : Bool) → leb (length notes) q ≡ b → g (noteAt (set notes q r) a) ≡ g (noteAt notes a)
+    go true h = ap (λ (l : List (List ℕ)). g (noteAt l a)) (set-out notes q r (leb-true (length notes) q h))
+    go false h =
+        by-place a q
+        (λ z. subst (λ (j : ℕ). g (noteAt (set notes q r) j) ≡ g (noteAt notes j)) (sym z) (ap g (getD-set-same notes q r blank (leb-false (length notes) q h)) ∙ e))
+        (λ z. ap g (getD-set-other notes q a r blank z))
+
+-- a mark leaves the types and the other marks
+mark-types : (m : Bool) (r : List ℕ) (notes : List (List ℕ)) (a : ℕ) → lookIn (markedBy m r notes) a ≡ lookIn notes a
+mark-types m r notes a = go (eqb (kindIn r) (giveKind m)) m
+  where
+    go : (b m : Bool) → lookIn (pick b (set notes (firstIn r) (marked m (noteAt notes (firstIn r)))) notes) a ≡ lookIn notes a
+    go true true = same-at (λ (x : List ℕ). ty (getD x 0 0) (getD x 1 0) (getD x 2 0)) notes (firstIn r) (marked true (noteAt notes (firstIn r))) refl a
+    go true false = same-at (λ (x : List ℕ). ty (getD x 0 0) (getD x 1 0) (getD x 2 0)) notes (firstIn r) (marked false (noteAt notes (firstIn r))) refl a
+    go false m = refl
+
+other-mark : (m : Bool) (r : List ℕ) (notes : List (List ℕ)) (q : ℕ) → givenIn (markedBy (not m) r notes) m q ≡ givenIn notes m q
+other-mark m r notes q = go (eqb (kindIn r) (giveKind (not m))) m
+  where
+    go : (b m : Bool) → givenIn (pick b (set notes (firstIn r) (marked (not m) (noteAt notes (firstIn r)))) notes) m q ≡ givenIn notes m q
+    go true true = same-at (λ (x : List ℕ). eqb (markIn true x) 1) notes (firstIn r) (marked false (noteAt notes (firstIn r))) refl q
+    go true false = same-at (λ (x : List ℕ). eqb (markIn false x) 1) notes (firstIn r) (marked true (noteAt notes (firstIn r))) refl q
+    go false m = refl
+
+-- a type leaves the marks
+type-marks : (m : Bool) (n : ℕ) (y : Ty) (notes : List (List ℕ)) (q : ℕ) → givenIn (set notes n (typed y (noteAt notes n))) m q ≡ givenIn notes m q
+type-marks true n y notes q = same-at (λ (x : List ℕ). eqb (markIn true x) 1) notes n (typed y (noteAt notes n)) refl q
+type-marks false n y notes q = same-at (λ (x : List ℕ). eqb (markIn false x) 1) notes n (typed y (noteAt notes n)) refl q
+
+same-marks : (m : Bool) (r : List ℕ) (notes : List (List ℕ)) → length (markedBy m r notes) ≡ length notes
+same-marks m r notes = go (eqb (kindIn r) (giveKind m))
+  where
+    go : (b : Bool) → length (pick b (set notes (firstIn r) (marked m (noteAt notes (firstIn r)))) notes) ≡ length notes
+    go true = length-set notes (firstIn r) (marked m (noteAt notes (firstIn r)))
+    go false = refl
+
+pub length-noted : (p : Bool) (r : List ℕ) (n : ℕ) (notes : List (List ℕ)) → length (noted p r n notes) ≡ length notes
+unfolding noted
+length-noted p r n notes =
+    let y = typed (recordType p (lookIn notes) r (lineOf r)) (noteAt notes n) in
+    same-marks false r (markedBy true r (set notes n y)) ∙ same-marks true r (set notes n y) ∙ length-set notes n y
+
 -- ---- one line more
 
-module _ {cls idx wid ini nxt cls₁ idx₁ wid₁ ini₁ nxt₁ : List ℕ} {c : Ctx} {p : Bool} {r : List ℕ} {n : ℕ} (sh : Shows cls idx wid ini nxt c) (am : Ample cls idx wid ini nxt)
-    (ln : length (c .tys) ≡ n) (hn : n ≤ 16384) (lr : length r ≡ 5) (kp : keeps p (tyAt c) (given c) r ≡ true)
-    (nt : Noted p r n cls idx wid ini nxt cls₁ idx₁ wid₁ ini₁ nxt₁) where
-  lookups : lookIn cls idx wid ≡ tyAt c
+module _ {notes : List (List ℕ)} {c : Ctx} (p : Bool) (r : List ℕ) {n : ℕ} (sh : Shows notes c) (ln : length (c .tys) ≡ n) (hn : n < length notes) (lr : length r ≡ 5)
+    (kp : keeps p (tyAt c) (given c) r ≡ true) where
+  lookups : lookIn notes ≡ tyAt c
   lookups = λ i a. sh .types a i
 
   well : formed p r ≡ true
@@ -156,63 +207,54 @@ module _ {cls idx wid ini nxt cls₁ idx₁ wid₁ ini₁ nxt₁ : List ℕ} {c 
   fine : fault p (tyAt c) (given c) r ≡ 0
   fine = eqb-true (fault p (tyAt c) (given c) r) 0 (both (formed p r) _ kp .1)
 
-  new : Ty
-  new = lineType p (tyAt c) (lineOf r)
+  abbrev new : Ty
+  new = recordType p (lookIn notes) r (lineOf r)
 
-  is-new : recordType p (lookIn cls idx wid) r (lineOf r) ≡ lineType p (tyAt c) (lineOf r)
+  abbrev put : List (List ℕ)
+  put = set notes n (typed (recordType p (lookIn notes) r (lineOf r)) (noteAt notes n))
+
+  is-new : recordType p (lookIn notes) r (lineOf r) ≡ lineType p (tyAt c) (lineOf r)
   is-new = ap₂ (λ (L : ℕ → Ty) (x : List ℕ). recordType p L x (lineOf r)) lookups (sym (words-back p r lr well))
 
-  types-more : (a : ℕ) → lookIn cls₁ idx₁ wid₁ a ≡ tyAt (grow p c (lineOf r)) a
-  types-more a =
+  types-put : (a : ℕ) → lookIn put a ≡ tyAt (grow p c (lineOf r)) a
+  types-put a =
       by-place a n
-      (λ e. subst (λ (j : ℕ). lookIn cls₁ idx₁ wid₁ j ≡ tyAt (grow p c (lineOf r)) j) (sym e)
-      ((λ i. record {
-        cls = (ap (λ (l : List ℕ). getD l n 0) (nt .class) ∙ getD-set-same cls n _ 0 (omega (arith, am .of-cls)) ∙ ap (λ (t : Ty). t .cls) is-new) i;
-        iw = (ap (λ (l : List ℕ). getD l n 0) (nt .index) ∙ getD-set-same idx n _ 0 (omega (arith, am .of-idx)) ∙ ap (λ (t : Ty). t .iw) is-new) i;
-        w = (ap (λ (l : List ℕ). getD l n 0) (nt .width) ∙ getD-set-same wid n _ 0 (omega (arith, am .of-wid)) ∙ ap (λ (t : Ty). t .w) is-new) i;
-      }) ∙ sym (getD-at (c .tys) (lineType p (tyAt c) (lineOf r)) [] noTy n ln)))
-      (λ e.
-      (λ i. record {
-        cls = (ap (λ (l : List ℕ). getD l a 0) (nt .class) ∙ getD-set-other cls n a _ 0 e) i;
-        iw = (ap (λ (l : List ℕ). getD l a 0) (nt .index) ∙ getD-set-other idx n a _ 0 e) i;
-        w = (ap (λ (l : List ℕ). getD l a 0) (nt .width) ∙ getD-set-other wid n a _ 0 e) i;
-      }) ∙ sh .types a ∙ sym (snoc-other (c .tys) (lineType p (tyAt c) (lineOf r)) noTy a (λ q. e (q ∙ ln))))
+      (λ e. subst (λ (j : ℕ). lookIn put j ≡ tyAt (grow p c (lineOf r)) j) (sym e)
+      (ap (λ (x : List ℕ). ty (getD x 0 0) (getD x 1 0) (getD x 2 0)) (getD-set-same notes n (typed new (noteAt notes n)) blank hn) ∙ is-new
+      ∙ sym (getD-at (c .tys) (lineType p (tyAt c) (lineOf r)) [] noTy n ln)))
+      (λ e. ap (λ (x : List ℕ). ty (getD x 0 0) (getD x 1 0) (getD x 2 0)) (getD-set-other notes n a (typed new (noteAt notes n)) blank e) ∙ sh .types a
+      ∙ sym (snoc-other (c .tys) (lineType p (tyAt c) (lineOf r)) noTy a (λ q. e (q ∙ ln))))
 
   -- the marks of one kind of line
-  marks-of : (m : Bool) (xs : List ℕ) → length xs ≡ 16385 → ((q : ℕ) → eqb (getD xs q 0) 1 ≡ among q (givenBy m c))
-      → (q : ℕ) → eqb (getD (markedBy (giveKind m) r xs) q 0) 1 ≡ among q (givenAfter m c (lineOf r))
+  marks-of : (m : Bool) (xs : List (List ℕ)) → length xs ≡ length notes → ((q : ℕ) → givenIn xs m q ≡ given c m q)
+      → (q : ℕ) → givenIn (markedBy m r xs) m q ≡ among q (givenAfter m c (lineOf r))
   marks-of m xs l f q = go (eqb (kindIn r) (giveKind m)) refl
     where
-      go : (b : Bool) → eqb (kindIn r) (giveKind m) ≡ b → eqb (getD (markedBy (giveKind m) r xs) q 0) 1 ≡ among q (givenAfter m c (lineOf r))
+      go : (b : Bool) → eqb (kindIn r) (giveKind m) ≡ b → givenIn (markedBy m r xs) m q ≡ among q (givenAfter m c (lineOf r))
       go true e =
           let st = named p m (tyAt c) (given c) r fine (eqb-true (kindIn r) (giveKind m) e) in
           let at = earlier (c .tys) (firstIn r) (omega (arith, eqb-true (tyAt c (firstIn r) .cls) 4 st)) in
-          rw (given-as m c r, e) (marked-at xs (givenBy m c) (firstIn r) (omega arith) f q)
-      go false e = rw (given-as m c r, e) (f q)
+          ap (λ (b : Bool). givenIn (pick b (set xs (firstIn r) (marked m (noteAt xs (firstIn r)))) xs) m q) e
+          ∙ marked-at m xs (givenBy m c) (firstIn r) (omega arith) f q ∙ sym (ap (among q) (given-as m c r ∙ ap (λ (b : Bool). pick b (givenBy m c ++ (firstIn r ∷ [])) (givenBy m c)) e))
+      go false e =
+          ap (λ (b : Bool). givenIn (pick b (set xs (firstIn r) (marked m (noteAt xs (firstIn r)))) xs) m q) e
+          ∙ f q ∙ sym (ap (among q) (given-as m c r ∙ ap (λ (b : Bool). pick b (givenBy m c ++ (firstIn r ∷ [])) (givenBy m c)) e))
 
-  marks-more : (m : Bool) (q : ℕ) → givenIn ini₁ nxt₁ m q ≡ given (grow p c (lineOf r)) m q
-  marks-more true q = ap (λ (l : List ℕ). eqb (getD l q 0) 1) (nt .inits) ∙ marks-of true ini (am .of-ini) (sh .marks true) q
-  marks-more false q = ap (λ (l : List ℕ). eqb (getD l q 0) 1) (nt .nexts) ∙ marks-of false nxt (am .of-nxt) (sh .marks false) q
+  marks-put : (m : Bool) (q : ℕ) → givenIn put m q ≡ given c m q
+  marks-put m q = type-marks m n new notes q ∙ sh .marks m q
 
-  pub shows-more : Shows cls₁ idx₁ wid₁ ini₁ nxt₁ (grow p c (lineOf r))
-  shows-more = record { types = types-more; marks = marks-more }
+  long-put : length put ≡ length notes
+  long-put = length-set notes n (typed new (noteAt notes n))
 
-  same-marks : (k : ℕ) (xs : List ℕ) → length (markedBy k r xs) ≡ length xs
-  same-marks k xs = go (eqb (kindIn r) k)
-    where
-      go : (b : Bool) → length (pick b (set xs (firstIn r) 1) xs) ≡ length xs
-      go true = length-set xs (firstIn r) 1
-      go false = refl
+  marks-more : (m : Bool) (q : ℕ) → givenIn (markedBy false r (markedBy true r put)) m q ≡ given (grow p c (lineOf r)) m q
+  marks-more true q = other-mark true r (markedBy true r put) q ∙ marks-of true put long-put (marks-put true) q
+  marks-more false q =
+      marks-of false (markedBy true r put) (same-marks true r put ∙ long-put) (λ x. other-mark false r put x ∙ marks-put false x) q
 
-  pub ample-more : Ample cls₁ idx₁ wid₁ ini₁ nxt₁
-  ample-more =
-      record {
-        of-cls = ap length (nt .class) ∙ length-set cls n _ ∙ am .of-cls;
-        of-idx = ap length (nt .index) ∙ length-set idx n _ ∙ am .of-idx;
-        of-wid = ap length (nt .width) ∙ length-set wid n _ ∙ am .of-wid;
-        of-ini = ap length (nt .inits) ∙ same-marks 6 ini ∙ am .of-ini;
-        of-nxt = ap length (nt .nexts) ∙ same-marks 7 nxt ∙ am .of-nxt;
-      }
+  pub shows-more : Shows (noted p r n notes) (grow p c (lineOf r))
+  unfolding noted
+  shows-more =
+      record { types = λ a. mark-types false r (markedBy true r put) a ∙ mark-types true r put a ∙ types-put a; marks = marks-more }
 
   pub length-more : length (grow p c (lineOf r) .tys) ≡ suc n
   length-more = length-append (c .tys) _ ∙ omega arith

@@ -4,7 +4,7 @@ pub mod Lines
 pub mod Types
 pub mod Cone
 pub mod Rules
-pub mod Lists
+pub mod Notes
 pub mod Tables
 pub mod Refusals
 pub mod Examples

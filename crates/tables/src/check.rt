@@ -3,6 +3,7 @@ use crate::Checked;
 use crate::Refusal;
 use crate::Ty;
 use crate::kinds;
+use crate::notes;
 use crate::records;
 use crate::rules;
 use crate::types;
@@ -15,7 +16,7 @@ ghost use Rattle.tables.specs.Pick.{all};
 ghost use Rattle.tables.specs.Kinds.{rows};
 ghost use Rattle.tables.specs.Lines.{lineOf, kindIn, firstIn, records, decode, counted};
 ghost use Rattle.tables.specs.Types.{recordType, noCtx, context};
-ghost use Rattle.tables.specs.Lists.{lookIn, givenIn, Shows, Ample, Noted, markedBy};
+ghost use Rattle.tables.specs.Notes.{lookIn, givenIn, Shows, Fresh, noted};
 ghost use Rattle.tables.specs.Tables.{known as knownOf, unused as unusedOf, tidy as tidyOf, keeps, whole, room, lawful, checked, broken};
 
 // The kind is one of a circuit, or of a program.
@@ -73,54 +74,27 @@ pub fn put(xs: &mut [u8], n: u64, v: u8)
     }
 }
 
-// The type of a record that keeps the rules, after the lines that the lists hold.
-fn type_in(program: bool, rec: [u64; 5], cls: &[u8], idx: &[u8], wid: &[u8]) -> Ty
+// The type of a record that keeps the rules, after the lines noted.
+fn type_in(program: bool, rec: [u64; 5], notes: &[[u8; 5]]) -> Ty
     requires { ⌜ (kindIn rec ≡ 1 → firstIn rec ≤ 64) ⌝ }
-    ensures { λ r. ⌜ r ≡ recordType program (lookIn (now (cls .entry)) (now (idx .entry)) (now (wid .entry))) rec (lineOf rec) ⌝ }
+    ensures { λ r. ⌜ r ≡ recordType program (lookIn (now (notes .entry))) rec (lineOf rec) ⌝ }
 {
-    let t = types::sort_at(program, cls, idx, wid, rec[1]);
-    let a = types::look(cls, idx, wid, rec[2]);
-    let b = types::look(cls, idx, wid, rec[3]);
-    let c = types::look(cls, idx, wid, rec[4]);
+    let t = types::sort_at(program, notes, rec[1]);
+    let a = notes::look(notes, rec[2]);
+    let b = notes::look(notes, rec[3]);
+    let c = notes::look(notes, rec[4]);
     types::type_of(rec, t, a, b, c)
 }
 
-// A type goes to the place n of the lists.
-fn put_type(y: Ty, n: u64, cls: &mut [u8], idx: &mut [u8], wid: &mut [u8])
-    ensures { λ _. ⌜ (now (cls .exit) ≡ set (now (cls .entry)) n (y .cls)) × ((now (idx .exit) ≡ set (now (idx .entry)) n (y .iw)) × (now (wid .exit) ≡ set (now (wid .entry)) n (y .w))) ⌝ }
-{
-    put(cls, n, y.cls);
-    put(idx, n, y.iw);
-    put(wid, n, y.w);
-}
-
-// What is known of the line n, whose record keeps the rules, goes to the lists.
-pub fn note(
-    program: bool,
-    rec: [u64; 5],
-    n: u64,
-    cls: &mut [u8],
-    idx: &mut [u8],
-    wid: &mut [u8],
-    ini: &mut [u8],
-    nxt: &mut [u8],
-)
+// The line n, whose record keeps the rules, is noted.
+pub fn note(program: bool, rec: [u64; 5], n: u64, notes: &mut [[u8; 5]])
     requires { ⌜ (kindIn rec ≡ 1 → firstIn rec ≤ 64) ⌝ }
-    ensures { λ _. ⌜ Noted program rec n (now (cls .entry)) (now (idx .entry)) (now (wid .entry)) (now (ini .entry)) (now (nxt .entry)) (now (cls .exit)) (now (idx .exit)) (now (wid .exit)) (now (ini .exit)) (now (nxt .exit)) ⌝ }
+    ensures { λ _. ⌜ now (notes .exit) ≡ noted program rec n (now (notes .entry)) ⌝ }
 {
-    let y = type_in(program, rec, cls, idx, wid);
-    put_type(y, n, cls, idx, wid);
-    mark(6, rec, ini);
-    mark(7, rec, nxt);
-}
-
-// A record of the kind k marks its state.
-fn mark(k: u64, rec: [u64; 5], xs: &mut [u8])
-    ensures { λ _. ⌜ now (xs .exit) ≡ markedBy k rec (now (xs .entry)) ⌝ }
-{
-    if rec[0] == k {
-        put(xs, rec[2], 1);
-    }
+    let y = type_in(program, rec, notes);
+    notes::put_type(notes, n, y);
+    notes::mark(true, 6, rec, notes);
+    notes::mark(false, 7, rec, notes);
 }
 
 // Every entry is 0.
@@ -134,19 +108,10 @@ pub fn clear(xs: &mut [u8])
     }
 }
 
-// The record breaks no rule after the lines that the lists hold.
-fn keeps_rules(
-    program: bool,
-    kinds: &[[u8; 16]; 55],
-    rec: [u64; 5],
-    cls: &[u8],
-    idx: &[u8],
-    wid: &[u8],
-    ini: &[u8],
-    nxt: &[u8],
-) -> bool
+// The record breaks no rule after the lines noted.
+fn keeps_rules(program: bool, kinds: &[[u8; 16]; 55], rec: [u64; 5], notes: &[[u8; 5]]) -> bool
     requires { ⌜ now kinds ≡ rows ⌝ }
-    ensures { λ r. ⌜ r ≡ keeps program (lookIn (now (cls .entry)) (now (idx .entry)) (now (wid .entry))) (givenIn (now (ini .entry)) (now (nxt .entry))) rec ⌝ }
+    ensures { λ r. ⌜ r ≡ keeps program (lookIn (now (notes .entry))) (givenIn (now (notes .entry))) rec ⌝ }
 {
     let k = rec[0];
     if !known(program, k) {
@@ -156,50 +121,42 @@ fn keeps_rules(
     if !tidy(row, rec) {
         return false;
     }
-    rules::fault(program, row, rec, cls, idx, wid, ini, nxt) == 0
+    rules::fault(program, row, rec, notes) == 0
 }
 
-// The record of the line n breaks no rule after the lines that the lists hold; then they hold it too.
+// The record of the line n breaks no rule after the lines noted; then it is noted too.
 fn take_record(
     program: bool,
     kinds: &[[u8; 16]; 55],
     rec: [u64; 5],
     n: u64,
-    cls: &mut [u8],
-    idx: &mut [u8],
-    wid: &mut [u8],
-    ini: &mut [u8],
-    nxt: &mut [u8],
+    notes: &mut [[u8; 5]],
 ) -> bool
     requires { ⌜ now kinds ≡ rows ⌝ }
-    ensures { λ r. ⌜ (r ≡ keeps program (lookIn (now (cls .entry)) (now (idx .entry)) (now (wid .entry))) (givenIn (now (ini .entry)) (now (nxt .entry))) rec) × (r ≡ true → Noted program rec n (now (cls .entry)) (now (idx .entry)) (now (wid .entry)) (now (ini .entry)) (now (nxt .entry)) (now (cls .exit)) (now (idx .exit)) (now (wid .exit)) (now (ini .exit)) (now (nxt .exit))) ⌝ }
+    ensures { λ r. ⌜ (r ≡ keeps program (lookIn (now (notes .entry))) (givenIn (now (notes .entry))) rec) × (r ≡ true → now (notes .exit) ≡ noted program rec n (now (notes .entry))) ⌝ }
 {
-    if !keeps_rules(program, kinds, rec, cls, idx, wid, ini, nxt) {
+    if !keeps_rules(program, kinds, rec, notes) {
         return false;
     }
-    note(program, rec, n, cls, idx, wid, ini, nxt);
+    note(program, rec, n, notes);
     true
 }
 
-// Every record breaks no rule, after those before it; then the lists, which are zero at the start, hold them all.
+// Every record breaks no rule, after those before it; then all are noted.
 fn lines(
     program: bool,
     kinds: &[[u8; 16]; 55],
     table: &[u64],
     count: usize,
-    cls: &mut [u8],
-    idx: &mut [u8],
-    wid: &mut [u8],
-    ini: &mut [u8],
-    nxt: &mut [u8],
+    notes: &mut [[u8; 5]],
 ) -> bool
-    requires { ⌜ (now kinds ≡ rows) × ((count ≤ 16384) × ((5 * count ≤ length (now table)) × (Ample (now cls) (now idx) (now wid) (now ini) (now nxt) × Shows (now cls) (now idx) (now wid) (now ini) (now nxt) noCtx))) ⌝ }
-    ensures { λ r. ⌜ (r ≡ lawful program noCtx (records (counted (now (table .entry)) count))) × (r ≡ true → Shows (now (cls .exit)) (now (idx .exit)) (now (wid .exit)) (now (ini .exit)) (now (nxt .exit)) (context program (decode (counted (now (table .entry)) count)))) ⌝ }
+    requires { ⌜ (now kinds ≡ rows) × ((count ≤ 16384) × ((5 * count ≤ length (now table)) × ((count < length (now notes)) × Shows (now notes) noCtx))) ⌝ }
+    ensures { λ r. ⌜ (r ≡ lawful program noCtx (records (counted (now (table .entry)) count))) × (r ≡ true → Shows (now (notes .exit)) (context program (decode (counted (now (table .entry)) count)))) ⌝ }
 {
     let mut i: usize = 0;
     while i < count {
         let rec = records::record(table, i);
-        if !take_record(program, kinds, rec, (i + 1) as u64, cls, idx, wid, ini, nxt) {
+        if !take_record(program, kinds, rec, (i + 1) as u64, notes) {
             return false;
         }
         i += 1;
@@ -207,53 +164,10 @@ fn lines(
     true
 }
 
-// Lists of zeros hold the context of no lines.
-fn clear_all(cls: &mut [u8], idx: &mut [u8], wid: &mut [u8], ini: &mut [u8], nxt: &mut [u8])
-    requires { ⌜ Ample (now cls) (now idx) (now wid) (now ini) (now nxt) ⌝ }
-    ensures { λ _. ⌜ Ample (now (cls .exit)) (now (idx .exit)) (now (wid .exit)) (now (ini .exit)) (now (nxt .exit)) × Shows (now (cls .exit)) (now (idx .exit)) (now (wid .exit)) (now (ini .exit)) (now (nxt .exit)) noCtx ⌝ }
-{
-    clear(cls);
-    clear(idx);
-    clear(wid);
-    clear(ini);
-    clear(nxt);
-}
-
-// The check of a count of records that the table has.
-fn check_lines(
-    program: bool,
-    table: &[u64],
-    count: usize,
-    cls: &mut [u8],
-    idx: &mut [u8],
-    wid: &mut [u8],
-    ini: &mut [u8],
-    nxt: &mut [u8],
-) -> Checked
-    requires { ⌜ (whole (length (now table)) ≡ true) × ((count ≤ room (length (now table))) × Ample (now cls) (now idx) (now wid) (now ini) (now nxt)) ⌝ }
-    ensures { λ r. ⌜ (r ≡ checked program (now (table .entry)) count) × (r ≡ Checked.Accepted → Shows (now (cls .exit)) (now (idx .exit)) (now (wid .exit)) (now (ini .exit)) (now (nxt .exit)) (context program (decode (counted (now (table .entry)) count)))) ⌝ }
-{
-    clear_all(cls, idx, wid, ini, nxt);
-    let kinds = kinds::all();
-    if !lines(program, &kinds, table, count, cls, idx, wid, ini, nxt) {
-        return refused(program);
-    }
-    Checked::Accepted
-}
-
-// The check of a table with its count. Where it is accepted the lists hold its context.
-pub fn check(
-    program: bool,
-    table: &[u64],
-    count: usize,
-    cls: &mut [u8],
-    idx: &mut [u8],
-    wid: &mut [u8],
-    ini: &mut [u8],
-    nxt: &mut [u8],
-) -> Checked
-    requires { ⌜ Ample (now cls) (now idx) (now wid) (now ini) (now nxt) ⌝ }
-    ensures { λ r. ⌜ (r ≡ checked program (now (table .entry)) count) × (r ≡ Checked.Accepted → Shows (now (cls .exit)) (now (idx .exit)) (now (wid .exit)) (now (ini .exit)) (now (nxt .exit)) (context program (decode (counted (now (table .entry)) count)))) ⌝ }
+// The check of a table with its count. Where it is accepted the notes, blank before, hold its context.
+pub fn check(program: bool, table: &[u64], count: usize, notes: &mut [[u8; 5]]) -> Checked
+    requires { ⌜ Fresh count (now notes) ⌝ }
+    ensures { λ r. ⌜ (r ≡ checked program (now (table .entry)) count) × (r ≡ Checked.Accepted → Shows (now (notes .exit)) (context program (decode (counted (now (table .entry)) count)))) ⌝ }
 {
     if !records::is_table(table.len()) {
         return Checked::Refused(Refusal::NotATable);
@@ -261,28 +175,38 @@ pub fn check(
     if records::room_of(table.len()) < count {
         return refused(program);
     }
-    check_lines(program, table, count, cls, idx, wid, ini, nxt)
+    let kinds = kinds::all();
+    if !lines(program, &kinds, table, count, notes) {
+        return refused(program);
+    }
+    Checked::Accepted
 }
 
-// The answer of the check alone.
+// The answer of the check alone. A small table takes a small list, which is sooner blank.
 pub fn accept(program: bool, table: &[u64], count: usize) -> Checked
     ensures { λ r. ⌜ r ≡ checked program (now (table .entry)) count ⌝ }
 {
-    let mut cls = [0u8; 16385];
-    let mut idx = [0u8; 16385];
-    let mut wid = [0u8; 16385];
-    let mut ini = [0u8; 16385];
-    let mut nxt = [0u8; 16385];
-    check(
-        program,
-        table,
-        count,
-        &mut cls,
-        &mut idx,
-        &mut wid,
-        &mut ini,
-        &mut nxt,
-    )
+    if count < 512 {
+        return accept_few(program, table, count);
+    }
+    accept_many(program, table, count)
+}
+
+// At most 511 records.
+fn accept_few(program: bool, table: &[u64], count: usize) -> Checked
+    requires { ⌜ count < 512 ⌝ }
+    ensures { λ r. ⌜ r ≡ checked program (now (table .entry)) count ⌝ }
+{
+    let mut notes = [[0u8; 5]; 512];
+    check(program, table, count, &mut notes)
+}
+
+// As many as a table may have.
+fn accept_many(program: bool, table: &[u64], count: usize) -> Checked
+    ensures { λ r. ⌜ r ≡ checked program (now (table .entry)) count ⌝ }
+{
+    let mut notes = [[0u8; 5]; 16385];
+    check(program, table, count, &mut notes)
 }
 
 // 11, for a program 20.

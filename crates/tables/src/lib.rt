@@ -1,6 +1,7 @@
 // Tables of records: what a line is, the rules for lines, and the check of a table.
 pub mod check; // the check of a table with its count
 pub mod kinds; // the constant table of kinds
+pub mod notes; // what a check keeps of each line
 pub mod records; // a record's words in a table
 pub mod rules; // the rules 8, 9 and 10
 pub mod types; // what is known of a line

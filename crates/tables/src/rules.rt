@@ -1,5 +1,6 @@
 // The rules 8, 9 and 10 for a record after earlier lines. t is the type of its sort, a, b and c are those of its operands.
 use crate::Ty;
+use crate::notes;
 use crate::types;
 ghost use mathlib.Core.Path.{_≡_};
 ghost use mathlib.Core.Bool.{Bool, true, false};
@@ -9,7 +10,7 @@ ghost use lib.Dec.{ltb};
 ghost use Rattle.tables.specs.Pick.{all, inside};
 ghost use Rattle.tables.specs.Kinds.{rowOf};
 ghost use Rattle.tables.specs.Lines.{lineOf, kindIn};
-ghost use Rattle.tables.specs.Lists.{lookIn, givenIn};
+ghost use Rattle.tables.specs.Notes.{lookIn, givenIn};
 ghost use Rattle.tables.specs.Rules.{suits as suitsOf, classes, fitsOne, fitsTwo, same as sameOf, fitsCmp, fitsIte, fitsRead, fitsWrite, fitsGive, fits as fitsOf, fault as faultOf, onceRules};
 
 // A line of the type t may stand where the class k is asked for.
@@ -208,14 +209,15 @@ pub fn fits(rec: [u64; 5], t: Ty, a: Ty, b: Ty, c: Ty) -> bool
 }
 
 // Rule 10: b is the type of the second operand.
-pub fn once(rec: [u64; 5], b: Ty, ini: &[u8], nxt: &[u8]) -> bool
-    ensures { λ r. ⌜ r ≡ all (onceRules (lineOf rec) (givenIn (now (ini .entry)) (now (nxt .entry))) b) ⌝ }
+pub fn once(rec: [u64; 5], b: Ty, notes: &[[u8; 5]]) -> bool
+    ensures { λ r. ⌜ r ≡ all (onceRules (lineOf rec) (givenIn (now (notes .entry))) b) ⌝ }
 {
     let k = rec[0];
     let q = rec[2];
+    let r = notes::at(notes, q);
     match k {
         6 => {
-            if types::at(ini, q) == 1 {
+            if r[3] == 1 {
                 return false;
             }
             if q <= rec[3] {
@@ -223,36 +225,27 @@ pub fn once(rec: [u64; 5], b: Ty, ini: &[u8], nxt: &[u8]) -> bool
             }
             b.cls == 2
         }
-        7 => types::at(nxt, q) != 1,
+        7 => r[4] != 1,
         _ => true,
     }
 }
 
-// The first of 8, 9 and 10 that holds of a record after the lines that the lists hold, or 0. The row is that of its kind.
-pub fn fault(
-    program: bool,
-    row: [u8; 16],
-    rec: [u64; 5],
-    cls: &[u8],
-    idx: &[u8],
-    wid: &[u8],
-    ini: &[u8],
-    nxt: &[u8],
-) -> u64
+// The first of 8, 9 and 10 that holds of a record after the lines that the notes hold, or 0. The row is that of its kind.
+pub fn fault(program: bool, row: [u8; 16], rec: [u64; 5], notes: &[[u8; 5]]) -> u64
     requires { ⌜ row ≡ rowOf (kindIn rec) ⌝ }
-    ensures { λ r. ⌜ r ≡ faultOf program (lookIn (now (cls .entry)) (now (idx .entry)) (now (wid .entry))) (givenIn (now (ini .entry)) (now (nxt .entry))) rec ⌝ }
+    ensures { λ r. ⌜ r ≡ faultOf program (lookIn (now (notes .entry))) (givenIn (now (notes .entry))) rec ⌝ }
 {
-    let t = types::sort_at(program, cls, idx, wid, rec[1]);
-    let a = types::look(cls, idx, wid, rec[2]);
-    let b = types::look(cls, idx, wid, rec[3]);
-    let c = types::look(cls, idx, wid, rec[4]);
+    let t = types::sort_at(program, notes, rec[1]);
+    let a = notes::look(notes, rec[2]);
+    let b = notes::look(notes, rec[3]);
+    let c = notes::look(notes, rec[4]);
     if !classed(row, t, a, b, c) {
         return 8;
     }
     if !fits(rec, t, a, b, c) {
         return 9;
     }
-    if !once(rec, b, ini, nxt) {
+    if !once(rec, b, notes) {
         return 10;
     }
     0

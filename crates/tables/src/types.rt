@@ -1,11 +1,12 @@
 // Types of lines: what is known of a line before anything is computed.
 use crate::Ty;
+use crate::notes;
 ghost use mathlib.Core.Path.{_≡_};
 ghost use mathlib.Core.Bool.{Bool, true, false, _&&_};
 ghost use Prim.Native.Nat.{_<_, _≤_};
 ghost use lib.ListN.{getD};
 ghost use Rattle.tables.specs.Lines.{lineOf, kindIn, firstIn};
-ghost use Rattle.tables.specs.Lists.{lookIn};
+ghost use Rattle.tables.specs.Notes.{lookIn};
 ghost use Rattle.tables.specs.Types.{isWord, isArray, isWordSort, isArraySort, isFixed, ty, sortAt, typeOf};
 ghost use Rattle.tables.specs.Pick.{pick};
 
@@ -20,23 +21,12 @@ pub fn at(xs: &[u8], a: u64) -> u8
     0
 }
 
-// The type of the line a.
-pub fn look(cls: &[u8], idx: &[u8], wid: &[u8], a: u64) -> Ty
-    ensures { λ r. ⌜ r ≡ lookIn (now (cls .entry)) (now (idx .entry)) (now (wid .entry)) a ⌝ }
-{
-    Ty {
-        cls: at(cls, a),
-        iw: at(idx, a),
-        w: at(wid, a),
-    }
-}
-
 // The sort that a line's second word names: in a program the word is the width.
-pub fn sort_at(program: bool, cls: &[u8], idx: &[u8], wid: &[u8], s: u64) -> Ty
-    ensures { λ r. ⌜ r ≡ sortAt program (lookIn (now (cls .entry)) (now (idx .entry)) (now (wid .entry))) s ⌝ }
+pub fn sort_at(program: bool, notes: &[[u8; 5]], s: u64) -> Ty
+    ensures { λ r. ⌜ r ≡ sortAt program (lookIn (now (notes .entry))) s ⌝ }
 {
     if !program {
-        return look(cls, idx, wid, s);
+        return notes::look(notes, s);
     }
     if s < 1 {
         return Ty {

@@ -1,4 +1,4 @@
--- Where reading stands before a line: the answer from the start is the answer from here, and the lists hold the context of the lines so far. Assumes nothing.
+-- Where reading stands before a line: the answer from the start is the answer from here, and the notes hold the context of the lines so far. Assumes nothing.
 use mathlib.Core.Path.{_≡_, refl, sym, ap, ap₂, _∙_, subst}
 use mathlib.Core.Bool.{Bool, true, false}
 use mathlib.Core.List.{List, [], _∷_, _++_}
@@ -15,13 +15,13 @@ use Rattle.tables.specs.declared.Refusal.the-variants.{NotATable, TextTooLong}
 use Rattle.tables.specs.Pick.{inside, all}
 use Rattle.tables.specs.Lines.{Line, exprWords, lineOf, kindIn, sortIn, firstIn, secondIn, thirdIn, recorded}
 use Rattle.tables.specs.Types.{noTy, lineType, Ctx, noCtx, tyAt, given, grow}
-use Rattle.tables.specs.Lists.{lookIn, givenIn, Shows, Ample, Noted}
+use Rattle.tables.specs.Notes.{lookIn, givenIn, Shows, noted}
 use Rattle.tables.specs.Tables.{whole, room, formed, keeps}
 use Rattle.tables.specs.Rules.{fits, fault}
 use Rattle.tables.proofs.Kept.{both}
 use Rattle.tables.proofs.Answers.{passed, sort-width}
 use Rattle.tables.proofs.Shapes.{range}
-use Rattle.tables.proofs.Showing.{shows-more, ample-more, length-more}
+use Rattle.tables.proofs.Showing.{length-noted, shows-more, length-more}
 use Rattle.texts.specs.declared.ReadOutcome.{ReadOutcome}
 use Rattle.texts.specs.declared.ReadOutcome.the-variants.{Done, Refused}
 use Rattle.texts.specs.declared.Readout.{Readout}
@@ -147,20 +147,20 @@ module _ (len n : ℕ) (e r : List ℕ) (le : length e ≡ 5 * n) (lr : length r
 -- ---- before a line
 
 -- s is the text, i the place in it, n the number of records so far, e their words, c their context
-pub record Reached (s : List ℕ) (len i n line : ℕ) (table cls idx wid ini nxt e : List ℕ) (c : Ctx) : Type 0 where
+pub record Reached (s : List ℕ) (len i n line : ℕ) (table : List ℕ) (notes : List (List ℕ)) (e : List ℕ) (c : Ctx) : Type 0 where
   pub within : i ≤ length s
   pub early : line ≤ i + 1
   pub most : n ≤ room len
   pub size : length e ≡ 5 * n
   pub filled : table ≡ tableOf len (done n e)
-  pub shows : Shows cls idx wid ini nxt c
-  pub ample : Ample cls idx wid ini nxt
+  pub shows : Shows notes c
+  pub ample : length notes ≡ 16385
   pub count : length (c .tys) ≡ n + 1
   pub narrow : (a : ℕ) → tyAt c a .w ≤ 64
   pub answer : readLines (room len) 1 0 noCtx [] (split 10 s) ≡ readLines (room len) line n c e (split 10 (drop i s))
 
-pub at-start : {s table cls idx wid ini nxt : List ℕ} {len : ℕ} → length table ≡ len → table ≡ replicate (length table) 0 → Ample cls idx wid ini nxt → Shows cls idx wid ini nxt noCtx
-    → Reached s len 0 0 1 table cls idx wid ini nxt [] noCtx
+pub at-start : {s table : List ℕ} {notes : List (List ℕ)} {len : ℕ} → length table ≡ len → table ≡ replicate (length table) 0 → length notes ≡ 16385 → Shows notes noCtx
+    → Reached s len 0 0 1 table notes [] noCtx
 at-start {table = table} {len = len} l z a h =
     record {
       within = zero-le;
@@ -175,18 +175,18 @@ at-start {table = table} {len = len} l z a h =
       answer = refl;
     }
 
-module _ {s table cls idx wid ini nxt e : List ℕ} {len i n line : ℕ} {c : Ctx} (R : Reached s len i n line table cls idx wid ini nxt e c) where
+module _ {s table e : List ℕ} {notes : List (List ℕ)} {len i n line : ℕ} {c : Ctx} (R : Reached s len i n line table notes e c) where
   pub table-size : length table ≡ len
   table-size =
       let q : length table ≡ length e + length (replicate {A = ℕ} (len - length e) 0) = ap length (R .filled) ∙ length-append e (replicate (len - length e) 0) in
       omega (arith, length-replicate {A = ℕ} (len - length e) 0, R .size, R .most)
 
-  -- the lists' widths
-  pub narrow-list : (a : ℕ) → getD wid a 0 ≤ 64
-  narrow-list a = subst (λ (t : Ty). t .w ≤ 64) (sym (R .shows .types a)) (R .narrow a)
+  -- the widths noted
+  pub narrow-noted : (a : ℕ) → lookIn notes a .w ≤ 64
+  narrow-noted a = subst (λ (t : Ty). t .w ≤ 64) (sym (R .shows .types a)) (R .narrow a)
 
-  as-lists : (ts : List (List ℕ)) → readLine (lookIn cls idx wid) (givenIn ini nxt) (room len) n ts ≡ readLine (tyAt c) (given c) (room len) n ts
-  as-lists ts =
+  as-noted : (ts : List (List ℕ)) → readLine (lookIn notes) (givenIn notes) (room len) n ts ≡ readLine (tyAt c) (given c) (room len) n ts
+  as-noted ts =
       ap₂ (λ (L : ℕ → Ty) (G : Bool → ℕ → Bool). readLine L G (room len) n ts) (λ j a. R .shows .types a j) (λ j m q. R .shows .marks m q j)
 
   pub at-end : length s ≤ i → readLines (room len) 1 0 noCtx [] (split 10 s) ≡ done n e
@@ -194,20 +194,20 @@ module _ {s table cls idx wid ini nxt e : List ℕ} {len i n line : ℕ} {c : Ct
 
   -- the line from i to f, without its comment from i to z; the next one starts at i′
   module _ (m f z i′ : ℕ) (em : m ≡ room len) (on : i < length s) (hf : f ≡ i + length (upTo 10 (drop i s))) (hz : take (z - i) (drop i s) ≡ upTo 59 (take (f - i) (drop i s))) (lf : f ≤ length s) (hi : i′ ≡ min (f + 1) (length s))
-      (r : Readout) (er : r ≡ asRead (readLine (lookIn cls idx wid) (givenIn ini nxt) m n (tokens (take (z - i) (drop i s))))) where
-    as-line : readLine (lookIn cls idx wid) (givenIn ini nxt) m n (tokens (take (z - i) (drop i s))) ≡ readLine (tyAt c) (given c) (room len) n (lineTokens (take (f - i) (drop i s)))
+      (r : Readout) (er : r ≡ asRead (readLine (lookIn notes) (givenIn notes) m n (tokens (take (z - i) (drop i s))))) where
+    as-line : readLine (lookIn notes) (givenIn notes) m n (tokens (take (z - i) (drop i s))) ≡ readLine (tyAt c) (given c) (room len) n (lineTokens (take (f - i) (drop i s)))
     as-line =
-        ap (λ (k : ℕ). readLine (lookIn cls idx wid) (givenIn ini nxt) k n (tokens (take (z - i) (drop i s)))) em
-        ∙ as-lists (tokens (take (z - i) (drop i s))) ∙ ap (λ (x : List ℕ). readLine (tyAt c) (given c) (room len) n (tokens x)) hz
+        ap (λ (k : ℕ). readLine (lookIn notes) (givenIn notes) k n (tokens (take (z - i) (drop i s)))) em
+        ∙ as-noted (tokens (take (z - i) (drop i s))) ∙ ap (λ (x : List ℕ). readLine (tyAt c) (given c) (room len) n (tokens x)) hz
 
     begun : readLines (room len) 1 0 noCtx [] (split 10 s) ≡ readLines (room len) line n c e (take (f - i) (drop i s) ∷ tail 10 (drop f s))
     begun = R .answer ∙ ap (readLines (room len) line n c e) (line-first s i f hf)
 
     pub at-no : r .what ≡ 2 → readLines (room len) 1 0 noCtx [] (split 10 s) ≡ refused (r .code) line
     at-no h =
-        begun ∙ step-no (room len) line n c e (take (f - i) (drop i s)) (tail 10 (drop f s)) (r .code) (sym as-line ∙ told-no (readLine (lookIn cls idx wid) (givenIn ini nxt) m n (tokens (take (z - i) (drop i s)))) r er h)
+        begun ∙ step-no (room len) line n c e (take (f - i) (drop i s)) (tail 10 (drop f s)) (r .code) (sym as-line ∙ told-no (readLine (lookIn notes) (givenIn notes) m n (tokens (take (z - i) (drop i s)))) r er h)
 
-    pub at-skip : (r .what ≡ 0 → ⊥) → (r .what ≡ 2 → ⊥) → Reached s len i′ n (line + 1) table cls idx wid ini nxt e c
+    pub at-skip : (r .what ≡ 0 → ⊥) → (r .what ≡ 2 → ⊥) → Reached s len i′ n (line + 1) table notes e c
     at-skip h k =
         record {
           within = omega arith;
@@ -221,13 +221,13 @@ module _ {s table cls idx wid ini nxt e : List ℕ} {len i n line : ℕ} {c : Ct
           narrow = R .narrow;
           answer =
               begun
-              ∙ (step-skip (room len) line n c e (take (f - i) (drop i s)) (tail 10 (drop f s)) (sym as-line ∙ told-skip (readLine (lookIn cls idx wid) (givenIn ini nxt) m n (tokens (take (z - i) (drop i s)))) r er h k)
+              ∙ (step-skip (room len) line n c e (take (f - i) (drop i s)) (tail 10 (drop f s)) (sym as-line ∙ told-skip (readLine (lookIn notes) (givenIn notes) m n (tokens (take (z - i) (drop i s)))) r er h k)
               ∙ (ap (λ (m : ℕ). readLines (room len) m n c e (tail 10 (drop f s))) (sym (add-one line)) ∙ tail-lines (room len) (line + 1) n c e s f i′ lf hi));
         }
 
     module _ (h : r .what ≡ 0) where
       is-got : readLine (tyAt c) (given c) (room len) n (lineTokens (take (f - i) (drop i s))) ≡ got (r .rec)
-      is-got = sym as-line ∙ told-got (readLine (lookIn cls idx wid) (givenIn ini nxt) m n (tokens (take (z - i) (drop i s)))) r er h
+      is-got = sym as-line ∙ told-got (readLine (lookIn notes) (givenIn notes) m n (tokens (take (z - i) (drop i s)))) r er h
 
       kept : (keeps false (tyAt c) (given c) (r .rec) ≡ true) × (length (r .rec) ≡ 5)
       kept = got-keeps (tyAt c) (given c) (room len) n (lineTokens (take (f - i) (drop i s))) (r .rec) is-got
@@ -241,19 +241,19 @@ module _ {s table cls idx wid ini nxt e : List ℕ} {len i n line : ℕ} {c : Ct
       pub sort-fits : kindIn (r .rec) ≡ 1 → firstIn (r .rec) ≤ 64
       sort-fits = sort-width false (tyAt c) (given c) (r .rec) (eqb-true (fault false (tyAt c) (given c) (r .rec)) 0 (both (formed false (r .rec)) _ (kept .0) .1))
 
-      pub at-got : {table₁ cls₁ idx₁ wid₁ ini₁ nxt₁ : List ℕ} → table₁ ≡ recorded table n (r .rec) → Noted false (r .rec) (n + 1) cls idx wid ini nxt cls₁ idx₁ wid₁ ini₁ nxt₁
-          → Reached s len i′ (n + 1) (line + 1) table₁ cls₁ idx₁ wid₁ ini₁ nxt₁ (e ++ r .rec) (grow false c (lineOf (r .rec)))
+      pub at-got : {table₁ : List ℕ} {notes₁ : List (List ℕ)} → table₁ ≡ recorded table n (r .rec) → notes₁ ≡ noted false (r .rec) (n + 1) notes
+          → Reached s len i′ (n + 1) (line + 1) table₁ notes₁ (e ++ r .rec) (grow false c (lineOf (r .rec)))
       at-got t₁ nt =
-          let few : n + 1 ≤ 16384 = omega (arith, has-room) in
+          let few : n + 1 < length notes = omega (arith, has-room, R .ample) in
           record {
             within = omega arith;
             early = omega (arith, R .early, R .within);
             most = omega (arith, has-room);
             size = next-size len n e (r .rec) (R .size) (kept .1);
             filled = t₁ ∙ (ap (λ (x : List ℕ). recorded x n (r .rec)) (R .filled) ∙ put-next len n e (r .rec) (R .size) (kept .1));
-            shows = shows-more (R .shows) (R .ample) (R .count) few (kept .1) (kept .0) nt;
-            ample = ample-more (R .shows) (R .ample) (R .count) few (kept .1) (kept .0) nt;
-            count = length-more (R .shows) (R .ample) (R .count) few (kept .1) (kept .0) nt ∙ sym (add-one (n + 1));
+            shows = subst (λ (x : List (List ℕ)). Shows x (grow false c (lineOf (r .rec)))) (sym nt) (shows-more false (r .rec) (R .shows) (R .count) few (kept .1) (kept .0));
+            ample = ap length nt ∙ length-noted false (r .rec) (n + 1) notes ∙ R .ample;
+            count = length-more false (r .rec) (R .shows) (R .count) few (kept .1) (kept .0) ∙ sym (add-one (n + 1));
             narrow = narrow-kept c (r .rec) (R .narrow) (kept .0);
             answer =
                 begun

@@ -74,20 +74,8 @@ pub fn read(text: &[u8], table: &mut [u64]) -> ReadOutcome
     if 65536 < text.len() {
         return ReadOutcome::Refused(Refusal::TextTooLong, 0);
     }
-    let mut cls = [0u8; 16385];
-    let mut idx = [0u8; 16385];
-    let mut wid = [0u8; 16385];
-    let mut ini = [0u8; 16385];
-    let mut nxt = [0u8; 16385];
-    reading::read_lines(
-        text,
-        table,
-        &mut cls,
-        &mut idx,
-        &mut wid,
-        &mut ini,
-        &mut nxt,
-    )
+    let mut notes = [[0u8; 5]; 16385];
+    reading::read_lines(text, table, &mut notes)
 }
 
 // Writes the first `count` records of a table as text.

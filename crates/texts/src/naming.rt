@@ -50,15 +50,13 @@ pub fn part(l: &[u8]) -> Part
 {
     let i = pass(l, 0, 1);
     let w = reading::word(l, i);
-    let f = w.form;
-    let at = w.at;
-    if f == 0 {
+    if w.form == 0 {
         return Part { from: 0, to: 0 };
     }
-    let row = forms::row(f);
+    let row = forms::row(w.form);
     let s = forms::sorted(row);
     let c = row[12] as usize;
-    let p = pass(l, at, s + c);
+    let p = pass(l, w.at, s + c);
     only(l, p)
 }
 

@@ -1,4 +1,4 @@
-// Reading, stage by stage: a line's word, its numbers, and the refusals 3 to 10 in their order. cls, idx, wid, ini and nxt hold what is known of the lines so far.
+// Reading, stage by stage: a line's word, its numbers, and the refusals 3 to 10 in their order. The notes hold what is known of the lines so far.
 use crate::Form;
 use crate::Num;
 use crate::ReadOutcome;
@@ -9,18 +9,18 @@ use crate::numbers;
 use crate::tokens;
 use tables::Refusal;
 use tables::check;
+use tables::notes;
 use tables::records;
 use tables::rules;
-use tables::types;
 ghost use mathlib.Core.Path.{_≡_};
 ghost use mathlib.Core.List.{[]};
 ghost use mathlib.Core.Bool.{true, false};
 ghost use Prim.Native.Nat.{ℕ, _+_, _-_, _^_, _≤_, _<_};
-ghost use lib.ListN.{length, drop, getD, replicate};
+ghost use lib.ListN.{length, drop, replicate};
 ghost use Rattle.tables.specs.Kinds.{rowOf};
 ghost use Rattle.tables.specs.Lines.{kindIn, firstIn, recorded};
 ghost use Rattle.tables.specs.Types.{noCtx};
-ghost use Rattle.tables.specs.Lists.{lookIn, givenIn, Shows, Ample, Noted};
+ghost use Rattle.tables.specs.Notes.{lookIn, givenIn, Shows, noted};
 ghost use Rattle.tables.specs.Tables.{room as roomOf};
 ghost use Rattle.texts.specs.Split.{split, tokens as tokensIn};
 ghost use Rattle.texts.specs.Decimal.{decimal};
@@ -180,26 +180,16 @@ pub fn settle(w: u8, f: usize, rec: [u64; 5]) -> [u64; 5]
 }
 
 // 8, 9 and 10. The row is that of the record's kind.
-pub fn judge(
-    row: [u8; 16],
-    f: usize,
-    len: usize,
-    rec: [u64; 5],
-    cls: &[u8],
-    idx: &[u8],
-    wid: &[u8],
-    ini: &[u8],
-    nxt: &[u8],
-) -> Readout
+pub fn judge(row: [u8; 16], f: usize, len: usize, rec: [u64; 5], notes: &[[u8; 5]]) -> Readout
     requires { ⌜ row ≡ rowOf (kindIn rec) ⌝ }
-    ensures { λ r. ⌜ r ≡ asRead (judged (lookIn (now (cls .entry)) (now (idx .entry)) (now (wid .entry))) (givenIn (now (ini .entry)) (now (nxt .entry))) f len rec) ⌝ }
+    ensures { λ r. ⌜ r ≡ asRead (judged (lookIn (now (notes .entry))) (givenIn (now (notes .entry))) f len rec) ⌝ }
 {
-    let a = rules::fault(false, row, rec, cls, idx, wid, ini, nxt);
+    let a = rules::fault(false, row, rec, notes);
     if a == 8 {
         return refuse(Refusal::WrongClass);
     }
     if f == 56 {
-        let w = types::at(wid, rec[1]);
+        let w = notes::look(notes, rec[1]).w;
         if len != w as usize {
             return refuse(Refusal::Misfit);
         }
@@ -215,70 +205,44 @@ pub fn large(
     rec: [u64; 5],
     big: bool,
     len: usize,
-    cls: &[u8],
-    idx: &[u8],
-    wid: &[u8],
-    ini: &[u8],
-    nxt: &[u8],
+    notes: &[[u8; 5]],
 ) -> Readout
-    requires { ⌜ (row ≡ rowOf (kindIn rec)) × ((a : ℕ) → getD (now wid) a 0 ≤ 64) ⌝ }
-    ensures { λ r. ⌜ r ≡ asRead (largeOf (lookIn (now (cls .entry)) (now (idx .entry)) (now (wid .entry))) (givenIn (now (ini .entry)) (now (nxt .entry))) f rec big len) ⌝ }
+    requires { ⌜ (row ≡ rowOf (kindIn rec)) × ((a : ℕ) → lookIn (now notes) a .w ≤ 64) ⌝ }
+    ensures { λ r. ⌜ r ≡ asRead (largeOf (lookIn (now (notes .entry))) (givenIn (now (notes .entry))) f rec big len) ⌝ }
 {
     if big {
         return refuse(Refusal::NumberTooLarge);
     }
-    let w = types::at(wid, rec[1]);
+    let w = notes::look(notes, rec[1]).w;
     let t = settle(w, f, rec);
     if f == 1 {
         if !rules::is_width(rec[2]) {
             return refuse(Refusal::NumberTooLarge);
         }
-        return judge(row, f, len, t, cls, idx, wid, ini, nxt);
+        return judge(row, f, len, t, notes);
     }
-    judge(row, f, len, t, cls, idx, wid, ini, nxt)
+    judge(row, f, len, t, notes)
 }
 
 // What stands behind the numbers, 6, and what follows.
-pub fn finish(
-    l: &[u8],
-    row: [u8; 16],
-    f: usize,
-    t: Taken,
-    cls: &[u8],
-    idx: &[u8],
-    wid: &[u8],
-    ini: &[u8],
-    nxt: &[u8],
-) -> Readout
-    requires { do ⌜ (t .at ≤ (← ⟦l.len()⟧)) × ((row ≡ rowOf (kindIn (t .rec))) × ((a : ℕ) → getD (now wid) a 0 ≤ 64)) ⌝ }
-    ensures { λ r. ⌜ r ≡ asRead (ended (lookIn (now (cls .entry)) (now (idx .entry)) (now (wid .entry))) (givenIn (now (ini .entry)) (now (nxt .entry))) f (asTook (now (l .entry)) t)) ⌝ }
+pub fn finish(l: &[u8], row: [u8; 16], f: usize, t: Taken, notes: &[[u8; 5]]) -> Readout
+    requires { do ⌜ (t .at ≤ (← ⟦l.len()⟧)) × ((row ≡ rowOf (kindIn (t .rec))) × ((a : ℕ) → lookIn (now notes) a .w ≤ 64)) ⌝ }
+    ensures { λ r. ⌜ r ≡ asRead (ended (lookIn (now (notes .entry))) (givenIn (now (notes .entry))) f (asTook (now (l .entry)) t)) ⌝ }
 {
     if !t.ok {
         return refuse(Refusal::BadOperand);
     }
-    let at = t.at;
-    if tokens::crowded(l, at) {
+    if tokens::crowded(l, t.at) {
         return refuse(Refusal::BadOperand);
     }
     let rec = t.rec;
-    let big = t.big;
-    let len = t.len;
-    large(row, f, rec, big, len, cls, idx, wid, ini, nxt)
+    large(row, f, rec, t.big, t.len, notes)
 }
 
 // The line behind its word, whose form is f.
-pub fn rest(
-    l: &[u8],
-    f: usize,
-    at: usize,
-    cls: &[u8],
-    idx: &[u8],
-    wid: &[u8],
-    ini: &[u8],
-    nxt: &[u8],
-) -> Readout
-    requires { do ⌜ (at ≤ (← ⟦l.len()⟧)) × ((1 ≤ f) × ((f ≤ 60) × ((a : ℕ) → getD (now wid) a 0 ≤ 64))) ⌝ }
-    ensures { λ r. ⌜ r ≡ asRead (ended (lookIn (now (cls .entry)) (now (idx .entry)) (now (wid .entry))) (givenIn (now (ini .entry)) (now (nxt .entry))) f (numbersIn f (tokensIn (drop at (now (l .entry)))))) ⌝ }
+pub fn rest(l: &[u8], f: usize, at: usize, notes: &[[u8; 5]]) -> Readout
+    requires { do ⌜ (at ≤ (← ⟦l.len()⟧)) × ((1 ≤ f) × ((f ≤ 60) × ((a : ℕ) → lookIn (now notes) a .w ≤ 64))) ⌝ }
+    ensures { λ r. ⌜ r ≡ asRead (ended (lookIn (now (notes .entry))) (givenIn (now (notes .entry))) f (numbersIn f (tokensIn (drop at (now (l .entry)))))) ⌝ }
 {
     let row = forms::row(f);
     let s = forms::sorted(row);
@@ -286,7 +250,7 @@ pub fn rest(
     let k = forms::kind_of(f);
     let t = operands(l, at, f, s + c, 2 - s, [k, 0, 0, 0, 0]);
     let own = forms::kind_row(f, row);
-    finish(l, own, f, t, cls, idx, wid, ini, nxt)
+    finish(l, own, f, t, notes)
 }
 
 // The token is the number n.
@@ -302,18 +266,9 @@ pub fn is_id(t: &[u8], n: u64) -> bool
 }
 
 // A line, after n records, with room for `room` of them.
-pub fn read_line(
-    l: &[u8],
-    n: usize,
-    room: usize,
-    cls: &[u8],
-    idx: &[u8],
-    wid: &[u8],
-    ini: &[u8],
-    nxt: &[u8],
-) -> Readout
-    requires { ⌜ (n ≤ 16384) × ((a : ℕ) → getD (now wid) a 0 ≤ 64) ⌝ }
-    ensures { λ r. ⌜ r ≡ asRead (readLine (lookIn (now (cls .entry)) (now (idx .entry)) (now (wid .entry))) (givenIn (now (ini .entry)) (now (nxt .entry))) room n (tokensIn (now (l .entry)))) ⌝ }
+pub fn read_line(l: &[u8], n: usize, room: usize, notes: &[[u8; 5]]) -> Readout
+    requires { ⌜ (n ≤ 16384) × ((a : ℕ) → lookIn (now notes) a .w ≤ 64) ⌝ }
+    ensures { λ r. ⌜ r ≡ asRead (readLine (lookIn (now (notes .entry))) (givenIn (now (notes .entry))) room n (tokensIn (now (l .entry)))) ⌝ }
 {
     let a = tokens::skip(l, 0);
     if a == l.len() {
@@ -332,44 +287,25 @@ pub fn read_line(
         return refuse(Refusal::NoRecordLeft);
     }
     let w = word(l, z);
-    let f = w.form;
-    let at = w.at;
-    if f == 0 {
+    if w.form == 0 {
         return refuse(Refusal::UnknownWord);
     }
-    rest(l, f, at, cls, idx, wid, ini, nxt)
+    rest(l, w.form, w.at, notes)
 }
 
-// The record of the line n + 1 goes to the table, and what is known of the line to the lists.
-fn take(
-    table: &mut [u64],
-    n: usize,
-    rec: [u64; 5],
-    cls: &mut [u8],
-    idx: &mut [u8],
-    wid: &mut [u8],
-    ini: &mut [u8],
-    nxt: &mut [u8],
-)
+// The record of the line n + 1 goes to the table, and the line is noted.
+fn take(table: &mut [u64], n: usize, rec: [u64; 5], notes: &mut [[u8; 5]])
     requires { ⌜ (n < roomOf (length (now table))) × (kindIn rec ≡ 1 → firstIn rec ≤ 64) ⌝ }
-    ensures { λ _. ⌜ (now (table .exit) ≡ recorded (now (table .entry)) n rec) × Noted false rec (n + 1) (now (cls .entry)) (now (idx .entry)) (now (wid .entry)) (now (ini .entry)) (now (nxt .entry)) (now (cls .exit)) (now (idx .exit)) (now (wid .exit)) (now (ini .exit)) (now (nxt .exit)) ⌝ }
+    ensures { λ _. ⌜ (now (table .exit) ≡ recorded (now (table .entry)) n rec) × (now (notes .exit) ≡ noted false rec (n + 1) (now (notes .entry))) ⌝ }
 {
     records::put(table, n, rec);
     let id = (n + 1) as u64;
-    check::note(false, rec, id, cls, idx, wid, ini, nxt);
+    check::note(false, rec, id, notes);
 }
 
 // The lines of a text, into a table of zeros.
-pub fn read_lines(
-    text: &[u8],
-    table: &mut [u64],
-    cls: &mut [u8],
-    idx: &mut [u8],
-    wid: &mut [u8],
-    ini: &mut [u8],
-    nxt: &mut [u8],
-) -> ReadOutcome
-    requires { ⌜ (length (now text) ≤ 65536) × ((now table ≡ replicate (length (now table)) 0) × (Ample (now cls) (now idx) (now wid) (now ini) (now nxt) × Shows (now cls) (now idx) (now wid) (now ini) (now nxt) noCtx)) ⌝ }
+pub fn read_lines(text: &[u8], table: &mut [u64], notes: &mut [[u8; 5]]) -> ReadOutcome
+    requires { ⌜ (length (now text) ≤ 65536) × ((now table ≡ replicate (length (now table)) 0) × ((length (now notes) ≡ 16385) × Shows (now notes) noCtx)) ⌝ }
     ensures { λ r. ⌜ (r ≡ answerOf (readLines (roomOf (length (now (table .entry)))) 1 0 noCtx [] (split 10 (now (text .entry))))) × (now (table .exit) ≡ tableOf (length (now (table .entry))) (readLines (roomOf (length (now (table .entry)))) 1 0 noCtx [] (split 10 (now (text .entry))))) ⌝ }
 {
     let room = records::room_of(table.len());
@@ -379,18 +315,17 @@ pub fn read_lines(
     while i < text.len() {
         let e = tokens::find_byte(text, i, 10);
         let z = tokens::cut(text, i, e);
-        let r = read_line(&text[i..z], n, room, cls, idx, wid, ini, nxt);
-        let what = r.what;
-        let code = r.code;
-        let rec = r.rec;
+        let r = read_line(&text[i..z], n, room, notes);
         i = tokens::after(e, text.len());
-        if what == 2 {
+        if r.what == 2 {
+            let code = r.code;
             records::clear(table);
             return ReadOutcome::Refused(code, line);
         }
         line += 1;
-        if what == 0 {
-            take(table, n, rec, cls, idx, wid, ini, nxt);
+        if r.what == 0 {
+            let rec = r.rec;
+            take(table, n, rec, notes);
             n += 1;
             continue;
         }

@@ -1,10 +1,10 @@
 -- Zero first, then the check, then the lines. Assumes nothing.
 use Prim.Native.Nat.{ℕ}
 use native.Mathlib.Omega.{arith}
-use mathlib.Core.Path.{_≡_, sym, ap, _∙_}
+use mathlib.Core.Path.{sym, ap, _∙_}
 use mathlib.Core.List.{List}
-use lib.ListN.{length, replicate, length-replicate}
-use lib.Seq.{sets, length-sets}
+use lib.ListN.{length, replicate}
+use lib.Seq.{sets}
 use Rattle.tables.specs.Lines.{counted}
 use Rattle.texts.specs.Writing.{writeText}
 use Rattle.texts.proofs.Round.{held}
@@ -14,10 +14,10 @@ use Rattle.texts.proofs.write.Statement.{statement}
 use Rattle.texts.proofs.write.Tie as tie
 
 clear-requires : tie.Need-clear-requires
-clear-requires c κs = search needs
+clear-requires c κs = tt
 
 accept-requires : tie.Need-accept-requires
-accept-requires c κs = search needs
+accept-requires c κs = tt
 
 enum-known-c : tie.Need-enum-known-c
 enum-known-c c = search needs
@@ -29,27 +29,27 @@ put-lines-requires : tie.Need-put-lines-requires
 put-lines-requires c κs = let h = held (c .before .before .before .before .before .before .before .before .before .before .args .table .now) (c .before .before .before .before .before .before .before .before .before .before .args .count) (sym (c .before .before .before .accept .ensures) ∙ c .before .enum-told .given .1) in (h .fits, h .law)
 
 clear-requires-2 : tie.Need-clear-requires-2
-clear-requires-2 c κs = search needs
+clear-requires-2 c κs = tt
 
 same-length : tie.Need-same-length
-same-length c = search needs
+same-length c = c .before .before .clear2 .kept .0 ∙ c .before .before .before .before .before .before .before .put-lines .kept .0 ∙ c .before .before .before .before .before .before .before .before .before .before .before .before .before .before .clear .kept .0
 
 returns : tie.Need-returns
-returns c = let k : length (c .before .before .before .before .before .before .before .put-lines .last .0) ≡ length (c .before .before .before .before .before .before .before .before .before .before .before .before .before .before .before .before .before .before .args .text .now) = (ap length (c .before .before .before .before .before .before .before .put-lines .ensures .1) ∙ (length-sets (c .before .before .before .before .before .before .before .before .before .before .before .before .before .before .clear .last .0) 0 (writeText (counted (c .before .before .before .before .before .before .before .before .before .before .before .before .before .before .before .before .before .before .args .table .now) (c .before .before .before .before .before .before .before .before .before .before .before .before .before .before .before .before .before .before .args .count))) ∙ (ap length (c .before .before .before .before .before .before .before .before .before .before .before .before .before .before .clear .ensures) ∙ length-replicate {A = ℕ} (length (c .before .before .before .before .before .before .before .before .before .before .before .before .before .before .before .before .before .before .args .text .now)) 0))) in
-    out-short (c .before .before .before .before .before .before .before .before .before .before .before .before .before .before .before .before .before .before .args .table .now) (c .before .before .before .before .before .before .before .before .before .before .before .before .before .before .before .before .before .before .args .count) (length (c .before .before .before .before .before .before .before .before .before .before .before .before .before .before .before .before .before .before .args .text .now)) (c .before .before .before .before .before .before .before .before .before .before .before .accept .ensures) (c .before .before .before .before .before .before .before .before .before .enum-told .given .1) (omega (arith, k, c .before .before .before .before .if1 .taken, c .before .before .before .before .before .before .before .put-lines .ensures .0)) (c .before .before .clear2 .ensures ∙ ap (λ (n : ℕ). replicate {A = ℕ} n 0) k)
+returns c = let s = c .before .before .before .before .before .before .before .before .before .before .before .before .before .before .before .before .before .before .args in let k = c .before .before .before .before .before .before .before .put-lines .kept .0 ∙ c .before .before .before .before .before .before .before .before .before .before .before .before .before .before .clear .kept .0 in
+    out-short (s .table .now) (s .count) (length (s .text .now)) (c .before .before .before .before .before .before .before .before .before .before .before .accept .ensures) (c .before .before .before .before .before .before .before .before .before .enum-told .given .1) (omega (arith, k, c .before .before .before .before .if1 .taken, c .before .before .before .before .before .before .before .put-lines .ensures .0)) (c .before .before .clear2 .ensures ∙ ap (λ (n : ℕ). replicate {A = ℕ} n 0) k)
 
 same-length-2 : tie.Need-same-length-2
-same-length-2 c = search needs
+same-length-2 c = c .before .before .before .before .before .before .clear .kept .0
 
 returns-2 : tie.Need-returns-2
-returns-2 c = out-not (c .before .before .before .before .before .before .before .before .before .before .args .table .now) (c .before .before .before .before .before .before .before .before .before .before .args .count) (length (c .before .before .before .before .before .before .before .before .before .before .args .text .now)) (c .before .before .before .accept .ensures) (c .before .c .given .1) (c .before .before .before .before .before .before .clear .ensures)
+returns-2 c = let s = c .before .before .before .before .before .before .before .before .before .before .args in out-not (s .table .now) (s .count) (length (s .text .now)) (c .before .before .before .accept .ensures) (c .before .c .given .1) (c .before .before .before .before .before .before .clear .ensures)
 
 same-length-3 : tie.Need-same-length-3
-same-length-3 c = search needs
+same-length-3 c = c .before .before .before .put-lines .kept .0 ∙ c .before .before .before .before .before .before .before .before .before .before .clear .kept .0
 
 returns-3 : tie.Need-returns-3
-returns-3 c = let k : length (c .before .before .before .put-lines .last .0) ≡ length (c .before .before .before .before .before .before .before .before .before .before .before .before .before .before .args .text .now) = (ap length (c .before .before .before .put-lines .ensures .1) ∙ (length-sets (c .before .before .before .before .before .before .before .before .before .before .clear .last .0) 0 (writeText (counted (c .before .before .before .before .before .before .before .before .before .before .before .before .before .before .args .table .now) (c .before .before .before .before .before .before .before .before .before .before .before .before .before .before .args .count))) ∙ (ap length (c .before .before .before .before .before .before .before .before .before .before .clear .ensures) ∙ length-replicate {A = ℕ} (length (c .before .before .before .before .before .before .before .before .before .before .before .before .before .before .args .text .now)) 0))) in
-    out-written (c .before .before .before .before .before .before .before .before .before .before .before .before .before .before .args .table .now) (c .before .before .before .before .before .before .before .before .before .before .before .before .before .before .args .count) (length (c .before .before .before .before .before .before .before .before .before .before .before .before .before .before .args .text .now)) (c .before .before .before .put-lines .result) (c .before .before .before .before .before .before .before .accept .ensures) (c .before .before .before .before .before .enum-told .given .1) (c .before .before .before .put-lines .ensures .0) (omega (arith, k, c .if1 .left)) (c .before .before .before .put-lines .ensures .1 ∙ ap (λ (x : List ℕ). sets x 0 (writeText (counted (c .before .before .before .before .before .before .before .before .before .before .before .before .before .before .args .table .now) (c .before .before .before .before .before .before .before .before .before .before .before .before .before .before .args .count)))) (c .before .before .before .before .before .before .before .before .before .before .clear .ensures))
+returns-3 c = let s = c .before .before .before .before .before .before .before .before .before .before .before .before .before .before .args in let k = c .before .before .before .put-lines .kept .0 ∙ c .before .before .before .before .before .before .before .before .before .before .clear .kept .0 in
+    out-written (s .table .now) (s .count) (length (s .text .now)) (c .before .before .before .put-lines .result) (c .before .before .before .before .before .before .before .accept .ensures) (c .before .before .before .before .before .enum-told .given .1) (c .before .before .before .put-lines .ensures .0) (omega (arith, k, c .if1 .left)) (c .before .before .before .put-lines .ensures .1 ∙ ap (λ (x : List ℕ). sets x 0 (writeText (counted (s .table .now) (s .count)))) (c .before .before .before .before .before .before .before .before .before .before .clear .ensures))
 
 pub write-spec : {M : Type 1} → statement M
 write-spec =

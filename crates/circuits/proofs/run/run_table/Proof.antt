@@ -1,65 +1,82 @@
 -- `run::run_table` meets its contract. Assumes nothing.
-use mathlib.Core.Path.{ap₂, sym, _∙_, ap}
-use Rattle.circuits.specs.Model.{lentAnswer, lentSignals}
 use Prim.Native.Nat.{ℕ}
+use mathlib.Core.Path.{ap₂, sym, _∙_, ap}
+use native.Mathlib.Omega.{arith}
 use lib.ListN.{length, replicate}
-use Rattle.circuits.proofs.Placing.{typed}
+use Rattle.tables.proofs.Checking.{fresh}
+use Rattle.circuits.specs.Model.{lentAnswer, lentSignals}
 use Rattle.circuits.proofs.Answering.{ran-refused, ran-lent}
 use borrow.Author.Needs.{needs}
 use Rattle.circuits.proofs.run.run_table.Statement.{statement}
 use Rattle.circuits.proofs.run.run_table.Tie as tie
+use Rattle.circuits.proofs.run.run_table.Reads as reads
+use Rattle.circuits.proofs.run.run_table.Lts as lts
+use Rattle.circuits.proofs.run.run_noted.Reads as run-noted-reads
+use Rattle.tables.proofs.check.check.Reads as check-reads
+use Rattle.tables.proofs.check.clear.Reads as check-clear-reads
+use Rattle.tables.proofs.records.clear.Reads as records-clear-reads
 
+-- src/run.rt:178:5
 clear-requires : tie.Need-clear-requires
-clear-requires c κs = search needs
+clear-requires c κs = tt
 
+-- src/run.rt:179:5
 clear-requires-2 : tie.Need-clear-requires-2
-clear-requires-2 c κs = search needs
+clear-requires-2 c κs = tt
 
+-- src/run.rt:181:47
 slice-aggregate-check : tie.Need-slice-aggregate-check
 slice-aggregate-check c = search needs
 
-slice-aggregate-check-2 : tie.Need-slice-aggregate-check-2
-slice-aggregate-check-2 c = search needs
-
-slice-aggregate-check-3 : tie.Need-slice-aggregate-check-3
-slice-aggregate-check-3 c = search needs
-
-slice-aggregate-check-4 : tie.Need-slice-aggregate-check-4
-slice-aggregate-check-4 c = search needs
-
-slice-aggregate-check-5 : tie.Need-slice-aggregate-check-5
-slice-aggregate-check-5 c = search needs
-
+-- src/run.rt:181:11
 check-requires : tie.Need-check-requires
-check-requires c κs = search needs
+check-requires c κs = fresh (c .before .before .before .before .before .before .before .before .before .before .before .before .before .before .args .count) 16385 (λ h. omega arith)
 
+-- src/run.rt:182:26
 enum-known-r : tie.Need-enum-known-r
 enum-known-r c = search needs
 
+-- src/run.rt:183:13
 same-length : tie.Need-same-length
-same-length c = search needs
+same-length c = c .before .before .before .before .before .before .before .before .before .before .before .before .clear .kept .0
 
+-- src/run.rt:183:13
 same-length-2 : tie.Need-same-length-2
-same-length-2 c = search needs
+same-length-2 c = c .before .before .before .before .before .before .before .before .clear2 .kept .0
 
+-- src/run.rt:183:13
 returns : tie.Need-returns
-returns c = let a = c .before .before .before .before .before .before .before .before .before .before .before .before .before .before .before .before .before .before .before .before .before .before .before .before .before .before .before .args in let e = ran-refused (a .program) (a .table .now) (a .count) (a .k) (a .starts .now) (a .inputs .now) (length (a .signals .now)) (length (a .work .now)) _ (sym (c .before .before .before .before .before .before .before .before .check .ensures .0) ∙ c .before .r .given .1) in (e .0, (c .before .before .before .before .before .before .before .before .before .before .before .before .before .before .before .before .before .before .before .before .clear .ensures ∙ e .1, c .before .before .before .before .before .before .before .before .before .before .before .before .before .before .before .before .clear2 .ensures))
+returns c = let a = c .before .before .before .before .before .before .before .before .before .before .before .before .before .before .before .before .before .before .before .args in
+    let e = ran-refused (a .program) (a .table .now) (a .count) (a .k) (a .starts .now) (a .inputs .now) (length (a .signals .now)) (length (a .work .now)) _ (sym (c .before .before .before .before .check .ensures .0) ∙ c .before .r .given .1) in
+    (e .0, (c .before .before .before .before .before .before .before .before .before .before .before .before .clear .ensures ∙ e .1, c .before .before .before .before .before .before .before .before .clear2 .ensures))
 
 enum-told : tie.Need-enum-told
 enum-told c = search needs
 
-run-checked-requires : tie.Need-run-checked-requires
-run-checked-requires c κs = let a = c .before .before .before .before .before .before .before .before .before .before .before .before .before .before .before .before .before .before .before .before .before .before .before .before .before .before .before .before .before .before .args in let e = c .before .before .before .before .enum-told .given .1 in (typed (a .program) (a .table .now) (a .count) (sym (c .before .before .before .before .before .before .before .before .before .before .before .check .ensures .0) ∙ e) (c .before .before .before .before .before .before .before .before .before .before .before .check .ensures .1 e), (c .before .before .before .before .before .before .before .before .before .before .before .before .before .before .before .before .before .before .before .before .before .before .before .clear .ensures ∙ ap (λ (n : ℕ). replicate n 0) (sym (c .before .before .before .before .before .before .before .before .before .before .before .before .before .before .before .before .before .before .before .before .before .before .before .clear .kept .0)), c .before .before .before .before .before .before .before .before .before .before .before .before .before .before .before .before .before .before .before .clear2 .ensures ∙ ap (λ (n : ℕ). replicate n 0) (sym (c .before .before .before .before .before .before .before .before .before .before .before .before .before .before .before .before .before .before .before .clear2 .kept .0))))
+-- src/run.rt:187:38
+slice-aggregate-run-noted : tie.Need-slice-aggregate-run-noted
+slice-aggregate-run-noted c = search needs
 
+-- src/run.rt:187:5
+run-noted-requires : tie.Need-run-noted-requires
+run-noted-requires c κs = let e = c .before .before .before .enum-told .given .1 in
+    (record { accepted = sym (c .before .before .before .before .before .before .check .ensures .0) ∙ e; shows = c .before .before .before .before .before .before .check .ensures .1 e }, (c .before .before .before .before .before .before .before .before .before .before .before .before .before .before .clear .ensures ∙ ap (λ (n : ℕ). replicate n 0) (sym (c .before .before .before .before .before .before .before .before .before .before .before .before .before .before .clear .kept .0)), c .before .before .before .before .before .before .before .before .before .before .clear2 .ensures ∙ ap (λ (n : ℕ). replicate n 0) (sym (c .before .before .before .before .before .before .before .before .before .before .clear2 .kept .0))))
+
+-- src/run.rt:166:1
 same-length-3 : tie.Need-same-length-3
-same-length-3 c = search needs
+same-length-3 c = c .before .before .before .before .run-noted .kept .1 .1 .1 .1 .1 .1 .1 .0 ∙ c .before .before .before .before .before .before .before .before .before .before .before .before .before .before .before .before .before .before .before .clear .kept .0
 
+-- src/run.rt:166:1
 same-length-4 : tie.Need-same-length-4
-same-length-4 c = search needs
+same-length-4 c = c .before .before .before .before .run-noted .kept .1 .1 .1 .1 .1 .1 .1 .1 .0 ∙ c .before .before .before .before .before .before .before .before .before .before .before .before .before .before .before .clear2 .kept .0
 
+-- src/run.rt:166:1
 returns-2 : tie.Need-returns-2
-returns-2 c = let a = c .before .before .before .before .before .before .before .before .before .before .before .before .before .before .before .before .before .before .before .before .before .before .before .before .before .before .before .before .before .before .before .before .before .before .before .args in let e = ran-lent (a .program) (a .table .now) (a .count) (a .k) (a .starts .now) (a .inputs .now) (length (a .signals .now)) (length (a .work .now)) (sym (c .before .before .before .before .before .before .before .before .before .before .before .before .before .before .before .before .check .ensures .0) ∙ c .before .before .before .before .before .before .before .before .before .enum-told .given .1) in
-    (c .before .before .before .before .run-checked .ensures .0 ∙ ap₂ (λ (x y : ℕ). lentAnswer (a .program) (a .table .now) (a .count) (a .k) (a .starts .now) (a .inputs .now) x y) (c .before .before .before .before .before .before .before .before .before .before .before .before .before .before .before .before .before .before .before .before .before .before .before .before .before .before .before .before .clear .kept .0) (c .before .before .before .before .before .before .before .before .before .before .before .before .before .before .before .before .before .before .before .before .before .before .before .before .clear2 .kept .0) ∙ e .0, (c .before .before .before .before .run-checked .ensures .1 .0 ∙ ap₂ (λ (x y : ℕ). lentSignals (a .program) (a .table .now) (a .count) (a .k) (a .starts .now) (a .inputs .now) x y) (c .before .before .before .before .before .before .before .before .before .before .before .before .before .before .before .before .before .before .before .before .before .before .before .before .before .before .before .before .clear .kept .0) (c .before .before .before .before .before .before .before .before .before .before .before .before .before .before .before .before .before .before .before .before .before .before .before .before .clear2 .kept .0) ∙ e .1, c .before .before .before .before .run-checked .ensures .1 .1 ∙ ap (λ (n : ℕ). replicate n 0) (c .before .before .before .before .before .before .before .before .before .before .before .before .before .before .before .before .before .before .before .before .before .before .before .before .clear2 .kept .0)))
+returns-2 c = let a = c .before .before .before .before .before .before .before .before .before .before .before .before .before .before .before .before .before .before .before .before .before .before .before .before .before .before .args in
+    let e = ran-lent (a .program) (a .table .now) (a .count) (a .k) (a .starts .now) (a .inputs .now) (length (a .signals .now)) (length (a .work .now)) (sym (c .before .before .before .before .before .before .before .before .before .before .before .check .ensures .0) ∙ c .before .before .before .before .before .before .before .before .enum-told .given .1) in
+    let g = c .before .before .before .before .before .before .before .before .before .before .before .before .before .before .before .before .before .before .before .clear .kept .0 in
+    let w = c .before .before .before .before .before .before .before .before .before .before .before .before .before .before .before .clear2 .kept .0 in
+    (c .before .before .before .before .run-noted .ensures .0 ∙ ap₂ (λ (x y : ℕ). lentAnswer (a .program) (a .table .now) (a .count) (a .k) (a .starts .now) (a .inputs .now) x y) g w ∙ e .0, (c .before .before .before .before .run-noted .ensures .1 .0 ∙ ap₂ (λ (x y : ℕ). lentSignals (a .program) (a .table .now) (a .count) (a .k) (a .starts .now) (a .inputs .now) x y) g w ∙ e .1, c .before .before .before .before .run-noted .ensures .1 .1 ∙ ap (λ (n : ℕ). replicate n 0) w))
 
 pub run-table-spec : {M : Type 1} → statement M
 run-table-spec =
@@ -68,17 +85,14 @@ run-table-spec =
     clear-requires
     clear-requires-2
     slice-aggregate-check
-    slice-aggregate-check-2
-    slice-aggregate-check-3
-    slice-aggregate-check-4
-    slice-aggregate-check-5
     check-requires
     enum-known-r
     same-length
     same-length-2
     returns
     enum-told
-    run-checked-requires
+    slice-aggregate-run-noted
+    run-noted-requires
     same-length-3
     same-length-4
     returns-2)

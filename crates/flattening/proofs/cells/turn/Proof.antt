@@ -16,4 +16,7 @@ returns-3 : tie.Need-returns-3
 returns-3 c = turn-down (c .before .before .before .before .before .args .s) (c .before .before .before .before .before .args .j) (not-false _ (c .before .before .before .if1 .left))
 
 pub turn-spec : {M : Type 1} → statement M
-turn-spec = tie.close (tie.spec returns returns-2 returns-3)
+turn-spec = tie.close (tie.spec
+    returns
+    returns-2
+    returns-3)

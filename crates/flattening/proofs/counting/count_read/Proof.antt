@@ -12,7 +12,7 @@ use Rattle.flattening.proofs.counting.count_read.Lts as lts
 use Rattle.flattening.proofs.making.less.Reads as less-reads
 
 less-requires : tie.Need-less-requires
-less-requires c κs = search needs
+less-requires c κs = tt
 
 mul-result : tie.Need-mul-result
 mul-result c = search needs
@@ -24,4 +24,8 @@ returns-2 : tie.Need-returns-2
 returns-2 c = ap (λ (b : Bool). pick b (2 * (c .before .args .n - 1)) 0) (sym (ne-eqb (c .before .args .c) 0 (c .if1 .left)))
 
 pub count-read-spec : {M : Type 1} → statement M
-count-read-spec = tie.close (tie.spec less-requires mul-result returns returns-2)
+count-read-spec = tie.close (tie.spec
+    less-requires
+    mul-result
+    returns
+    returns-2)

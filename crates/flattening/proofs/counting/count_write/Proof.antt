@@ -20,4 +20,7 @@ returns-2 : tie.Need-returns-2
 returns-2 c = ap (λ (b : Bool). pick b (2 * c .before .args .n) 0) (sym (ne-eqb (c .before .args .c) 0 (c .if1 .left)))
 
 pub count-write-spec : {M : Type 1} → statement M
-count-write-spec = tie.close (tie.spec mul-result returns returns-2)
+count-write-spec = tie.close (tie.spec
+    mul-result
+    returns
+    returns-2)

@@ -1,5 +1,5 @@
 -- Each kind's line. Assumes nothing.
-use Rattle.flattening.proofs.Laying.{fit-as, laid-as, as-key, as-output}
+use Rattle.flattening.proofs.Laying.{fit-as, laid-as, as-key, as-mark, as-give}
 use borrow.Author.Needs.{needs}
 use Rattle.flattening.proofs.lines.line.Statement.{statement}
 use Rattle.flattening.proofs.lines.line.Tie as tie
@@ -19,13 +19,13 @@ array-read-k : tie.Need-array-read-k
 array-read-k c = search needs
 
 operator-requires : tie.Need-operator-requires
-operator-requires c κs = search needs
+operator-requires c κs = (c .before .before .before .pre .0, (c .before .if1 .taken, c .before .before .before .pre .1))
 
 same-length : tie.Need-same-length
-same-length c = search needs
+same-length c = c .before .before .operator .kept .1 .1 .1 .1 .0
 
 returns : tie.Need-returns
-returns c = search needs
+returns c = c .before .before .operator .ensures
 
 array-read-s : tie.Need-array-read-s
 array-read-s c = search needs
@@ -36,100 +36,80 @@ array-read-a c = search needs
 array-read-b : tie.Need-array-read-b
 array-read-b c = search needs
 
-line-bitvec-requires : tie.Need-line-bitvec-requires
-line-bitvec-requires c κs = fit-as (as-key (c .before .before .before .before .before .before .before .before .before .before .before .args .t1) 1 (c .before .match .keys1)) (c .before .before .before .before .before .before .before .before .before .before .before .pre .1)
-
-line-array-requires : tie.Need-line-array-requires
-line-array-requires c κs = fit-as (as-key (c .before .before .before .before .before .before .before .before .before .before .before .args .t1) 2 (c .before .match .keys2)) (c .before .before .before .before .before .before .before .before .before .before .before .pre .1)
-
-line-const-requires : tie.Need-line-const-requires
-line-const-requires c κs = fit-as (as-key (c .before .before .before .before .before .before .before .before .before .before .before .args .t1) 3 (c .before .match .keys3)) (c .before .before .before .before .before .before .before .before .before .before .before .pre .1)
-
-line-input-requires : tie.Need-line-input-requires
-line-input-requires c κs = fit-as (as-key (c .before .before .before .before .before .before .before .before .before .before .before .args .t1) 4 (c .before .match .keys4)) (c .before .before .before .before .before .before .before .before .before .before .before .pre .1)
-
-line-state-requires : tie.Need-line-state-requires
-line-state-requires c κs = fit-as (as-key (c .before .before .before .before .before .before .before .before .before .before .before .args .t1) 5 (c .before .match .keys5)) (c .before .before .before .before .before .before .before .before .before .before .before .pre .1)
-
-line-give-requires : tie.Need-line-give-requires
-line-give-requires c κs = fit-as (as-key (c .before .before .before .before .before .before .before .before .before .before .before .args .t1) 6 (c .before .match .keys6)) (c .before .before .before .before .before .before .before .before .before .before .before .pre .1)
-
-line-give-requires-2 : tie.Need-line-give-requires-2
-line-give-requires-2 c κs = fit-as (as-key (c .before .before .before .before .before .before .before .before .before .before .before .args .t1) 7 (c .before .match .keys7)) (c .before .before .before .before .before .before .before .before .before .before .before .pre .1)
-
-line-mark-requires : tie.Need-line-mark-requires
-line-mark-requires c κs = fit-as (as-key (c .before .before .before .before .before .before .before .before .before .before .before .args .t1) 8 (c .before .match .keys8)) (c .before .before .before .before .before .before .before .before .before .before .before .pre .1)
-
-line-mark-requires-2 : tie.Need-line-mark-requires-2
-line-mark-requires-2 c κs = fit-as (as-key (c .before .before .before .before .before .before .before .before .before .before .before .args .t1) 9 (c .before .match .keys9)) (c .before .before .before .before .before .before .before .before .before .before .before .pre .1)
-
 line-output-requires : tie.Need-line-output-requires
-line-output-requires c κs = fit-as (as-output (c .before .before .before .before .before .before .before .before .before .before .before .args .t1) (c .before .before .if1 .left) (c .before .before .before .before .before .before .before .before .before .before .before .pre .0) (c .before .match .rest .0 .0 .0 .0 .0 .0 .0 .0 .1) (c .before .match .rest .0 .0 .0 .0 .0 .0 .0 .1) (c .before .match .rest .0 .0 .0 .0 .0 .0 .1) (c .before .match .rest .0 .0 .0 .0 .0 .1) (c .before .match .rest .0 .0 .0 .0 .1) (c .before .match .rest .0 .0 .0 .1) (c .before .match .rest .0 .0 .1) (c .before .match .rest .0 .1) (c .before .match .rest .1)) (c .before .before .before .before .before .before .before .before .before .before .before .pre .1)
+line-output-requires c κs = fit-as (as-key (c .before .before .before .before .before .args .t1) 10 (c .before .if3 .taken)) (c .before .before .before .before .before .pre .1)
 
 same-length-2 : tie.Need-same-length-2
-same-length-2 c = search needs
+same-length-2 c = c .before .before .line-output .kept .1 .1 .1 .1 .0
 
 returns-2 : tie.Need-returns-2
-returns-2 c = laid-as (as-key (c .before .before .before .before .before .before .before .before .before .before .before .before .before .before .args .t1) 1 (c .before .before .before .before .match .keys1)) (c .before .before .line-bitvec .ensures)
+returns-2 c = laid-as (as-key (c .before .before .before .before .before .before .before .before .args .t1) 10 (c .before .before .before .before .if3 .taken)) (c .before .before .line-output .ensures)
+
+line-mark-requires : tie.Need-line-mark-requires
+line-mark-requires c κs = fit-as (as-mark (c .before .before .before .before .before .args .t1) (c .before .before .if2 .taken) (c .before .before .before .if1 .left) (c .before .if3 .left)) (c .before .before .before .before .before .pre .1)
 
 same-length-3 : tie.Need-same-length-3
-same-length-3 c = search needs
+same-length-3 c = c .before .before .line-mark .kept .1 .1 .1 .1 .1 .0
 
 returns-3 : tie.Need-returns-3
-returns-3 c = laid-as (as-key (c .before .before .before .before .before .before .before .before .before .before .before .before .before .before .args .t1) 2 (c .before .before .before .before .match .keys2)) (c .before .before .line-array .ensures)
+returns-3 c = laid-as (as-mark (c .before .before .before .before .before .before .before .before .args .t1) (c .before .before .before .before .before .if2 .taken) (c .before .before .before .before .before .before .if1 .left) (c .before .before .before .before .if3 .left)) (c .before .before .line-mark .ensures)
+
+line-bitvec-requires : tie.Need-line-bitvec-requires
+line-bitvec-requires c κs = fit-as (as-key (c .before .before .before .before .before .args .t1) 1 (c .before .match .keys1)) (c .before .before .before .before .before .pre .1)
+
+line-array-requires : tie.Need-line-array-requires
+line-array-requires c κs = fit-as (as-key (c .before .before .before .before .before .args .t1) 2 (c .before .match .keys2)) (c .before .before .before .before .before .pre .1)
+
+line-const-requires : tie.Need-line-const-requires
+line-const-requires c κs = fit-as (as-key (c .before .before .before .before .before .args .t1) 3 (c .before .match .keys3)) (c .before .before .before .before .before .pre .1)
+
+line-input-requires : tie.Need-line-input-requires
+line-input-requires c κs = fit-as (as-key (c .before .before .before .before .before .args .t1) 4 (c .before .match .keys4)) (c .before .before .before .before .before .pre .1)
+
+line-state-requires : tie.Need-line-state-requires
+line-state-requires c κs = fit-as (as-key (c .before .before .before .before .before .args .t1) 5 (c .before .match .keys5)) (c .before .before .before .before .before .pre .1)
+
+line-give-requires : tie.Need-line-give-requires
+line-give-requires c κs = fit-as (as-give (c .before .before .before .before .before .args .t1) (c .before .before .before .before .before .pre .0) (c .before .before .if2 .left) (c .before .match .rest .0 .0 .0 .0 .1) (c .before .match .rest .0 .0 .0 .1) (c .before .match .rest .0 .0 .1) (c .before .match .rest .0 .1) (c .before .match .rest .1)) (c .before .before .before .before .before .pre .1)
 
 same-length-4 : tie.Need-same-length-4
-same-length-4 c = search needs
+same-length-4 c = c .before .before .line-bitvec .kept .1 .1 .1 .1 .0
 
 returns-4 : tie.Need-returns-4
-returns-4 c = laid-as (as-key (c .before .before .before .before .before .before .before .before .before .before .before .before .before .before .args .t1) 3 (c .before .before .before .before .match .keys3)) (c .before .before .line-const .ensures)
+returns-4 c = laid-as (as-key (c .before .before .before .before .before .before .before .before .args .t1) 1 (c .before .before .before .before .match .keys1)) (c .before .before .line-bitvec .ensures)
 
 same-length-5 : tie.Need-same-length-5
-same-length-5 c = search needs
+same-length-5 c = c .before .before .line-array .kept .1 .1 .1 .1 .1 .0
 
 returns-5 : tie.Need-returns-5
-returns-5 c = laid-as (as-key (c .before .before .before .before .before .before .before .before .before .before .before .before .before .before .args .t1) 4 (c .before .before .before .before .match .keys4)) (c .before .before .line-input .ensures)
+returns-5 c = laid-as (as-key (c .before .before .before .before .before .before .before .before .args .t1) 2 (c .before .before .before .before .match .keys2)) (c .before .before .line-array .ensures)
 
 same-length-6 : tie.Need-same-length-6
-same-length-6 c = search needs
+same-length-6 c = c .before .before .line-const .kept .1 .1 .1 .1 .1 .0
 
 returns-6 : tie.Need-returns-6
-returns-6 c = laid-as (as-key (c .before .before .before .before .before .before .before .before .before .before .before .before .before .before .args .t1) 5 (c .before .before .before .before .match .keys5)) (c .before .before .line-state .ensures)
+returns-6 c = laid-as (as-key (c .before .before .before .before .before .before .before .before .args .t1) 3 (c .before .before .before .before .match .keys3)) (c .before .before .line-const .ensures)
 
 same-length-7 : tie.Need-same-length-7
-same-length-7 c = search needs
+same-length-7 c = c .before .before .line-input .kept .1 .1 .1 .1 .0
 
 returns-7 : tie.Need-returns-7
-returns-7 c = laid-as (as-key (c .before .before .before .before .before .before .before .before .before .before .before .before .before .before .args .t1) 6 (c .before .before .before .before .match .keys6)) (c .before .before .line-give .ensures)
+returns-7 c = laid-as (as-key (c .before .before .before .before .before .before .before .before .args .t1) 4 (c .before .before .before .before .match .keys4)) (c .before .before .line-input .ensures)
 
 same-length-8 : tie.Need-same-length-8
-same-length-8 c = search needs
+same-length-8 c = c .before .before .line-state .kept .1 .1 .1 .1 .0
 
 returns-8 : tie.Need-returns-8
-returns-8 c = laid-as (as-key (c .before .before .before .before .before .before .before .before .before .before .before .before .before .before .args .t1) 7 (c .before .before .before .before .match .keys7)) (c .before .before .line-give2 .ensures)
+returns-8 c = laid-as (as-key (c .before .before .before .before .before .before .before .before .args .t1) 5 (c .before .before .before .before .match .keys5)) (c .before .before .line-state .ensures)
 
 same-length-9 : tie.Need-same-length-9
-same-length-9 c = search needs
+same-length-9 c = c .before .before .line-give .kept .1 .1 .1 .1 .1 .1 .1 .0
 
 returns-9 : tie.Need-returns-9
-returns-9 c = laid-as (as-key (c .before .before .before .before .before .before .before .before .before .before .before .before .before .before .args .t1) 8 (c .before .before .before .before .match .keys8)) (c .before .before .line-mark .ensures)
-
-same-length-10 : tie.Need-same-length-10
-same-length-10 c = search needs
-
-returns-10 : tie.Need-returns-10
-returns-10 c = laid-as (as-key (c .before .before .before .before .before .before .before .before .before .before .before .before .before .before .args .t1) 9 (c .before .before .before .before .match .keys9)) (c .before .before .line-mark2 .ensures)
-
-same-length-11 : tie.Need-same-length-11
-same-length-11 c = search needs
-
-returns-11 : tie.Need-returns-11
-returns-11 c = laid-as (as-output (c .before .before .before .before .before .before .before .before .before .before .before .before .before .before .args .t1) (c .before .before .before .before .before .if1 .left) (c .before .before .before .before .before .before .before .before .before .before .before .before .before .before .pre .0) (c .before .before .before .before .match .rest .0 .0 .0 .0 .0 .0 .0 .0 .1) (c .before .before .before .before .match .rest .0 .0 .0 .0 .0 .0 .0 .1) (c .before .before .before .before .match .rest .0 .0 .0 .0 .0 .0 .1) (c .before .before .before .before .match .rest .0 .0 .0 .0 .0 .1) (c .before .before .before .before .match .rest .0 .0 .0 .0 .1) (c .before .before .before .before .match .rest .0 .0 .0 .1) (c .before .before .before .before .match .rest .0 .0 .1) (c .before .before .before .before .match .rest .0 .1) (c .before .before .before .before .match .rest .1)) (c .before .before .line-output .ensures)
+returns-9 c = laid-as (as-give (c .before .before .before .before .before .before .before .before .args .t1) (c .before .before .before .before .before .before .before .before .pre .0) (c .before .before .before .before .before .if2 .left) (c .before .before .before .before .match .rest .0 .0 .0 .0 .1) (c .before .before .before .before .match .rest .0 .0 .0 .1) (c .before .before .before .before .match .rest .0 .0 .1) (c .before .before .before .before .match .rest .0 .1) (c .before .before .before .before .match .rest .1)) (c .before .before .line-give .ensures)
 
 pub line-spec : {M : Type 1} → statement M
-line-spec =
-    tie.close
-    (tie.spec
+line-spec = tie.close (tie.spec
     array-read-k
     operator-requires
     same-length
@@ -137,20 +117,18 @@ line-spec =
     array-read-s
     array-read-a
     array-read-b
+    line-output-requires
+    same-length-2
+    returns-2
+    line-mark-requires
+    same-length-3
+    returns-3
     line-bitvec-requires
     line-array-requires
     line-const-requires
     line-input-requires
     line-state-requires
     line-give-requires
-    line-give-requires-2
-    line-mark-requires
-    line-mark-requires-2
-    line-output-requires
-    same-length-2
-    returns-2
-    same-length-3
-    returns-3
     same-length-4
     returns-4
     same-length-5
@@ -162,8 +140,4 @@ line-spec =
     same-length-8
     returns-8
     same-length-9
-    returns-9
-    same-length-10
-    returns-10
-    same-length-11
-    returns-11)
+    returns-9)

@@ -2,12 +2,12 @@
 use Prim.Native.Nat.{ℕ, _+_, _-_, _*_, _≤_}
 use mathlib.Core.Path.{ap, _∙_, subst⁻¹}
 use native.Mathlib.Omega.{arith}
-use lib.ListN.{length, getD}
+use lib.ListN.{length}
 use Rattle.circuits.specs.Cells.{put}
-use Rattle.flattening.specs.Model.{held, words}
+use Rattle.flattening.specs.Model.{words}
 use Rattle.flattening.specs.Making.{made, cmpWords}
 use Rattle.flattening.proofs.Laying.{size-le}
-use borrow.Author.Needs.{needs}
+use Rattle.tables.specs.Notes.{lookIn}
 use Rattle.flattening.proofs.lines.line_cmp.Statement.{statement}
 use Rattle.flattening.proofs.lines.line_cmp.Tie as tie
 use Rattle.flattening.proofs.lines.line_cmp.Reads as reads
@@ -20,37 +20,37 @@ use Rattle.flattening.proofs.making.less.Reads as less-reads
 use Rattle.flattening.proofs.making.size.Reads as size-reads
 
 size-requires : tie.Need-size-requires
-size-requires c κs = c .before .before .before .before .before .before .before .before .pre .neat .deep (c .before .before .before .before .before .before .before .before .args .x)
+size-requires c κs = c .before .pre .neat .deep (c .before .args .x)
 
 cmp-kind-requires : tie.Need-cmp-kind-requires
-cmp-kind-requires c κs = search needs
+cmp-kind-requires c κs = tt
 
 join-kind-requires : tie.Need-join-kind-requires
-join-kind-requires c κs = search needs
+join-kind-requires c κs = tt
 
 entry-requires : tie.Need-entry-requires
-entry-requires c κs = search needs
+entry-requires c κs = omega arith
 
 cmp-lines-requires : tie.Need-cmp-lines-requires
-cmp-lines-requires c κs = let a = c .before .before .before .before .before .before .before .before .before .before .before .before .before .args in (c .before .before .before .before .before .before .before .before .before .before .before .before .before .pre .neat .sound, (subst⁻¹ (λ (x : ℕ). x ≤ 256) (c .before .before .before .before .size .ensures) (size-le (getD (a .idx .now) (a .x) 0) (c .before .before .before .before .before .before .before .before .before .before .before .before .before .pre .neat .deep (a .x))), (omega (arith, c .before .before .before .before .before .before .before .before .before .before .before .before .before .pre .low), subst⁻¹ (λ (x : ℕ). 5 * (a .p + (x + (x - 1))) ≤ length (a .target .now)) (c .before .before .before .before .size .ensures) (c .before .before .before .before .before .before .before .before .before .before .before .before .before .pre .room))))
+cmp-lines-requires c κs = let a = c .before .before .before .before .before .before .args in (c .before .before .before .before .before .before .pre .neat .sound, (subst⁻¹ (λ (x : ℕ). x ≤ 256) (c .before .before .before .before .size .ensures) (size-le (lookIn (a .types .now) (a .x) .iw) (c .before .before .before .before .before .before .pre .neat .deep (a .x))), (omega (arith, c .before .before .before .before .before .before .pre .low), subst⁻¹ (λ (x : ℕ). 5 * (a .p + (x + (x - 1))) ≤ length (a .target .now)) (c .before .before .before .before .size .ensures) (c .before .before .before .before .before .before .pre .room))))
 
 less-requires : tie.Need-less-requires
-less-requires c κs = search needs
+less-requires c κs = tt
 
 add-q : tie.Need-add-q
-add-q c = let a = c .before .before .before .before .before .before .before .before .before .before .before .before .before .before .before .before .before .args in omega (arith, subst⁻¹ (λ (x : ℕ). x ≤ 256) (c .before .before .before .before .before .before .before .before .size .ensures) (size-le (getD (a .idx .now) (a .x) 0) (c .before .before .before .before .before .before .before .before .before .before .before .before .before .before .before .before .before .pre .neat .deep (a .x))), c .less .ensures)
+add-q c = let a = c .before .before .before .before .before .before .before .before .before .before .args in omega (arith, subst⁻¹ (λ (x : ℕ). x ≤ 256) (c .before .before .before .before .before .before .before .before .size .ensures) (size-le (lookIn (a .types .now) (a .x) .iw) (c .before .before .before .before .before .before .before .before .before .before .pre .neat .deep (a .x))), c .less .ensures)
 
 add-q-2 : tie.Need-add-q-2
-add-q-2 c = let a = c .before .before .before .before .before .before .before .before .before .before .before .before .before .before .before .before .before .args in omega (arith, c .before .before .before .before .before .before .before .before .before .before .before .before .before .before .before .before .before .pre .low, subst⁻¹ (λ (x : ℕ). x ≤ 256) (c .before .before .before .before .before .before .before .before .size .ensures) (size-le (getD (a .idx .now) (a .x) 0) (c .before .before .before .before .before .before .before .before .before .before .before .before .before .before .before .before .before .pre .neat .deep (a .x))), c .less .ensures)
+add-q-2 c = let a = c .before .before .before .before .before .before .before .before .before .before .args in omega (arith, c .before .before .before .before .before .before .before .before .before .before .pre .low, subst⁻¹ (λ (x : ℕ). x ≤ 256) (c .before .before .before .before .before .before .before .before .size .ensures) (size-le (lookIn (a .types .now) (a .x) .iw) (c .before .before .before .before .before .before .before .before .before .before .pre .neat .deep (a .x))), c .less .ensures)
 
 entry-requires-2 : tie.Need-entry-requires-2
-entry-requires-2 c κs = search needs
+entry-requires-2 c κs = omega arith
 
 same-length : tie.Need-same-length
-same-length c = search needs
+same-length c = c .before .before .before .before .cmp-lines .kept .1 .1 .1 .1 .1 .1 .1 .1 .0
 
 returns : tie.Need-returns
-returns c = let a = c .before .before .before .before .before .before .before .before .before .before .before .before .before .before .before .before .before .before .args in let H = held (a .at .now) (a .old .now) (a .key .now) in let l = c .before .less .ensures ∙ ap (λ (x : ℕ). x - 1) (c .before .before .before .before .before .before .before .before .before .size .ensures) in record { kept = λ i. made (a .p + (c .before .before .before .before .before .before .before .before .before .size .ensures i + l i)) (a .p + (c .before .before .before .before .before .before .before .before .before .size .ensures i + l i)) (c .entry2 .ensures i) 0 1 0; words = c .before .before .before .before .cmp-lines .ensures ∙ (λ i. put (a .target .now) (5 * a .p) (cmpWords H (a .p) (c .before .before .before .before .before .before .before .before .cmp-kind .ensures i) (c .before .before .before .before .before .before .before .join-kind .ensures i) (c .before .before .before .before .before .before .entry .ensures i) (a .x) (a .y) (c .before .before .before .before .before .before .before .before .before .size .ensures i))) }
+returns c = let a = c .before .before .before .before .before .before .before .before .before .before .before .args in let H = a .kept .now in let l = c .before .less .ensures ∙ ap (λ (x : ℕ). x - 1) (c .before .before .before .before .before .before .before .before .before .size .ensures) in record { kept = λ i. made (a .p + (c .before .before .before .before .before .before .before .before .before .size .ensures i + l i)) (a .p + (c .before .before .before .before .before .before .before .before .before .size .ensures i + l i)) (c .entry2 .ensures i) 0 1 0; words = c .before .before .before .before .cmp-lines .ensures ∙ (λ i. put (a .target .now) (5 * a .p) (cmpWords H (a .p) (c .before .before .before .before .before .before .before .before .cmp-kind .ensures i) (c .before .before .before .before .before .before .before .join-kind .ensures i) (c .before .before .before .before .before .before .entry .ensures i) (a .x) (a .y) (c .before .before .before .before .before .before .before .before .before .size .ensures i))) }
 
 pub line-cmp-spec : {M : Type 1} → statement M
 line-cmp-spec =

@@ -1,4 +1,5 @@
 -- An operator is copied. Assumes nothing.
+use native.Mathlib.Omega.{arith}
 use Prim.Native.Nat.{_+_, _-_, _*_}
 use mathlib.Core.Path.{_∙_}
 use Rattle.tables.specs.Lines.{five}
@@ -15,25 +16,25 @@ use Rattle.flattening.proofs.cells.entry.Reads as entry-reads
 use Rattle.flattening.proofs.lines.single.Reads as single-reads
 
 entry-requires : tie.Need-entry-requires
-entry-requires c κs = search needs
+entry-requires c κs = omega arith
 
 cell-requires : tie.Need-cell-requires
-cell-requires c κs = search needs
+cell-requires c κs = (c .before .before .pre .neat .sound, omega arith)
 
 add-single : tie.Need-add-single
 add-single c = search needs
 
 entry-requires-2 : tie.Need-entry-requires-2
-entry-requires-2 c κs = search needs
+entry-requires-2 c κs = omega arith
 
 single-requires : tie.Need-single-requires
 single-requires c κs = search needs
 
 same-length : tie.Need-same-length
-same-length c = search needs
+same-length c = c .before .before .single .kept .1 .1 .1 .1 .1 .1 .0
 
 returns : tie.Need-returns
-returns c = let a = c .before .before .before .before .before .before .before .before .before .before .before .before .before .before .before .args in record { kept = c .before .before .single .ensures .0 ∙ (λ i. made (a .p + 1) (a .p + 1) (c .before .before .before .before .entry2 .ensures i) 0 1 (0)); words = c .before .before .single .ensures .1 ∙ (λ i. put (a .target .now) (5 * a .p) (five (a .k) (c .before .before .before .before .before .before .entry .ensures i) (c .before .before .before .before .before .cell .ensures i) (a .x) (a .y))) }
+returns c = let a = c .before .before .before .before .before .before .before .before .args in record { kept = c .before .before .single .ensures .0 ∙ (λ i. made (a .p + 1) (a .p + 1) (c .before .before .before .before .entry2 .ensures i) 0 1 (0)); words = c .before .before .single .ensures .1 ∙ (λ i. put (a .target .now) (5 * a .p) (five (a .k) (c .before .before .before .before .before .before .entry .ensures i) (c .before .before .before .before .before .cell .ensures i) (a .x) (a .y))) }
 
 pub line-one-spec : {M : Type 1} → statement M
 line-one-spec =

@@ -2,13 +2,13 @@
 use Prim.Native.Nat.{ℕ, _+_, _-_, _*_, _≤_}
 use mathlib.Core.Path.{_∙_, subst⁻¹}
 use native.Mathlib.Omega.{arith}
-use lib.ListN.{length, getD}
+use lib.ListN.{length}
 use Rattle.circuits.specs.Cells.{put}
-use Rattle.flattening.specs.Model.{held, Tame, words, rowAt}
+use Rattle.flattening.specs.Model.{Tame, words, rowAt}
 use Rattle.flattening.specs.Making.{run, made}
 use Rattle.flattening.proofs.Placing.{tame-run}
 use Rattle.flattening.proofs.Laying.{size-le}
-use borrow.Author.Needs.{needs}
+use Rattle.tables.specs.Notes.{lookIn}
 use Rattle.flattening.proofs.lines.line_state.Statement.{statement}
 use Rattle.flattening.proofs.lines.line_state.Tie as tie
 use Rattle.flattening.proofs.lines.line_state.Reads as reads
@@ -19,50 +19,42 @@ use Rattle.flattening.proofs.making.size.Reads as size-reads
 use Rattle.flattening.proofs.rows.rows.Reads as rows-reads
 
 size-requires : tie.Need-size-requires
-size-requires c κs = c .before .before .before .before .before .before .before .before .pre .neat .deep (c .before .before .before .before .before .before .before .before .args .s)
+size-requires c κs = c .before .pre .neat .deep (c .before .args .s)
 
 entry-requires : tie.Need-entry-requires
-entry-requires c κs = search needs
+entry-requires c κs = omega arith
 
 run-requires : tie.Need-run-requires
-run-requires c κs = search needs
-
-run-requires-2 : tie.Need-run-requires-2
-run-requires-2 c κs = search needs
-
-run-requires-3 : tie.Need-run-requires-3
-run-requires-3 c κs = search needs
+run-requires c κs = tt
 
 rows-requires : tie.Need-rows-requires
-rows-requires c κs = let a = c .before .before .before .before .before .before .before .before .before .before .before .before .before .before .args in (c .before .before .before .before .before .before .before .before .before .before .before .before .before .before .pre .neat .sound, (subst⁻¹ Tame (c .before .before .run .ensures) (tame-run 0 0 (omega arith) (omega arith)), (subst⁻¹ Tame (c .before .run2 .ensures) (tame-run 0 0 (omega arith) (omega arith)), (subst⁻¹ Tame (c .run3 .ensures) (tame-run 0 0 (omega arith) (omega arith)), (subst⁻¹ (λ (x : ℕ). x ≤ 256) (c .before .before .before .before .before .size .ensures) (size-le (getD (a .idx .now) (a .s) 0) (c .before .before .before .before .before .before .before .before .before .before .before .before .before .before .pre .neat .deep (a .s))), subst⁻¹ (λ (x : ℕ). 5 * (a .p + x) ≤ length (a .target .now)) (c .before .before .before .before .before .size .ensures) (c .before .before .before .before .before .before .before .before .before .before .before .before .before .before .pre .room))))))
+rows-requires c κs = let a = c .before .before .before .before .before .args in (c .before .before .before .before .before .pre .neat .sound, (subst⁻¹ Tame (c .before .before .run .ensures) (tame-run 0 0 (omega arith) (omega arith)), (subst⁻¹ Tame (c .before .before .run .ensures) (tame-run 0 0 (omega arith) (omega arith)), (subst⁻¹ Tame (c .before .before .run .ensures) (tame-run 0 0 (omega arith) (omega arith)), (subst⁻¹ (λ (x : ℕ). x ≤ 256) (c .before .before .before .size .ensures) (size-le (lookIn (a .types .now) (a .s) .iw) (c .before .before .before .before .before .pre .neat .deep (a .s))), subst⁻¹ (λ (x : ℕ). 5 * (a .p + x) ≤ length (a .target .now)) (c .before .before .before .size .ensures) (c .before .before .before .before .before .pre .room))))))
 
-add-t19 : tie.Need-add-t19
-add-t19 c = let a = c .before .before .before .before .before .before .before .before .before .before .before .before .before .before .before .before .before .args in omega (arith, c .before .before .before .before .before .before .before .before .before .before .before .before .before .before .before .before .before .pre .low, subst⁻¹ (λ (x : ℕ). x ≤ 256) (c .before .before .before .before .before .before .before .before .size .ensures) (size-le (getD (a .idx .now) (a .s) 0) (c .before .before .before .before .before .before .before .before .before .before .before .before .before .before .before .before .before .pre .neat .deep (a .s))))
+add-t12 : tie.Need-add-t12
+add-t12 c = let a = c .before .before .before .before .before .before .before .before .args in omega (arith, c .before .before .before .before .before .before .before .before .pre .low, subst⁻¹ (λ (x : ℕ). x ≤ 256) (c .before .before .before .before .before .before .size .ensures) (size-le (lookIn (a .types .now) (a .s) .iw) (c .before .before .before .before .before .before .before .before .pre .neat .deep (a .s))))
 
-add-t20 : tie.Need-add-t20
-add-t20 c = omega (arith, c .before .before .before .before .before .before .before .before .before .before .before .before .before .before .before .before .before .pre .low)
+add-t13 : tie.Need-add-t13
+add-t13 c = omega (arith, c .before .before .before .before .before .before .before .before .pre .low)
 
 entry-requires-2 : tie.Need-entry-requires-2
-entry-requires-2 c κs = search needs
+entry-requires-2 c κs = omega arith
 
 same-length : tie.Need-same-length
-same-length c = search needs
+same-length c = c .before .before .before .rows .kept .1 .0
 
 returns : tie.Need-returns
-returns c = let a = c .before .before .before .before .before .before .before .before .before .before .before .before .before .before .before .before .before .before .args in let H = held (a .at .now) (a .old .now) (a .key .now) in record { kept = λ i. made (a .p + c .before .before .before .before .before .before .before .before .before .size .ensures i) (a .p + 1) (c .entry2 .ensures i) 0 1 0; words = c .before .before .before .rows .ensures ∙ (λ i. put (a .target .now) (5 * a .p) (words (c .before .before .before .before .before .before .before .before .before .size .ensures i) (rowAt H 5 (c .before .before .before .before .before .before .before .entry .ensures i) (c .before .before .before .before .before .before .run .ensures i) (c .before .before .before .before .before .run2 .ensures i) (c .before .before .before .before .run3 .ensures i)))) }
+returns c = let a = c .before .before .before .before .before .before .before .before .before .args in let H = a .kept .now in record { kept = λ i. made (a .p + c .before .before .before .before .before .before .before .size .ensures i) (a .p + 1) (c .entry2 .ensures i) 0 1 0; words = c .before .before .before .rows .ensures ∙ (λ i. put (a .target .now) (5 * a .p) (words (c .before .before .before .before .before .before .before .size .ensures i) (rowAt H 5 (c .before .before .before .before .entry .ensures i) (c .before .before .before .before .before .before .run .ensures i) (c .before .before .before .before .before .before .run .ensures i) (c .before .before .before .before .before .before .run .ensures i)))) }
 
 pub line-state-spec : {M : Type 1} → statement M
 line-state-spec =
     tie.close
     (tie.spec
     size-requires
-    entry-requires
     run-requires
-    run-requires-2
-    run-requires-3
+    entry-requires
     rows-requires
-    add-t19
-    add-t20
+    add-t12
+    add-t13
     entry-requires-2
     same-length
     returns)

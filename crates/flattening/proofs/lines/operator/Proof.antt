@@ -1,5 +1,5 @@
 -- Each kind's line. Assumes nothing.
-use Rattle.flattening.proofs.Laying.{fit-as, laid-as, as-key, as-one, as-two}
+use Rattle.flattening.proofs.Laying.{fit-as, laid-as, as-key, as-one, as-cmp, as-two}
 use borrow.Author.Needs.{needs}
 use Rattle.flattening.proofs.lines.operator.Statement.{statement}
 use Rattle.flattening.proofs.lines.operator.Tie as tie
@@ -28,72 +28,61 @@ array-read-c : tie.Need-array-read-c
 array-read-c c = search needs
 
 line-one-requires : tie.Need-line-one-requires
-line-one-requires c κs = fit-as (as-one (c .before .before .before .before .before .before .before .before .before .before .args .t1) (c .before .before .before .before .before .before .before .before .before .before .pre .1 .0) (c .before .if1 .taken)) (c .before .before .before .before .before .before .before .before .before .before .pre .1 .1)
+line-one-requires c κs = fit-as (as-one (c .before .before .before .args .t1) (c .before .before .before .pre .1 .0) (c .before .if1 .taken)) (c .before .before .before .pre .1 .1)
 
 same-length : tie.Need-same-length
-same-length c = search needs
+same-length c = c .before .before .line-one .kept .1 .1 .1 .1 .1 .1 .1 .1 .0
 
 returns : tie.Need-returns
-returns c = laid-as (as-one (c .before .before .before .before .before .before .before .before .before .before .before .before .before .args .t1) (c .before .before .before .before .before .before .before .before .before .before .before .before .before .pre .1 .0) (c .before .before .before .before .if1 .taken)) (c .before .before .line-one .ensures)
+returns c = laid-as (as-one (c .before .before .before .before .before .before .args .t1) (c .before .before .before .before .before .before .pre .1 .0) (c .before .before .before .before .if1 .taken)) (c .before .before .line-one .ensures)
 
 line-cmp-requires : tie.Need-line-cmp-requires
-line-cmp-requires c κs = fit-as (as-key (c .before .before .before .before .before .before .before .before .before .before .before .args .t1) 21 (c .before .match .keys1)) (c .before .before .before .before .before .before .before .before .before .before .before .pre .1 .1)
-
-line-cmp-requires-2 : tie.Need-line-cmp-requires-2
-line-cmp-requires-2 c κs = fit-as (as-key (c .before .before .before .before .before .before .before .before .before .before .before .args .t1) 22 (c .before .match .keys2)) (c .before .before .before .before .before .before .before .before .before .before .before .pre .1 .1)
-
-line-ite-requires : tie.Need-line-ite-requires
-line-ite-requires c κs = fit-as (as-key (c .before .before .before .before .before .before .before .before .before .before .before .args .t1) 53 (c .before .match .keys3)) (c .before .before .before .before .before .before .before .before .before .before .before .pre .1 .1)
-
-line-read-requires : tie.Need-line-read-requires
-line-read-requires c κs = fit-as (as-key (c .before .before .before .before .before .before .before .before .before .before .before .args .t1) 54 (c .before .match .keys4)) (c .before .before .before .before .before .before .before .before .before .before .before .pre .1 .1)
-
-line-write-requires : tie.Need-line-write-requires
-line-write-requires c κs = fit-as (as-key (c .before .before .before .before .before .before .before .before .before .before .before .args .t1) 55 (c .before .match .keys5)) (c .before .before .before .before .before .before .before .before .before .before .before .pre .1 .1)
-
-line-two-requires : tie.Need-line-two-requires
-line-two-requires c κs = fit-as (as-two (c .before .before .before .before .before .before .before .before .before .before .before .args .t1) (c .before .before .if1 .left) (c .before .before .before .before .before .before .before .before .before .before .before .pre .0) (c .before .match .rest .0 .0 .0 .0 .1) (c .before .match .rest .0 .0 .0 .1) (c .before .match .rest .0 .0 .1) (c .before .match .rest .0 .1) (c .before .match .rest .1)) (c .before .before .before .before .before .before .before .before .before .before .before .pre .1 .1)
+line-cmp-requires c κs = fit-as (as-cmp (c .before .before .before .before .args .t1) (c .before .before .if1 .left) (c .before .if2 .taken)) (c .before .before .before .before .pre .1 .1)
 
 same-length-2 : tie.Need-same-length-2
-same-length-2 c = search needs
+same-length-2 c = c .before .before .line-cmp .kept .1 .1 .1 .1 .1 .1 .1 .0
 
 returns-2 : tie.Need-returns-2
-returns-2 c = laid-as (as-key (c .before .before .before .before .before .before .before .before .before .before .before .before .before .before .args .t1) 21 (c .before .before .before .before .match .keys1)) (c .before .before .line-cmp .ensures)
+returns-2 c = laid-as (as-cmp (c .before .before .before .before .before .before .before .args .t1) (c .before .before .before .before .before .if1 .left) (c .before .before .before .before .if2 .taken)) (c .before .before .line-cmp .ensures)
+
+line-ite-requires : tie.Need-line-ite-requires
+line-ite-requires c κs = fit-as (as-key (c .before .before .before .before .before .args .t1) 53 (c .before .match .keys1)) (c .before .before .before .before .before .pre .1 .1)
+
+line-read-requires : tie.Need-line-read-requires
+line-read-requires c κs = fit-as (as-key (c .before .before .before .before .before .args .t1) 54 (c .before .match .keys2)) (c .before .before .before .before .before .pre .1 .1)
+
+line-write-requires : tie.Need-line-write-requires
+line-write-requires c κs = fit-as (as-key (c .before .before .before .before .before .args .t1) 55 (c .before .match .keys3)) (c .before .before .before .before .before .pre .1 .1)
+
+line-two-requires : tie.Need-line-two-requires
+line-two-requires c κs = fit-as (as-two (c .before .before .before .before .before .args .t1) (c .before .before .if2 .left) (c .before .before .before .before .before .pre .0) (c .before .match .rest .0 .0 .1) (c .before .match .rest .0 .1) (c .before .match .rest .1)) (c .before .before .before .before .before .pre .1 .1)
 
 same-length-3 : tie.Need-same-length-3
-same-length-3 c = search needs
+same-length-3 c = c .before .before .line-ite .kept .1 .1 .1 .1 .1 .1 .1 .0
 
 returns-3 : tie.Need-returns-3
-returns-3 c = laid-as (as-key (c .before .before .before .before .before .before .before .before .before .before .before .before .before .before .args .t1) 22 (c .before .before .before .before .match .keys2)) (c .before .before .line-cmp2 .ensures)
+returns-3 c = laid-as (as-key (c .before .before .before .before .before .before .before .before .args .t1) 53 (c .before .before .before .before .match .keys1)) (c .before .before .line-ite .ensures)
 
 same-length-4 : tie.Need-same-length-4
-same-length-4 c = search needs
+same-length-4 c = c .before .before .line-read .kept .1 .1 .1 .1 .1 .1 .0
 
 returns-4 : tie.Need-returns-4
-returns-4 c = laid-as (as-key (c .before .before .before .before .before .before .before .before .before .before .before .before .before .before .args .t1) 53 (c .before .before .before .before .match .keys3)) (c .before .before .line-ite .ensures)
+returns-4 c = laid-as (as-key (c .before .before .before .before .before .before .before .before .args .t1) 54 (c .before .before .before .before .match .keys2)) (c .before .before .line-read .ensures)
 
 same-length-5 : tie.Need-same-length-5
-same-length-5 c = search needs
+same-length-5 c = c .before .before .line-write .kept .1 .1 .1 .1 .1 .1 .1 .0
 
 returns-5 : tie.Need-returns-5
-returns-5 c = laid-as (as-key (c .before .before .before .before .before .before .before .before .before .before .before .before .before .before .args .t1) 54 (c .before .before .before .before .match .keys4)) (c .before .before .line-read .ensures)
+returns-5 c = laid-as (as-key (c .before .before .before .before .before .before .before .before .args .t1) 55 (c .before .before .before .before .match .keys3)) (c .before .before .line-write .ensures)
 
 same-length-6 : tie.Need-same-length-6
-same-length-6 c = search needs
+same-length-6 c = c .before .before .line-two .kept .1 .1 .1 .1 .1 .1 .1 .0
 
 returns-6 : tie.Need-returns-6
-returns-6 c = laid-as (as-key (c .before .before .before .before .before .before .before .before .before .before .before .before .before .before .args .t1) 55 (c .before .before .before .before .match .keys5)) (c .before .before .line-write .ensures)
-
-same-length-7 : tie.Need-same-length-7
-same-length-7 c = search needs
-
-returns-7 : tie.Need-returns-7
-returns-7 c = laid-as (as-two (c .before .before .before .before .before .before .before .before .before .before .before .before .before .before .args .t1) (c .before .before .before .before .before .if1 .left) (c .before .before .before .before .before .before .before .before .before .before .before .before .before .before .pre .0) (c .before .before .before .before .match .rest .0 .0 .0 .0 .1) (c .before .before .before .before .match .rest .0 .0 .0 .1) (c .before .before .before .before .match .rest .0 .0 .1) (c .before .before .before .before .match .rest .0 .1) (c .before .before .before .before .match .rest .1)) (c .before .before .line-two .ensures)
+returns-6 c = laid-as (as-two (c .before .before .before .before .before .before .before .before .args .t1) (c .before .before .before .before .before .if2 .left) (c .before .before .before .before .before .before .before .before .pre .0) (c .before .before .before .before .match .rest .0 .0 .1) (c .before .before .before .before .match .rest .0 .1) (c .before .before .before .before .match .rest .1)) (c .before .before .line-two .ensures)
 
 pub operator-spec : {M : Type 1} → statement M
-operator-spec =
-    tie.close
-    (tie.spec
+operator-spec = tie.close (tie.spec
     array-read-k
     array-read-s
     array-read-a
@@ -103,13 +92,12 @@ operator-spec =
     same-length
     returns
     line-cmp-requires
-    line-cmp-requires-2
+    same-length-2
+    returns-2
     line-ite-requires
     line-read-requires
     line-write-requires
     line-two-requires
-    same-length-2
-    returns-2
     same-length-3
     returns-3
     same-length-4
@@ -117,6 +105,4 @@ operator-spec =
     same-length-5
     returns-5
     same-length-6
-    returns-6
-    same-length-7
-    returns-7)
+    returns-6)

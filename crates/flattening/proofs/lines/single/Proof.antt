@@ -17,10 +17,14 @@ add-t11 : tie.Need-add-t11
 add-t11 c = search needs
 
 same-length : tie.Need-same-length
-same-length c = search needs
+same-length c = c .before .before .put .kept .0
 
 returns : tie.Need-returns
 returns c = let a = c .before .before .before .before .before .args in (refl, c .before .before .put .ensures ∙ recorded-put (a .target .now) (a .p) _ (search needs))
 
 pub single-spec : {M : Type 1} → statement M
-single-spec = tie.close (tie.spec put-requires add-t11 same-length returns)
+single-spec = tie.close (tie.spec
+    put-requires
+    add-t11
+    same-length
+    returns)

@@ -21,4 +21,7 @@ returns-2 : tie.Need-returns-2
 returns-2 c = let v = c .before .args .v in let e : ltb v 256 ≡ false = le-ltb v 256 (c .if1 .left) in ap (λ (b : Bool). pick b (v + 1) 0) (sym e)
 
 pub small-spec : {M : Type 1} → statement M
-small-spec = tie.close (tie.spec add-result returns returns-2)
+small-spec = tie.close (tie.spec
+    add-result
+    returns
+    returns-2)

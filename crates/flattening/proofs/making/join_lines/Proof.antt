@@ -6,7 +6,7 @@ use native.Mathlib.Omega.{arith}
 use lib.ListN.{length}
 use Rattle.tables.specs.Lines.{five}
 use Rattle.circuits.specs.Cells.{put}
-use Rattle.flattening.specs.Model.{held, Tame, words, rowAt}
+use Rattle.flattening.specs.Model.{Tame, words, rowAt}
 use Rattle.flattening.specs.Making.{run, still}
 use Rattle.flattening.proofs.Stores.{put-none}
 use Rattle.flattening.proofs.Placing.{record-then, recorded-length, join-none, join-some, tame-run}
@@ -20,7 +20,7 @@ use Rattle.flattening.proofs.rows.rows.Reads as rows-reads
 use Rattle.tables.proofs.records.put.Reads as put-reads
 
 returns : tie.Need-returns
-returns c = let a = c .before .before .before .before .before .args in let H = held (a .at .now) (a .old .now) (a .key .now) in sym (ap (λ (w : List ℕ). put (a .target .now) (5 * (a .p + a .n)) w) (join-none H (a .p) (a .j) (a .s) (a .n) (c .if1 .taken)) ∙ put-none (a .target .now) (5 * (a .p + a .n)))
+returns c = let a = c .before .before .args in let H = a .kept .now in sym (ap (λ (w : List ℕ). put (a .target .now) (5 * (a .p + a .n)) w) (join-none H (a .p) (a .j) (a .s) (a .n) (c .if1 .taken)) ∙ put-none (a .target .now) (5 * (a .p + a .n)))
 
 add-put : tie.Need-add-put
 add-put c = search needs
@@ -47,25 +47,25 @@ add-run-4 : tie.Need-add-run-4
 add-run-4 c = search needs
 
 run-requires : tie.Need-run-requires
-run-requires c κs = search needs
+run-requires c κs = tt
 
 add-run-5 : tie.Need-add-run-5
 add-run-5 c = search needs
 
 run-requires-2 : tie.Need-run-requires-2
-run-requires-2 c κs = search needs
+run-requires-2 c κs = tt
 
 run-requires-3 : tie.Need-run-requires-3
-run-requires-3 c κs = search needs
+run-requires-3 c κs = tt
 
 rows-requires : tie.Need-rows-requires
-rows-requires c κs = let a = c .before .before .before .before .before .before .before .before .before .before .before .before .before .args in let two : 2 ≤ a .n = c .before .before .before .before .before .before .before .before .if1 .left in let l = ap length (c .before .before .before .before .before .before .put .ensures) ∙ recorded-length (a .target .now) (a .p + a .n) (five (a .j) (a .s) (a .p + 1) (a .p + 2) 0) refl (omega (arith, c .before .before .before .before .before .before .before .before .before .before .before .before .before .pre .1 .1 .1)) in (c .before .before .before .before .before .before .before .before .before .before .before .before .before .pre .0, (subst⁻¹ Tame (c .before .before .run .ensures) (tame-run (a .p + a .n + 1) 1 (omega (arith, c .before .before .before .before .before .before .before .before .before .before .before .before .before .pre .1 .0, c .before .before .before .before .before .before .before .before .before .before .before .before .before .pre .1 .1 .0)) (omega arith)), (subst⁻¹ Tame (c .before .run2 .ensures) (tame-run (a .p + 3) 1 (omega (arith, c .before .before .before .before .before .before .before .before .before .before .before .before .before .pre .1 .1 .0)) (omega arith)), (subst⁻¹ Tame (c .run3 .ensures) (tame-run 0 0 (omega arith) (omega arith)), (omega (arith, c .before .before .before .before .before .before .before .before .before .before .before .before .before .pre .1 .0), omega (arith, l, c .before .before .before .before .before .before .before .before .before .before .before .before .before .pre .1 .1 .1))))))
+rows-requires c κs = let a = c .before .before .before .before .before .before .before .before .before .before .args in let two : 2 ≤ a .n = c .before .before .before .before .before .before .before .before .if1 .left in let l = ap length (c .before .before .before .before .before .before .put .ensures) ∙ recorded-length (a .target .now) (a .p + a .n) (five (a .j) (a .s) (a .p + 1) (a .p + 2) 0) refl (omega (arith, c .before .before .before .before .before .before .before .before .before .before .pre .1 .1 .1)) in (c .before .before .before .before .before .before .before .before .before .before .pre .0, (subst⁻¹ Tame (c .before .before .run .ensures) (tame-run (a .p + a .n + 1) 1 (omega (arith, c .before .before .before .before .before .before .before .before .before .before .pre .1 .0, c .before .before .before .before .before .before .before .before .before .before .pre .1 .1 .0)) (omega arith)), (subst⁻¹ Tame (c .before .run2 .ensures) (tame-run (a .p + 3) 1 (omega (arith, c .before .before .before .before .before .before .before .before .before .before .pre .1 .1 .0)) (omega arith)), (subst⁻¹ Tame (c .run3 .ensures) (tame-run 0 0 (omega arith) (omega arith)), (omega (arith, c .before .before .before .before .before .before .before .before .before .before .pre .1 .0), omega (arith, l, c .before .before .before .before .before .before .before .before .before .before .pre .1 .1 .1))))))
 
 same-length : tie.Need-same-length
 same-length c = search needs
 
 returns-2 : tie.Need-returns-2
-returns-2 c = let a = c .before .before .before .before .before .before .before .before .before .before .before .before .before .before .before .before .args in let H = held (a .at .now) (a .old .now) (a .key .now) in let two : 2 ≤ a .n = c .before .before .before .before .before .before .before .before .before .before .before .if1 .left in let r = five (a .j) (a .s) (a .p + 1) (a .p + 2) 0 in let W = words (a .n - 2) (rowAt H (a .j) (a .s) (run (a .p + a .n + 1) 1) (run (a .p + 3) 1) (still 0)) in c .before .before .rows .ensures ∙ (λ i. put (c .before .before .before .before .before .before .before .before .before .put .ensures i) (5 * (a .p + a .n + 1)) (words (a .n - 2) (rowAt H (a .j) (a .s) (c .before .before .before .before .before .run .ensures i) (c .before .before .before .before .run2 .ensures i) (c .before .before .before .run3 .ensures i)))) ∙ record-then (a .target .now) (a .p + a .n) r W refl (omega (arith, c .before .before .before .before .before .before .before .before .before .before .before .before .before .before .before .before .pre .1 .1 .1)) ∙ ap (λ (w : List ℕ). put (a .target .now) (5 * (a .p + a .n)) w) (sym (join-some H (a .p) (a .j) (a .s) (a .n) two))
+returns-2 c = let a = c .before .before .before .before .before .before .before .before .before .before .before .before .before .args in let H = a .kept .now in let two : 2 ≤ a .n = c .before .before .before .before .before .before .before .before .before .before .before .if1 .left in let r = five (a .j) (a .s) (a .p + 1) (a .p + 2) 0 in let W = words (a .n - 2) (rowAt H (a .j) (a .s) (run (a .p + a .n + 1) 1) (run (a .p + 3) 1) (still 0)) in c .before .before .rows .ensures ∙ (λ i. put (c .before .before .before .before .before .before .before .before .before .put .ensures i) (5 * (a .p + a .n + 1)) (words (a .n - 2) (rowAt H (a .j) (a .s) (c .before .before .before .before .before .run .ensures i) (c .before .before .before .before .run2 .ensures i) (c .before .before .before .run3 .ensures i)))) ∙ record-then (a .target .now) (a .p + a .n) r W refl (omega (arith, c .before .before .before .before .before .before .before .before .before .before .before .before .before .pre .1 .1 .1)) ∙ ap (λ (w : List ℕ). put (a .target .now) (5 * (a .p + a .n)) w) (sym (join-some H (a .p) (a .j) (a .s) (a .n) two))
 
 pub join-lines-spec : {M : Type 1} → statement M
 join-lines-spec =

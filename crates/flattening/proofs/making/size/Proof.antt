@@ -1,22 +1,25 @@
 -- The power of the line's index width. Assumes nothing.
-use Prim.Native.Nat.{ℕ, _^_}
-use mathlib.Core.Path.{ap, _∙_}
-use borrow.Author.Needs.{needs}
+use Prim.Native.Nat.{_^_, _≤_}
+use mathlib.Core.Path.{ap, _∙_, subst⁻¹}
+use Rattle.tables.specs.declared.Ty.{Ty}
 use Rattle.flattening.proofs.making.size.Statement.{statement}
 use Rattle.flattening.proofs.making.size.Tie as tie
 use Rattle.flattening.proofs.making.size.Reads as reads
 use Rattle.flattening.proofs.making.size.Lts as lts
 use Rattle.flattening.proofs.making.power.Reads as power-reads
-use Rattle.tables.proofs.types.at.Reads as at-reads
+use Rattle.tables.proofs.notes.look.Reads as look-reads
 
-at-requires : tie.Need-at-requires
-at-requires c κs = search needs
+look-requires : tie.Need-look-requires
+look-requires c κs = tt
 
 power-requires : tie.Need-power-requires
-power-requires c κs = search needs
+power-requires c κs = subst⁻¹ (λ (y : Ty). y .iw ≤ 8) (c .look .ensures) (c .before .pre)
 
 returns : tie.Need-returns
-returns c = c .power .ensures ∙ ap (λ (x : ℕ). 2 ^ x) (c .before .at .ensures)
+returns c = c .power .ensures ∙ ap (λ (y : Ty). 2 ^ (y .iw)) (c .before .look .ensures)
 
 pub size-spec : {M : Type 1} → statement M
-size-spec = tie.close (tie.spec at-requires power-requires returns)
+size-spec = tie.close (tie.spec
+    look-requires
+    power-requires
+    returns)

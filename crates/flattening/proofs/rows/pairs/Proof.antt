@@ -7,7 +7,7 @@ use native.Mathlib.Omega.{arith}
 use lib.ListN.{length}
 use Rattle.tables.specs.Lines.{five, recorded}
 use Rattle.circuits.specs.Cells.{put}
-use Rattle.flattening.specs.Model.{held, words, pairAt}
+use Rattle.flattening.specs.Model.{words, pairAt}
 use Rattle.flattening.proofs.Placing.{rows-none, pairs-length, pair-more}
 use Rattle.flattening.proofs.rows.pairs.Statement.{statement}
 use Rattle.flattening.proofs.rows.pairs.Tie as tie
@@ -17,13 +17,13 @@ use Rattle.flattening.proofs.cells.source.Reads as source-reads
 use Rattle.tables.proofs.records.put.Reads as put-reads
 
 abbrev Inv-loop : tie.InvT-loop
-Inv-loop at old key target₀ p n o i s c x y j₀ target j = (j ≤ n) × ((length target ≡ length target₀) × (target ≡ put target₀ (5 * p) (words j (pairAt (held at old key) p o i s c x y))))
+Inv-loop kept target₀ p n o i s c x y j₀ target j = (j ≤ n) × ((length target ≡ length target₀) × (target ≡ put target₀ (5 * p) (words j (pairAt kept p o i s c x y))))
 
 abbrev μ-loop : tie.MeasureT-loop
-μ-loop at old key target₀ p n o i s c x y j₀ target j = n - j
+μ-loop kept target₀ p n o i s c x y j₀ target j = n - j
 
 loop-holds : tie.Need-loop-holds Inv-loop μ-loop
-loop-holds c = let a = c .before .before .before .before .args in (search needs, (refl, rows-none (a .target .now) (a .p) (pairAt (held (a .at .now) (a .old .now) (a .key .now)) (a .p) (a .o) (a .i) (a .s) (a .c) (a .x) (a .y))))
+loop-holds c = let a = c .before .args in (search needs, (refl, rows-none (a .target .now) (a .p) (pairAt (a .kept .now) (a .p) (a .o) (a .i) (a .s) (a .c) (a .x) (a .y))))
 
 mul-q : tie.Need-mul-q Inv-loop μ-loop
 mul-q c = search needs
@@ -32,16 +32,16 @@ add-q : tie.Need-add-q Inv-loop μ-loop
 add-q c = search needs
 
 source-requires : tie.Need-source-requires Inv-loop μ-loop
-source-requires c κs = (c .before .before .before .before .before .before .pre .0, (c .before .before .before .before .before .before .pre .1 .0, omega (arith, c .before .before .before .before .before .before .pre .1 .1 .1 .1 .0)))
+source-requires c κs = (c .before .before .before .pre .0, (c .before .before .before .pre .1 .0, omega (arith, c .before .before .before .pre .1 .1 .1 .1 .0)))
 
-add-t19 : tie.Need-add-t19 Inv-loop μ-loop
-add-t19 c = search needs
+add-t17 : tie.Need-add-t17 Inv-loop μ-loop
+add-t17 c = search needs
 
 source-requires-2 : tie.Need-source-requires-2 Inv-loop μ-loop
-source-requires-2 c κs = (c .before .before .before .before .before .before .before .pre .0, (c .before .before .before .before .before .before .before .pre .1 .1 .0, omega (arith, c .before .before .before .before .before .before .before .pre .1 .1 .1 .1 .0)))
+source-requires-2 c κs = (c .before .before .before .before .pre .0, (c .before .before .before .before .pre .1 .1 .0, omega (arith, c .before .before .before .before .pre .1 .1 .1 .1 .0)))
 
 source-requires-3 : tie.Need-source-requires-3 Inv-loop μ-loop
-source-requires-3 c κs = (c .before .before .before .before .before .before .before .before .pre .0, (c .before .before .before .before .before .before .before .before .pre .1 .1 .1 .0, omega (arith, c .before .before .before .before .before .before .before .before .pre .1 .1 .1 .1 .0)))
+source-requires-3 c κs = (c .before .before .before .before .before .pre .0, (c .before .before .before .before .before .pre .1 .1 .1 .0, omega (arith, c .before .before .before .before .before .pre .1 .1 .1 .1 .0)))
 
 put-requires : tie.Need-put-requires Inv-loop μ-loop
 put-requires c κs = search needs
@@ -59,8 +59,8 @@ loop-less : tie.Need-loop-less Inv-loop μ-loop
 loop-less c = search needs
 
 loop-again : tie.Need-loop-again Inv-loop μ-loop
-loop-again c = let a = c .before .before .before .before .before .before .before .before .before .before .before .before .before .before .before .before .before .args in
-    let H = held (a .at .now) (a .old .now) (a .key .now) in
+loop-again c = let a = c .before .before .before .before .before .before .before .before .before .before .before .before .before .before .args in
+    let H = a .kept .now in
     let j = c .before .before .before .before .before .before .before .before .before .before .before .before .loop .j in
     let q = a .p + 2 * j in
     let eq = five 21 (a .o) (a .i) (c .before .before .before .before .before .before .before .before .before .before .source .result) 0 in
@@ -68,16 +68,16 @@ loop-again c = let a = c .before .before .before .before .before .before .before
     let e =
     c .before .before .put2 .ensures
     ∙ ap (λ (t : List ℕ). recorded t (q + 1) ite) (c .before .before .before .before .before .before .put .ensures ∙ ap (λ (t : List ℕ). recorded t q eq) (c .before .before .before .before .before .before .before .before .before .before .before .before .loop .inv .1 .1))
-    ∙ pair-more (a .target .now) (a .p) j H (a .o) (a .i) (a .s) (a .c) (a .x) (a .y) (c .before .before .before .before .before .before .before .before .before .before .source .result) (c .before .before .before .before .before .before .before .before .before .source2 .result) (c .before .before .before .before .before .before .before .before .source3 .result) (omega (arith, c .before .before .before .before .before .before .before .before .before .before .before .before .before .before .before .before .before .pre .1 .1 .1 .1 .1 .1)) (c .before .before .before .before .before .before .before .before .before .before .source .ensures) (c .before .before .before .before .before .before .before .before .before .source2 .ensures) (c .before .before .before .before .before .before .before .before .source3 .ensures) in
-    (omega arith, (ap length e ∙ pairs-length (a .target .now) (a .p) (a .n) (j + 1) H (a .o) (a .i) (a .s) (a .c) (a .x) (a .y) (c .before .before .before .before .before .before .before .before .before .before .before .before .before .before .before .before .before .pre .1 .1 .1 .1 .1 .1) (omega arith), e))
+    ∙ pair-more (a .target .now) (a .p) j H (a .o) (a .i) (a .s) (a .c) (a .x) (a .y) (c .before .before .before .before .before .before .before .before .before .before .source .result) (c .before .before .before .before .before .before .before .before .before .source2 .result) (c .before .before .before .before .before .before .before .before .source3 .result) (omega (arith, c .before .before .before .before .before .before .before .before .before .before .before .before .before .before .pre .1 .1 .1 .1 .1 .1)) (c .before .before .before .before .before .before .before .before .before .before .source .ensures) (c .before .before .before .before .before .before .before .before .before .source2 .ensures) (c .before .before .before .before .before .before .before .before .source3 .ensures) in
+    (omega arith, (ap length e ∙ pairs-length (a .target .now) (a .p) (a .n) (j + 1) H (a .o) (a .i) (a .s) (a .c) (a .x) (a .y) (c .before .before .before .before .before .before .before .before .before .before .before .before .before .before .pre .1 .1 .1 .1 .1 .1) (omega arith), e))
 
 same-length : tie.Need-same-length Inv-loop μ-loop
 same-length c = search needs
 
 returns : tie.Need-returns Inv-loop μ-loop
-returns c = let a = c .before .before .before .before .before .before .args in
+returns c = let a = c .before .before .before .args in
     let q : c .before .loop .j ≡ a .n = omega arith in
-    c .before .loop .inv .1 .1 ∙ ap (λ (m : ℕ). put (a .target .now) (5 * a .p) (words m (pairAt (held (a .at .now) (a .old .now) (a .key .now)) (a .p) (a .o) (a .i) (a .s) (a .c) (a .x) (a .y)))) q
+    c .before .loop .inv .1 .1 ∙ ap (λ (m : ℕ). put (a .target .now) (5 * a .p) (words m (pairAt (a .kept .now) (a .p) (a .o) (a .i) (a .s) (a .c) (a .x) (a .y)))) q
 
 pub pairs-spec : {M : Type 1} → statement M
 pairs-spec =
@@ -89,7 +89,7 @@ pairs-spec =
     mul-q
     add-q
     source-requires
-    add-t19
+    add-t17
     source-requires-2
     source-requires-3
     put-requires

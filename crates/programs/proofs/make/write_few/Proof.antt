@@ -25,7 +25,7 @@ slice-aggregate-write-all-3 c = search needs
 -- src/make.rt:68:5
 write-all-requires : tie.Need-write-all-requires
 write-all-requires c κs = let P = c .before .before .before .before .before .before .before .pre in
-    (P .1 .0, (P .1 .1 .0, (record { wide = omega (arith, P .0, length-replicate {A = ℕ} 2048 0); no-wd = refl; no-num = refl; no-lo = refl }, P .1 .1 .1)))
+    (P .1 .0, (P .1 .1 .0, (record { wide = omega (arith, P .0, length-replicate {A = ℕ} 512 0); no-wd = refl; no-num = refl; no-lo = refl }, P .1 .1 .1)))
 
 -- src/make.rt:61:1
 same-length : tie.Need-same-length

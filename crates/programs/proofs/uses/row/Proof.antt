@@ -1,20 +1,62 @@
--- The row of the constant table is the definition's. Assumes nothing.
-use Rattle.programs.specs.Records.{usesOf}
+use Rattle.programs.proofs.Sets.{row-of}
 use borrow.Author.Needs.{needs}
 use Rattle.programs.proofs.uses.row.Statement.{statement}
 use Rattle.programs.proofs.uses.row.Tie as tie
 use Rattle.programs.proofs.uses.row.Reads as reads
 use Rattle.programs.proofs.uses.row.Lts as lts
+use Rattle.programs.proofs.uses.member.Reads as member-reads
 
-mul-result : tie.Need-mul-result
-mul-result c = search needs
+-- src/uses.rt:35:9
+member-requires : tie.Need-member-requires
+member-requires c κs = search needs
 
-array-copy-out-result : tie.Need-array-copy-out-result
-array-copy-out-result c = search needs
+-- src/uses.rt:36:9
+member-requires-2 : tie.Need-member-requires-2
+member-requires-2 c κs = search needs
 
+-- src/uses.rt:37:9
+member-requires-3 : tie.Need-member-requires-3
+member-requires-3 c κs = search needs
+
+-- src/uses.rt:39:9
+member-requires-4 : tie.Need-member-requires-4
+member-requires-4 c κs = search needs
+
+-- src/uses.rt:40:9
+member-requires-5 : tie.Need-member-requires-5
+member-requires-5 c κs = search needs
+
+-- src/uses.rt:41:13
+mul-t7 : tie.Need-mul-t7
+mul-t7 c = search needs
+
+-- src/uses.rt:41:9
+add-t8 : tie.Need-add-t8
+add-t8 c = search needs
+
+-- src/uses.rt:41:21
+mul-t9 : tie.Need-mul-t9
+mul-t9 c = search needs
+
+-- src/uses.rt:41:9
+add-t10 : tie.Need-add-t10
+add-t10 c = search needs
+
+-- src/uses.rt:31:1
 returns : tie.Need-returns
-unfolding usesOf
-returns c = search needs
+returns c = row-of (c .before .before .before .before .before .args .k) (c .before .before .before .before .before .pre) (c .before .member4 .ensures .0) (c .member5 .ensures .0) (c .before .before .before .before .member .ensures .0) (c .before .before .before .member2 .ensures .0) (c .before .before .member3 .ensures .0)
 
 pub row-spec : {M : Type 1} → statement M
-row-spec = tie.close (tie.spec mul-result array-copy-out-result returns)
+row-spec =
+    tie.close
+    (tie.spec
+    member-requires
+    member-requires-2
+    member-requires-3
+    member-requires-4
+    member-requires-5
+    mul-t7
+    add-t8
+    mul-t9
+    add-t10
+    returns)

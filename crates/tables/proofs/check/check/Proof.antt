@@ -1,64 +1,68 @@
-use mathlib.Core.Path.{sym, _∙_, subst}
+use mathlib.Core.Path.{refl, sym, _∙_, subst}
 use Prim.Native.Nat.{ℕ, _<_, _≤_}
+use lib.ListN.{length}
 use borrow.Author.Tests.{not-true, not-false}
-use Rattle.tables.proofs.Checking.{no-table, too-many, not-accepted}
+use Rattle.tables.proofs.Checking.{no-table, too-many, unlawful, is-lawful, not-accepted, roomy, shows-none}
 use borrow.Author.Needs.{needs}
 use Rattle.tables.proofs.check.check.Statement.{statement}
 use Rattle.tables.proofs.check.check.Tie as tie
 use Rattle.tables.proofs.check.check.Reads as reads
 use Rattle.tables.proofs.check.check.Lts as lts
-use Rattle.tables.proofs.check.check_lines.Reads as check-lines-reads
+use Rattle.tables.proofs.check.lines.Reads as lines-reads
 use Rattle.tables.proofs.check.refused.Reads as refused-reads
+use Rattle.tables.proofs.kinds.all.Reads as all-reads
 use Rattle.tables.proofs.records.is_table.Reads as is-table-reads
 use Rattle.tables.proofs.records.room_of.Reads as room-of-reads
 
--- src/check.rt:251:9
+-- src/check.rt:172:9
 is-table-requires : tie.Need-is-table-requires
-is-table-requires c κs = search needs
+is-table-requires c κs = tt
 
--- src/check.rt:252:9
+-- src/check.rt:173:9
 returns : tie.Need-returns
-returns c = let s = c .before .before .before .before .before .before .before .before .args in (no-table (s .program) (s .table .now) (s .count) (sym (c .before .is-table .ensures) ∙ not-true _ (c .if1 .taken)), λ e. absurd (not-accepted _ e))
+returns c = let s = c .before .before .before .args in (no-table (s .program) (s .table .now) (s .count) (sym (c .before .is-table .ensures) ∙ not-true _ (c .if1 .taken)), λ e. absurd (not-accepted _ e))
 
--- src/check.rt:254:8
+-- src/check.rt:175:8
 room-of-requires : tie.Need-room-of-requires
-room-of-requires c κs = search needs
+room-of-requires c κs = tt
 
--- src/check.rt:255:9
+-- src/check.rt:176:9
 refused-requires : tie.Need-refused-requires
-refused-requires c κs = search needs
+refused-requires c κs = tt
 
--- src/check.rt:255:9
+-- src/check.rt:176:9
 returns-2 : tie.Need-returns-2
-returns-2 c = let s = c .before .before .before .before .before .before .before .before .before .before .before .args in (c .refused .ensures ∙ too-many (s .program) (s .table .now) (s .count) (sym (c .before .before .before .before .is-table .ensures) ∙ not-false _ (c .before .before .before .if1 .left)) (subst (λ (m : ℕ). m < s .count) (c .before .before .room-of .ensures) (c .before .if2 .taken)), λ e. absurd (not-accepted _ (sym (c .refused .ensures) ∙ e)))
+returns-2 c = let s = c .before .before .before .before .before .before .args in (c .refused .ensures ∙ too-many (s .program) (s .table .now) (s .count) (sym (c .before .before .before .before .is-table .ensures) ∙ not-false _ (c .before .before .before .if1 .left)) (subst (λ (m : ℕ). m < s .count) (c .before .before .room-of .ensures) (c .before .if2 .taken)), λ e. absurd (not-accepted _ (sym (c .refused .ensures) ∙ e)))
 
--- src/check.rt:257:5
-check-lines-requires : tie.Need-check-lines-requires
-check-lines-requires c κs = let s = c .before .before .before .before .before .before .before .before .before .before .before .before .before .before .before .args in (sym (c .before .before .before .before .before .before .before .before .is-table .ensures) ∙ not-false _ (c .before .before .before .before .before .before .before .if1 .left), (subst (λ (m : ℕ). s .count ≤ m) (c .before .before .before .before .before .before .room-of .ensures) (c .before .before .before .before .before .if2 .left), c .before .before .before .before .before .before .before .before .before .before .before .before .before .before .before .pre))
+-- src/check.rt:178:17
+all-requires : tie.Need-all-requires
+all-requires c κs = tt
 
--- src/check.rt:238:1
+-- src/check.rt:179:9
+lines-requires : tie.Need-lines-requires
+lines-requires c κs = let s = c .before .before .before .before .before .before .before .before .args in
+    let h = roomy (length (s .table .now)) (s .count) (subst (λ (m : ℕ). s .count ≤ m) (c .before .before .before .before .room-of .ensures) (c .before .before .before .if2 .left)) in
+    (c .before .before .all .ensures, (h .0, (h .1, (c .before .before .before .before .before .before .before .before .pre .enough (h .0), shows-none (c .before .before .before .before .before .before .before .before .pre)))))
+
+-- src/check.rt:180:9
+refused-requires-2 : tie.Need-refused-requires-2
+refused-requires-2 c κs = tt
+
+-- src/check.rt:180:9
 same-length : tie.Need-same-length
 same-length c = search needs
 
--- src/check.rt:238:1
+-- src/check.rt:180:9
+returns-3 : tie.Need-returns-3
+returns-3 c = let s = c .before .before .before .before .before .before .before .before .before .before .before .before .args in (c .refused2 .ensures ∙ unlawful (s .program) (s .table .now) (s .count) (sym (c .before .before .before .before .before .before .before .before .before .before .is-table .ensures) ∙ not-false _ (c .before .before .before .before .before .before .before .before .before .if1 .left)) (subst (λ (m : ℕ). s .count ≤ m) (c .before .before .before .before .before .before .before .before .room-of .ensures) (c .before .before .before .before .before .before .before .if2 .left)) (sym (not-true _ (c .before .if3 .taken)) ∙ c .before .before .before .lines .ensures .0), λ e. absurd (not-accepted _ (sym (c .refused2 .ensures) ∙ e)))
+
+-- src/check.rt:168:1
 same-length-2 : tie.Need-same-length-2
 same-length-2 c = search needs
 
--- src/check.rt:238:1
-same-length-3 : tie.Need-same-length-3
-same-length-3 c = search needs
-
--- src/check.rt:238:1
-same-length-4 : tie.Need-same-length-4
-same-length-4 c = search needs
-
--- src/check.rt:238:1
-same-length-5 : tie.Need-same-length-5
-same-length-5 c = search needs
-
--- src/check.rt:238:1
-returns-3 : tie.Need-returns-3
-returns-3 c = search needs
+-- src/check.rt:168:1
+returns-4 : tie.Need-returns-4
+returns-4 c = let s = c .before .before .before .before .before .before .before .before .before .before .before .args in let yes = not-false _ (c .if3 .left) in (is-lawful (s .program) (s .table .now) (s .count) (sym (c .before .before .before .before .before .before .before .before .before .is-table .ensures) ∙ not-false _ (c .before .before .before .before .before .before .before .before .if1 .left)) (subst (λ (m : ℕ). s .count ≤ m) (c .before .before .before .before .before .before .before .room-of .ensures) (c .before .before .before .before .before .before .if2 .left)) (sym yes ∙ c .before .before .lines .ensures .0), λ e. c .before .before .lines .ensures .1 yes)
 
 pub check-spec : {M : Type 1} → statement M
 check-spec =
@@ -69,10 +73,10 @@ check-spec =
     room-of-requires
     refused-requires
     returns-2
-    check-lines-requires
+    all-requires
+    lines-requires
+    refused-requires-2
     same-length
+    returns-3
     same-length-2
-    same-length-3
-    same-length-4
-    same-length-5
-    returns-3)
+    returns-4)

@@ -15,7 +15,7 @@ array-read-unused-2 : tie.Need-array-read-unused-2
 array-read-unused-2 c = search needs
 
 unused-requires : tie.Need-unused-requires
-unused-requires c κs = search needs
+unused-requires c κs = tt
 
 returns : tie.Need-returns
 returns c = rw (sym (c .before .unused .ensures) ∙ not-true _ (c .if1 .taken))
@@ -27,7 +27,7 @@ array-read-unused-4 : tie.Need-array-read-unused-4
 array-read-unused-4 c = search needs
 
 unused-requires-2 : tie.Need-unused-requires-2
-unused-requires-2 c κs = search needs
+unused-requires-2 c κs = tt
 
 returns-2 : tie.Need-returns-2
 returns-2 c = rw (sym (c .before .before .before .unused .ensures) ∙ not-false _ (c .before .before .if1 .left), sym (c .before .unused2 .ensures) ∙ not-true _ (c .if2 .taken))
@@ -39,7 +39,7 @@ array-read-unused-6 : tie.Need-array-read-unused-6
 array-read-unused-6 c = search needs
 
 unused-requires-3 : tie.Need-unused-requires-3
-unused-requires-3 c κs = search needs
+unused-requires-3 c κs = tt
 
 returns-3 : tie.Need-returns-3
 returns-3 c = rw (sym (c .before .before .before .before .before .unused .ensures) ∙ not-false _ (c .before .before .before .before .if1 .left), sym (c .before .before .before .unused2 .ensures) ∙ not-false _ (c .before .before .if2 .left), sym (c .before .unused3 .ensures) ∙ not-true _ (c .if3 .taken))
@@ -51,7 +51,7 @@ array-read-unused-8 : tie.Need-array-read-unused-8
 array-read-unused-8 c = search needs
 
 unused-requires-4 : tie.Need-unused-requires-4
-unused-requires-4 c κs = search needs
+unused-requires-4 c κs = tt
 
 returns-4 : tie.Need-returns-4
 returns-4 c = rw (sym (c .before .before .before .before .before .before .unused .ensures) ∙ not-false _ (c .before .before .before .before .before .if1 .left), sym (c .before .before .before .before .unused2 .ensures) ∙ not-false _ (c .before .before .before .if2 .left), sym (c .before .before .unused3 .ensures) ∙ not-false _ (c .before .if3 .left), and-true) (c .unused4 .ensures)

@@ -1,53 +1,53 @@
-use Rattle.tables.specs.Lists.{lookIn}
+use Rattle.tables.specs.Notes.{lookIn}
 use Rattle.tables.proofs.Answers.{typed}
 use borrow.Author.Needs.{needs}
 use Rattle.tables.proofs.check.type_in.Statement.{statement}
 use Rattle.tables.proofs.check.type_in.Tie as tie
 use Rattle.tables.proofs.check.type_in.Reads as reads
 use Rattle.tables.proofs.check.type_in.Lts as lts
-use Rattle.tables.proofs.types.look.Reads as look-reads
+use Rattle.tables.proofs.notes.look.Reads as look-reads
 use Rattle.tables.proofs.types.sort_at.Reads as sort-at-reads
 use Rattle.tables.proofs.types.type_of.Reads as type-of-reads
 
--- src/check.rt:80:52
+-- src/check.rt:82:44
 array-read-sort-at : tie.Need-array-read-sort-at
 array-read-sort-at c = search needs
 
--- src/check.rt:80:9
+-- src/check.rt:82:9
 sort-at-requires : tie.Need-sort-at-requires
-sort-at-requires c κs = search needs
+sort-at-requires c κs = tt
 
--- src/check.rt:81:40
+-- src/check.rt:83:32
 array-read-look : tie.Need-array-read-look
 array-read-look c = search needs
 
--- src/check.rt:81:9
+-- src/check.rt:83:9
 look-requires : tie.Need-look-requires
-look-requires c κs = search needs
+look-requires c κs = tt
 
--- src/check.rt:82:40
+-- src/check.rt:84:32
 array-read-look-2 : tie.Need-array-read-look-2
 array-read-look-2 c = search needs
 
--- src/check.rt:82:9
+-- src/check.rt:84:9
 look-requires-2 : tie.Need-look-requires-2
-look-requires-2 c κs = search needs
+look-requires-2 c κs = tt
 
--- src/check.rt:83:40
+-- src/check.rt:85:32
 array-read-look-3 : tie.Need-array-read-look-3
 array-read-look-3 c = search needs
 
--- src/check.rt:83:9
+-- src/check.rt:85:9
 look-requires-3 : tie.Need-look-requires-3
-look-requires-3 c κs = search needs
+look-requires-3 c κs = tt
 
--- src/check.rt:84:5
+-- src/check.rt:86:5
 type-of-requires : tie.Need-type-of-requires
 type-of-requires c κs = search needs
 
--- src/check.rt:76:1
+-- src/check.rt:78:1
 returns : tie.Need-returns
-returns c = let s = c .before .before .before .before .before .before .before .before .args in typed (s .program) (lookIn (s .cls .now) (s .idx .now) (s .wid .now)) (s .t2) (c .before .before .before .before .sort-at .ensures) (c .before .before .before .look .ensures) (c .before .before .look2 .ensures) (c .before .look3 .ensures) (c .type-of .ensures)
+returns c = let s = c .before .before .before .before .before .args in typed (s .program) (lookIn (s .notes .now)) (s .t2) (c .before .before .before .before .sort-at .ensures) (c .before .before .before .look .ensures) (c .before .before .look2 .ensures) (c .before .look3 .ensures) (c .type-of .ensures)
 
 pub type-in-spec : {M : Type 1} → statement M
 type-in-spec =

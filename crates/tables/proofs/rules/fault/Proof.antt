@@ -1,62 +1,77 @@
 use mathlib.Core.Path.{sym, _∙_}
 use borrow.Author.Tests.{not-true, not-false}
-use Rattle.tables.specs.Lists.{lookIn, givenIn}
+use Rattle.tables.specs.Notes.{lookIn, givenIn}
 use Rattle.tables.proofs.Answers.{is-eight, is-nine, is-ten, is-none}
 use borrow.Author.Needs.{needs}
 use Rattle.tables.proofs.rules.fault.Statement.{statement}
 use Rattle.tables.proofs.rules.fault.Tie as tie
 use Rattle.tables.proofs.rules.fault.Reads as reads
 use Rattle.tables.proofs.rules.fault.Lts as lts
+use Rattle.tables.proofs.notes.look.Reads as look-reads
 use Rattle.tables.proofs.rules.classed.Reads as classed-reads
 use Rattle.tables.proofs.rules.fits.Reads as fits-reads
 use Rattle.tables.proofs.rules.once.Reads as once-reads
-use Rattle.tables.proofs.types.look.Reads as look-reads
 use Rattle.tables.proofs.types.sort_at.Reads as sort-at-reads
 
+-- src/rules.rt:238:44
 array-read-sort-at : tie.Need-array-read-sort-at
 array-read-sort-at c = search needs
 
+-- src/rules.rt:238:9
 sort-at-requires : tie.Need-sort-at-requires
-sort-at-requires c κs = search needs
+sort-at-requires c κs = tt
 
+-- src/rules.rt:239:32
 array-read-look : tie.Need-array-read-look
 array-read-look c = search needs
 
+-- src/rules.rt:239:9
 look-requires : tie.Need-look-requires
-look-requires c κs = search needs
+look-requires c κs = tt
 
+-- src/rules.rt:240:32
 array-read-look-2 : tie.Need-array-read-look-2
 array-read-look-2 c = search needs
 
+-- src/rules.rt:240:9
 look-requires-2 : tie.Need-look-requires-2
-look-requires-2 c κs = search needs
+look-requires-2 c κs = tt
 
+-- src/rules.rt:241:32
 array-read-look-3 : tie.Need-array-read-look-3
 array-read-look-3 c = search needs
 
+-- src/rules.rt:241:9
 look-requires-3 : tie.Need-look-requires-3
-look-requires-3 c κs = search needs
+look-requires-3 c κs = tt
 
+-- src/rules.rt:242:9
 classed-requires : tie.Need-classed-requires
-classed-requires c κs = search needs
+classed-requires c κs = tt
 
+-- src/rules.rt:243:9
 returns : tie.Need-returns
-returns c = is-eight (c .before .before .before .before .before .before .before .before .before .before .before .args .program) (lookIn (c .before .before .before .before .before .before .before .before .before .before .before .args .cls .now) (c .before .before .before .before .before .before .before .before .before .before .before .args .idx .now) (c .before .before .before .before .before .before .before .before .before .before .before .args .wid .now)) (givenIn (c .before .before .before .before .before .before .before .before .before .before .before .args .ini .now) (c .before .before .before .before .before .before .before .before .before .before .before .args .nxt .now)) (c .before .before .before .before .before .before .before .before .before .before .before .args .t3) (c .before .before .before .before .before .before .before .before .before .before .before .args .row) (c .before .before .before .before .before .before .before .before .before .before .before .pre) (c .before .before .before .before .before .sort-at .ensures) (c .before .before .before .before .look .ensures) (c .before .before .before .look2 .ensures) (c .before .before .look3 .ensures) (sym (c .before .classed .ensures) ∙ not-true _ (c .if1 .taken))
+returns c = let s = c .before .before .before .before .before .before .args in is-eight (s .program) (lookIn (s .notes .now)) (givenIn (s .notes .now)) (s .t3) (s .row) (c .before .before .before .before .before .before .pre) (c .before .before .before .before .before .sort-at .ensures) (c .before .before .before .before .look .ensures) (c .before .before .before .look2 .ensures) (c .before .before .look3 .ensures) (sym (c .before .classed .ensures) ∙ not-true _ (c .if1 .taken))
 
+-- src/rules.rt:245:9
 fits-requires : tie.Need-fits-requires
-fits-requires c κs = search needs
+fits-requires c κs = tt
 
+-- src/rules.rt:246:9
 returns-2 : tie.Need-returns-2
-returns-2 c = is-nine (c .before .before .before .before .before .before .before .before .before .before .before .before .before .args .program) (lookIn (c .before .before .before .before .before .before .before .before .before .before .before .before .before .args .cls .now) (c .before .before .before .before .before .before .before .before .before .before .before .before .before .args .idx .now) (c .before .before .before .before .before .before .before .before .before .before .before .before .before .args .wid .now)) (givenIn (c .before .before .before .before .before .before .before .before .before .before .before .before .before .args .ini .now) (c .before .before .before .before .before .before .before .before .before .before .before .before .before .args .nxt .now)) (c .before .before .before .before .before .before .before .before .before .before .before .before .before .args .t3) (c .before .before .before .before .before .before .before .before .before .before .before .before .before .args .row) (c .before .before .before .before .before .before .before .before .before .before .before .before .before .pre) (c .before .before .before .before .before .before .before .sort-at .ensures) (c .before .before .before .before .before .before .look .ensures) (c .before .before .before .before .before .look2 .ensures) (c .before .before .before .before .look3 .ensures) (sym (c .before .before .before .classed .ensures) ∙ not-false _ (c .before .before .if1 .left)) (sym (c .before .fits2 .ensures) ∙ not-true _ (c .if2 .taken))
+returns-2 c = let s = c .before .before .before .before .before .before .before .before .args in is-nine (s .program) (lookIn (s .notes .now)) (givenIn (s .notes .now)) (s .t3) (s .row) (c .before .before .before .before .before .before .before .before .pre) (c .before .before .before .before .before .before .before .sort-at .ensures) (c .before .before .before .before .before .before .look .ensures) (c .before .before .before .before .before .look2 .ensures) (c .before .before .before .before .look3 .ensures) (sym (c .before .before .before .classed .ensures) ∙ not-false _ (c .before .before .if1 .left)) (sym (c .before .fits2 .ensures) ∙ not-true _ (c .if2 .taken))
 
+-- src/rules.rt:248:9
 once-requires : tie.Need-once-requires
-once-requires c κs = search needs
+once-requires c κs = tt
 
+-- src/rules.rt:249:9
 returns-3 : tie.Need-returns-3
-returns-3 c = is-ten (c .before .before .before .before .before .before .before .before .before .before .before .before .before .before .before .args .program) (lookIn (c .before .before .before .before .before .before .before .before .before .before .before .before .before .before .before .args .cls .now) (c .before .before .before .before .before .before .before .before .before .before .before .before .before .before .before .args .idx .now) (c .before .before .before .before .before .before .before .before .before .before .before .before .before .before .before .args .wid .now)) (givenIn (c .before .before .before .before .before .before .before .before .before .before .before .before .before .before .before .args .ini .now) (c .before .before .before .before .before .before .before .before .before .before .before .before .before .before .before .args .nxt .now)) (c .before .before .before .before .before .before .before .before .before .before .before .before .before .before .before .args .t3) (c .before .before .before .before .before .before .before .before .before .before .before .before .before .before .before .args .row) (c .before .before .before .before .before .before .before .before .before .before .before .before .before .before .before .pre) (c .before .before .before .before .before .before .before .before .before .sort-at .ensures) (c .before .before .before .before .before .before .before .before .look .ensures) (c .before .before .before .before .before .before .before .look2 .ensures) (c .before .before .before .before .before .before .look3 .ensures) (sym (c .before .before .before .before .before .classed .ensures) ∙ not-false _ (c .before .before .before .before .if1 .left)) (sym (c .before .before .before .fits2 .ensures) ∙ not-false _ (c .before .before .if2 .left)) (sym (c .before .once .ensures) ∙ not-true _ (c .if3 .taken))
+returns-3 c = let s = c .before .before .before .before .before .before .before .before .before .before .args in is-ten (s .program) (lookIn (s .notes .now)) (givenIn (s .notes .now)) (s .t3) (s .row) (c .before .before .before .before .before .before .before .before .before .before .pre) (c .before .before .before .before .before .before .before .before .before .sort-at .ensures) (c .before .before .before .before .before .before .before .before .look .ensures) (c .before .before .before .before .before .before .before .look2 .ensures) (c .before .before .before .before .before .before .look3 .ensures) (sym (c .before .before .before .before .before .classed .ensures) ∙ not-false _ (c .before .before .before .before .if1 .left)) (sym (c .before .before .before .fits2 .ensures) ∙ not-false _ (c .before .before .if2 .left)) (sym (c .before .once .ensures) ∙ not-true _ (c .if3 .taken))
 
+-- src/rules.rt:234:1
 returns-4 : tie.Need-returns-4
-returns-4 c = is-none (c .before .before .before .before .before .before .before .before .before .before .before .before .before .before .before .args .program) (lookIn (c .before .before .before .before .before .before .before .before .before .before .before .before .before .before .before .args .cls .now) (c .before .before .before .before .before .before .before .before .before .before .before .before .before .before .before .args .idx .now) (c .before .before .before .before .before .before .before .before .before .before .before .before .before .before .before .args .wid .now)) (givenIn (c .before .before .before .before .before .before .before .before .before .before .before .before .before .before .before .args .ini .now) (c .before .before .before .before .before .before .before .before .before .before .before .before .before .before .before .args .nxt .now)) (c .before .before .before .before .before .before .before .before .before .before .before .before .before .before .before .args .t3) (c .before .before .before .before .before .before .before .before .before .before .before .before .before .before .before .args .row) (c .before .before .before .before .before .before .before .before .before .before .before .before .before .before .before .pre) (c .before .before .before .before .before .before .before .before .before .sort-at .ensures) (c .before .before .before .before .before .before .before .before .look .ensures) (c .before .before .before .before .before .before .before .look2 .ensures) (c .before .before .before .before .before .before .look3 .ensures) (sym (c .before .before .before .before .before .classed .ensures) ∙ not-false _ (c .before .before .before .before .if1 .left)) (sym (c .before .before .before .fits2 .ensures) ∙ not-false _ (c .before .before .if2 .left)) (sym (c .before .once .ensures) ∙ not-false _ (c .if3 .left))
+returns-4 c = let s = c .before .before .before .before .before .before .before .before .before .before .args in is-none (s .program) (lookIn (s .notes .now)) (givenIn (s .notes .now)) (s .t3) (s .row) (c .before .before .before .before .before .before .before .before .before .before .pre) (c .before .before .before .before .before .before .before .before .before .sort-at .ensures) (c .before .before .before .before .before .before .before .before .look .ensures) (c .before .before .before .before .before .before .before .look2 .ensures) (c .before .before .before .before .before .before .look3 .ensures) (sym (c .before .before .before .before .before .classed .ensures) ∙ not-false _ (c .before .before .before .before .if1 .left)) (sym (c .before .before .before .fits2 .ensures) ∙ not-false _ (c .before .before .if2 .left)) (sym (c .before .once .ensures) ∙ not-false _ (c .if3 .left))
 
 pub fault-spec : {M : Type 1} → statement M
 fault-spec =

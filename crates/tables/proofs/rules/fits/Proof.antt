@@ -29,31 +29,31 @@ array-read-x : tie.Need-array-read-x
 array-read-x c = search needs
 
 is-width-requires : tie.Need-is-width-requires
-is-width-requires c κs = search needs
+is-width-requires c κs = tt
 
 fits-const-requires : tie.Need-fits-const-requires
-fits-const-requires c κs = search needs
+fits-const-requires c κs = tt
 
 fits-give-requires : tie.Need-fits-give-requires
-fits-give-requires c κs = search needs
+fits-give-requires c κs = tt
 
 fits-give-requires-2 : tie.Need-fits-give-requires-2
-fits-give-requires-2 c κs = search needs
+fits-give-requires-2 c κs = tt
 
 fits-cmp-requires : tie.Need-fits-cmp-requires
-fits-cmp-requires c κs = search needs
+fits-cmp-requires c κs = tt
 
 fits-cmp-requires-2 : tie.Need-fits-cmp-requires-2
-fits-cmp-requires-2 c κs = search needs
+fits-cmp-requires-2 c κs = tt
 
 fits-ite-requires : tie.Need-fits-ite-requires
-fits-ite-requires c κs = search needs
+fits-ite-requires c κs = tt
 
 fits-read-requires : tie.Need-fits-read-requires
-fits-read-requires c κs = search needs
+fits-read-requires c κs = tt
 
 fits-write-requires : tie.Need-fits-write-requires
-fits-write-requires c κs = search needs
+fits-write-requires c κs = tt
 
 array-read-fits-one : tie.Need-array-read-fits-one
 array-read-fits-one c = search needs
@@ -62,7 +62,7 @@ array-read-fits-one-2 : tie.Need-array-read-fits-one-2
 array-read-fits-one-2 c = search needs
 
 fits-one-requires : tie.Need-fits-one-requires
-fits-one-requires c κs = search needs
+fits-one-requires c κs = tt
 
 array-read-fits-one-3 : tie.Need-array-read-fits-one-3
 array-read-fits-one-3 c = search needs
@@ -71,10 +71,10 @@ array-read-fits-one-4 : tie.Need-array-read-fits-one-4
 array-read-fits-one-4 c = search needs
 
 fits-one-requires-2 : tie.Need-fits-one-requires-2
-fits-one-requires-2 c κs = search needs
+fits-one-requires-2 c κs = tt
 
 fits-two-requires : tie.Need-fits-two-requires
-fits-two-requires c κs = search needs
+fits-two-requires c κs = tt
 
 returns : tie.Need-returns
 returns c = let s = c .before .before .args in fits-as (s .t1) isBitvec (ap shapeOf (c .before .match .keys1)) (s .t) (s .a) (s .b) (s .c) (c .is-width .ensures ∙ sym (and-true _))

@@ -1,6 +1,5 @@
 use Rattle.tables.proofs.Laws.{and-true}
 use borrow.Author.Tests.{eq-eqb, ne-eqb}
-use borrow.Author.Needs.{needs}
 use Rattle.tables.proofs.rules.fits_cmp.Statement.{statement}
 use Rattle.tables.proofs.rules.fits_cmp.Tie as tie
 use Rattle.tables.proofs.rules.fits_cmp.Reads as reads
@@ -11,7 +10,7 @@ returns : tie.Need-returns
 returns c = simp (ne-eqb _ _ (c .if1 .taken))
 
 same-requires : tie.Need-same-requires
-same-requires c κs = search needs
+same-requires c κs = tt
 
 returns-2 : tie.Need-returns-2
 returns-2 c = simp (eq-eqb _ _ (c .before .if1 .left), and-true) (c .same .ensures)

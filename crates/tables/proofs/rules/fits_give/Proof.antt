@@ -1,7 +1,6 @@
 use mathlib.Core.Path.{sym, _∙_}
 use borrow.Author.Tests.{eq-eqb, ne-eqb, not-true, not-false}
 use Rattle.tables.proofs.Laws.{and-true}
-use borrow.Author.Needs.{needs}
 use Rattle.tables.proofs.rules.fits_give.Statement.{statement}
 use Rattle.tables.proofs.rules.fits_give.Tie as tie
 use Rattle.tables.proofs.rules.fits_give.Reads as reads
@@ -9,7 +8,7 @@ use Rattle.tables.proofs.rules.fits_give.Lts as lts
 use Rattle.tables.proofs.rules.same.Reads as same-reads
 
 same-requires : tie.Need-same-requires
-same-requires c κs = search needs
+same-requires c κs = tt
 
 returns : tie.Need-returns
 returns c = simp (sym (c .before .same .ensures) ∙ not-true _ (c .if1 .taken))

@@ -15,13 +15,13 @@ is-word-requires : tie.Need-is-word-requires
 is-word-requires c κs = search needs
 
 is-array-requires : tie.Need-is-array-requires
-is-array-requires c κs = search needs
+is-array-requires c κs = tt
 
 is-word-sort-requires : tie.Need-is-word-sort-requires
-is-word-sort-requires c κs = search needs
+is-word-sort-requires c κs = tt
 
 is-array-sort-requires : tie.Need-is-array-sort-requires
-is-array-sort-requires c κs = search needs
+is-array-sort-requires c κs = tt
 
 returns : tie.Need-returns
 unfolding suits

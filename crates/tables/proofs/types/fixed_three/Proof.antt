@@ -1,5 +1,4 @@
 use borrow.Author.Tests.{eq-eqb, ne-eqb}
-use borrow.Author.Needs.{needs}
 use Rattle.tables.proofs.types.fixed_three.Statement.{statement}
 use Rattle.tables.proofs.types.fixed_three.Tie as tie
 use Rattle.tables.proofs.types.fixed_three.Reads as reads
@@ -10,7 +9,7 @@ returns : tie.Need-returns
 returns c = simp (ne-eqb _ _ (c .if1 .taken))
 
 fixed-two-requires : tie.Need-fixed-two-requires
-fixed-two-requires c κs = search needs
+fixed-two-requires c κs = tt
 
 returns-2 : tie.Need-returns-2
 returns-2 c = simp (eq-eqb _ _ (c .before .if1 .left)) (c .fixed-two .ensures)

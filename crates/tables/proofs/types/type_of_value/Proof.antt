@@ -28,13 +28,13 @@ returns-2 : tie.Need-returns-2
 returns-2 c = let s = c .before .before .args in type-as (s .t1) (s .t) (s .a) (s .b) (s .c) isJunk (shape-past (kindIn (s .t1)) (c .if2 .taken)) refl
 
 fixed-three-requires : tie.Need-fixed-three-requires
-fixed-three-requires c κs = search needs
+fixed-three-requires c κs = tt
 
 value-requires-2 : tie.Need-value-requires-2
 value-requires-2 c κs = search needs
 
 fixed-three-requires-2 : tie.Need-fixed-three-requires-2
-fixed-three-requires-2 c κs = search needs
+fixed-three-requires-2 c κs = tt
 
 value-requires-3 : tie.Need-value-requires-3
 value-requires-3 c κs = search needs
@@ -43,7 +43,7 @@ value-requires-4 : tie.Need-value-requires-4
 value-requires-4 c κs = search needs
 
 fixed-two-requires : tie.Need-fixed-two-requires
-fixed-two-requires c κs = search needs
+fixed-two-requires c κs = tt
 
 value-requires-5 : tie.Need-value-requires-5
 value-requires-5 c κs = search needs

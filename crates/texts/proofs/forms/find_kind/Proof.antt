@@ -21,7 +21,7 @@ abbrev μ-loop : tie.MeasureT-loop
 μ-loop t k n rows e j₀ j = e - j
 
 all-requires : tie.Need-all-requires Inv-loop μ-loop
-all-requires c κs = search needs
+all-requires c κs = tt
 
 add-e : tie.Need-add-e Inv-loop μ-loop
 add-e c = search needs

@@ -1,3 +1,4 @@
+use native.Mathlib.Nat.{le-trans}
 -- The lines passed have other ids. Assumes nothing.
 use borrow.Author.Needs.{needs}
 use Prim.Native.Nat.{_-_, _≤_}
@@ -20,34 +21,34 @@ loop-holds : tie.Need-loop-holds Inv-loop μ-loop
 loop-holds c = (search needs, name-start (c .before .args .text .now) (c .before .args .n))
 
 find-byte-requires : tie.Need-find-byte-requires Inv-loop μ-loop
-find-byte-requires c κs = search needs
+find-byte-requires c κs = c .before .loop .inv .0
 
 cut-requires : tie.Need-cut-requires Inv-loop μ-loop
-cut-requires c κs = search needs
+cut-requires c κs = (c .find-byte .ensures .0, c .find-byte .ensures .1 .0)
 
 sub-leads : tie.Need-sub-leads Inv-loop μ-loop
-sub-leads c = search needs
+sub-leads c = c .cut .ensures .0
 
 part-leads-start : tie.Need-part-leads-start Inv-loop μ-loop
-part-leads-start c = search needs
+part-leads-start c = c .cut .ensures .0
 
 part-leads-end : tie.Need-part-leads-end Inv-loop μ-loop
-part-leads-end c = search needs
+part-leads-end c = le-trans (c .cut .ensures .1 .0) (c .before .find-byte .ensures .1 .0)
 
 leads-requires : tie.Need-leads-requires Inv-loop μ-loop
-leads-requires c κs = search needs
+leads-requires c κs = tt
 
 sub-part : tie.Need-sub-part Inv-loop μ-loop
-sub-part c = search needs
+sub-part c = c .before .before .before .cut .ensures .0
 
 part-part-start : tie.Need-part-part-start Inv-loop μ-loop
-part-part-start c = search needs
+part-part-start c = c .before .before .before .cut .ensures .0
 
 part-part-end : tie.Need-part-part-end Inv-loop μ-loop
-part-part-end c = search needs
+part-part-end c = le-trans (c .before .before .before .cut .ensures .1 .0) (c .before .before .before .before .find-byte .ensures .1 .0)
 
 part-requires : tie.Need-part-requires Inv-loop μ-loop
-part-requires c κs = search needs
+part-requires c κs = tt
 
 add-t14 : tie.Need-add-t14 Inv-loop μ-loop
 add-t14 c = omega (arith, c .before .part .ensures .0, c .before .part .ensures .1 .0, length-take (c .before .before .before .before .before .before .cut .result - c .before .before .before .before .before .before .before .before .before .loop .i) (drop (c .before .before .before .before .before .before .before .before .before .loop .i) (c .before .before .before .before .before .before .before .before .before .before .before .args .text .now)), length-drop (c .before .before .before .before .before .before .before .before .before .loop .i) (c .before .before .before .before .before .before .before .before .before .before .before .args .text .now))
@@ -59,7 +60,7 @@ returns : tie.Need-returns Inv-loop μ-loop
 returns c = (omega (arith, c .before .before .part .ensures .0), (omega (arith, c .before .before .part .ensures .0, c .before .before .part .ensures .1 .0, length-take (c .before .before .before .before .before .before .before .cut .result - c .before .before .before .before .before .before .before .before .before .before .loop .i) (drop (c .before .before .before .before .before .before .before .before .before .before .loop .i) (c .before .before .before .before .before .before .before .before .before .before .before .before .args .text .now)), length-drop (c .before .before .before .before .before .before .before .before .before .before .loop .i) (c .before .before .before .before .before .before .before .before .before .before .before .before .args .text .now), c .before .before .before .before .before .before .before .cut .ensures .0, c .before .before .before .before .before .before .before .cut .ensures .1 .0, c .before .before .before .before .before .before .before .before .find-byte .ensures .1 .0), part-of (c .before .before .before .before .before .before .before .before .before .before .before .before .args .text .now) (c .before .before .before .before .before .before .before .before .before .before .loop .i) (c .before .before .before .before .before .before .before .cut .result) (c .before .before .part .result .from) (c .before .before .part .result .to) (c .before .before .before .before .before .before .before .cut .ensures .0) (omega (arith, c .before .before .before .before .before .before .before .cut .ensures .1 .0, c .before .before .before .before .before .before .before .before .find-byte .ensures .1 .0)) (c .before .before .part .ensures .1 .0) ∙ (c .before .before .part .ensures .1 .1 ∙ sym (c .before .before .before .before .before .before .before .before .before .before .loop .inv .1 ∙ name-found (c .before .before .before .before .before .before .before .before .before .before .before .before .args .n) (c .before .before .before .before .before .before .before .before .before .before .before .before .args .text .now) (c .before .before .before .before .before .before .before .before .before .before .loop .i) (c .before .before .before .before .before .before .before .before .find-byte .result) (c .before .before .before .before .before .before .before .cut .result) (c .before .before .before .before .before .before .before .before .find-byte .ensures .1 .1) (c .before .before .before .before .before .before .before .cut .ensures .1 .1) (sym (c .before .before .before .before .before .leads .ensures) ∙ c .before .before .before .before .if1 .taken)))))
 
 after-requires : tie.Need-after-requires Inv-loop μ-loop
-after-requires c κs = search needs
+after-requires c κs = tt
 
 loop-less : tie.Need-loop-less Inv-loop μ-loop
 loop-less c = omega (arith, c .after .ensures, c .before .before .before .before .before .find-byte .ensures .0, c .before .before .before .before .before .before .loop-test .taken)

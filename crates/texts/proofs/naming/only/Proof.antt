@@ -12,16 +12,16 @@ use Rattle.texts.proofs.naming.only.Statement.{statement}
 use Rattle.texts.proofs.naming.only.Tie as tie
 
 skip-requires : tie.Need-skip-requires
-skip-requires c κs = search needs
+skip-requires c κs = c .before .pre
 
 returns : tie.Need-returns
 returns c = (search needs, (search needs, sym (ap only (sym (c .before .skip .ensures .1 .1 .0) ∙ no-token (c .before .before .before .args .l .now) (c .before .skip .result) (omega arith)))))
 
 find-byte-requires : tie.Need-find-byte-requires
-find-byte-requires c κs = search needs
+find-byte-requires c κs = c .before .skip .ensures .1 .0
 
 skip-requires-2 : tie.Need-skip-requires-2
-skip-requires-2 c κs = search needs
+skip-requires-2 c κs = c .find-byte .ensures .1 .0
 
 returns-2 : tie.Need-returns-2
 returns-2 c = (c .before .before .find-byte .ensures .0, (c .before .before .find-byte .ensures .1 .0, sym (ap only ((sym (c .before .before .before .before .skip .ensures .1 .1 .0) ∙ next-token (c .before .before .before .before .before .before .args .l .now) (c .before .before .before .before .skip .result) (c .before .before .find-byte .result) (omega arith) (c .before .before .before .before .skip .ensures .1 .1 .1 (omega arith)) (c .before .before .find-byte .ensures .1 .1)) ∙ ap (λ (ts : List (List ℕ)). take (c .before .before .find-byte .result - c .before .before .before .before .skip .result) (drop (c .before .before .before .before .skip .result) (c .before .before .before .before .before .before .args .l .now)) ∷ ts) (sym (c .before .skip2 .ensures .1 .1 .0) ∙ no-token (c .before .before .before .before .before .before .args .l .now) (c .before .skip2 .result) (omega arith))))))

@@ -22,14 +22,14 @@ loop-holds : tie.Need-loop-holds Inv-loop μ-loop
 loop-holds c = (search needs, (search needs, (let q : c .before .args .m ≡ c .before .args .m - 0 = omega arith in ap (λ (k : ℕ). drop k (tokens (drop (c .before .args .i) (c .before .args .l .now)))) q)))
 
 skip-requires : tie.Need-skip-requires Inv-loop μ-loop
-skip-requires c κs = search needs
+skip-requires c κs = c .before .loop .inv .1 .0
 
 returns : tie.Need-returns Inv-loop μ-loop
 returns c = let n : tokens (drop (c .before .skip .result) (c .before .before .before .before .before .args .l .now)) ≡ [] = no-token (c .before .before .before .before .before .args .l .now) (c .before .skip .result) (omega arith) in
     (search needs, n ∙ sym (c .before .before .before .loop .inv .1 .1 ∙ (ap (λ (ts : List (List ℕ)). drop (c .before .before .before .before .before .args .m - c .before .before .before .loop .p) ts) (sym (c .before .skip .ensures .1 .1 .0) ∙ n) ∙ drop-nil (c .before .before .before .before .before .args .m - c .before .before .before .loop .p))))
 
 find-byte-requires : tie.Need-find-byte-requires Inv-loop μ-loop
-find-byte-requires c κs = search needs
+find-byte-requires c κs = c .before .skip .ensures .1 .0
 
 add-p : tie.Need-add-p Inv-loop μ-loop
 add-p c = search needs

@@ -1,32 +1,31 @@
 -- Rule 6, and then the others. Assumes nothing.
 use mathlib.Core.Path.{sym, _∙_}
 use borrow.Author.Tests.{not-true, not-false}
-use Rattle.tables.specs.Lists.{lookIn, givenIn}
+use Rattle.tables.specs.Notes.{lookIn, givenIn}
 use Rattle.texts.proofs.Steps.{taken-bad, taken-many, taken-few}
-use borrow.Author.Needs.{needs}
 use Rattle.texts.proofs.reading.finish.Statement.{statement}
 use Rattle.texts.proofs.reading.finish.Tie as tie
 
 refuse-requires : tie.Need-refuse-requires
-refuse-requires c κs = search needs
+refuse-requires c κs = tt
 
 returns : tie.Need-returns
-returns c = taken-bad (lookIn (c .before .before .before .before .before .before .before .before .before .args .cls .now) (c .before .before .before .before .before .before .before .before .before .args .idx .now) (c .before .before .before .before .before .before .before .before .before .args .wid .now)) (givenIn (c .before .before .before .before .before .before .before .before .before .args .ini .now) (c .before .before .before .before .before .before .before .before .before .args .nxt .now)) (c .before .before .before .before .before .before .before .before .before .args .f) (c .before .before .before .before .before .before .before .before .before .args .l .now) (c .before .before .before .before .before .before .before .before .before .args .t) (c .refuse .ensures) (not-true _ (c .before .if1 .taken))
+returns c = taken-bad (lookIn (c .before .before .before .before .args .notes .now)) (givenIn (c .before .before .before .before .args .notes .now)) (c .before .before .before .before .args .f) (c .before .before .before .before .args .l .now) (c .before .before .before .before .args .t) (c .refuse .ensures) (not-true _ (c .before .if1 .taken))
 
 crowded-requires : tie.Need-crowded-requires
-crowded-requires c κs = search needs
+crowded-requires c κs = c .before .before .before .pre .0
 
 refuse-requires-2 : tie.Need-refuse-requires-2
-refuse-requires-2 c κs = search needs
+refuse-requires-2 c κs = tt
 
 returns-2 : tie.Need-returns-2
-returns-2 c = taken-many (lookIn (c .before .before .before .before .before .before .before .before .before .before .before .args .cls .now) (c .before .before .before .before .before .before .before .before .before .before .before .args .idx .now) (c .before .before .before .before .before .before .before .before .before .before .before .args .wid .now)) (givenIn (c .before .before .before .before .before .before .before .before .before .before .before .args .ini .now) (c .before .before .before .before .before .before .before .before .before .before .before .args .nxt .now)) (c .before .before .before .before .before .before .before .before .before .before .before .args .f) (c .before .before .before .before .before .before .before .before .before .before .before .args .l .now) (c .before .before .before .before .before .before .before .before .before .before .before .args .t) (c .refuse2 .ensures) (not-false _ (c .before .before .before .if1 .left)) (sym (c .before .before .crowded .ensures) ∙ c .before .if2 .taken)
+returns-2 c = taken-many (lookIn (c .before .before .before .before .before .before .args .notes .now)) (givenIn (c .before .before .before .before .before .before .args .notes .now)) (c .before .before .before .before .before .before .args .f) (c .before .before .before .before .before .before .args .l .now) (c .before .before .before .before .before .before .args .t) (c .refuse2 .ensures) (not-false _ (c .before .before .before .if1 .left)) (sym (c .before .before .crowded .ensures) ∙ c .before .if2 .taken)
 
 large-requires : tie.Need-large-requires
-large-requires c κs = search needs
+large-requires c κs = c .before .before .before .before .before .before .pre .1
 
 returns-3 : tie.Need-returns-3
-returns-3 c = taken-few (lookIn (c .before .before .before .before .before .before .before .before .before .before .before .before .args .cls .now) (c .before .before .before .before .before .before .before .before .before .before .before .before .args .idx .now) (c .before .before .before .before .before .before .before .before .before .before .before .before .args .wid .now)) (givenIn (c .before .before .before .before .before .before .before .before .before .before .before .before .args .ini .now) (c .before .before .before .before .before .before .before .before .before .before .before .before .args .nxt .now)) (c .before .before .before .before .before .before .before .before .before .before .before .before .args .f) (c .before .before .before .before .before .before .before .before .before .before .before .before .args .l .now) (c .before .before .before .before .before .before .before .before .before .before .before .before .args .t) (c .large .ensures) (not-false _ (c .before .before .before .before .if1 .left)) (sym (c .before .before .before .crowded .ensures) ∙ c .before .before .if2 .left)
+returns-3 c = taken-few (lookIn (c .before .before .before .before .before .before .before .args .notes .now)) (givenIn (c .before .before .before .before .before .before .before .args .notes .now)) (c .before .before .before .before .before .before .before .args .f) (c .before .before .before .before .before .before .before .args .l .now) (c .before .before .before .before .before .before .before .args .t) (c .large .ensures) (not-false _ (c .before .before .before .before .if1 .left)) (sym (c .before .before .before .crowded .ensures) ∙ c .before .before .if2 .left)
 
 pub finish-spec : {M : Type 1} → statement M
 finish-spec =

@@ -1,13 +1,13 @@
 -- The numbers passed are in the record. Assumes nothing.
 use borrow.Author.Needs.{needs}
-use Prim.Native.Nat.{ℕ, _+_, _-_, _≤_}
+use Prim.Native.Nat.{ℕ, _+_, _-_, _≤_, _<_, zero-le}
 use native.Mathlib.Omega.{arith}
 use mathlib.Core.Path.{_≡_, refl, sym, ap, _∙_}
 use mathlib.Core.Bool.{true, false}
-use mathlib.Core.List.{List, [], _∷_}
-use lib.ListN.{length, take, drop, getD, set, length-set}
-use lib.ListN.{length-drop}
+use mathlib.Core.List.{List, _∷_}
+use lib.ListN.{length, take, drop, getD, set, length-set, length-drop}
 use lib.Seq.{getD-set-other, length-take-le}
+use lib.Arith.{lt-of-le-ne}
 use Rattle.texts.specs.Split.{tokens}
 use Rattle.texts.specs.Reading.{operands}
 use Rattle.texts.proofs.Places.{next-token, no-token}
@@ -25,65 +25,49 @@ add-e : tie.Need-add-e Inv-loop μ-loop
 add-e c = search needs
 
 loop-holds : tie.Need-loop-holds Inv-loop μ-loop
-loop-holds c =
-    let q : c .before .args .m ≡ c .before .args .j + c .before .args .m - c .before .args .j = omega arith in
+loop-holds c = let q : c .before .args .m ≡ c .before .args .j + c .before .args .m - c .before .args .j = omega arith in
     (refl, (search needs, (search needs, (refl, (search needs, (search needs, (search needs, ap (λ (m : ℕ). operands (c .before .args .f) m (c .before .args .j) (c .before .args .start) false 0 (tokens (drop (c .before .args .i) (c .before .args .l .now)))) q)))))))
 
 skip-requires : tie.Need-skip-requires Inv-loop μ-loop
-skip-requires c κs = search needs
+skip-requires c κs = c .before .loop .inv .1 .1 .1 .1 .1 .0
 
 returns : tie.Need-returns Inv-loop μ-loop
-returns c =
-    let l : List ℕ = c .before .before .before .before .before .args .l .now in
-    let f : ℕ = c .before .before .before .before .before .args .f in
-    let at : ℕ = c .before .before .before .loop .at in
-    let p : ℕ = c .before .before .before .loop .p in
-    let rec : List ℕ = c .before .before .before .loop .rec in
-    let e : ℕ = c .before .before .before .before .before .args .j + c .before .before .before .before .before .args .m in
-    let v = c .before .before .before .loop .inv .1 in
-    let w = v .1 .1 .1 .1 .1 .1 in
-    let n : tokens (drop at l) ≡ [] = sym (c .before .skip .ensures .1 .1 .0) ∙ no-token l (c .before .skip .result) (omega arith) in
-    (search needs, (c .before .before .before .loop .inv .0, w ∙ (ap (λ (ts : List (List ℕ)). operands f (e - p) p rec (c .before .before .before .loop .big) (c .before .before .before .loop .len) ts) n ∙ op-none f e p rec (c .before .before .before .loop .big) (c .before .before .before .loop .len) (c .before .before .loop-test .taken))))
+returns c = let s = c .before .before .before .before .before .args in let o = c .before .before .before .loop in let w = c .before .before .before .loop .inv .1 .1 .1 .1 .1 .1 .1 in
+    let e : ℕ = s .j + s .m in
+    (zero-le, (c .before .before .before .loop .inv .0, w ∙ (ap (λ (ts : List (List ℕ)). operands (s .f) (e - o .p) (o .p) (o .rec) (o .big) (o .len) ts) (sym (c .before .skip .ensures .1 .1 .0) ∙ no-token (s .l .now) (c .before .skip .result) (omega (arith, c .if1 .taken))) ∙ op-none (s .f) e (o .p) (o .rec) (o .big) (o .len) (c .before .before .loop-test .taken))))
 
 find-byte-requires : tie.Need-find-byte-requires Inv-loop μ-loop
-find-byte-requires c κs = search needs
+find-byte-requires c κs = c .before .skip .ensures .1 .0
 
 sub-number : tie.Need-sub-number Inv-loop μ-loop
-sub-number c = search needs
+sub-number c = c .find-byte .ensures .0
 
 part-number-start : tie.Need-part-number-start Inv-loop μ-loop
-part-number-start c = search needs
+part-number-start c = c .find-byte .ensures .0
 
 part-number-end : tie.Need-part-number-end Inv-loop μ-loop
-part-number-end c = search needs
+part-number-end c = c .find-byte .ensures .1 .0
 
 number-requires : tie.Need-number-requires Inv-loop μ-loop
-number-requires c κs = search needs
+number-requires c κs = tt
 
 sub-len : tie.Need-sub-len Inv-loop μ-loop
-sub-len c = search needs
+sub-len c = c .before .before .find-byte .ensures .0
 
 enum-told : tie.Need-enum-told Inv-loop μ-loop
 enum-told c = search needs
 
 returns-2 : tie.Need-returns-2 Inv-loop μ-loop
-returns-2 c =
-    let l : List ℕ = c .before .before .before .before .before .before .before .before .before .before .args .l .now in
-    let f : ℕ = c .before .before .before .before .before .before .before .before .before .before .args .f in
-    let at : ℕ = c .before .before .before .before .before .before .before .before .loop .at in
-    let p : ℕ = c .before .before .before .before .before .before .before .before .loop .p in
-    let rec : List ℕ = c .before .before .before .before .before .before .before .before .loop .rec in
-    let e : ℕ = c .before .before .before .before .before .before .before .before .before .before .args .j + c .before .before .before .before .before .before .before .before .before .before .args .m in
-    let v = c .before .before .before .before .before .before .before .before .loop .inv .1 in
-    let w = v .1 .1 .1 .1 .1 .1 in
+returns-2 c = let s = c .before .before .before .before .before .before .before .before .before .before .args in let o = c .before .before .before .before .before .before .before .before .loop in let w = c .before .before .before .before .before .before .before .before .loop .inv .1 .1 .1 .1 .1 .1 .1 in
+    let e : ℕ = s .j + s .m in
+    let l : List ℕ = s .l .now in
     let a : ℕ = c .before .before .before .before .before .before .skip .result in
     let z : ℕ = c .before .before .before .before .find-byte .result in
     let t : List ℕ = take (z - a) (drop a l) in
-    let n : tokens (drop at l) ≡ t ∷ tokens (drop z l) =
-    sym (c .before .before .before .before .before .before .skip .ensures .1 .1 .0) ∙ next-token l a z (omega arith) (c .before .before .before .before .before .before .skip .ensures .1 .1 .1 (omega arith)) (c .before .before .before .before .find-byte .ensures .1 .1) in
-    let s : length t ≡ z - a = length-take-le (z - a) (drop a l) (omega (arith, length-drop a l)) in
-    let u = w ∙ ap (λ (ts : List (List ℕ)). operands f (e - p) p rec (c .before .before .before .before .before .before .before .before .loop .big) (c .before .before .before .before .before .before .before .before .loop .len) ts) n in
-    (search needs, (c .before .before .before .before .before .before .before .before .loop .inv .0, u ∙ op-bad f e p rec (c .before .before .before .before .before .before .before .before .loop .big) (c .before .before .before .before .before .before .before .before .loop .len) t (tokens (drop z l)) (c .before .before .before .before .before .before .before .loop-test .taken) (sym (c .before .before .number .ensures) ∙ c .enum-told .given .1)))
+    let on : a < length l = lt-of-le-ne (c .before .before .before .before .before .before .skip .ensures .1 .0) (c .before .before .before .before .before .if1 .left) in
+    let n : tokens (drop (o .at) l) ≡ t ∷ tokens (drop z l) = sym (c .before .before .before .before .before .before .skip .ensures .1 .1 .0) ∙ next-token l a z on (c .before .before .before .before .before .before .skip .ensures .1 .1 .1 on) (c .before .before .before .before .find-byte .ensures .1 .1) in
+    let u = w ∙ ap (λ (ts : List (List ℕ)). operands (s .f) (e - o .p) (o .p) (o .rec) (o .big) (o .len) ts) n in
+    (zero-le, (c .before .before .before .before .before .before .before .before .loop .inv .0, (u ∙ op-bad (s .f) e (o .p) (o .rec) (o .big) (o .len) t (tokens (drop z l)) (c .before .before .before .before .before .before .before .loop-test .taken) (sym (c .before .before .number .ensures) ∙ c .enum-told .given .1))))
 
 enum-told-2 : tie.Need-enum-told-2 Inv-loop μ-loop
 enum-told-2 c = search needs
@@ -95,22 +79,16 @@ loop-less : tie.Need-loop-less Inv-loop μ-loop
 loop-less c = search needs
 
 loop-again : tie.Need-loop-again Inv-loop μ-loop
-loop-again c =
-    let l : List ℕ = c .before .before .before .before .before .before .before .before .before .before .args .l .now in
-    let f : ℕ = c .before .before .before .before .before .before .before .before .before .before .args .f in
-    let at : ℕ = c .before .before .before .before .before .before .before .before .loop .at in
-    let p : ℕ = c .before .before .before .before .before .before .before .before .loop .p in
-    let rec : List ℕ = c .before .before .before .before .before .before .before .before .loop .rec in
-    let e : ℕ = c .before .before .before .before .before .before .before .before .before .before .args .j + c .before .before .before .before .before .before .before .before .before .before .args .m in
-    let v = c .before .before .before .before .before .before .before .before .loop .inv .1 in
-    let w = v .1 .1 .1 .1 .1 .1 in
+loop-again c = let s = c .before .before .before .before .before .before .before .before .before .before .args in let o = c .before .before .before .before .before .before .before .before .loop in let w = c .before .before .before .before .before .before .before .before .loop .inv .1 .1 .1 .1 .1 .1 .1 in
+    let e : ℕ = s .j + s .m in
+    let l : List ℕ = s .l .now in
     let a : ℕ = c .before .before .before .before .before .before .skip .result in
     let z : ℕ = c .before .before .before .before .find-byte .result in
     let t : List ℕ = take (z - a) (drop a l) in
-    let n : tokens (drop at l) ≡ t ∷ tokens (drop z l) =
-    sym (c .before .before .before .before .before .before .skip .ensures .1 .1 .0) ∙ next-token l a z (omega arith) (c .before .before .before .before .before .before .skip .ensures .1 .1 .1 (omega arith)) (c .before .before .before .before .find-byte .ensures .1 .1) in
-    let s : length t ≡ z - a = length-take-le (z - a) (drop a l) (omega (arith, length-drop a l)) in
-    let u = w ∙ ap (λ (ts : List (List ℕ)). operands f (e - p) p rec (c .before .before .before .before .before .before .before .before .loop .big) (c .before .before .before .before .before .before .before .before .loop .len) ts) n in (
+    let on : a < length l = lt-of-le-ne (c .before .before .before .before .before .before .skip .ensures .1 .0) (c .before .before .before .before .before .if1 .left) in
+    let n : tokens (drop (o .at) l) ≡ t ∷ tokens (drop z l) = sym (c .before .before .before .before .before .before .skip .ensures .1 .1 .0) ∙ next-token l a z on (c .before .before .before .before .before .before .skip .ensures .1 .1 .1 on) (c .before .before .before .before .find-byte .ensures .1 .1) in
+    let u = w ∙ ap (λ (ts : List (List ℕ)). operands (s .f) (e - o .p) (o .p) (o .rec) (o .big) (o .len) ts) n in
+    let k : length t ≡ z - a = length-take-le (z - a) (drop a l) (omega (arith, length-drop a l)) in (
       c .before .before .before .before .before .before .before .before .loop .inv .0,
       (
         omega arith,
@@ -119,13 +97,13 @@ loop-again c =
           (
             refl,
             (
-              v .1 .1 .1 .0,
+              c .before .before .before .before .before .before .before .before .loop .inv .1 .1 .1 .1 .0,
               (
-                omega arith,
+                c .before .before .before .before .find-byte .ensures .1 .0,
                 (
-                  v .1 .1 .1 .1 .1 .0,
-                  u ∙ (op-big f e p rec (c .before .before .before .before .before .before .before .before .loop .big) (c .before .before .before .before .before .before .before .before .loop .len) t (tokens (drop z l)) (c .before .before .before .before .before .before .before .loop-test .taken) (sym (c .before .before .number .ensures) ∙ c .enum-told2 .given .1)
-                      ∙ ap (λ (k : ℕ). operands f (e - (p + 1)) (p + 1) rec true k (tokens (drop z l))) s),
+                  c .before .before .before .before .before .before .before .before .loop .inv .1 .1 .1 .1 .1 .1 .0,
+                  u ∙ (op-big (s .f) e (o .p) (o .rec) (o .big) (o .len) t (tokens (drop z l)) (c .before .before .before .before .before .before .before .loop-test .taken) (sym (c .before .before .number .ensures) ∙ c .enum-told2 .given .1)
+                      ∙ ap (λ (k : ℕ). operands (s .f) (e - (o .p + 1)) (o .p + 1) (o .rec) true k (tokens (drop z l))) k),
                 ),
               ),
             ),
@@ -150,24 +128,18 @@ loop-less-2 : tie.Need-loop-less-2 Inv-loop μ-loop
 loop-less-2 c = search needs
 
 loop-again-2 : tie.Need-loop-again-2 Inv-loop μ-loop
-loop-again-2 c =
-    let l : List ℕ = c .before .before .before .before .before .before .before .before .before .before .before .args .l .now in
-    let f : ℕ = c .before .before .before .before .before .before .before .before .before .before .before .args .f in
-    let at : ℕ = c .before .before .before .before .before .before .before .before .before .loop .at in
-    let p : ℕ = c .before .before .before .before .before .before .before .before .before .loop .p in
-    let rec : List ℕ = c .before .before .before .before .before .before .before .before .before .loop .rec in
-    let e : ℕ = c .before .before .before .before .before .before .before .before .before .before .before .args .j + c .before .before .before .before .before .before .before .before .before .before .before .args .m in
-    let v = c .before .before .before .before .before .before .before .before .before .loop .inv .1 in
-    let w = v .1 .1 .1 .1 .1 .1 in
+loop-again-2 c = let s = c .before .before .before .before .before .before .before .before .before .before .before .args in let o = c .before .before .before .before .before .before .before .before .before .loop in let w = c .before .before .before .before .before .before .before .before .before .loop .inv .1 .1 .1 .1 .1 .1 .1 in
+    let e : ℕ = s .j + s .m in
+    let l : List ℕ = s .l .now in
     let a : ℕ = c .before .before .before .before .before .before .before .skip .result in
     let z : ℕ = c .before .before .before .before .before .find-byte .result in
     let t : List ℕ = take (z - a) (drop a l) in
-    let n : tokens (drop at l) ≡ t ∷ tokens (drop z l) =
-    sym (c .before .before .before .before .before .before .before .skip .ensures .1 .1 .0) ∙ next-token l a z (omega arith) (c .before .before .before .before .before .before .before .skip .ensures .1 .1 .1 (omega arith)) (c .before .before .before .before .before .find-byte .ensures .1 .1) in
-    let s : length t ≡ z - a = length-take-le (z - a) (drop a l) (omega (arith, length-drop a l)) in
-    let u = w ∙ ap (λ (ts : List (List ℕ)). operands f (e - p) p rec (c .before .before .before .before .before .before .before .before .before .loop .big) (c .before .before .before .before .before .before .before .before .before .loop .len) ts) n in
+    let on : a < length l = lt-of-le-ne (c .before .before .before .before .before .before .before .skip .ensures .1 .0) (c .before .before .before .before .before .before .if1 .left) in
+    let n : tokens (drop (o .at) l) ≡ t ∷ tokens (drop z l) = sym (c .before .before .before .before .before .before .before .skip .ensures .1 .1 .0) ∙ next-token l a z on (c .before .before .before .before .before .before .before .skip .ensures .1 .1 .1 on) (c .before .before .before .before .before .find-byte .ensures .1 .1) in
+    let u = w ∙ ap (λ (ts : List (List ℕ)). operands (s .f) (e - o .p) (o .p) (o .rec) (o .big) (o .len) ts) n in
+    let k : length t ≡ z - a = length-take-le (z - a) (drop a l) (omega (arith, length-drop a l)) in
     let x : ℕ = c .before .r .given .0 .0 in (
-      getD-set-other rec p 0 x 0 (λ q. omega arith) ∙ c .before .before .before .before .before .before .before .before .before .loop .inv .0,
+      getD-set-other (o .rec) (o .p) 0 x 0 (λ q. omega arith) ∙ c .before .before .before .before .before .before .before .before .before .loop .inv .0,
       (
         omega arith,
         (
@@ -175,13 +147,13 @@ loop-again-2 c =
           (
             refl,
             (
-              v .1 .1 .1 .0,
+              c .before .before .before .before .before .before .before .before .before .loop .inv .1 .1 .1 .1 .0,
               (
-                omega arith,
+                c .before .before .before .before .before .find-byte .ensures .1 .0,
                 (
-                  length-set rec p x ∙ v .1 .1 .1 .1 .1 .0,
-                  u ∙ (op-is f e p rec (c .before .before .before .before .before .before .before .before .before .loop .big) (c .before .before .before .before .before .before .before .before .before .loop .len) t (tokens (drop z l)) (c .before .before .before .before .before .before .before .before .loop-test .taken) x (sym (c .before .before .before .number .ensures) ∙ c .before .r .given .1)
-                      ∙ ap (λ (k : ℕ). operands f (e - (p + 1)) (p + 1) (set rec p x) (c .before .before .before .before .before .before .before .before .before .loop .big) k (tokens (drop z l))) s),
+                  length-set (o .rec) (o .p) x ∙ c .before .before .before .before .before .before .before .before .before .loop .inv .1 .1 .1 .1 .1 .1 .0,
+                  u ∙ (op-is (s .f) e (o .p) (o .rec) (o .big) (o .len) t (tokens (drop z l)) (c .before .before .before .before .before .before .before .before .loop-test .taken) x (sym (c .before .before .before .number .ensures) ∙ c .before .r .given .1)
+                      ∙ ap (λ (k : ℕ). operands (s .f) (e - (o .p + 1)) (o .p + 1) (set (o .rec) (o .p) x) (o .big) k (tokens (drop z l))) k),
                 ),
               ),
             ),
@@ -191,16 +163,9 @@ loop-again-2 c =
     )
 
 returns-3 : tie.Need-returns-3 Inv-loop μ-loop
-returns-3 c =
-    let l : List ℕ = c .before .before .before .args .l .now in
-    let f : ℕ = c .before .before .before .args .f in
-    let at : ℕ = c .before .loop .at in
-    let p : ℕ = c .before .loop .p in
-    let rec : List ℕ = c .before .loop .rec in
-    let e : ℕ = c .before .before .before .args .j + c .before .before .before .args .m in
-    let v = c .before .loop .inv .1 in
-    let w = v .1 .1 .1 .1 .1 .1 in
-    (v .1 .1 .1 .1 .0, (c .before .loop .inv .0, w ∙ op-end f e p rec (c .before .loop .big) (c .before .loop .len) (tokens (drop at l)) (c .loop-test .left)))
+returns-3 c = let s = c .before .before .before .args in let o = c .before .loop in let w = c .before .loop .inv .1 .1 .1 .1 .1 .1 .1 in
+    let e : ℕ = s .j + s .m in
+    (c .before .loop .inv .1 .1 .1 .1 .1 .0, (c .before .loop .inv .0, w ∙ op-end (s .f) e (o .p) (o .rec) (o .big) (o .len) (tokens (drop (o .at) (s .l .now))) (c .loop-test .left)))
 
 pub operands-spec : {M : Type 1} → statement M
 operands-spec =

@@ -1,119 +1,92 @@
 -- Line after line, reading stands where the definition does. Assumes nothing.
+use native.Mathlib.Nat.{le-trans}
+use Rattle.tables.specs.Tables.{room as roomOf}
 use mathlib.Core.Bool.{false}
-use lib.ListN.{replicate}
-use Rattle.texts.proofs.Reached.{table-size}
-use borrow.Author.Needs.{needs}
 use Prim.Native.Nat.{ℕ, _-_}
 use native.Mathlib.Omega.{arith}
 use mathlib.Core.Path.{_≡_, refl, sym, ap, _∙_}
 use mathlib.Core.List.{List, [], _++_}
-use lib.ListN.{length, length-replicate}
+use lib.ListN.{length, replicate}
 use Rattle.tables.specs.Types.{Ctx, noCtx, grow}
 use Rattle.tables.specs.Lines.{lineOf}
-use Rattle.tables.specs.Tables.{room as roomOf}
-use Rattle.texts.proofs.Reached.{Reached, at-start, at-end, at-no, at-skip, at-got, narrow-list, fits-record, sort-fits, out-refused, out-done}
+use Rattle.texts.proofs.Reached.{Reached, table-size, at-start, at-end, at-no, at-skip, at-got, narrow-noted, fits-record, sort-fits, out-refused, out-done}
 use Rattle.texts.proofs.reading.read_lines.Statement.{statement}
 use Rattle.texts.proofs.reading.read_lines.Tie as tie
 
 abbrev Inv-loop : tie.InvT-loop
-Inv-loop text table₀ cls₀ idx₀ wid₀ ini₀ nxt₀ room i₀ n₀ line₀ table cls idx wid ini nxt i n line =
-    (room ≡ roomOf (length table₀)) × ((e : List ℕ) × ((x : Ctx) × Reached text (length table₀) i n line table cls idx wid ini nxt e x))
+Inv-loop text table₀ notes₀ room i₀ n₀ line₀ table notes i n line = (room ≡ roomOf (length table₀)) × ((e : List ℕ) × ((x : Ctx) × Reached text (length table₀) i n line table notes e x))
 
 abbrev μ-loop : tie.MeasureT-loop
-μ-loop text table₀ cls₀ idx₀ wid₀ ini₀ nxt₀ room i₀ n₀ line₀ table cls idx wid ini nxt i n line = length text - i
+μ-loop text table₀ notes₀ room i₀ n₀ line₀ table notes i n line = length text - i
 
 room-of-requires : tie.Need-room-of-requires Inv-loop μ-loop
-room-of-requires c κs = search needs
+room-of-requires c κs = tt
 
 loop-holds : tie.Need-loop-holds Inv-loop μ-loop
-loop-holds c = (c .room-of .ensures, ([], (noCtx, at-start refl (c .before .before .before .before .before .before .before .before .pre .1 .0) (c .before .before .before .before .before .before .before .before .pre .1 .1 .0) (c .before .before .before .before .before .before .before .before .pre .1 .1 .1))))
+loop-holds c = (c .room-of .ensures, ([], (noCtx, at-start refl (c .before .before .before .pre .1 .0) (c .before .before .before .pre .1 .1 .0) (c .before .before .before .pre .1 .1 .1))))
 
 find-byte-requires : tie.Need-find-byte-requires Inv-loop μ-loop
-find-byte-requires c κs = search needs
+find-byte-requires c κs = c .before .loop .inv .1 .1 .1 .within
 
 cut-requires : tie.Need-cut-requires Inv-loop μ-loop
-cut-requires c κs = search needs
+cut-requires c κs = (c .find-byte .ensures .0, c .find-byte .ensures .1 .0)
 
 sub-read-line : tie.Need-sub-read-line Inv-loop μ-loop
-sub-read-line c = search needs
+sub-read-line c = c .cut .ensures .0
 
 part-read-line-start : tie.Need-part-read-line-start Inv-loop μ-loop
-part-read-line-start c = search needs
+part-read-line-start c = c .cut .ensures .0
 
 part-read-line-end : tie.Need-part-read-line-end Inv-loop μ-loop
-part-read-line-end c = search needs
+part-read-line-end c = le-trans (c .cut .ensures .1 .0) (c .before .find-byte .ensures .1 .0)
 
 read-line-requires : tie.Need-read-line-requires Inv-loop μ-loop
-read-line-requires c κs = (omega (arith, c .before .before .before .before .before .before .before .before .before .loop .inv .1 .1 .1 .most), narrow-list (c .before .before .before .before .before .before .before .before .before .loop .inv .1 .1 .1))
+read-line-requires c κs = (omega (arith, c .before .before .before .before .before .loop .inv .1 .1 .1 .most), narrow-noted (c .before .before .before .before .before .loop .inv .1 .1 .1))
 
 after-requires : tie.Need-after-requires Inv-loop μ-loop
-after-requires c κs = search needs
+after-requires c κs = tt
 
 clear-requires : tie.Need-clear-requires Inv-loop μ-loop
-clear-requires c κs = search needs
+clear-requires c κs = tt
 
 same-length : tie.Need-same-length Inv-loop μ-loop
-same-length c = ap length (c .before .before .clear .ensures) ∙ (length-replicate {A = ℕ} _ 0 ∙ table-size (c .before .before .before .before .before .before .before .before .before .before .before .before .before .before .before .before .before .loop .inv .1 .1 .1))
+same-length c = c .before .before .clear .kept .0 ∙ table-size (c .before .before .before .before .before .before .before .before .before .before .before .before .before .loop .inv .1 .1 .1)
 
 same-length-2 : tie.Need-same-length-2 Inv-loop μ-loop
-same-length-2 c = c .before .before .before .before .before .before .before .before .before .before .before .before .before .before .before .before .before .loop .inv .1 .1 .1 .ample .of-cls ∙ sym (c .before .before .before .before .before .before .before .before .before .before .before .before .before .before .before .before .before .before .before .before .before .before .before .before .before .before .pre .1 .1 .0 .of-cls)
-
-same-length-3 : tie.Need-same-length-3 Inv-loop μ-loop
-same-length-3 c = c .before .before .before .before .before .before .before .before .before .before .before .before .before .before .before .before .before .loop .inv .1 .1 .1 .ample .of-idx ∙ sym (c .before .before .before .before .before .before .before .before .before .before .before .before .before .before .before .before .before .before .before .before .before .before .before .before .before .before .pre .1 .1 .0 .of-idx)
-
-same-length-4 : tie.Need-same-length-4 Inv-loop μ-loop
-same-length-4 c = c .before .before .before .before .before .before .before .before .before .before .before .before .before .before .before .before .before .loop .inv .1 .1 .1 .ample .of-wid ∙ sym (c .before .before .before .before .before .before .before .before .before .before .before .before .before .before .before .before .before .before .before .before .before .before .before .before .before .before .pre .1 .1 .0 .of-wid)
-
-same-length-5 : tie.Need-same-length-5 Inv-loop μ-loop
-same-length-5 c = c .before .before .before .before .before .before .before .before .before .before .before .before .before .before .before .before .before .loop .inv .1 .1 .1 .ample .of-ini ∙ sym (c .before .before .before .before .before .before .before .before .before .before .before .before .before .before .before .before .before .before .before .before .before .before .before .before .before .before .pre .1 .1 .0 .of-ini)
-
-same-length-6 : tie.Need-same-length-6 Inv-loop μ-loop
-same-length-6 c = c .before .before .before .before .before .before .before .before .before .before .before .before .before .before .before .before .before .loop .inv .1 .1 .1 .ample .of-nxt ∙ sym (c .before .before .before .before .before .before .before .before .before .before .before .before .before .before .before .before .before .before .before .before .before .before .before .before .before .before .pre .1 .1 .0 .of-nxt)
+same-length-2 c = c .before .before .before .before .before .before .before .before .before .before .before .before .before .loop .inv .1 .1 .1 .ample ∙ sym (c .before .before .before .before .before .before .before .before .before .before .before .before .before .before .before .before .before .pre .1 .1 .0)
 
 returns : tie.Need-returns Inv-loop μ-loop
-returns c = out-refused (length (c .before .before .before .before .before .before .before .before .before .before .before .before .before .before .before .before .before .before .before .before .before .before .before .before .before .before .args .table .now)) (at-no (c .before .before .before .before .before .before .before .before .before .before .before .before .before .before .before .before .before .loop .inv .1 .1 .1) (c .before .before .before .before .before .before .before .before .before .before .before .before .before .before .before .before .before .before .room-of .result) (c .before .before .before .before .before .before .before .before .before .before .before .before .before .before .before .find-byte .result) (c .before .before .before .before .before .before .before .before .before .before .before .before .before .before .cut .result) (c .before .before .before .before .before .after .result) (c .before .before .before .before .before .before .before .before .before .before .before .before .before .before .before .before .before .loop .inv .0) (c .before .before .before .before .before .before .before .before .before .before .before .before .before .before .before .before .loop-test .taken) (c .before .before .before .before .before .before .before .before .before .before .before .before .before .before .before .find-byte .ensures .1 .1) (c .before .before .before .before .before .before .before .before .before .before .before .before .before .before .cut .ensures .1 .1) (c .before .before .before .before .before .before .before .before .before .before .before .before .before .before .before .find-byte .ensures .1 .0) (c .before .before .before .before .before .after .ensures) (c .before .before .before .before .before .before .before .read-line .result) (c .before .before .before .before .before .before .before .read-line .ensures) (c .before .before .before .before .if1 .taken)) (c .before .before .clear .ensures ∙ ap (λ (k : ℕ). replicate {A = ℕ} k 0) (table-size (c .before .before .before .before .before .before .before .before .before .before .before .before .before .before .before .before .before .loop .inv .1 .1 .1)))
+returns c = out-refused (length (c .before .before .before .before .before .before .before .before .before .before .before .before .before .before .before .before .before .args .table .now)) (at-no (c .before .before .before .before .before .before .before .before .before .before .before .before .before .loop .inv .1 .1 .1) (c .before .before .before .before .before .before .before .before .before .before .before .before .before .before .room-of .result) (c .before .before .before .before .before .before .before .before .before .before .before .find-byte .result) (c .before .before .before .before .before .before .before .before .before .before .cut .result) (c .before .before .before .before .before .before .after .result) (c .before .before .before .before .before .before .before .before .before .before .before .before .before .loop .inv .0) (c .before .before .before .before .before .before .before .before .before .before .before .before .loop-test .taken) (c .before .before .before .before .before .before .before .before .before .before .before .find-byte .ensures .1 .1) (c .before .before .before .before .before .before .before .before .before .before .cut .ensures .1 .1) (c .before .before .before .before .before .before .before .before .before .before .before .find-byte .ensures .1 .0) (c .before .before .before .before .before .before .after .ensures) (c .before .before .before .before .before .before .before .read-line .result) (c .before .before .before .before .before .before .before .read-line .ensures) (c .before .before .before .before .if1 .taken)) (c .before .before .clear .ensures ∙ ap (λ (k : ℕ). replicate {A = ℕ} k 0) (table-size (c .before .before .before .before .before .before .before .before .before .before .before .before .before .loop .inv .1 .1 .1)))
 
 add-line : tie.Need-add-line Inv-loop μ-loop
-add-line c = omega (arith, c .before .before .before .before .before .before .before .before .before .before .before .before .before .loop .inv .1 .1 .1 .early, c .before .before .before .before .before .before .before .before .before .before .before .before .before .loop .inv .1 .1 .1 .within, c .before .before .before .before .before .before .before .before .before .before .before .before .before .before .before .before .before .before .before .before .before .before .pre .0)
+add-line c = omega (arith, c .before .before .before .before .before .before .before .before .before .loop .inv .1 .1 .1 .early, c .before .before .before .before .before .before .before .before .before .loop .inv .1 .1 .1 .within, c .before .before .before .before .before .before .before .before .before .before .before .before .before .pre .0)
 
 take-requires : tie.Need-take-requires Inv-loop μ-loop
-take-requires c κs = (fits-record (c .before .before .before .before .before .before .before .before .before .before .before .before .before .before .before .before .before .before .before .before .loop .inv .1 .1 .1) (c .before .before .before .before .before .before .before .before .before .before .before .before .before .before .before .before .before .before .before .before .before .room-of .result) (c .before .before .before .before .before .before .before .before .before .before .before .before .before .before .before .before .before .before .find-byte .result) (c .before .before .before .before .before .before .before .before .before .before .before .before .before .before .before .before .before .cut .result) (c .before .before .before .before .before .before .before .before .after .result) (c .before .before .before .before .before .before .before .before .before .before .before .before .before .before .before .before .before .before .before .before .loop .inv .0) (c .before .before .before .before .before .before .before .before .before .before .before .before .before .before .before .before .before .before .before .loop-test .taken) (c .before .before .before .before .before .before .before .before .before .before .before .before .before .before .before .before .before .before .find-byte .ensures .1 .1) (c .before .before .before .before .before .before .before .before .before .before .before .before .before .before .before .before .before .cut .ensures .1 .1) (c .before .before .before .before .before .before .before .before .before .before .before .before .before .before .before .before .before .before .find-byte .ensures .1 .0) (c .before .before .before .before .before .before .before .before .after .ensures) (c .before .before .before .before .before .before .before .before .before .before .read-line .result) (c .before .before .before .before .before .before .before .before .before .before .read-line .ensures) (c .before .before .before .before .before .before .if2 .taken), sort-fits (c .before .before .before .before .before .before .before .before .before .before .before .before .before .before .before .before .before .before .before .before .loop .inv .1 .1 .1) (c .before .before .before .before .before .before .before .before .before .before .before .before .before .before .before .before .before .before .before .before .before .room-of .result) (c .before .before .before .before .before .before .before .before .before .before .before .before .before .before .before .before .before .before .find-byte .result) (c .before .before .before .before .before .before .before .before .before .before .before .before .before .before .before .before .before .cut .result) (c .before .before .before .before .before .before .before .before .after .result) (c .before .before .before .before .before .before .before .before .before .before .before .before .before .before .before .before .before .before .before .before .loop .inv .0) (c .before .before .before .before .before .before .before .before .before .before .before .before .before .before .before .before .before .before .before .loop-test .taken) (c .before .before .before .before .before .before .before .before .before .before .before .before .before .before .before .before .before .before .find-byte .ensures .1 .1) (c .before .before .before .before .before .before .before .before .before .before .before .before .before .before .before .before .before .cut .ensures .1 .1) (c .before .before .before .before .before .before .before .before .before .before .before .before .before .before .before .before .before .before .find-byte .ensures .1 .0) (c .before .before .before .before .before .before .before .before .after .ensures) (c .before .before .before .before .before .before .before .before .before .before .read-line .result) (c .before .before .before .before .before .before .before .before .before .before .read-line .ensures) (c .before .before .before .before .before .before .if2 .taken))
+take-requires c κs = (fits-record (c .before .before .before .before .before .before .before .before .before .before .before .before .before .before .loop .inv .1 .1 .1) (c .before .before .before .before .before .before .before .before .before .before .before .before .before .before .before .room-of .result) (c .before .before .before .before .before .before .before .before .before .before .before .before .find-byte .result) (c .before .before .before .before .before .before .before .before .before .before .before .cut .result) (c .before .before .before .before .before .before .before .after .result) (c .before .before .before .before .before .before .before .before .before .before .before .before .before .before .loop .inv .0) (c .before .before .before .before .before .before .before .before .before .before .before .before .before .loop-test .taken) (c .before .before .before .before .before .before .before .before .before .before .before .before .find-byte .ensures .1 .1) (c .before .before .before .before .before .before .before .before .before .before .before .cut .ensures .1 .1) (c .before .before .before .before .before .before .before .before .before .before .before .before .find-byte .ensures .1 .0) (c .before .before .before .before .before .before .before .after .ensures) (c .before .before .before .before .before .before .before .before .read-line .result) (c .before .before .before .before .before .before .before .before .read-line .ensures) (c .before .before .before .if2 .taken), sort-fits (c .before .before .before .before .before .before .before .before .before .before .before .before .before .before .loop .inv .1 .1 .1) (c .before .before .before .before .before .before .before .before .before .before .before .before .before .before .before .room-of .result) (c .before .before .before .before .before .before .before .before .before .before .before .before .find-byte .result) (c .before .before .before .before .before .before .before .before .before .before .before .cut .result) (c .before .before .before .before .before .before .before .after .result) (c .before .before .before .before .before .before .before .before .before .before .before .before .before .before .loop .inv .0) (c .before .before .before .before .before .before .before .before .before .before .before .before .before .loop-test .taken) (c .before .before .before .before .before .before .before .before .before .before .before .before .find-byte .ensures .1 .1) (c .before .before .before .before .before .before .before .before .before .before .before .cut .ensures .1 .1) (c .before .before .before .before .before .before .before .before .before .before .before .before .find-byte .ensures .1 .0) (c .before .before .before .before .before .before .before .after .ensures) (c .before .before .before .before .before .before .before .before .read-line .result) (c .before .before .before .before .before .before .before .before .read-line .ensures) (c .before .before .before .if2 .taken))
 
 add-n : tie.Need-add-n Inv-loop μ-loop
-add-n c = omega (arith, c .before .before .before .before .before .before .before .before .before .before .before .before .before .before .before .before .before .before .before .before .before .before .before .before .before .before .before .before .before .before .before .before .before .loop .inv .1 .1 .1 .most)
+add-n c = omega (arith, c .before .before .before .before .before .before .before .before .before .before .before .before .before .before .before .before .before .before .loop .inv .1 .1 .1 .most)
 
 loop-less : tie.Need-loop-less Inv-loop μ-loop
-loop-less c = omega (arith, c .before .before .before .before .before .before .before .before .before .before .before .before .before .before .before .before .before .before .before .before .before .after .ensures, c .before .before .before .before .before .before .before .before .before .before .before .before .before .before .before .before .before .before .before .before .before .before .before .before .before .before .before .before .before .before .before .find-byte .ensures .0, c .before .before .before .before .before .before .before .before .before .before .before .before .before .before .before .before .before .before .before .before .before .before .before .before .before .before .before .before .before .before .before .before .loop-test .taken)
+loop-less c = omega (arith, c .before .before .before .before .before .before .before .before .before .before .before .after .ensures, c .before .before .before .before .before .before .before .before .before .before .before .before .before .before .before .before .find-byte .ensures .0, c .before .before .before .before .before .before .before .before .before .before .before .before .before .before .before .before .before .loop-test .taken)
 
 loop-again : tie.Need-loop-again Inv-loop μ-loop
-loop-again c = (c .before .before .before .before .before .before .before .before .before .before .before .before .before .before .before .before .before .before .before .before .before .before .before .before .before .before .before .before .before .before .before .before .before .loop .inv .0, (c .before .before .before .before .before .before .before .before .before .before .before .before .before .before .before .before .before .before .before .before .before .before .before .before .before .before .before .before .before .before .before .before .before .loop .inv .1 .0 ++ c .before .before .before .before .before .before .before .before .before .before .before .before .before .before .before .before .before .before .before .before .before .before .before .read-line .result .rec, (grow false (c .before .before .before .before .before .before .before .before .before .before .before .before .before .before .before .before .before .before .before .before .before .before .before .before .before .before .before .before .before .before .before .before .before .loop .inv .1 .1 .0) (lineOf (c .before .before .before .before .before .before .before .before .before .before .before .before .before .before .before .before .before .before .before .before .before .before .before .read-line .result .rec)), at-got (c .before .before .before .before .before .before .before .before .before .before .before .before .before .before .before .before .before .before .before .before .before .before .before .before .before .before .before .before .before .before .before .before .before .loop .inv .1 .1 .1) (c .before .before .before .before .before .before .before .before .before .before .before .before .before .before .before .before .before .before .before .before .before .before .before .before .before .before .before .before .before .before .before .before .before .before .room-of .result) (c .before .before .before .before .before .before .before .before .before .before .before .before .before .before .before .before .before .before .before .before .before .before .before .before .before .before .before .before .before .before .before .find-byte .result) (c .before .before .before .before .before .before .before .before .before .before .before .before .before .before .before .before .before .before .before .before .before .before .before .before .before .before .before .before .before .before .cut .result) (c .before .before .before .before .before .before .before .before .before .before .before .before .before .before .before .before .before .before .before .before .before .after .result) (c .before .before .before .before .before .before .before .before .before .before .before .before .before .before .before .before .before .before .before .before .before .before .before .before .before .before .before .before .before .before .before .before .before .loop .inv .0) (c .before .before .before .before .before .before .before .before .before .before .before .before .before .before .before .before .before .before .before .before .before .before .before .before .before .before .before .before .before .before .before .before .loop-test .taken) (c .before .before .before .before .before .before .before .before .before .before .before .before .before .before .before .before .before .before .before .before .before .before .before .before .before .before .before .before .before .before .before .find-byte .ensures .1 .1) (c .before .before .before .before .before .before .before .before .before .before .before .before .before .before .before .before .before .before .before .before .before .before .before .before .before .before .before .before .before .before .cut .ensures .1 .1) (c .before .before .before .before .before .before .before .before .before .before .before .before .before .before .before .before .before .before .before .before .before .before .before .before .before .before .before .before .before .before .before .find-byte .ensures .1 .0) (c .before .before .before .before .before .before .before .before .before .before .before .before .before .before .before .before .before .before .before .before .before .after .ensures) (c .before .before .before .before .before .before .before .before .before .before .before .before .before .before .before .before .before .before .before .before .before .before .before .read-line .result) (c .before .before .before .before .before .before .before .before .before .before .before .before .before .before .before .before .before .before .before .before .before .before .before .read-line .ensures) (c .before .before .before .before .before .before .before .before .before .before .before .before .before .before .before .before .before .before .before .if2 .taken) (c .before .before .before .before .before .before .before .before .before .before .before .before .take .ensures .0) (c .before .before .before .before .before .before .before .before .before .before .before .before .take .ensures .1))))
+loop-again c = (c .before .before .before .before .before .before .before .before .before .before .before .before .before .before .before .before .before .before .loop .inv .0, (c .before .before .before .before .before .before .before .before .before .before .before .before .before .before .before .before .before .before .loop .inv .1 .0 ++ c .before .before .before .before .before .before .before .before .before .before .before .before .read-line .result .rec, (grow false (c .before .before .before .before .before .before .before .before .before .before .before .before .before .before .before .before .before .before .loop .inv .1 .1 .0) (lineOf (c .before .before .before .before .before .before .before .before .before .before .before .before .read-line .result .rec)), at-got (c .before .before .before .before .before .before .before .before .before .before .before .before .before .before .before .before .before .before .loop .inv .1 .1 .1) (c .before .before .before .before .before .before .before .before .before .before .before .before .before .before .before .before .before .before .before .room-of .result) (c .before .before .before .before .before .before .before .before .before .before .before .before .before .before .before .before .find-byte .result) (c .before .before .before .before .before .before .before .before .before .before .before .before .before .before .before .cut .result) (c .before .before .before .before .before .before .before .before .before .before .before .after .result) (c .before .before .before .before .before .before .before .before .before .before .before .before .before .before .before .before .before .before .loop .inv .0) (c .before .before .before .before .before .before .before .before .before .before .before .before .before .before .before .before .before .loop-test .taken) (c .before .before .before .before .before .before .before .before .before .before .before .before .before .before .before .before .find-byte .ensures .1 .1) (c .before .before .before .before .before .before .before .before .before .before .before .before .before .before .before .cut .ensures .1 .1) (c .before .before .before .before .before .before .before .before .before .before .before .before .before .before .before .before .find-byte .ensures .1 .0) (c .before .before .before .before .before .before .before .before .before .before .before .after .ensures) (c .before .before .before .before .before .before .before .before .before .before .before .before .read-line .result) (c .before .before .before .before .before .before .before .before .before .before .before .before .read-line .ensures) (c .before .before .before .before .before .before .before .if2 .taken) (c .before .before .before .take .ensures .0) (c .before .before .before .take .ensures .1))))
 
 loop-less-2 : tie.Need-loop-less-2 Inv-loop μ-loop
-loop-less-2 c = omega (arith, c .before .before .after .ensures, c .before .before .before .before .before .before .before .before .before .before .before .before .find-byte .ensures .0, c .before .before .before .before .before .before .before .before .before .before .before .before .before .loop-test .taken)
+loop-less-2 c = omega (arith, c .before .before .before .before .after .ensures, c .before .before .before .before .before .before .before .before .before .find-byte .ensures .0, c .before .before .before .before .before .before .before .before .before .before .loop-test .taken)
 
 loop-again-2 : tie.Need-loop-again-2 Inv-loop μ-loop
-loop-again-2 c = (c .before .before .before .before .before .before .before .before .before .before .before .before .before .before .loop .inv .0, (c .before .before .before .before .before .before .before .before .before .before .before .before .before .before .loop .inv .1 .0, (c .before .before .before .before .before .before .before .before .before .before .before .before .before .before .loop .inv .1 .1 .0, at-skip (c .before .before .before .before .before .before .before .before .before .before .before .before .before .before .loop .inv .1 .1 .1) (c .before .before .before .before .before .before .before .before .before .before .before .before .before .before .before .room-of .result) (c .before .before .before .before .before .before .before .before .before .before .before .before .find-byte .result) (c .before .before .before .before .before .before .before .before .before .before .before .cut .result) (c .before .before .after .result) (c .before .before .before .before .before .before .before .before .before .before .before .before .before .before .loop .inv .0) (c .before .before .before .before .before .before .before .before .before .before .before .before .before .loop-test .taken) (c .before .before .before .before .before .before .before .before .before .before .before .before .find-byte .ensures .1 .1) (c .before .before .before .before .before .before .before .before .before .before .before .cut .ensures .1 .1) (c .before .before .before .before .before .before .before .before .before .before .before .before .find-byte .ensures .1 .0) (c .before .before .after .ensures) (c .before .before .before .before .read-line .result) (c .before .before .before .before .read-line .ensures) (c .if2 .left) (c .before .if1 .left))))
+loop-again-2 c = (c .before .before .before .before .before .before .before .before .before .before .before .loop .inv .0, (c .before .before .before .before .before .before .before .before .before .before .before .loop .inv .1 .0, (c .before .before .before .before .before .before .before .before .before .before .before .loop .inv .1 .1 .0, at-skip (c .before .before .before .before .before .before .before .before .before .before .before .loop .inv .1 .1 .1) (c .before .before .before .before .before .before .before .before .before .before .before .before .room-of .result) (c .before .before .before .before .before .before .before .before .before .find-byte .result) (c .before .before .before .before .before .before .before .before .cut .result) (c .before .before .before .before .after .result) (c .before .before .before .before .before .before .before .before .before .before .before .loop .inv .0) (c .before .before .before .before .before .before .before .before .before .before .loop-test .taken) (c .before .before .before .before .before .before .before .before .before .find-byte .ensures .1 .1) (c .before .before .before .before .before .before .before .before .cut .ensures .1 .1) (c .before .before .before .before .before .before .before .before .before .find-byte .ensures .1 .0) (c .before .before .before .before .after .ensures) (c .before .before .before .before .before .read-line .result) (c .before .before .before .before .before .read-line .ensures) (c .if2 .left) (c .before .before .if1 .left))))
 
-same-length-7 : tie.Need-same-length-7 Inv-loop μ-loop
-same-length-7 c = table-size (c .before .loop .inv .1 .1 .1)
+same-length-3 : tie.Need-same-length-3 Inv-loop μ-loop
+same-length-3 c = table-size (c .before .loop .inv .1 .1 .1)
 
-same-length-8 : tie.Need-same-length-8 Inv-loop μ-loop
-same-length-8 c = c .before .loop .inv .1 .1 .1 .ample .of-cls ∙ sym (c .before .before .before .before .before .before .before .before .before .before .pre .1 .1 .0 .of-cls)
-
-same-length-9 : tie.Need-same-length-9 Inv-loop μ-loop
-same-length-9 c = c .before .loop .inv .1 .1 .1 .ample .of-idx ∙ sym (c .before .before .before .before .before .before .before .before .before .before .pre .1 .1 .0 .of-idx)
-
-same-length-10 : tie.Need-same-length-10 Inv-loop μ-loop
-same-length-10 c = c .before .loop .inv .1 .1 .1 .ample .of-wid ∙ sym (c .before .before .before .before .before .before .before .before .before .before .pre .1 .1 .0 .of-wid)
-
-same-length-11 : tie.Need-same-length-11 Inv-loop μ-loop
-same-length-11 c = c .before .loop .inv .1 .1 .1 .ample .of-ini ∙ sym (c .before .before .before .before .before .before .before .before .before .before .pre .1 .1 .0 .of-ini)
-
-same-length-12 : tie.Need-same-length-12 Inv-loop μ-loop
-same-length-12 c = c .before .loop .inv .1 .1 .1 .ample .of-nxt ∙ sym (c .before .before .before .before .before .before .before .before .before .before .pre .1 .1 .0 .of-nxt)
+same-length-4 : tie.Need-same-length-4 Inv-loop μ-loop
+same-length-4 c = c .before .loop .inv .1 .1 .1 .ample ∙ sym (c .before .before .before .before .before .pre .1 .1 .0)
 
 returns-2 : tie.Need-returns-2 Inv-loop μ-loop
-returns-2 c = out-done (length (c .before .before .before .before .before .before .before .before .before .before .args .table .now)) (c .before .loop .n) (c .before .loop .inv .1 .0) (at-end (c .before .loop .inv .1 .1 .1) (c .loop-test .left)) (c .before .loop .inv .1 .1 .1 .filled)
+returns-2 c = out-done (length (c .before .before .before .before .before .args .table .now)) (c .before .loop .n) (c .before .loop .inv .1 .0) (at-end (c .before .loop .inv .1 .1 .1) (c .loop-test .left)) (c .before .loop .inv .1 .1 .1 .filled)
 
 pub read-lines-spec : {M : Type 1} → statement M
 read-lines-spec =
@@ -133,10 +106,6 @@ read-lines-spec =
     clear-requires
     same-length
     same-length-2
-    same-length-3
-    same-length-4
-    same-length-5
-    same-length-6
     returns
     add-line
     take-requires
@@ -145,10 +114,6 @@ read-lines-spec =
     loop-again
     loop-less-2
     loop-again-2
-    same-length-7
-    same-length-8
-    same-length-9
-    same-length-10
-    same-length-11
-    same-length-12
+    same-length-3
+    same-length-4
     returns-2)

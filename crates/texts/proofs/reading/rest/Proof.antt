@@ -4,7 +4,7 @@ use native.Mathlib.Omega.{arith}
 use mathlib.Core.Path.{sym, ap, _∙_, subst}
 use mathlib.Core.List.{List}
 use Rattle.tables.specs.Kinds.{rowOf, countOf}
-use Rattle.tables.specs.Lists.{lookIn, givenIn}
+use Rattle.tables.specs.Notes.{lookIn, givenIn}
 use Rattle.texts.proofs.Words.{row-shape, sorted-most}
 use Rattle.texts.proofs.Steps.{taken-from}
 use borrow.Author.Needs.{needs}
@@ -12,10 +12,10 @@ use Rattle.texts.proofs.reading.rest.Statement.{statement}
 use Rattle.texts.proofs.reading.rest.Tie as tie
 
 row-requires : tie.Need-row-requires
-row-requires c κs = search needs
+row-requires c κs = (c .before .pre .1 .0, c .before .pre .1 .1 .0)
 
 sorted-requires : tie.Need-sorted-requires
-sorted-requires c κs = search needs
+sorted-requires c κs = tt
 
 array-read-c : tie.Need-array-read-c
 array-read-c c = search needs
@@ -24,27 +24,27 @@ cast-c : tie.Need-cast-c
 cast-c c = search needs
 
 kind-of-requires : tie.Need-kind-of-requires
-kind-of-requires c κs = search needs
+kind-of-requires c κs = tt
 
 add-operands : tie.Need-add-operands
-add-operands c = let g = subst (λ (r : List ℕ). countOf r ≤ 3) (sym (c .before .before .row .ensures)) (row-shape (c .before .before .before .before .before .before .before .before .before .args .f) (omega arith) (omega arith) .1) in omega (arith, c .before .sorted .ensures, sorted-most (c .before .before .row .result))
+add-operands c = let g = subst (λ (r : List ℕ). countOf r ≤ 3) (sym (c .before .before .row .ensures)) (row-shape (c .before .before .before .before .args .f) (omega arith) (omega arith) .1) in omega (arith, c .before .sorted .ensures, sorted-most (c .before .before .row .result))
 
 sub-operands : tie.Need-sub-operands
-sub-operands c = let g = subst (λ (r : List ℕ). countOf r ≤ 3) (sym (c .before .before .row .ensures)) (row-shape (c .before .before .before .before .before .before .before .before .before .args .f) (omega arith) (omega arith) .1) in omega (arith, c .before .sorted .ensures, sorted-most (c .before .before .row .result))
+sub-operands c = let g = subst (λ (r : List ℕ). countOf r ≤ 3) (sym (c .before .before .row .ensures)) (row-shape (c .before .before .before .before .args .f) (omega arith) (omega arith) .1) in omega (arith, c .before .sorted .ensures, sorted-most (c .before .before .row .result))
 
 operands-requires : tie.Need-operands-requires
-operands-requires c κs = let g = subst (λ (r : List ℕ). countOf r ≤ 3) (sym (c .before .before .row .ensures)) (row-shape (c .before .before .before .before .before .before .before .before .before .args .f) (omega arith) (omega arith) .1) in
+operands-requires c κs = let g = subst (λ (r : List ℕ). countOf r ≤ 3) (sym (c .before .before .row .ensures)) (row-shape (c .before .before .before .before .args .f) (omega arith) (omega arith) .1) in
     let h = sorted-most (c .before .before .row .result) in
-    (c .before .before .before .before .before .before .before .before .before .pre .0, (omega (arith, c .before .sorted .ensures), omega (arith, c .before .sorted .ensures)))
+    (c .before .before .before .before .pre .0, (omega (arith, c .before .sorted .ensures), omega (arith, c .before .sorted .ensures)))
 
 kind-row-requires : tie.Need-kind-row-requires
-kind-row-requires c κs = search needs
+kind-row-requires c κs = (c .before .before .before .before .before .pre .1 .0, c .before .before .before .row .ensures)
 
 finish-requires : tie.Need-finish-requires
-finish-requires c κs = (c .before .operands .ensures .0, (c .kind-row .ensures ∙ ap rowOf (sym (c .before .operands .ensures .1 .0 ∙ c .before .before .kind-of .ensures)), c .before .before .before .before .before .before .before .before .before .before .before .pre .1 .1 .1))
+finish-requires c κs = (c .before .operands .ensures .0, (c .kind-row .ensures ∙ ap rowOf (sym (c .before .operands .ensures .1 .0 ∙ c .before .before .kind-of .ensures)), c .before .before .before .before .before .before .pre .1 .1 .1))
 
 returns : tie.Need-returns
-returns c = taken-from (lookIn (c .before .before .before .before .before .before .before .before .before .before .before .before .args .cls .now) (c .before .before .before .before .before .before .before .before .before .before .before .before .args .idx .now) (c .before .before .before .before .before .before .before .before .before .before .before .before .args .wid .now)) (givenIn (c .before .before .before .before .before .before .before .before .before .before .before .before .args .ini .now) (c .before .before .before .before .before .before .before .before .before .before .before .before .args .nxt .now)) (c .before .before .before .before .before .before .before .before .before .before .before .before .args .f) (c .before .before .before .before .before .before .before .before .before .before .before .before .args .l .now) (c .before .before .operands .result) (c .before .before .before .before .before .row .result) (c .before .before .before .kind-of .result) (c .before .before .before .before .sorted .result) (c .before .before .before .before .before .before .before .before .before .before .before .before .args .at) (c .finish .ensures) (c .before .before .operands .ensures .1 .1) (c .before .before .before .before .sorted .ensures) (c .before .before .before .before .before .row .ensures) (c .before .before .before .kind-of .ensures)
+returns c = taken-from (lookIn (c .before .before .before .before .before .before .before .args .notes .now)) (givenIn (c .before .before .before .before .before .before .before .args .notes .now)) (c .before .before .before .before .before .before .before .args .f) (c .before .before .before .before .before .before .before .args .l .now) (c .before .before .operands .result) (c .before .before .before .before .before .row .result) (c .before .before .before .kind-of .result) (c .before .before .before .before .sorted .result) (c .before .before .before .before .before .before .before .args .at) (c .finish .ensures) (c .before .before .operands .ensures .1 .1) (c .before .before .before .before .sorted .ensures) (c .before .before .before .before .before .row .ensures) (c .before .before .before .kind-of .ensures)
 
 pub rest-spec : {M : Type 1} → statement M
 rest-spec =

@@ -13,7 +13,7 @@ use Rattle.texts.proofs.reading.word.Statement.{statement}
 use Rattle.texts.proofs.reading.word.Tie as tie
 
 skip-requires : tie.Need-skip-requires
-skip-requires c κs = search needs
+skip-requires c κs = c .before .pre
 
 returns : tie.Need-returns
 returns c =
@@ -22,22 +22,22 @@ returns c =
     (search needs, (search needs, ap (λ (x : List (List ℕ)). wordIn x) n ∙ word-none))
 
 find-byte-requires : tie.Need-find-byte-requires
-find-byte-requires c κs = search needs
+find-byte-requires c κs = c .before .skip .ensures .1 .0
 
 sub-is-sort : tie.Need-sub-is-sort
-sub-is-sort c = search needs
+sub-is-sort c = c .find-byte .ensures .0
 
 part-is-sort-start : tie.Need-part-is-sort-start
-part-is-sort-start c = search needs
+part-is-sort-start c = c .find-byte .ensures .0
 
 part-is-sort-end : tie.Need-part-is-sort-end
-part-is-sort-end c = search needs
+part-is-sort-end c = c .find-byte .ensures .1 .0
 
 is-sort-requires : tie.Need-is-sort-requires
-is-sort-requires c κs = search needs
+is-sort-requires c κs = tt
 
 skip-requires-2 : tie.Need-skip-requires-2
-skip-requires-2 c κs = search needs
+skip-requires-2 c κs = c .before .before .before .find-byte .ensures .1 .0
 
 returns-2 : tie.Need-returns-2
 returns-2 c =
@@ -50,16 +50,16 @@ returns-2 c =
     (search needs, (search needs, ap (λ (x : List (List ℕ)). wordIn x) n ∙ (word-sort (take (z - a) (drop a l)) (tokens (drop z l)) (sym (c .before .before .before .is-sort .ensures) ∙ c .before .before .if2 .taken) ∙ ap (λ (x : List (List ℕ)). sortWords x) k)))
 
 find-byte-requires-2 : tie.Need-find-byte-requires-2
-find-byte-requires-2 c κs = search needs
+find-byte-requires-2 c κs = c .before .skip2 .ensures .1 .0
 
 sub-find-kind : tie.Need-sub-find-kind
-sub-find-kind c = search needs
+sub-find-kind c = c .find-byte2 .ensures .0
 
 part-find-kind-start : tie.Need-part-find-kind-start
-part-find-kind-start c = search needs
+part-find-kind-start c = c .find-byte2 .ensures .0
 
 part-find-kind-end : tie.Need-part-find-kind-end
-part-find-kind-end c = search needs
+part-find-kind-end c = c .find-byte2 .ensures .1 .0
 
 find-kind-requires : tie.Need-find-kind-requires
 find-kind-requires c κs = search needs
@@ -84,16 +84,16 @@ returns-3 c =
     )
 
 sub-find : tie.Need-sub-find
-sub-find c = search needs
+sub-find c = c .before .before .before .find-byte .ensures .0
 
 part-find-start : tie.Need-part-find-start
-part-find-start c = search needs
+part-find-start c = c .before .before .before .find-byte .ensures .0
 
 part-find-end : tie.Need-part-find-end
-part-find-end c = search needs
+part-find-end c = c .before .before .before .find-byte .ensures .1 .0
 
 find-requires : tie.Need-find-requires
-find-requires c κs = search needs
+find-requires c κs = tt
 
 returns-4 : tie.Need-returns-4
 returns-4 c =

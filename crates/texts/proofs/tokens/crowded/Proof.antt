@@ -7,12 +7,11 @@ use lib.ListN.{take, drop}
 use Rattle.texts.specs.Split.{tokens}
 use Rattle.texts.specs.Stages.{several}
 use Rattle.texts.proofs.Places.{next-token, no-token, several-more}
-use borrow.Author.Needs.{needs}
 use Rattle.texts.proofs.tokens.crowded.Statement.{statement}
 use Rattle.texts.proofs.tokens.crowded.Tie as tie
 
 skip-requires : tie.Need-skip-requires
-skip-requires c κs = search needs
+skip-requires c κs = c .before .pre
 
 returns : tie.Need-returns
 returns c =
@@ -21,10 +20,10 @@ returns c =
     sym (ap (λ (x : List (List ℕ)). several x) n)
 
 find-byte-requires : tie.Need-find-byte-requires
-find-byte-requires c κs = search needs
+find-byte-requires c κs = c .before .skip .ensures .1 .0
 
 skip-requires-2 : tie.Need-skip-requires-2
-skip-requires-2 c κs = search needs
+skip-requires-2 c κs = c .find-byte .ensures .1 .0
 
 returns-2 : tie.Need-returns-2
 returns-2 c =

@@ -13,32 +13,22 @@ use Rattle.texts.proofs.Printed.{kind-sort, kind-word, and-then, row-wo
 use borrow.Author.Needs.{needs}
 use Rattle.texts.proofs.writing.put_kind.Statement.{statement}
 use Rattle.texts.proofs.writing.put_kind.Tie as tie
-use Rattle.texts.proofs.writing.put_kind.Reads as reads
-use Rattle.texts.proofs.writing.put_kind.Lts as lts
-use Rattle.texts.proofs.writing.put.Reads as put-reads
-use Rattle.texts.proofs.writing.put_word.Reads as put-word-reads
 
--- src/writing.rt:67:13
 put-requires : tie.Need-put-requires
 put-requires c κs = search needs
 
--- src/writing.rt:68:13
 put-word-requires : tie.Need-put-word-requires
 put-word-requires c κs = (omega arith, omega (arith, c .before .before .before .before .before .before .before .pre .1 .1 .1, c .before .before .before .put .ensures .0, ap length (kind-sort (c .before .before .before .before .before .before .before .args .k) (c .before .before .before .before .before .if1 .taken))))
 
--- src/writing.rt:73:13
 put-requires-2 : tie.Need-put-requires-2
 put-requires-2 c κs = omega (arith, c .before .before .before .before .before .before .before .before .before .before .before .pre .1 .1 .1, c .before .before .before .before .before .before .before .put .ensures .0, c .before .before .before .put-word .ensures .0, ap length (kind-sort (c .before .before .before .before .before .before .before .before .before .before .before .args .k) (c .before .before .before .before .before .before .before .before .before .if1 .taken)))
 
--- src/writing.rt:74:9
 put-word-requires-2 : tie.Need-put-word-requires-2
 put-word-requires-2 c κs = (row-words (c .before .before .before .before .before .before .before .before .before .before .before .before .before .before .before .args .r) (c .before .before .before .before .before .before .before .before .before .before .before .before .before .before .before .args .k) (c .before .before .before .before .before .before .before .before .before .before .before .before .before .before .before .pre .1 .1 .0) (c .before .before .before .before .before .before .before .before .before .before .before .before .before .before .before .pre .0) (c .before .before .before .before .before .before .before .before .before .before .before .before .before .before .before .pre .1 .0), omega (arith, c .before .before .before .before .before .before .before .before .before .before .before .before .before .before .before .pre .1 .1 .1, c .before .before .before .before .before .before .before .before .before .before .before .put .ensures .0, c .before .before .before .before .before .before .before .put-word .ensures .0, c .before .before .before .put2 .ensures .0, ap length (kind-sort (c .before .before .before .before .before .before .before .before .before .before .before .before .before .before .before .args .k) (c .before .before .before .before .before .before .before .before .before .before .before .before .before .if1 .taken)), ap (λ (r : List ℕ). length (wordOf r)) (c .before .before .before .before .before .before .before .before .before .before .before .before .before .before .before .pre .1 .1 .0)))
 
--- src/writing.rt:74:9
 same-length : tie.Need-same-length
-same-length c = search needs
+same-length c = c .before .before .put-word2 .kept .0 ∙ c .before .before .before .before .before .before .put2 .kept .0 ∙ c .before .before .before .before .before .before .before .before .before .before .put-word .kept .0 ∙ c .before .before .before .before .before .before .before .before .before .before .before .before .before .before .put .kept .0
 
--- src/writing.rt:74:9
 returns : tie.Need-returns
 returns c =
     let l : List ℕ = c .before .before .before .before .before .before .before .before .before .before .before .before .before .before .before .before .before .before .args .out .now in
@@ -50,19 +40,15 @@ returns c =
     ap (λ (r : List ℕ). (((32 ∷ []) ++ sortWord) ++ (32 ∷ [])) ++ wordOf r) (c .before .before .before .before .before .before .before .before .before .before .before .before .before .before .before .before .before .before .pre .1 .1 .0) ∙ sym (kind-sort (c .before .before .before .before .before .before .before .before .before .before .before .before .before .before .before .before .before .before .args .k) (c .before .before .before .before .before .before .before .before .before .before .before .before .before .before .before .before .if1 .taken)) in
     subst (λ (b : List ℕ). (c .before .before .put-word2 .result ≡ p + length b) × (c .before .before .put-word2 .last .0 ≡ sets l p b)) e d
 
--- src/writing.rt:76:9
 put-requires-3 : tie.Need-put-requires-3
 put-requires-3 c κs = search needs
 
--- src/writing.rt:77:5
 put-word-requires-3 : tie.Need-put-word-requires-3
 put-word-requires-3 c κs = (row-words (c .before .before .before .before .before .before .before .args .r) (c .before .before .before .before .before .before .before .args .k) (c .before .before .before .before .before .before .before .pre .1 .1 .0) (c .before .before .before .before .before .before .before .pre .0) (c .before .before .before .before .before .before .before .pre .1 .0), omega (arith, c .before .before .before .before .before .before .before .pre .1 .1 .1, c .before .before .before .put3 .ensures .0, ap length (kind-word (c .before .before .before .before .before .before .before .args .k) (omega (arith, c .before .before .before .before .before .if1 .left))), ap (λ (r : List ℕ). length (wordOf r)) (c .before .before .before .before .before .before .before .pre .1 .1 .0)))
 
--- src/writing.rt:62:1
 same-length-2 : tie.Need-same-length-2
-same-length-2 c = search needs
+same-length-2 c = c .before .before .put-word3 .kept .0 ∙ c .before .before .before .before .before .before .put3 .kept .0
 
--- src/writing.rt:62:1
 returns-2 : tie.Need-returns-2
 returns-2 c =
     let l : List ℕ = c .before .before .before .before .before .before .before .before .before .before .args .out .now in

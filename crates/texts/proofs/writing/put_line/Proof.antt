@@ -2,7 +2,7 @@
 
 use Prim.Native.Nat.{ℕ, _≤_}
 use native.Mathlib.Omega.{arith}
-use mathlib.Core.Path.{sym, subst}
+use mathlib.Core.Path.{sym, subst, _∙_}
 use mathlib.Core.List.{List}
 use Rattle.tables.specs.Kinds.{countOf}
 use Rattle.tables.specs.Lines.{kindIn}
@@ -11,64 +11,43 @@ use Rattle.texts.proofs.Printed.{row-fit, line-length, line-put}
 use borrow.Author.Needs.{needs}
 use Rattle.texts.proofs.writing.put_line.Statement.{statement}
 use Rattle.texts.proofs.writing.put_line.Tie as tie
-use Rattle.texts.proofs.writing.put_line.Reads as reads
-use Rattle.texts.proofs.writing.put_line.Lts as lts
-use Rattle.tables.proofs.kinds.row_of.Reads as row-of-reads
-use Rattle.texts.proofs.forms.sorted.Reads as sorted-reads
-use Rattle.texts.proofs.writing.put.Reads as put-reads
-use Rattle.texts.proofs.writing.put_kind.Reads as put-kind-reads
-use Rattle.texts.proofs.writing.put_number.Reads as put-number-reads
-use Rattle.texts.proofs.writing.put_numbers.Reads as put-numbers-reads
 
--- src/writing.rt:102:13
 array-read-k : tie.Need-array-read-k
 array-read-k c = search needs
 
--- src/writing.rt:103:15
 row-of-requires : tie.Need-row-of-requires
-row-of-requires c κs = search needs
+row-of-requires c κs = (c .before .pre .1 .0, (omega (arith, c .before .pre .1 .1 .0), c .before .pre .0))
 
--- src/writing.rt:104:9
 sorted-requires : tie.Need-sorted-requires
-sorted-requires c κs = search needs
+sorted-requires c κs = tt
 
--- src/writing.rt:105:13
 array-read-c : tie.Need-array-read-c
 array-read-c c = search needs
 
--- src/writing.rt:105:13
 cast-c : tie.Need-cast-c
 cast-c c = search needs
 
--- src/writing.rt:106:9
 put-number-requires : tie.Need-put-number-requires
 put-number-requires c κs = omega (arith, c .before .before .before .before .pre .1 .1 .1, line-length (c .before .before .before .before .args .id) (c .before .before .before .before .args .t5) (c .before .before .row-of .result) (c .before .sorted .result) (c .before .before .row-of .ensures) (c .before .sorted .ensures))
 
--- src/writing.rt:107:9
 put-kind-requires : tie.Need-put-kind-requires
 put-kind-requires c κs = (c .before .before .before .before .before .before .before .before .pre .1 .0, (c .before .before .before .before .before .before .before .before .pre .1 .1 .0, (c .before .before .before .before .before .before .row-of .ensures, omega (arith, c .before .before .before .before .before .before .before .before .pre .1 .1 .1, c .before .before .before .put-number .ensures .0, line-length (c .before .before .before .before .before .before .before .before .args .id) (c .before .before .before .before .before .before .before .before .args .t5) (c .before .before .before .before .before .before .row-of .result) (c .before .before .before .before .before .sorted .result) (c .before .before .before .before .before .before .row-of .ensures) (c .before .before .before .before .before .sorted .ensures)))))
 
--- src/writing.rt:108:33
 add-put-numbers : tie.Need-add-put-numbers
 add-put-numbers c = omega (arith, subst (λ (r : List ℕ). countOf r ≤ 3) (sym (c .before .before .before .before .before .before .before .before .before .before .row-of .ensures)) (row-fit (kindIn (c .before .before .before .before .before .before .before .before .before .before .before .before .args .t5)) (c .before .before .before .before .before .before .before .before .before .before .before .before .pre .1 .0) (c .before .before .before .before .before .before .before .before .before .before .before .before .pre .1 .1 .0) .1), sorted-most (c .before .before .before .before .before .before .before .before .before .before .row-of .result), c .before .before .before .before .before .before .before .before .before .sorted .ensures)
 
--- src/writing.rt:108:40
 sub-put-numbers : tie.Need-sub-put-numbers
 sub-put-numbers c = omega (arith, subst (λ (r : List ℕ). countOf r ≤ 3) (sym (c .before .before .before .before .before .before .before .before .before .before .row-of .ensures)) (row-fit (kindIn (c .before .before .before .before .before .before .before .before .before .before .before .before .args .t5)) (c .before .before .before .before .before .before .before .before .before .before .before .before .pre .1 .0) (c .before .before .before .before .before .before .before .before .before .before .before .before .pre .1 .1 .0) .1), sorted-most (c .before .before .before .before .before .before .before .before .before .before .row-of .result), c .before .before .before .before .before .before .before .before .before .sorted .ensures)
 
--- src/writing.rt:108:9
 put-numbers-requires : tie.Need-put-numbers-requires
 put-numbers-requires c κs = (omega (arith, subst (λ (r : List ℕ). countOf r ≤ 3) (sym (c .before .before .before .before .before .before .before .before .before .before .row-of .ensures)) (row-fit (kindIn (c .before .before .before .before .before .before .before .before .before .before .before .before .args .t5)) (c .before .before .before .before .before .before .before .before .before .before .before .before .pre .1 .0) (c .before .before .before .before .before .before .before .before .before .before .before .before .pre .1 .1 .0) .1), sorted-most (c .before .before .before .before .before .before .before .before .before .before .row-of .result), c .before .before .before .before .before .before .before .before .before .sorted .ensures), omega (arith, c .before .before .before .before .before .before .before .before .before .before .before .before .pre .1 .1 .1, c .before .before .before .before .before .before .before .put-number .ensures .0, c .before .before .before .put-kind .ensures .0, line-length (c .before .before .before .before .before .before .before .before .before .before .before .before .args .id) (c .before .before .before .before .before .before .before .before .before .before .before .before .args .t5) (c .before .before .before .before .before .before .before .before .before .before .row-of .result) (c .before .before .before .before .before .before .before .before .before .sorted .result) (c .before .before .before .before .before .before .before .before .before .before .row-of .ensures) (c .before .before .before .before .before .before .before .before .before .sorted .ensures)))
 
--- src/writing.rt:109:5
 put-requires : tie.Need-put-requires
 put-requires c κs = omega (arith, c .before .before .before .before .before .before .before .before .before .before .before .before .before .before .before .before .pre .1 .1 .1, c .before .before .before .before .before .before .before .before .before .before .before .put-number .ensures .0, c .before .before .before .before .before .before .before .put-kind .ensures .0, c .before .before .before .put-numbers .ensures .0, line-length (c .before .before .before .before .before .before .before .before .before .before .before .before .before .before .before .before .args .id) (c .before .before .before .before .before .before .before .before .before .before .before .before .before .before .before .before .args .t5) (c .before .before .before .before .before .before .before .before .before .before .before .before .before .before .row-of .result) (c .before .before .before .before .before .before .before .before .before .before .before .before .before .sorted .result) (c .before .before .before .before .before .before .before .before .before .before .before .before .before .before .row-of .ensures) (c .before .before .before .before .before .before .before .before .before .before .before .before .before .sorted .ensures))
 
--- src/writing.rt:98:1
 same-length : tie.Need-same-length
-same-length c = search needs
+same-length c = c .before .before .put .kept .0 ∙ c .before .before .before .before .before .before .put-numbers .kept .0 ∙ c .before .before .before .before .before .before .before .before .before .before .put-kind .kept .0 ∙ c .before .before .before .before .before .before .before .before .before .before .before .before .before .before .put-number .kept .0
 
--- src/writing.rt:98:1
 returns : tie.Need-returns
 returns c = line-put (c .before .before .before .before .before .before .before .before .before .before .before .before .before .before .before .before .before .before .before .args .id) (c .before .before .before .before .before .before .before .before .before .before .before .before .before .before .before .before .before .before .before .args .t5) (c .before .before .before .before .before .before .before .before .before .before .before .before .before .before .before .before .before .row-of .result) (c .before .before .before .before .before .before .before .before .before .before .before .before .before .before .before .before .sorted .result) (c .before .before .before .before .before .before .before .before .before .before .before .before .before .before .before .before .before .row-of .ensures) (c .before .before .before .before .before .before .before .before .before .before .before .before .before .before .before .before .sorted .ensures) (c .before .before .before .before .before .before .before .before .before .before .before .before .before .before .before .before .before .before .before .args .out .now) (c .before .before .before .before .before .before .before .before .before .before .before .before .before .before .before .before .before .before .before .args .at) (c .before .before .before .before .before .before .before .before .before .before .before .before .before .before .put-number .ensures) (c .before .before .before .before .before .before .before .before .before .before .put-kind .ensures) (c .before .before .before .before .before .before .put-numbers .ensures) (c .before .before .put .ensures)
 

@@ -5,11 +5,6 @@ use native.Mathlib.Omega.{arith}
 use Rattle.texts.proofs.Printed.{Before, before-all, after-all, this-kind, this-fits, next-record}
 use Rattle.texts.proofs.writing.put_lines.Statement.{statement}
 use Rattle.texts.proofs.writing.put_lines.Tie as tie
-use Rattle.texts.proofs.writing.put_lines.Reads as reads
-use Rattle.texts.proofs.writing.put_lines.Lts as lts
-use Rattle.tables.proofs.kinds.all.Reads as all-reads
-use Rattle.tables.proofs.records.record.Reads as record-reads
-use Rattle.texts.proofs.writing.put_line.Reads as put-line-reads
 
 abbrev Inv-loop : tie.InvT-loop
 Inv-loop out₀ table count kinds at₀ p₀ out at p = Before table count out₀ out at p
@@ -17,39 +12,30 @@ Inv-loop out₀ table count kinds at₀ p₀ out at p = Before table count out�
 abbrev μ-loop : tie.MeasureT-loop
 μ-loop out₀ table count kinds at₀ p₀ out at p = count - p
 
--- src/writing.rt:117:17
 all-requires : tie.Need-all-requires Inv-loop μ-loop
-all-requires c κs = search needs
+all-requires c κs = tt
 
--- src/writing.rt:120:5
 loop-holds : tie.Need-loop-holds Inv-loop μ-loop
 loop-holds c = before-all _ _ _ (c .before .before .before .pre .0) (c .before .before .before .pre .1)
 
--- src/writing.rt:121:13
 record-requires : tie.Need-record-requires Inv-loop μ-loop
 record-requires c κs = omega (arith, c .before .before .before .before .before .pre .0)
 
--- src/writing.rt:122:9
 add-p : tie.Need-add-p Inv-loop μ-loop
 add-p c = search needs
 
--- src/writing.rt:123:9
 put-line-requires : tie.Need-put-line-requires Inv-loop μ-loop
 put-line-requires c κs = let k = this-kind (c .before .before .before .before .loop .inv) (c .before .before .before .before .before .before .before .before .pre .0) (c .before .before .before .before .before .before .before .before .pre .1) (c .before .before .before .loop-test .taken) _ (c .before .before .«record» .ensures) in (c .before .before .before .before .before .all .ensures, (k .0, (k .1, this-fits (c .before .before .before .before .loop .inv) (c .before .before .before .before .before .before .before .before .pre .0) (c .before .before .before .before .before .before .before .before .pre .1) (c .before .before .before .loop-test .taken) _ (c .before .before .«record» .ensures))))
 
--- src/writing.rt:120:5
 loop-less : tie.Need-loop-less Inv-loop μ-loop
 loop-less c = omega (arith, c .before .before .before .before .before .before .loop-test .taken)
 
--- src/writing.rt:120:5
 loop-again : tie.Need-loop-again Inv-loop μ-loop
 loop-again c = next-record (c .before .before .before .before .before .before .before .loop .inv) (c .before .before .before .before .before .before .before .before .before .before .before .pre .0) (c .before .before .before .before .before .before .before .before .before .before .before .pre .1) (c .before .before .before .before .before .before .loop-test .taken) _ (c .before .before .before .before .before .«record» .ensures) _ _ (c .before .before .put-line .ensures)
 
--- src/writing.rt:113:1
 same-length : tie.Need-same-length Inv-loop μ-loop
 same-length c = c .before .loop .inv .size
 
--- src/writing.rt:113:1
 returns : tie.Need-returns Inv-loop μ-loop
 returns c = after-all (c .before .loop .inv) (c .before .before .before .before .before .pre .0) (c .loop-test .left)
 

@@ -1,0 +1,65 @@
+use mathlib.Core.Path.{sym, ap, _∙_}
+use mathlib.Core.List.{List}
+use Prim.Native.Nat.{ℕ}
+use lib.ListN.{set, getD}
+use borrow.Author.Tests.{eq-eqb, ne-eqb}
+use Rattle.tables.specs.Notes.{marked}
+use Rattle.tables.specs.Lines.{kindIn, firstIn, giveKind}
+use borrow.Author.Needs.{needs}
+use Rattle.tables.proofs.notes.mark.Statement.{statement}
+use Rattle.tables.proofs.notes.mark.Tie as tie
+use Rattle.tables.proofs.notes.mark.Reads as reads
+use Rattle.tables.proofs.notes.mark.Lts as lts
+use Rattle.tables.proofs.notes.at.Reads as at-reads
+use Rattle.tables.proofs.notes.marked.Reads as marked-reads
+use Rattle.tables.proofs.notes.put.Reads as put-reads
+
+-- src/notes.rt:67:8
+array-read-if1 : tie.Need-array-read-if1
+array-read-if1 c = search needs
+
+-- src/notes.rt:68:27
+array-read-at : tie.Need-array-read-at
+array-read-at c = search needs
+
+-- src/notes.rt:68:13
+at-requires : tie.Need-at-requires
+at-requires c κs = search needs
+
+-- src/notes.rt:69:20
+array-read-put : tie.Need-array-read-put
+array-read-put c = search needs
+
+-- src/notes.rt:69:28
+marked-requires : tie.Need-marked-requires
+marked-requires c κs = tt
+
+-- src/notes.rt:69:9
+put-requires : tie.Need-put-requires
+put-requires c κs = search needs
+
+-- src/notes.rt:63:1
+same-length : tie.Need-same-length
+same-length c = search needs
+
+-- src/notes.rt:63:1
+returns : tie.Need-returns
+returns c = rw (eq-eqb (kindIn (c .before .before .before .before .before .before .before .args .t3)) (giveKind (c .before .before .before .before .before .before .before .args .init)) (c .before .before .before .before .before .before .if1 .taken ∙ c .before .before .before .before .before .before .before .pre)) (c .before .put .ensures ∙ ap (set (c .before .before .before .before .before .before .before .args .notes .now) (firstIn (c .before .before .before .before .before .before .before .args .t3))) (c .before .before .marked .ensures ∙ ap (marked (c .before .before .before .before .before .before .before .args .init)) (c .before .before .before .before .at .ensures)))
+
+-- src/notes.rt:63:1
+returns-2 : tie.Need-returns-2
+returns-2 c = rw (ne-eqb (kindIn (c .before .args .t3)) (giveKind (c .before .args .init)) (λ e. c .if1 .left (e ∙ sym (c .before .pre))))
+
+pub mark-spec : {M : Type 1} → statement M
+mark-spec =
+    tie.close
+    (tie.spec
+    array-read-if1
+    array-read-at
+    at-requires
+    array-read-put
+    marked-requires
+    put-requires
+    same-length
+    returns
+    returns-2)

@@ -1,0 +1,85 @@
+// What a check keeps of each line, at the line's number: its class, its index width, its width, and two marks, of a state that has an init line and of one that has a
+// next line.
+use crate::Ty;
+ghost use mathlib.Core.Path.{_≡_};
+ghost use mathlib.Core.Bool.{Bool, true, false};
+ghost use Prim.Native.Nat.{_+_, _≤_, _<_};
+ghost use lib.ListN.{length, getD, set};
+ghost use Rattle.tables.specs.Lines.{giveKind};
+ghost use Rattle.tables.specs.Notes.{noteAt, lookIn, typed as typedOf, marked as markedOf, markedBy, Spread};
+
+// The note of the line a; of no line past the end.
+pub fn at(notes: &[[u8; 5]], a: u64) -> [u8; 5]
+    ensures { λ r. ⌜ r ≡ noteAt (now (notes .entry)) a ⌝ }
+{
+    if a < notes.len() as u64 {
+        let i = a as usize;
+        return notes[i];
+    }
+    [0, 0, 0, 0, 0]
+}
+
+// The type of the line a.
+pub fn look(notes: &[[u8; 5]], a: u64) -> Ty
+    ensures { λ r. ⌜ r ≡ lookIn (now (notes .entry)) a ⌝ }
+{
+    let r = at(notes, a);
+    Ty {
+        cls: r[0],
+        iw: r[1],
+        w: r[2],
+    }
+}
+
+// A note goes to the line n; a place past the end is left.
+pub fn put(notes: &mut [[u8; 5]], n: u64, r: [u8; 5])
+    ensures { λ _. ⌜ now (notes .exit) ≡ set (now (notes .entry)) n r ⌝ }
+{
+    if n < notes.len() as u64 {
+        let i = n as usize;
+        notes[i] = r;
+    }
+}
+
+// A type goes to the line n.
+pub fn put_type(notes: &mut [[u8; 5]], n: u64, y: Ty)
+    ensures { λ _. ⌜ now (notes .exit) ≡ set (now (notes .entry)) n (typedOf y (noteAt (now (notes .entry)) n)) ⌝ }
+{
+    let r = at(notes, n);
+    put(notes, n, [y.cls, y.iw, y.w, r[3], r[4]]);
+}
+
+// A note with the mark of an init, or of a next.
+fn marked(init: bool, r: [u8; 5]) -> [u8; 5]
+    ensures { λ v. ⌜ v ≡ markedOf init r ⌝ }
+{
+    if init {
+        return [r[0], r[1], r[2], 1, r[4]];
+    }
+    [r[0], r[1], r[2], r[3], 1]
+}
+
+// A record of the kind k, an init or a next, marks its state.
+pub fn mark(init: bool, k: u64, rec: [u64; 5], notes: &mut [[u8; 5]])
+    requires { ⌜ k ≡ giveKind init ⌝ }
+    ensures { λ _. ⌜ now (notes .exit) ≡ markedBy init rec (now (notes .entry)) ⌝ }
+{
+    if rec[0] == k {
+        let r = at(notes, rec[2]);
+        put(notes, rec[2], marked(init, r));
+    }
+}
+
+// The index widths and the widths of the lines up to count go to lists of their own.
+pub fn widths(notes: &[[u8; 5]], count: usize, idx: &mut [u8], wid: &mut [u8])
+    requires { ⌜ (count < length (now idx)) × (count < length (now wid)) ⌝ }
+    ensures { λ _. ⌜ Spread (now (notes .entry)) (count + 1) (now (idx .entry)) (now (wid .entry)) (now (idx .exit)) (now (wid .exit)) ⌝ }
+{
+    let mut i: usize = 0;
+    while i <= count {
+        let r = at(notes, i as u64);
+        idx[i] = r[1];
+        wid[i] = r[2];
+        i += 1;
+    }
+}
