@@ -334,3 +334,6 @@ loaded-as w {u} {r} {s} {s′} {o} {o′} {m} {m′} {d} {d′} {b} {b′} eu er
     let e : put u o (part u s m) ≡ put (put w s vs) o vs =
     ap (λ (l : List ℕ). put l o (part l s m)) eu ∙ ap (put (put w s vs) o) (self w s m vs (settled-length b d (part w s m) ∙ length-part w s m h) h) in
     er ∙ e ∙ (cc)
+
+pub below-as : {p q m : ℕ} → p ≡ q → q < m → p < m
+below-as {p} {q} {m} e h = subst (λ (x : ℕ). x < m) (sym e) h

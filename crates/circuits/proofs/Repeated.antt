@@ -20,6 +20,13 @@ fewer k i n h =
 pub once : (k n : ℕ) → 0 < k → n ≤ k * n
 once k n h = let z : k - 0 ≡ k = omega arith in omega (arith, fewer k 0 n h, ap (λ (m : ℕ). m * n) z)
 
+-- one step's row, and its signal bytes, where those of the steps left fit
+pub row-fits : (k i n r m : ℕ) → i < k → r + (k - i) * n ≤ m → r + n ≤ m
+row-fits k i n r m h l = omega (arith, fewer k i n h)
+
+pub bytes-fit : (k i n g m : ℕ) → i < k → m ≡ g + (k - i) * n → g + n ≤ m
+bytes-fit k i n g m h e = omega (arith, fewer k i n h)
+
 pub ready-as : {p : Bool} {t off wid num pos : List ℕ} {n all words words′ ins ins′ sigs sigs′ : ℕ} → words ≡ words′ → ins ≡ ins′ → sigs ≡ sigs′
     → Ready p t n off wid num pos all words ins sigs → Ready p t n off wid num pos all words′ ins′ sigs′
 ready-as e₁ e₂ e₃ r =

@@ -323,16 +323,19 @@ fn line_op(
 {
     let k = rec[0];
     let a = rec[2] as usize;
-    let b = rec[3] as usize;
-    let c = rec[4] as usize;
+    let x = rec[3];
+    let y = rec[4];
+    let b = x as usize;
+    let c = y as usize;
+    // no operator has a kind below 11
     match k {
-        11..=20 => line_one(program, k, a, rec[3], rec[4], n, off, wid, work),
+        0..=20 => line_one(program, k, a, x, y, n, off, wid, work),
         21..=22 => line_cmp(k == 21, a, b, n, off, num, work),
         23..=52 => line_two(program, k, a, b, n, off, wid, work),
         53 => line_ite(a, b, c, n, off, num, work),
         54 => line_read(a, b, n, off, num, work),
         55 => line_write(a, b, c, n, off, num, work),
-        56 => line_one(program, k, a, rec[3], rec[4], n, off, wid, work),
+        56 => line_one(program, k, a, x, y, n, off, wid, work),
         _ => {}
     }
 }
@@ -355,11 +358,12 @@ pub fn line(
     requires { ⌜ FitL program (now off) (now wid) (now num) (now pos) all (length (now row)) (length (now sig)) (now work) n (lineOf rec) ⌝ }
     ensures { λ _. ⌜ (now (work .exit) ≡ workIn program first (now (off .entry)) (now (wid .entry)) (now (num .entry)) (now (pos .entry)) all (now (row .entry)) (now (work .entry)) n (lineOf rec)) × (now (sig .exit) ≡ sigsIn first (now (off .entry)) (now (pos .entry)) (now (sig .entry)) (now (work .entry)) n (lineOf rec)) ⌝ }
 {
-    let a = rec[2] as usize;
+    let v = rec[2];
+    let a = v as usize;
     let b = rec[3] as usize;
     match rec[0] {
         0..=2 => {}
-        3 => line_const(rec[2], n, off, work),
+        3 => line_const(v, n, off, work),
         4 => line_input(program, n, off, wid, num, pos, row, work),
         5 => line_state(program, first, n, off, wid, num, pos, all, work),
         6 => line_init(first, a, b, off, num, pos, all, work),

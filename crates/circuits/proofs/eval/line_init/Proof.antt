@@ -1,5 +1,9 @@
 -- `eval::line_init` meets its contract. Assumes nothing.
-use mathlib.Core.Path.{refl, _∙_}
+use mathlib.Core.Path.{refl, ap, ap₂, _∙_}
+use Prim.Native.Nat.{ℕ, _+_}
+use lib.ListN.{replicate}
+use Rattle.circuits.specs.Cells.{put}
+use Rattle.circuits.proofs.Puts as laws
 use borrow.Author.Tests.{not-true, not-false}
 use borrow.Author.Needs.{needs}
 use Rattle.circuits.proofs.eval.line_init.Statement.{statement}
@@ -9,31 +13,32 @@ returns : tie.Need-returns
 returns c = rw (not-true (c .before .before .args .first) (c .if1 .taken)) refl
 
 at-requires : tie.Need-at-requires
-at-requires c κs = search needs
+at-requires c κs = c .before .before .pre .value .known
 
 mul-y : tie.Need-mul-y
 mul-y c = search needs
 
 slice-read-y : tie.Need-slice-read-y
-slice-read-y c = search needs
+slice-read-y c = laws.below-as (c .before .at .ensures) (c .before .before .before .before .pre .value .below)
 
 at-requires-2 : tie.Need-at-requires-2
-at-requires-2 c κs = search needs
+at-requires-2 c κs = c .before .before .before .before .pre .known
 
 add-s : tie.Need-add-s
 add-s c = search needs
 
 at-requires-3 : tie.Need-at-requires-3
-at-requires-3 c κs = search needs
+at-requires-3 c κs = c .before .before .before .before .before .before .pre .known
 
 fill-run-requires : tie.Need-fill-run-requires
 fill-run-requires c κs = search needs
 
 same-length : tie.Need-same-length
-same-length c = search needs
+same-length c = c .before .before .fill-run .kept .0
 
 returns-2 : tie.Need-returns-2
-returns-2 c = rw (not-false (c .before .before .before .before .before .before .before .before .before .before .args .first) (c .before .before .before .before .before .before .before .before .if1 .left)) (c .before .before .fill-run .ensures ∙ (cc))
+returns-2 c = let a = c .before .before .before .before .before .before .before .before .before .before .args in let w = a .work .now in
+    rw (not-false (a .first) (c .before .before .before .before .before .before .before .before .if1 .left)) (c .before .before .fill-run .ensures ∙ ap₂ (put w) (ap (λ (n : ℕ). a .all + n) (c .before .before .before .before .before .at2 .ensures)) (ap₂ (replicate {A = ℕ}) (c .before .before .before .at3 .ensures) (laws.word-as w (c .before .before .before .before .before .before .before .at .ensures))))
 
 pub line-init-spec : {M : Type 1} → statement M
 line-init-spec =

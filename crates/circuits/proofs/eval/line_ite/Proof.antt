@@ -7,13 +7,13 @@ use Rattle.circuits.proofs.eval.line_ite.Statement.{statement}
 use Rattle.circuits.proofs.eval.line_ite.Tie as tie
 
 at-requires : tie.Need-at-requires
-at-requires c κs = search needs
+at-requires c κs = c .before .pre .0 .known
 
 at-requires-2 : tie.Need-at-requires-2
-at-requires-2 c κs = search needs
+at-requires-2 c κs = c .before .before .pre .0 .known
 
 at-requires-3 : tie.Need-at-requires-3
-at-requires-3 c κs = search needs
+at-requires-3 c κs = c .before .before .before .pre .1 .lc .known
 
 mul-if1 : tie.Need-mul-if1
 mul-if1 c = search needs
@@ -22,19 +22,19 @@ slice-read-if1 : tie.Need-slice-read-if1
 slice-read-if1 c = search needs
 
 at-requires-4 : tie.Need-at-requires-4
-at-requires-4 c κs = search needs
+at-requires-4 c κs = c .before .before .before .before .before .before .before .pre .1 .la .known
 
 raise-requires : tie.Need-raise-requires
 raise-requires c κs = search needs
 
 at-requires-5 : tie.Need-at-requires-5
-at-requires-5 c κs = search needs
+at-requires-5 c κs = c .before .before .before .before .before .before .before .pre .1 .lb .known
 
 raise-requires-2 : tie.Need-raise-requires-2
 raise-requires-2 c κs = search needs
 
 same-length : tie.Need-same-length
-same-length c = search needs
+same-length c = c .before .before .raise .kept .0
 
 returns : tie.Need-returns
 returns c =
@@ -44,7 +44,7 @@ returns c =
     ∙ sym (laws.picked-yes (s .args .work .now) _ _ (c .before .before .before .before .before .before .before .at3 .ensures) (c .before .before .before .before .before .if1 .taken)))
 
 same-length-2 : tie.Need-same-length-2
-same-length-2 c = search needs
+same-length-2 c = c .before .before .raise2 .kept .0
 
 returns-2 : tie.Need-returns-2
 returns-2 c =

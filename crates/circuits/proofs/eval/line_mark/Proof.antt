@@ -11,10 +11,10 @@ returns : tie.Need-returns
 returns c = search needs
 
 at-requires : tie.Need-at-requires
-at-requires c κs = search needs
+at-requires c κs = c .before .before .before .pre .word .known
 
 at-requires-2 : tie.Need-at-requires-2
-at-requires-2 c κs = search needs
+at-requires-2 c κs = c .before .before .before .before .pre .known
 
 mul-if2 : tie.Need-mul-if2
 mul-if2 c = search needs

@@ -9,10 +9,10 @@ use Rattle.circuits.proofs.eval.line_read.Statement.{statement}
 use Rattle.circuits.proofs.eval.line_read.Tie as tie
 
 at-requires : tie.Need-at-requires
-at-requires c κs = search needs
+at-requires c κs = c .before .pre .0 .known
 
 at-requires-2 : tie.Need-at-requires-2
-at-requires-2 c κs = search needs
+at-requires-2 c κs = c .before .before .pre .1 .li .known
 
 mul-v : tie.Need-mul-v
 mul-v c = search needs
@@ -21,7 +21,7 @@ slice-read-v : tie.Need-slice-read-v
 slice-read-v c = search needs
 
 at-requires-3 : tie.Need-at-requires-3
-at-requires-3 c κs = search needs
+at-requires-3 c κs = c .before .before .before .before .pre .1 .la .known
 
 add-y : tie.Need-add-y
 add-y c =
@@ -48,7 +48,7 @@ mul-work : tie.Need-mul-work
 mul-work c = search needs
 
 slice-write-work : tie.Need-slice-write-work
-slice-write-work c = search needs
+slice-write-work c = laws.below-as (c .before .before .before .before .at .ensures) (c .before .before .before .before .before .before .pre .0 .below)
 
 same-length : tie.Need-same-length
 same-length c = search needs

@@ -1,5 +1,5 @@
 -- `eval::line_state` meets its contract: the state words, masked or not, are copied to the state's cells. Assumes nothing.
-use mathlib.Core.Path.{ap}
+use mathlib.Core.Path.{_∙_, ap}
 use mathlib.Core.Logic.{inr}
 use Prim.Native.Nat.{ℕ, _+_}
 use native.Mathlib.Omega.{arith}
@@ -9,22 +9,22 @@ use Rattle.circuits.proofs.eval.line_state.Statement.{statement}
 use Rattle.circuits.proofs.eval.line_state.Tie as tie
 
 at-requires : tie.Need-at-requires
-at-requires c κs = search needs
+at-requires c κs = c .before .pre .known
 
 at-requires-2 : tie.Need-at-requires-2
-at-requires-2 c κs = search needs
+at-requires-2 c κs = c .before .before .pre .known
 
 at-requires-3 : tie.Need-at-requires-3
-at-requires-3 c κs = search needs
+at-requires-3 c κs = c .before .before .before .pre .known
 
 add-s : tie.Need-add-s
 add-s c = search needs
 
 masks-requires : tie.Need-masks-requires
-masks-requires c κs = search needs
+masks-requires c κs = tt
 
 width-requires : tie.Need-width-requires
-width-requires c κs = search needs
+width-requires c κs = c .before .before .before .before .before .before .pre .known
 
 settle-requires : tie.Need-settle-requires
 settle-requires c κs = search needs
@@ -33,7 +33,7 @@ copy-requires : tie.Need-copy-requires
 copy-requires c κs = let l = c .before .before .before .settle .kept in (inr (omega arith), (omega (arith, l .1 .0), omega (arith, l .1 .0)))
 
 same-length : tie.Need-same-length
-same-length c = search needs
+same-length c = c .before .before .copy .kept .0 ∙ c .before .before .before .before .before .before .settle .kept .1 .0
 
 returns : tie.Need-returns
 returns c = laws.loaded-as (c .before .before .before .before .before .before .before .before .before .before .before .before .before .before .args .work .now) (c .before .before .before .before .before .before .settle .ensures) (c .before .before .copy .ensures) (ap (λ (n : ℕ). c .before .before .before .before .before .before .before .before .before .before .before .before .before .before .args .all + n) (c .before .before .before .before .before .before .before .before .before .before .at3 .ensures)) (c .before .before .before .before .before .before .before .before .before .before .before .before .at .ensures) (c .before .before .before .before .before .before .before .before .before .before .before .at2 .ensures) (c .before .before .before .before .before .before .before .width .ensures) (c .before .before .before .before .before .before .before .before .before .masks .ensures) (omega (arith, c .before .before .before .before .before .before .before .before .before .before .at3 .ensures, c .before .before .before .before .before .before .before .before .before .before .before .at2 .ensures, c .before .before .before .before .before .before .before .before .before .before .before .before .before .before .pre .words))

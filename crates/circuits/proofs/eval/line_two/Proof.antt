@@ -1,4 +1,5 @@
 -- `eval::line_two` meets its contract. Assumes nothing.
+use lib.ListN.{length-set}
 use Prim.Native.Nat.{ℕ}
 use Rattle.circuits.proofs.Fitting.{op-as, fit-as}
 use Rattle.circuits.proofs.Puts as laws
@@ -7,10 +8,10 @@ use Rattle.circuits.proofs.eval.line_two.Statement.{statement}
 use Rattle.circuits.proofs.eval.line_two.Tie as tie
 
 at-requires : tie.Need-at-requires
-at-requires c κs = search needs
+at-requires c κs = c .before .pre .0 .known
 
 at-requires-2 : tie.Need-at-requires-2
-at-requires-2 c κs = search needs
+at-requires-2 c κs = c .before .before .pre .1 .la .known
 
 mul-v : tie.Need-mul-v
 mul-v c = search needs
@@ -19,7 +20,7 @@ slice-read-v : tie.Need-slice-read-v
 slice-read-v c = search needs
 
 at-requires-3 : tie.Need-at-requires-3
-at-requires-3 c κs = search needs
+at-requires-3 c κs = c .before .before .before .before .pre .1 .lb .known
 
 mul-y : tie.Need-mul-y
 mul-y c = search needs
@@ -28,13 +29,13 @@ slice-read-y : tie.Need-slice-read-y
 slice-read-y c = search needs
 
 width-requires : tie.Need-width-requires
-width-requires c κs = search needs
+width-requires c κs = c .before .before .before .before .before .before .pre .0 .known
 
 width-requires-2 : tie.Need-width-requires-2
-width-requires-2 c κs = search needs
+width-requires-2 c κs = c .before .before .before .before .before .before .before .pre .1 .la .known
 
 width-requires-3 : tie.Need-width-requires-3
-width-requires-3 c κs = search needs
+width-requires-3 c κs = c .before .before .before .before .before .before .before .before .pre .1 .lb .known
 
 word-requires : tie.Need-word-requires
 word-requires c κs = fit-as (c .before .before .width .ensures) (c .before .width2 .ensures) (c .width3 .ensures) (laws.word-as (c .before .before .before .before .before .before .before .before .before .args .work .now) (c .before .before .before .before .before .before .at2 .ensures)) (laws.word-as (c .before .before .before .before .before .before .before .before .before .args .work .now) (c .before .before .before .before .at3 .ensures)) (c .before .before .before .before .before .before .before .before .before .pre .1 .op)
@@ -43,10 +44,10 @@ mul-work : tie.Need-mul-work
 mul-work c = search needs
 
 slice-write-work : tie.Need-slice-write-work
-slice-write-work c = search needs
+slice-write-work c = laws.below-as (c .before .before .before .before .before .before .before .before .at .ensures) (c .before .before .before .before .before .before .before .before .before .before .pre .0 .below)
 
 same-length : tie.Need-same-length
-same-length c = search needs
+same-length c = length-set (c .before .before .before .before .before .before .before .before .before .before .args .work .now) (c .before .before .before .before .before .before .before .before .at .result) (c .word .result)
 
 returns : tie.Need-returns
 returns c = let z : ℕ = 0 in laws.stored (c .before .before .before .before .before .before .before .before .before .before .args .work .now) (c .before .before .before .before .before .before .before .before .at .ensures) (op-as (c .before .before .before .before .before .before .before .before .before .before .args .program) (c .before .before .before .before .before .before .before .before .before .before .args .k) z (c .word .ensures) (c .before .before .width2 .ensures) (c .before .width3 .ensures) (laws.word-as (c .before .before .before .before .before .before .before .before .before .before .args .work .now) (c .before .before .before .before .before .before .before .at2 .ensures)) (laws.word-as (c .before .before .before .before .before .before .before .before .before .before .args .work .now) (c .before .before .before .before .before .at3 .ensures))) (search needs)

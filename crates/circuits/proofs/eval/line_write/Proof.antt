@@ -9,13 +9,13 @@ use Rattle.circuits.proofs.eval.line_write.Statement.{statement}
 use Rattle.circuits.proofs.eval.line_write.Tie as tie
 
 at-requires : tie.Need-at-requires
-at-requires c κs = search needs
+at-requires c κs = c .before .pre .0 .known
 
 at-requires-2 : tie.Need-at-requires-2
-at-requires-2 c κs = search needs
+at-requires-2 c κs = c .before .before .pre .0 .known
 
 at-requires-3 : tie.Need-at-requires-3
-at-requires-3 c κs = search needs
+at-requires-3 c κs = c .before .before .before .pre .1 .li .known
 
 mul-j : tie.Need-mul-j
 mul-j c = search needs
@@ -24,7 +24,7 @@ slice-read-j : tie.Need-slice-read-j
 slice-read-j c = search needs
 
 at-requires-4 : tie.Need-at-requires-4
-at-requires-4 c κs = search needs
+at-requires-4 c κs = c .before .before .before .before .before .pre .1 .lv .known
 
 mul-x : tie.Need-mul-x
 mul-x c = search needs
@@ -33,7 +33,7 @@ slice-read-x : tie.Need-slice-read-x
 slice-read-x c = search needs
 
 at-requires-5 : tie.Need-at-requires-5
-at-requires-5 c κs = search needs
+at-requires-5 c κs = c .before .before .before .before .before .before .before .before .pre .1 .la .known
 
 raise-requires : tie.Need-raise-requires
 raise-requires c κs = search needs
@@ -47,7 +47,7 @@ store-run-requires c κs =
     (omega (arith, l .0), omega arith)
 
 same-length : tie.Need-same-length
-same-length c = search needs
+same-length c = c .before .before .store-run .kept .0 ∙ c .before .before .before .before .before .before .raise .kept .0
 
 returns : tie.Need-returns
 returns c =

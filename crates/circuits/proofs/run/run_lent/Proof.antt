@@ -66,7 +66,7 @@ first-bad-requires c κs = let a = c .before .before .before .before .before .be
     (f .steps, (omega arith, omega (arith, ap (λ (n : ℕ). a .k * n) l, c .before .before .before .before .before .before .before .before .before .run-laid .kept .1 .1 .1 .1 .1 .1 .1 .1 .1 .1 .1 .1 .1 .0, f .signals)))
 
 same-length : tie.Need-same-length
-same-length c = search needs
+same-length c = c .before .before .before .before .before .before .before .before .before .before .run-laid .kept .1 .1 .1 .1 .1 .1 .1 .1 .1 .1 .1 .1 .1 .0
 
 same-length-2 : tie.Need-same-length-2
 same-length-2 c = search needs

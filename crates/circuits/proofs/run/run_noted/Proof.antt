@@ -10,27 +10,19 @@ use Rattle.circuits.proofs.Placing.{typed}
 use borrow.Author.Needs.{needs}
 use Rattle.circuits.proofs.run.run_noted.Statement.{statement}
 use Rattle.circuits.proofs.run.run_noted.Tie as tie
-use Rattle.circuits.proofs.run.run_noted.Reads as reads
-use Rattle.circuits.proofs.run.run_noted.Lts as lts
-use Rattle.circuits.proofs.run.run_checked.Reads as run-checked-reads
-use Rattle.tables.proofs.notes.widths.Reads as widths-reads
 
--- src/run.rt:150:33
 slice-aggregate-widths : tie.Need-slice-aggregate-widths
 slice-aggregate-widths c = search needs
 
--- src/run.rt:150:43
 slice-aggregate-widths-2 : tie.Need-slice-aggregate-widths-2
 slice-aggregate-widths-2 c = search needs
 
--- src/run.rt:150:5
 widths-requires : tie.Need-widths-requires
 widths-requires c κs = let a = c .before .before .before .before .before .before .before .args in
     let h = fits-table (a .program) (a .table .now) (a .count) (c .before .before .before .before .before .before .before .pre .0 .accepted) in
     let l = length-replicate {A = ℕ} 16385 0 in
     (omega arith, omega arith)
 
--- src/run.rt:151:5
 run-checked-requires : tie.Need-run-checked-requires
 run-checked-requires c κs = let a = c .before .before .before .before .before .before .before .before .before .before .before .before .before .before .args in
     let acc = c .before .before .before .before .before .before .before .before .before .before .before .before .before .before .pre .0 .accepted in
@@ -39,15 +31,12 @@ run-checked-requires c κs = let a = c .before .before .before .before .before .
     let z = zeros-at 16385 in
     (typed (a .program) (a .table .now) (a .count) acc (index-widths (a .program) (a .table .now) (a .count) acc sh sp z z) (word-widths (a .program) (a .table .now) (a .count) acc sh sp z z), c .before .before .before .before .before .before .before .before .before .before .before .before .before .before .pre .1)
 
--- src/run.rt:134:1
 same-length : tie.Need-same-length
 same-length c = c .before .before .before .before .run-checked .kept .1 .1 .1 .1 .1 .1 .1 .1 .0
 
--- src/run.rt:134:1
 same-length-2 : tie.Need-same-length-2
 same-length-2 c = c .before .before .before .before .run-checked .kept .1 .1 .1 .1 .1 .1 .1 .1 .1 .0
 
--- src/run.rt:134:1
 returns : tie.Need-returns
 returns c = c .before .before .before .before .run-checked .ensures
 

@@ -9,42 +9,28 @@ use Rattle.circuits.proofs.Answering.{ran-refused, ran-lent}
 use borrow.Author.Needs.{needs}
 use Rattle.circuits.proofs.run.run_table.Statement.{statement}
 use Rattle.circuits.proofs.run.run_table.Tie as tie
-use Rattle.circuits.proofs.run.run_table.Reads as reads
-use Rattle.circuits.proofs.run.run_table.Lts as lts
-use Rattle.circuits.proofs.run.run_noted.Reads as run-noted-reads
-use Rattle.tables.proofs.check.check.Reads as check-reads
-use Rattle.tables.proofs.check.clear.Reads as check-clear-reads
-use Rattle.tables.proofs.records.clear.Reads as records-clear-reads
 
--- src/run.rt:178:5
 clear-requires : tie.Need-clear-requires
 clear-requires c κs = tt
 
--- src/run.rt:179:5
 clear-requires-2 : tie.Need-clear-requires-2
 clear-requires-2 c κs = tt
 
--- src/run.rt:181:47
 slice-aggregate-check : tie.Need-slice-aggregate-check
 slice-aggregate-check c = search needs
 
--- src/run.rt:181:11
 check-requires : tie.Need-check-requires
 check-requires c κs = fresh (c .before .before .before .before .before .before .before .before .before .before .before .before .before .before .args .count) 16385 (λ h. omega arith)
 
--- src/run.rt:182:26
 enum-known-r : tie.Need-enum-known-r
 enum-known-r c = search needs
 
--- src/run.rt:183:13
 same-length : tie.Need-same-length
 same-length c = c .before .before .before .before .before .before .before .before .before .before .before .before .clear .kept .0
 
--- src/run.rt:183:13
 same-length-2 : tie.Need-same-length-2
 same-length-2 c = c .before .before .before .before .before .before .before .before .clear2 .kept .0
 
--- src/run.rt:183:13
 returns : tie.Need-returns
 returns c = let a = c .before .before .before .before .before .before .before .before .before .before .before .before .before .before .before .before .before .before .before .args in
     let e = ran-refused (a .program) (a .table .now) (a .count) (a .k) (a .starts .now) (a .inputs .now) (length (a .signals .now)) (length (a .work .now)) _ (sym (c .before .before .before .before .check .ensures .0) ∙ c .before .r .given .1) in
@@ -53,24 +39,19 @@ returns c = let a = c .before .before .before .before .before .before .before .b
 enum-told : tie.Need-enum-told
 enum-told c = search needs
 
--- src/run.rt:187:38
 slice-aggregate-run-noted : tie.Need-slice-aggregate-run-noted
 slice-aggregate-run-noted c = search needs
 
--- src/run.rt:187:5
 run-noted-requires : tie.Need-run-noted-requires
 run-noted-requires c κs = let e = c .before .before .before .enum-told .given .1 in
     (record { accepted = sym (c .before .before .before .before .before .before .check .ensures .0) ∙ e; shows = c .before .before .before .before .before .before .check .ensures .1 e }, (c .before .before .before .before .before .before .before .before .before .before .before .before .before .before .clear .ensures ∙ ap (λ (n : ℕ). replicate n 0) (sym (c .before .before .before .before .before .before .before .before .before .before .before .before .before .before .clear .kept .0)), c .before .before .before .before .before .before .before .before .before .before .clear2 .ensures ∙ ap (λ (n : ℕ). replicate n 0) (sym (c .before .before .before .before .before .before .before .before .before .before .clear2 .kept .0))))
 
--- src/run.rt:166:1
 same-length-3 : tie.Need-same-length-3
 same-length-3 c = c .before .before .before .before .run-noted .kept .1 .1 .1 .1 .1 .1 .1 .0 ∙ c .before .before .before .before .before .before .before .before .before .before .before .before .before .before .before .before .before .before .before .clear .kept .0
 
--- src/run.rt:166:1
 same-length-4 : tie.Need-same-length-4
 same-length-4 c = c .before .before .before .before .run-noted .kept .1 .1 .1 .1 .1 .1 .1 .1 .0 ∙ c .before .before .before .before .before .before .before .before .before .before .before .before .before .before .before .clear2 .kept .0
 
--- src/run.rt:166:1
 returns-2 : tie.Need-returns-2
 returns-2 c = let a = c .before .before .before .before .before .before .before .before .before .before .before .before .before .before .before .before .before .before .before .before .before .before .before .before .before .before .args in
     let e = ran-lent (a .program) (a .table .now) (a .count) (a .k) (a .starts .now) (a .inputs .now) (length (a .signals .now)) (length (a .work .now)) (sym (c .before .before .before .before .before .before .before .before .before .before .before .check .ensures .0) ∙ c .before .before .before .before .before .before .before .before .enum-told .given .1) in

@@ -1,6 +1,6 @@
 -- `steps::run_laid` meets its contract. Assumes nothing.
+use mathlib.Core.Path.{_∙_, _≡_, refl, sym, ap}
 use Prim.Native.Nat.{ℕ, _≤_}
-use mathlib.Core.Path.{_≡_, refl, sym, _∙_, ap}
 use native.Mathlib.Omega.{arith}
 use lib.ListN.{length, replicate, length-drop}
 use lib.Seq.{length-take-le, length-front}
@@ -43,7 +43,7 @@ steps-requires c κs = let a = c .before .before .before .before .before .before
     (omega (arith, lw, c .before .before .before .before .before .before .before .before .before .before .before .before .before .before .before .pre .0), (ready-as (sym (length-drop (a .all) (g .last .1 .1 .1 .1 .1 .1 .1 .1 .1 .1 .1 .0) ∙ omega (arith, lw, c .before .before .before .before .before .before .before .before .before .before .before .before .before .before .before .pre .0))) refl refl (c .before .before .before .before .before .before .before .before .before .before .before .before .before .before .before .pre .1 .0), (c .before .before .before .before .before .before .before .before .before .before .before .before .before .before .before .pre .1 .1 .0, length-front (a .signals .now) (g .last .1 .1 .1 .1 .1 .1 .1 .1 .1 .1 .0) (a .sigs) (g .kept .1 .1 .1 .1 .1 .1 .1 .1 .1 .1 .0) ∙ c .before .before .before .before .before .before .before .before .before .before .before .before .before .before .before .pre .1 .1 .1 .0)))
 
 fill-requires : tie.Need-fill-requires
-fill-requires c κs = search needs
+fill-requires c κs = tt
 
 same-length : tie.Need-same-length
 same-length c = search needs

@@ -8,7 +8,7 @@ use borrow.Author.Needs.{needs}
 use Rattle.circuits.specs.Run.{steps, bytes}
 use Rattle.circuits.specs.Answers.{linesOf}
 use Rattle.circuits.proofs.Puts as laws
-use Rattle.circuits.proofs.Repeated.{fewer, ready-as, run-more, run-ends, run-begins}
+use Rattle.circuits.proofs.Repeated.{fewer, row-fits, bytes-fit, ready-as, run-more, run-ends, run-begins}
 use Rattle.circuits.proofs.steps.steps.Statement.{statement}
 use Rattle.circuits.proofs.steps.steps.Tie as tie
 
@@ -26,82 +26,62 @@ loop-holds c = let s = c .before .before .before .before .args in let z : s .k -
 
 add-e : tie.Need-add-e Inv-loop μ-loop
 add-e c = let s = c .before .before .before .before .before .before .args in let l = c .before .loop in
-    let f₁ = fewer (s .k) (l .i) (s .ins) (omega arith) in
-    let f₂ = fewer (s .k) (l .i) (s .sigs) (omega arith) in
-    let h₁ : l .r + s .ins ≤ length (s .inputs .now) = omega (arith, l .inv .1 .0, l .inv .1 .1 .0) in
-    let h₂ : l .g + s .sigs ≤ length (l .signals) = omega (arith, l .inv .1 .0, l .inv .1 .1 .0) in
+    let h₁ : l .r + s .ins ≤ length (s .inputs .now) = row-fits (s .k) (l .i) (s .ins) (l .r) (length (s .inputs .now)) (c .loop-test .taken) (l .inv .1 .0) in
+    let h₂ : l .g + s .sigs ≤ length (l .signals) = bytes-fit (s .k) (l .i) (s .sigs) (l .g) (length (l .signals)) (c .loop-test .taken) (l .inv .1 .1 .0) in
     omega (arith, c .before .before .before .before .before .before .good .1 .1 .1 .1 .1 .1 .1 .1 .1 .1 .1 .0 .0, c .before .before .before .before .before .before .good .1 .1 .1 .1 .1 .1 .1 .1 .1 .1 .1 .0 .1, c .before .before .before .before .before .before .good .1 .1 .1 .1 .1 .1 .1 .1 .1 .1 .1 .1 .0 .0, l .inv .1 .1 .1 .1 .0)
 
 add-h : tie.Need-add-h Inv-loop μ-loop
 add-h c = let s = c .before .before .before .before .before .before .args in let l = c .before .loop in
-    let f₁ = fewer (s .k) (l .i) (s .ins) (omega arith) in
-    let f₂ = fewer (s .k) (l .i) (s .sigs) (omega arith) in
-    let h₁ : l .r + s .ins ≤ length (s .inputs .now) = omega (arith, l .inv .1 .0, l .inv .1 .1 .0) in
-    let h₂ : l .g + s .sigs ≤ length (l .signals) = omega (arith, l .inv .1 .0, l .inv .1 .1 .0) in
+    let h₁ : l .r + s .ins ≤ length (s .inputs .now) = row-fits (s .k) (l .i) (s .ins) (l .r) (length (s .inputs .now)) (c .loop-test .taken) (l .inv .1 .0) in
+    let h₂ : l .g + s .sigs ≤ length (l .signals) = bytes-fit (s .k) (l .i) (s .sigs) (l .g) (length (l .signals)) (c .loop-test .taken) (l .inv .1 .1 .0) in
     omega (arith, c .before .before .before .before .before .before .good .1 .1 .1 .1 .1 .1 .1 .1 .1 .1 .1 .0 .0, c .before .before .before .before .before .before .good .1 .1 .1 .1 .1 .1 .1 .1 .1 .1 .1 .0 .1, c .before .before .before .before .before .before .good .1 .1 .1 .1 .1 .1 .1 .1 .1 .1 .1 .1 .0 .0, l .inv .1 .1 .1 .1 .0)
 
 mul-walk : tie.Need-mul-walk Inv-loop μ-loop
 mul-walk c = let s = c .before .before .before .before .before .before .args in let l = c .before .loop in
-    let f₁ = fewer (s .k) (l .i) (s .ins) (omega arith) in
-    let f₂ = fewer (s .k) (l .i) (s .sigs) (omega arith) in
-    let h₁ : l .r + s .ins ≤ length (s .inputs .now) = omega (arith, l .inv .1 .0, l .inv .1 .1 .0) in
-    let h₂ : l .g + s .sigs ≤ length (l .signals) = omega (arith, l .inv .1 .0, l .inv .1 .1 .0) in
+    let h₁ : l .r + s .ins ≤ length (s .inputs .now) = row-fits (s .k) (l .i) (s .ins) (l .r) (length (s .inputs .now)) (c .loop-test .taken) (l .inv .1 .0) in
+    let h₂ : l .g + s .sigs ≤ length (l .signals) = bytes-fit (s .k) (l .i) (s .sigs) (l .g) (length (l .signals)) (c .loop-test .taken) (l .inv .1 .1 .0) in
     omega (arith, c .before .before .before .before .before .before .good .1 .1 .1 .1 .1 .1 .1 .1 .1 .1 .1 .0 .0, c .before .before .before .before .before .before .good .1 .1 .1 .1 .1 .1 .1 .1 .1 .1 .1 .0 .1, c .before .before .before .before .before .before .good .1 .1 .1 .1 .1 .1 .1 .1 .1 .1 .1 .1 .0 .0, l .inv .1 .1 .1 .1 .0)
 
 sub-walk : tie.Need-sub-walk Inv-loop μ-loop
 sub-walk c = let s = c .before .before .before .before .before .before .args in let l = c .before .loop in
-    let f₁ = fewer (s .k) (l .i) (s .ins) (omega arith) in
-    let f₂ = fewer (s .k) (l .i) (s .sigs) (omega arith) in
-    let h₁ : l .r + s .ins ≤ length (s .inputs .now) = omega (arith, l .inv .1 .0, l .inv .1 .1 .0) in
-    let h₂ : l .g + s .sigs ≤ length (l .signals) = omega (arith, l .inv .1 .0, l .inv .1 .1 .0) in
+    let h₁ : l .r + s .ins ≤ length (s .inputs .now) = row-fits (s .k) (l .i) (s .ins) (l .r) (length (s .inputs .now)) (c .loop-test .taken) (l .inv .1 .0) in
+    let h₂ : l .g + s .sigs ≤ length (l .signals) = bytes-fit (s .k) (l .i) (s .sigs) (l .g) (length (l .signals)) (c .loop-test .taken) (l .inv .1 .1 .0) in
     search needs
 
 part-walk-start : tie.Need-part-walk-start Inv-loop μ-loop
 part-walk-start c = let s = c .before .before .before .before .before .before .args in let l = c .before .loop in
-    let f₁ = fewer (s .k) (l .i) (s .ins) (omega arith) in
-    let f₂ = fewer (s .k) (l .i) (s .sigs) (omega arith) in
-    let h₁ : l .r + s .ins ≤ length (s .inputs .now) = omega (arith, l .inv .1 .0, l .inv .1 .1 .0) in
-    let h₂ : l .g + s .sigs ≤ length (l .signals) = omega (arith, l .inv .1 .0, l .inv .1 .1 .0) in
+    let h₁ : l .r + s .ins ≤ length (s .inputs .now) = row-fits (s .k) (l .i) (s .ins) (l .r) (length (s .inputs .now)) (c .loop-test .taken) (l .inv .1 .0) in
+    let h₂ : l .g + s .sigs ≤ length (l .signals) = bytes-fit (s .k) (l .i) (s .sigs) (l .g) (length (l .signals)) (c .loop-test .taken) (l .inv .1 .1 .0) in
     search needs
 
 part-walk-end : tie.Need-part-walk-end Inv-loop μ-loop
 part-walk-end c = let s = c .before .before .before .before .before .before .args in let l = c .before .loop in
-    let f₁ = fewer (s .k) (l .i) (s .ins) (omega arith) in
-    let f₂ = fewer (s .k) (l .i) (s .sigs) (omega arith) in
-    let h₁ : l .r + s .ins ≤ length (s .inputs .now) = omega (arith, l .inv .1 .0, l .inv .1 .1 .0) in
-    let h₂ : l .g + s .sigs ≤ length (l .signals) = omega (arith, l .inv .1 .0, l .inv .1 .1 .0) in
+    let h₁ : l .r + s .ins ≤ length (s .inputs .now) = row-fits (s .k) (l .i) (s .ins) (l .r) (length (s .inputs .now)) (c .loop-test .taken) (l .inv .1 .0) in
+    let h₂ : l .g + s .sigs ≤ length (l .signals) = bytes-fit (s .k) (l .i) (s .sigs) (l .g) (length (l .signals)) (c .loop-test .taken) (l .inv .1 .1 .0) in
     search needs
 
 sub-walk-2 : tie.Need-sub-walk-2 Inv-loop μ-loop
 sub-walk-2 c = let s = c .before .before .before .before .before .before .before .args in let l = c .before .before .loop in
-    let f₁ = fewer (s .k) (l .i) (s .ins) (omega arith) in
-    let f₂ = fewer (s .k) (l .i) (s .sigs) (omega arith) in
-    let h₁ : l .r + s .ins ≤ length (s .inputs .now) = omega (arith, l .inv .1 .0, l .inv .1 .1 .0) in
-    let h₂ : l .g + s .sigs ≤ length (l .signals) = omega (arith, l .inv .1 .0, l .inv .1 .1 .0) in
+    let h₁ : l .r + s .ins ≤ length (s .inputs .now) = row-fits (s .k) (l .i) (s .ins) (l .r) (length (s .inputs .now)) (c .before .loop-test .taken) (l .inv .1 .0) in
+    let h₂ : l .g + s .sigs ≤ length (l .signals) = bytes-fit (s .k) (l .i) (s .sigs) (l .g) (length (l .signals)) (c .before .loop-test .taken) (l .inv .1 .1 .0) in
     search needs
 
 part-walk-start-2 : tie.Need-part-walk-start-2 Inv-loop μ-loop
 part-walk-start-2 c = let s = c .before .before .before .before .before .before .before .args in let l = c .before .before .loop in
-    let f₁ = fewer (s .k) (l .i) (s .ins) (omega arith) in
-    let f₂ = fewer (s .k) (l .i) (s .sigs) (omega arith) in
-    let h₁ : l .r + s .ins ≤ length (s .inputs .now) = omega (arith, l .inv .1 .0, l .inv .1 .1 .0) in
-    let h₂ : l .g + s .sigs ≤ length (l .signals) = omega (arith, l .inv .1 .0, l .inv .1 .1 .0) in
+    let h₁ : l .r + s .ins ≤ length (s .inputs .now) = row-fits (s .k) (l .i) (s .ins) (l .r) (length (s .inputs .now)) (c .before .loop-test .taken) (l .inv .1 .0) in
+    let h₂ : l .g + s .sigs ≤ length (l .signals) = bytes-fit (s .k) (l .i) (s .sigs) (l .g) (length (l .signals)) (c .before .loop-test .taken) (l .inv .1 .1 .0) in
     search needs
 
 part-walk-end-2 : tie.Need-part-walk-end-2 Inv-loop μ-loop
 part-walk-end-2 c = let s = c .before .before .before .before .before .before .before .args in let l = c .before .before .loop in
-    let f₁ = fewer (s .k) (l .i) (s .ins) (omega arith) in
-    let f₂ = fewer (s .k) (l .i) (s .sigs) (omega arith) in
-    let h₁ : l .r + s .ins ≤ length (s .inputs .now) = omega (arith, l .inv .1 .0, l .inv .1 .1 .0) in
-    let h₂ : l .g + s .sigs ≤ length (l .signals) = omega (arith, l .inv .1 .0, l .inv .1 .1 .0) in
+    let h₁ : l .r + s .ins ≤ length (s .inputs .now) = row-fits (s .k) (l .i) (s .ins) (l .r) (length (s .inputs .now)) (c .before .loop-test .taken) (l .inv .1 .0) in
+    let h₂ : l .g + s .sigs ≤ length (l .signals) = bytes-fit (s .k) (l .i) (s .sigs) (l .g) (length (l .signals)) (c .before .loop-test .taken) (l .inv .1 .1 .0) in
     search needs
 
 walk-requires : tie.Need-walk-requires Inv-loop μ-loop
 walk-requires c κs = let s = c .before .before .before .before .before .before .before .before .before .args in let l = c .before .before .before .before .loop in
-    let f₁ = fewer (s .k) (l .i) (s .ins) (omega arith) in
-    let f₂ = fewer (s .k) (l .i) (s .sigs) (omega arith) in
-    let h₁ : l .r + s .ins ≤ length (s .inputs .now) = omega (arith, l .inv .1 .0, l .inv .1 .1 .0) in
-    let h₂ : l .g + s .sigs ≤ length (l .signals) = omega (arith, l .inv .1 .0, l .inv .1 .1 .0) in
+    let h₁ : l .r + s .ins ≤ length (s .inputs .now) = row-fits (s .k) (l .i) (s .ins) (l .r) (length (s .inputs .now)) (c .before .before .before .loop-test .taken) (l .inv .1 .0) in
+    let h₂ : l .g + s .sigs ≤ length (l .signals) = bytes-fit (s .k) (l .i) (s .sigs) (l .g) (length (l .signals)) (c .before .before .before .loop-test .taken) (l .inv .1 .1 .0) in
     let e₁ : l .r + s .ins - l .r ≡ s .ins = omega arith in
     let e₂ : l .g + s .sigs - l .g ≡ s .sigs = omega arith in
     (omega arith, ready-as (length-drop (s .all) (s .work .now) ∙ ap (λ (n : ℕ). n - s .all) (sym (l .inv .1 .1 .1 .0)) ∙ sym (length-drop (s .all) (l .work))) (sym (laws.length-part (s .inputs .now) (l .r) (l .r + s .ins - l .r) (omega arith) ∙ e₁)) (sym (laws.length-part (l .signals) (l .g) (l .g + s .sigs - l .g) (omega arith) ∙ e₂)) (c .before .before .before .before .before .before .before .before .before .pre .1 .0))
@@ -114,10 +94,10 @@ loop-less c = search needs
 
 loop-again : tie.Need-loop-again Inv-loop μ-loop
 loop-again c = let s = c .before .before .before .before .before .before .before .before .before .before .before .before .before .before .args in let l = c .before .before .before .before .before .before .before .before .before .loop in
-    let f₁ = fewer (s .k) (l .i) (s .ins) (omega arith) in
-    let f₂ = fewer (s .k) (l .i) (s .sigs) (omega arith) in
-    let h₁ : l .r + s .ins ≤ length (s .inputs .now) = omega (arith, l .inv .1 .0, l .inv .1 .1 .0) in
-    let h₂ : l .g + s .sigs ≤ length (l .signals) = omega (arith, l .inv .1 .0, l .inv .1 .1 .0) in
+    let f₁ = fewer (s .k) (l .i) (s .ins) (c .before .before .before .before .before .before .before .before .loop-test .taken) in
+    let f₂ = fewer (s .k) (l .i) (s .sigs) (c .before .before .before .before .before .before .before .before .loop-test .taken) in
+    let h₁ : l .r + s .ins ≤ length (s .inputs .now) = row-fits (s .k) (l .i) (s .ins) (l .r) (length (s .inputs .now)) (c .before .before .before .before .before .before .before .before .loop-test .taken) (l .inv .1 .0) in
+    let h₂ : l .g + s .sigs ≤ length (l .signals) = bytes-fit (s .k) (l .i) (s .sigs) (l .g) (length (l .signals)) (c .before .before .before .before .before .before .before .before .loop-test .taken) (l .inv .1 .1 .0) in
     let w = c .before .before .before .before .walk in
     let more : l .i < s .k = c .before .before .before .before .before .before .before .before .loop-test .taken in
     let e₁ : l .r + s .ins - l .r ≡ s .ins = omega arith in

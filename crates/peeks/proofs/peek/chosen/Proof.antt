@@ -4,14 +4,10 @@ use Rattle.peeks.proofs.Looked.{yes-choose}
 use borrow.Author.Needs.{needs}
 use Rattle.peeks.proofs.peek.chosen.Statement.{statement}
 use Rattle.peeks.proofs.peek.chosen.Tie as tie
-use Rattle.peeks.proofs.peek.chosen.Reads as reads
-use Rattle.peeks.proofs.peek.chosen.Lts as lts
 
--- src/peek.rt:122:9
 returns : tie.Need-returns
 returns c = let a = c .before .args in sym (yes-choose (a .d) (a .b) (a .c) (c .if1 .taken))
 
--- src/peek.rt:118:1
 returns-2 : tie.Need-returns-2
 returns-2 c = search needs
 

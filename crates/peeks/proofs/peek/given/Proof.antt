@@ -2,27 +2,19 @@
 use borrow.Author.Needs.{needs}
 use Rattle.peeks.proofs.peek.given.Statement.{statement}
 use Rattle.peeks.proofs.peek.given.Tie as tie
-use Rattle.peeks.proofs.peek.given.Reads as reads
-use Rattle.peeks.proofs.peek.given.Lts as lts
-use Rattle.peeks.proofs.peek.input_word.Reads as input-word-reads
 
--- src/peek.rt:111:8
 array-read-if1 : tie.Need-array-read-if1
 array-read-if1 c = search needs
 
--- src/peek.rt:112:16
 array-read-result : tie.Need-array-read-result
 array-read-result c = search needs
 
--- src/peek.rt:112:9
 returns : tie.Need-returns
 returns c = search needs
 
--- src/peek.rt:114:5
 input-word-requires : tie.Need-input-word-requires
 input-word-requires c κs = c .before .before .pre (c .if1 .left)
 
--- src/peek.rt:107:1
 returns-2 : tie.Need-returns-2
 returns-2 c = search needs
 

@@ -6,24 +6,16 @@ use Rattle.peeks.proofs.Seen.{peek-refused, peek-lent}
 use borrow.Author.Needs.{needs}
 use Rattle.peeks.proofs.peek.peek.Statement.{statement}
 use Rattle.peeks.proofs.peek.peek.Tie as tie
-use Rattle.peeks.proofs.peek.peek.Reads as reads
-use Rattle.peeks.proofs.peek.peek.Lts as lts
-use Rattle.peeks.proofs.peek.peek_noted.Reads as peek-noted-reads
-use Rattle.tables.proofs.check.check.Reads as check-reads
 
--- src/peek.rt:433:45
 slice-aggregate-check : tie.Need-slice-aggregate-check
 slice-aggregate-check c = search needs
 
--- src/peek.rt:433:11
 check-requires : tie.Need-check-requires
 check-requires c κs = fresh (c .before .before .before .before .args .count) 16385 (λ h. omega arith)
 
--- src/peek.rt:434:26
 enum-known-r : tie.Need-enum-known-r
 enum-known-r c = search needs
 
--- src/peek.rt:435:13
 returns : tie.Need-returns
 returns c = let a = c .before .before .before .before .before .before .before .before .before .args in
     peek-refused (a .table .now) (a .count) (a .line) (a .cell) (a .starts .now) (a .row .now) _ (sym (c .before .before .before .before .check .ensures .0) ∙ c .before .r .given .1)
@@ -31,15 +23,12 @@ returns c = let a = c .before .before .before .before .before .before .before .b
 enum-told : tie.Need-enum-told
 enum-told c = search needs
 
--- src/peek.rt:439:30
 slice-aggregate-peek-noted : tie.Need-slice-aggregate-peek-noted
 slice-aggregate-peek-noted c = search needs
 
--- src/peek.rt:439:5
 peek-noted-requires : tie.Need-peek-noted-requires
 peek-noted-requires c κs = let e = c .before .enum-told .given .1 in record { accepted = sym (c .before .before .before .before .check .ensures .0) ∙ e; shows = c .before .before .before .before .check .ensures .1 e }
 
--- src/peek.rt:422:1
 returns-2 : tie.Need-returns-2
 returns-2 c = let a = c .before .before .before .before .before .before .before .before .before .before .args in
     c .peek-noted .ensures ∙ peek-lent (a .table .now) (a .count) (a .line) (a .cell) (a .starts .now) (a .row .now) (sym (c .before .before .before .before .before .check .ensures .0) ∙ c .before .before .enum-told .given .1)

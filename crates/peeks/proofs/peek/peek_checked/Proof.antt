@@ -8,37 +8,25 @@ use Rattle.peeks.proofs.Seen.{may-on, type-deep, peek-laid, lent-refuse
 use borrow.Author.Needs.{needs}
 use Rattle.peeks.proofs.peek.peek_checked.Statement.{statement}
 use Rattle.peeks.proofs.peek.peek_checked.Tie as tie
-use Rattle.peeks.proofs.peek.peek_checked.Reads as reads
-use Rattle.peeks.proofs.peek.peek_checked.Lts as lts
-use Rattle.circuits.proofs.places.lay_out.Reads as lay-out-reads
-use Rattle.peeks.proofs.peek.find.Reads as find-reads
-use Rattle.peeks.proofs.peek.may_peek.Reads as may-peek-reads
 
--- src/peek.rt:391:55
 slice-aggregate-lay-out : tie.Need-slice-aggregate-lay-out
 slice-aggregate-lay-out c = search needs
 
--- src/peek.rt:391:65
 slice-aggregate-lay-out-2 : tie.Need-slice-aggregate-lay-out-2
 slice-aggregate-lay-out-2 c = search needs
 
--- src/peek.rt:391:75
 slice-aggregate-lay-out-3 : tie.Need-slice-aggregate-lay-out-3
 slice-aggregate-lay-out-3 c = search needs
 
--- src/peek.rt:391:9
 lay-out-requires : tie.Need-lay-out-requires
 lay-out-requires c κs = let l = length-replicate {A = ℕ} 16385 0 in (c .before .before .before .before .before .before .pre .typed .sized, (l, (l, l)))
 
--- src/peek.rt:392:11
 may-peek-requires : tie.Need-may-peek-requires
 may-peek-requires c κs = type-deep (c .before .before .before .before .before .before .before .before .before .before .pre)
 
--- src/peek.rt:393:26
 enum-known-r : tie.Need-enum-known-r
 enum-known-r c = search needs
 
--- src/peek.rt:394:13
 returns : tie.Need-returns
 returns c = let a = c .before .before .before .before .before .before .before .before .before .before .before .before .before .before .args in
     lent-refused (a .table .now) (a .count) (a .line) (a .k) (a .starts .now) (a .row .now) _
@@ -47,13 +35,11 @@ returns c = let a = c .before .before .before .before .before .before .before .b
 enum-told : tie.Need-enum-told
 enum-told c = search needs
 
--- src/peek.rt:398:19
 find-requires : tie.Need-find-requires
 find-requires c κs = let a = c .before .before .before .before .before .before .before .before .before .before .before .before .before .before .args in
     peek-laid (c .before .before .before .before .before .before .before .before .before .before .before .before .before .before .pre) (a .k) (c .before .before .before .before .before .before .before .lay-out .ensures .0)
     (may-on (layout false (linesOf (a .table .now) (a .count)) .counts) (typeAt (layout false (linesOf (a .table .now) (a .count))) (a .line)) (a .count) (a .k) (length (a .starts .now)) (length (a .row .now)) (c .before .before .before .before .before .before .before .lay-out .ensures .1) (c .before .before .before .before .before .before .before .before .before .before .before .before .before .before .pre .type) (c .before .before .before .may-peek .ensures) (c .before .enum-told .given .1))
 
--- src/peek.rt:374:1
 returns-2 : tie.Need-returns-2
 returns-2 c = let a = c .before .before .before .before .before .before .before .before .before .before .before .before .before .before .before .args in
     lent-value (a .table .now) (a .count) (a .line) (a .k) (a .starts .now) (a .row .now)

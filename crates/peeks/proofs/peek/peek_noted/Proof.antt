@@ -8,36 +8,25 @@ use Rattle.peeks.proofs.Seen.{types-of}
 use borrow.Author.Needs.{needs}
 use Rattle.peeks.proofs.peek.peek_noted.Statement.{statement}
 use Rattle.peeks.proofs.peek.peek_noted.Tie as tie
-use Rattle.peeks.proofs.peek.peek_noted.Reads as reads
-use Rattle.peeks.proofs.peek.peek_noted.Lts as lts
-use Rattle.peeks.proofs.peek.peek_checked.Reads as peek-checked-reads
-use Rattle.tables.proofs.notes.look.Reads as look-reads
-use Rattle.tables.proofs.notes.widths.Reads as widths-reads
 
--- src/peek.rt:416:33
 slice-aggregate-widths : tie.Need-slice-aggregate-widths
 slice-aggregate-widths c = search needs
 
--- src/peek.rt:416:43
 slice-aggregate-widths-2 : tie.Need-slice-aggregate-widths-2
 slice-aggregate-widths-2 c = search needs
 
--- src/peek.rt:416:5
 widths-requires : tie.Need-widths-requires
 widths-requires c κs = let a = c .before .before .before .before .before .args in
     let h = fits-table false (a .table .now) (a .count) (c .before .before .before .before .before .pre .accepted) in
     let l = length-replicate {A = ℕ} 16385 0 in
     (omega arith, omega arith)
 
--- src/peek.rt:417:9
 look-requires : tie.Need-look-requires
 look-requires c κs = tt
 
--- src/peek.rt:418:5
 peek-checked-requires : tie.Need-peek-checked-requires
 peek-checked-requires c κs = types-of (c .before .before .before .before .before .before .before .before .before .before .before .args .line) (c .before .before .before .before .before .before .before .before .before .before .before .pre) (c .before .before .before .before .before .widths .ensures) (c .before .before .look .ensures)
 
--- src/peek.rt:402:1
 returns : tie.Need-returns
 returns c = c .peek-checked .ensures
 
