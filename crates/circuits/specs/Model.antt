@@ -78,18 +78,6 @@ sigsIn f off pos g w n (Line.mark m a) = pick f g (set g (getD pos n 0) (choose 
 sigsIn f off pos g w n (Line.output a) = g
 sigsIn f off pos g w n Line.junk = g
 
--- the work area after a line that may have an expression's value; any other leaves it
-abbrev pub valueIn : Bool → (off wid num w : List ℕ) → ℕ → Line → List ℕ
-valueIn p off wid num w n (Line.bitvec x) = w
-valueIn p off wid num w n (Line.array i e) = w
-valueIn p off wid num w n (Line.input s) = w
-valueIn p off wid num w n (Line.state s) = w
-valueIn p off wid num w n (Line.val s e) = put w (getD off n 0) (exprIn p off wid num w e)
-valueIn p off wid num w n (Line.give m s q v) = w
-valueIn p off wid num w n (Line.mark m a) = w
-valueIn p off wid num w n (Line.output a) = w
-valueIn p off wid num w n Line.junk = w
-
 -- ---- what a line asks of the lists and of the work area
 
 -- the word of the line a, or its run, lies below m
@@ -208,18 +196,6 @@ FitL p off wid num pos all ins sigs w n (Line.give m s q v) = FitG m off num pos
 FitL p off wid num pos all ins sigs w n (Line.mark m a) = FitMark off pos (length w) sigs n a
 FitL p off wid num pos all ins sigs w n (Line.output a) = Unit {0}
 FitL p off wid num pos all ins sigs w n Line.junk = Unit {0}
-
--- of an expression's line alone
-abbrev pub FitV : Bool → (off wid num w : List ℕ) → ℕ → Line → Type 0
-FitV p off wid num w n (Line.bitvec x) = Unit {0}
-FitV p off wid num w n (Line.array i e) = Unit {0}
-FitV p off wid num w n (Line.input s) = Unit {0}
-FitV p off wid num w n (Line.state s) = Unit {0}
-FitV p off wid num w n (Line.val s e) = FitVal p off wid num w n e
-FitV p off wid num w n (Line.give m s q v) = Unit {0}
-FitV p off wid num w n (Line.mark m a) = Unit {0}
-FitV p off wid num w n (Line.output a) = Unit {0}
-FitV p off wid num w n Line.junk = Unit {0}
 
 -- ---- all lines
 

@@ -7,10 +7,10 @@ ghost use Prim.Native.Nat.{_+_, _≤_, _<_};
 ghost use lib.ListN.{length, getD, set, replicate};
 ghost use Rattle.words.specs.Word.{Width, bit};
 ghost use Rattle.tables.specs.Pick.{pick};
-ghost use Rattle.tables.specs.Lines.{lineOf, kindIn};
+ghost use Rattle.tables.specs.Lines.{lineOf};
 ghost use Rattle.circuits.specs.Cells.{choose, say, same, put};
 ghost use Rattle.circuits.specs.Meaning.{opWord, inputWord};
-ghost use Rattle.circuits.specs.Model.{wordIn, runIn, stateIn, workIn, sigsIn, valueIn, Word, Run, FitWord, FitOne, FitTwo, FitCmp, FitIte, FitRead, FitWrite, Own, FitInput, FitState, FitInit, FitNext, FitMark, FitV, FitL};
+ghost use Rattle.circuits.specs.Model.{wordIn, runIn, stateIn, workIn, sigsIn, Word, Run, FitWord, FitOne, FitTwo, FitCmp, FitIte, FitRead, FitWrite, Own, FitInput, FitState, FitInit, FitNext, FitMark, FitL};
 
 // A word operator, of a program or of a circuit.
 pub fn word(program: bool, k: u64, w: u64, u: u64, v: u64, a: u64, b: u64, c: u64) -> u64
@@ -308,38 +308,6 @@ fn line_mark(
     }
 }
 
-// A line n with an operator, whose record is rec.
-fn line_op(
-    program: bool,
-    rec: [u64; 5],
-    n: usize,
-    off: &[u32; 16385],
-    wid: &[u8; 16385],
-    num: &[u32; 16385],
-    work: &mut [u64],
-)
-    requires { ⌜ (11 ≤ kindIn rec) × FitV program (now off) (now wid) (now num) (now work) n (lineOf rec) ⌝ }
-    ensures { λ _. ⌜ now (work .exit) ≡ valueIn program (now (off .entry)) (now (wid .entry)) (now (num .entry)) (now (work .entry)) n (lineOf rec) ⌝ }
-{
-    let k = rec[0];
-    let a = rec[2] as usize;
-    let x = rec[3];
-    let y = rec[4];
-    let b = x as usize;
-    let c = y as usize;
-    // no operator has a kind below 11
-    match k {
-        0..=20 => line_one(program, k, a, x, y, n, off, wid, work),
-        21..=22 => line_cmp(k == 21, a, b, n, off, num, work),
-        23..=52 => line_two(program, k, a, b, n, off, wid, work),
-        53 => line_ite(a, b, c, n, off, num, work),
-        54 => line_read(a, b, n, off, num, work),
-        55 => line_write(a, b, c, n, off, num, work),
-        56 => line_one(program, k, a, x, y, n, off, wid, work),
-        _ => {}
-    }
-}
-
 // The line n, whose record is rec.
 pub fn line(
     program: bool,
@@ -358,18 +326,26 @@ pub fn line(
     requires { ⌜ FitL program (now off) (now wid) (now num) (now pos) all (length (now row)) (length (now sig)) (now work) n (lineOf rec) ⌝ }
     ensures { λ _. ⌜ (now (work .exit) ≡ workIn program first (now (off .entry)) (now (wid .entry)) (now (num .entry)) (now (pos .entry)) all (now (row .entry)) (now (work .entry)) n (lineOf rec)) × (now (sig .exit) ≡ sigsIn first (now (off .entry)) (now (pos .entry)) (now (sig .entry)) (now (work .entry)) n (lineOf rec)) ⌝ }
 {
-    let v = rec[2];
-    let a = v as usize;
+    let k = rec[0];
+    let a = rec[2] as usize;
     let b = rec[3] as usize;
-    match rec[0] {
-        0..=2 => {}
-        3 => line_const(v, n, off, work),
+    let c = rec[4] as usize;
+    match k {
+        3 => line_const(rec[2], n, off, work),
         4 => line_input(program, n, off, wid, num, pos, row, work),
         5 => line_state(program, first, n, off, wid, num, pos, all, work),
         6 => line_init(first, a, b, off, num, pos, all, work),
         7 => line_next(first, a, b, off, num, pos, all, work),
-        8..=9 => line_mark(first, a, n, off, pos, work, sig),
-        10 => {}
-        _ => line_op(program, rec, n, off, wid, num, work),
+        8 => line_mark(first, a, n, off, pos, work, sig),
+        9 => line_mark(first, a, n, off, pos, work, sig),
+        11..=20 => line_one(program, k, a, rec[3], rec[4], n, off, wid, work),
+        21 => line_cmp(true, a, b, n, off, num, work),
+        22 => line_cmp(false, a, b, n, off, num, work),
+        23..=52 => line_two(program, k, a, b, n, off, wid, work),
+        53 => line_ite(a, b, c, n, off, num, work),
+        54 => line_read(a, b, n, off, num, work),
+        55 => line_write(a, b, c, n, off, num, work),
+        56 => line_one(program, k, a, rec[3], rec[4], n, off, wid, work),
+        _ => {}
     }
 }

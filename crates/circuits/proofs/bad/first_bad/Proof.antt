@@ -61,7 +61,7 @@ shared-slice-read-hits-2 : tie.Need-shared-slice-read-hits-2 Inv-loop μ-loop In
 shared-slice-read-hits-2 c = let l = c .before .before .before .loop in omega (arith, c .before .before .loop-test .taken, l .inv .1 .0)
 
 hits-requires : tie.Need-hits-requires Inv-loop μ-loop Inv-steps μ-steps
-hits-requires c κs = search needs
+hits-requires c κs = tt
 
 shared-slice-read-next-place :
     tie.Need-shared-slice-read-next-place Inv-loop μ-loop Inv-steps μ-steps

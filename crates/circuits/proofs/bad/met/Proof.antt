@@ -26,7 +26,7 @@ shared-slice-read-breaks-2 : tie.Need-shared-slice-read-breaks-2 Inv-loop μ-loo
 shared-slice-read-breaks-2 c = search needs
 
 breaks-requires : tie.Need-breaks-requires Inv-loop μ-loop
-breaks-requires c κs = search needs
+breaks-requires c κs = tt
 
 returns : tie.Need-returns Inv-loop μ-loop
 returns c = sym (c .before .before .before .before .before .loop .inv .1 ∙ row-stops (c .before .before .before .before .before .before .before .before .args .bad .now) (c .before .before .before .before .before .before .before .before .args .row .now) (c .before .before .before .before .before .loop .j) (omega arith) (omega arith) (sym (c .before .breaks .ensures) ∙ c .if1 .taken))

@@ -2,7 +2,6 @@
 use Prim.Native.Nat.{_-_}
 use mathlib.Core.Path.{sym, _∙_}
 use native.Mathlib.Omega.{arith}
-use borrow.Author.Needs.{needs}
 use Rattle.tables.specs.Lines.{lineOf}
 use Rattle.circuits.specs.Model.{countsOf}
 use Rattle.circuits.proofs.Walked.{fits-table}
@@ -33,7 +32,7 @@ cells-of-requires : tie.Need-cells-of-requires Inv-loop μ-loop
 cells-of-requires c κs = let s = c .before .before .before .before .before .before .before .before .before .before .before .before .before .before .before .before .before .args in (omega (arith, fits-table (s .program) (s .table .now) (s .count) (c .before .before .before .before .before .before .before .before .before .before .before .before .before .before .before .before .before .pre .0 .accepted) .0, c .before .loop-test .taken), deep-here (s .program) (s .table .now) (s .count) (s .idx .now) (c .before .before .before .before .before .before .before .before .before .before .before .before .before .before .before .before .before .pre .0) (c .before .before .loop .i) (c .before .loop-test .taken))
 
 find-spot-requires : tie.Need-find-spot-requires Inv-loop μ-loop
-find-spot-requires c κs = search needs
+find-spot-requires c κs = tt
 
 add-put-place : tie.Need-add-put-place Inv-loop μ-loop
 add-put-place c = let s = c .before .before .before .before .before .before .before .before .before .before .before .before .before .before .before .before .before .before .before .before .before .before .args in omega (arith, fits-table (s .program) (s .table .now) (s .count) (c .before .before .before .before .before .before .before .before .before .before .before .before .before .before .before .before .before .before .before .before .before .before .pre .0 .accepted) .0, c .before .before .before .before .before .before .loop-test .taken)
