@@ -7,14 +7,12 @@ use mathlib.Core.List.{List, [], _∷_}
 use native.Mathlib.Omega.{arith}
 use lib.Dec.{eqb}
 use lib.Pow.{pow-pos}
-use borrow.Author.Tests.{eqb-true, eqb-false}
 use lib.ListN.{length, drop, getD, set, length-set, drop-of-length-le}
 use lib.Seq.{getD-set-same, getD-set-other}
 use Rattle.tables.specs.declared.Checked.the-variants.{Accepted}
 use Rattle.tables.specs.Lines.{Line, Shape, isBitvec, isArray, isConst, isInput, isState, isOutput, isOne, isTwo, isIte, isRead, isWrite, isJunk, isGive, isMark, isCmp, shapeOf, build, lineOf, kindIn, sortIn, firstIn, secondIn, thirdIn, recordAt}
 use Rattle.tables.specs.Tables.{checked}
 use Rattle.tables.proofs.Facts.{IsArray}
-use Rattle.tables.proofs.Laws.{past}
 use Rattle.tables.proofs.Shapes.{KindOf, kind-of, line-as}
 use Rattle.tables.proofs.Showing.{by-place}
 use Rattle.words.specs.Word.{Width}
@@ -28,14 +26,6 @@ use Rattle.circuits.proofs.Walked.{fits-table}
 use Rattle.circuits.proofs.Placing.{all-sound}
 use Rattle.peeks.proofs.Looked.{Arg, FactCmp, FactRead, FactIte, Fact, number-of, facts, cells-of}
 use Rattle.circuits.proofs.Puts as laws
-
--- the kinds of comparisons
-pub shape-cmp : {k : ℕ} → 21 ≤ k → k < 23 → shapeOf k ≡ isCmp (eqb k 21)
-shape-cmp {k} h l = go (eqb k 21) refl
-  where
-    go : (b : Bool) → eqb k 21 ≡ b → shapeOf k ≡ isCmp (eqb k 21)
-    go true e = let q : k ≡ 21 = eqb-true k 21 e in ap shapeOf q ∙ ap isCmp (sym e)
-    go false e = let m : 22 ≤ k = past h (eqb-false k 21 e) in let q : k ≡ 22 = omega arith in ap shapeOf q ∙ ap isCmp (sym e)
 
 -- ---- the words found so far
 

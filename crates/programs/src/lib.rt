@@ -10,6 +10,7 @@ ghost use lib.ListN.{length, replicate};
 ghost use Rattle.circuits.specs.Answers.{ran, signalsLeft};
 ghost use Rattle.programs.specs.Answers.{translated, targetLeft};
 
+pub mod flags; // lists of marks
 pub mod make; // the program of an accepted table, where it fits
 pub mod notes; // what is kept of a line
 pub mod passes; // the passes over a table

@@ -1,6 +1,6 @@
 // What is kept of a line for later lines, and its instruction.
+use crate::flags;
 use crate::uses;
-use tables::check;
 ghost use mathlib.Core.Bool.{_&&_};
 ghost use mathlib.Core.Path.{_≡_};
 ghost use Prim.Native.Nat.{_≤_, _<_};
@@ -148,6 +148,6 @@ pub fn take(
     let v = number(rec[0], b, m);
     store(wd, n, w);
     store(num, n, v);
-    check::put(lo, n, flag(l));
+    flags::put(lo, n, flag(l));
     m
 }

@@ -1,6 +1,5 @@
 // Loose lines and needing uses, by kind; and the marks of lines that have a needing use.
-use tables::check;
-use tables::types;
+use crate::flags;
 ghost use mathlib.Core.Bool.{_&&_};
 ghost use mathlib.Core.Path.{_≡_};
 ghost use Prim.Native.Nat.{_≤_, _/_, _%_, _^_};
@@ -123,7 +122,7 @@ pub fn used(line: bool, lo: &[u8], a: u64) -> bool
     if !line {
         return false;
     }
-    types::at(lo, a) == 1
+    flags::at(lo, a) == 1
 }
 
 // A mark at the line a, if v is 1.
@@ -131,7 +130,7 @@ pub fn mark_if(v: u8, a: u64, marks: &mut [u8])
     ensures { λ _. ⌜ now (marks .exit) ≡ markIf v a (now (marks .entry)) ⌝ }
 {
     if v == 1 {
-        check::put(marks, a, 1);
+        flags::put(marks, a, 1);
     }
 }
 

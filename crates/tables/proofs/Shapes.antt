@@ -6,8 +6,9 @@ use mathlib.Core.Bool.{Bool, true, false, not, _&&_}
 use mathlib.Core.List.{List}
 use lib.Dec.{T, T-not, leb, eqb, leb→le}
 use Rattle.tables.proofs.Every.{at-each}
+use Rattle.tables.proofs.Laws.{past}
 use mir.Facts.{and-yes}
-use borrow.Author.Tests.{le-leb, lt-leb, ne-eqb, eqb-true}
+use borrow.Author.Tests.{le-leb, lt-leb, ne-eqb, eqb-true, eqb-false}
 use native.Mathlib.Omega.{arith}
 use Rattle.tables.specs.declared.Ty.{Ty}
 use Rattle.tables.specs.Pick.{pick, inside, all}
@@ -23,6 +24,13 @@ shape-one k h l = rw (le-leb 11 k h, le-leb k 20 l)
 
 pub shape-two : (k : ℕ) → 23 ≤ k → k ≤ 52 → shapeOf k ≡ isTwo
 shape-two k h l = rw (le-leb 11 k (omega arith), lt-leb k 20 (omega arith), le-leb 23 k h, le-leb k 52 l)
+
+pub shape-cmp : {k : ℕ} → 21 ≤ k → k < 23 → shapeOf k ≡ isCmp (eqb k 21)
+shape-cmp {k} h l = go (eqb k 21) refl
+  where
+    go : (b : Bool) → eqb k 21 ≡ b → shapeOf k ≡ isCmp (eqb k 21)
+    go true e = let q : k ≡ 21 = eqb-true k 21 e in ap shapeOf q ∙ ap isCmp (sym e)
+    go false e = let m : 22 ≤ k = past h (eqb-false k 21 e) in let q : k ≡ 22 = omega arith in ap shapeOf q ∙ ap isCmp (sym e)
 
 -- a number that no kind has
 pub shape-zero : (k : ℕ) → k < 1 → shapeOf k ≡ isJunk

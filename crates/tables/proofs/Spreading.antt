@@ -11,7 +11,7 @@ use borrow.Author.Tests.{leb-true, leb-false}
 use Rattle.tables.specs.declared.Ty.{Ty}
 use Rattle.tables.specs.declared.Checked.the-variants.{Accepted}
 use Rattle.tables.specs.Lines.{decode, counted}
-use Rattle.tables.specs.Types.{noTy, noCtx, Ctx, tyAt, context}
+use Rattle.tables.specs.Types.{noTy, noCtx, tyAt, context}
 use Rattle.tables.specs.Tables.{checked}
 use Rattle.tables.specs.Notes.{noteAt, lookIn, Shows, Spread}
 use Rattle.tables.proofs.Showing.{by-place}
@@ -22,21 +22,21 @@ pub none-spread : {xs : List (List ℕ)} {idx wid : List ℕ} → Spread xs 0 id
 none-spread = record { index = λ a h. absurd (omega arith); width = λ a h. absurd (omega arith); index-past = λ a h. refl; width-past = λ a h. refl }
 
 -- one line more
-more : (g : ℕ → ℕ) (i v : ℕ) (l l₁ : List ℕ) → i < length l₁ → v ≡ g i → ((a : ℕ) → a < i → getD l₁ a 0 ≡ g a) → (a : ℕ) → a < i + 1 → getD (set l₁ i v) a 0 ≡ g a
-more g i v l l₁ h e f a q =
+more : (g : ℕ → ℕ) (i v : ℕ) (l₁ : List ℕ) → i < length l₁ → v ≡ g i → ((a : ℕ) → a < i → getD l₁ a 0 ≡ g a) → (a : ℕ) → a < i + 1 → getD (set l₁ i v) a 0 ≡ g a
+more g i v l₁ h e f a q =
     by-place a i (λ z. subst (λ (j : ℕ). getD (set l₁ i v) j 0 ≡ g j) (sym z) (getD-set-same l₁ i v 0 h ∙ e)) (λ z. getD-set-other l₁ i a v 0 z ∙ f a (omega arith))
 
-past : (i v : ℕ) (l l₁ : List ℕ) → ((a : ℕ) → i ≤ a → getD l₁ a 0 ≡ getD l a 0) → (a : ℕ) → i + 1 ≤ a → getD (set l₁ i v) a 0 ≡ getD l a 0
-past i v l l₁ f a q = getD-set-other l₁ i a v 0 (λ z. omega arith) ∙ f a (omega arith)
+stays : (i v : ℕ) (l l₁ : List ℕ) → ((a : ℕ) → i ≤ a → getD l₁ a 0 ≡ getD l a 0) → (a : ℕ) → i + 1 ≤ a → getD (set l₁ i v) a 0 ≡ getD l a 0
+stays i v l l₁ f a q = getD-set-other l₁ i a v 0 (λ z. omega arith) ∙ f a (omega arith)
 
 pub spread-more : {xs : List (List ℕ)} {idx wid idx₁ wid₁ : List ℕ} (i x y : ℕ) → Spread xs i idx wid idx₁ wid₁ → i < length idx₁ → i < length wid₁ → x ≡ lookIn xs i .iw → y ≡ lookIn xs i .w
     → Spread xs (i + 1) idx wid (set idx₁ i x) (set wid₁ i y)
 spread-more {xs} {idx} {wid} {idx₁} {wid₁} i x y s hi hw ex ey =
     record {
-      index = more (λ (a : ℕ). lookIn xs a .iw) i x idx idx₁ hi ex (s .index);
-      width = more (λ (a : ℕ). lookIn xs a .w) i y wid wid₁ hw ey (s .width);
-      index-past = past i x idx idx₁ (s .index-past);
-      width-past = past i y wid wid₁ (s .width-past);
+      index = more (λ (a : ℕ). lookIn xs a .iw) i x idx₁ hi ex (s .index);
+      width = more (λ (a : ℕ). lookIn xs a .w) i y wid₁ hw ey (s .width);
+      index-past = stays i x idx idx₁ (s .index-past);
+      width-past = stays i y wid wid₁ (s .width-past);
     }
 
 -- the pass over the lines up to n, where it stands at i
@@ -65,9 +65,6 @@ going-on {xs} {n} {i} {idx} {wid} {idx₁} {wid₁} {r} g h p q e =
 -- ---- an accepted table
 
 module _ (p : Bool) (t : List ℕ) (n : ℕ) (acc : checked p t n ≡ Accepted) where
-  abbrev ctx : Ctx
-  ctx = context p (decode (counted t n))
-
   no-line : (a : ℕ) → n < a → tyAt (context p (decode (counted t n))) a ≡ noTy
   unfolding context
   no-line a h =

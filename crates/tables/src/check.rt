@@ -11,7 +11,7 @@ ghost use mathlib.Core.Path.{_≡_};
 ghost use mathlib.Core.Bool.{Bool, true, false};
 ghost use mathlib.Core.List.{List, [], _∷_};
 ghost use Prim.Native.Nat.{_+_, _*_, _≤_, _<_};
-ghost use lib.ListN.{length, set, replicate};
+ghost use lib.ListN.{length, replicate};
 ghost use Rattle.tables.specs.Pick.{all};
 ghost use Rattle.tables.specs.Kinds.{rows};
 ghost use Rattle.tables.specs.Lines.{lineOf, kindIn, firstIn, records, decode, counted};
@@ -62,16 +62,6 @@ pub fn tidy(row: [u8; 16], rec: [u64; 5]) -> bool
         return false;
     }
     unused(row[15], rec[4])
-}
-
-// An entry of a list; a place past the end is left.
-pub fn put(xs: &mut [u8], n: u64, v: u8)
-    ensures { λ _. ⌜ now (xs .exit) ≡ set (now (xs .entry)) n v ⌝ }
-{
-    if n < xs.len() as u64 {
-        let i = n as usize;
-        xs[i] = v;
-    }
 }
 
 // The type of a record that keeps the rules, after the lines noted.

@@ -4,22 +4,10 @@ use crate::notes;
 ghost use mathlib.Core.Path.{_≡_};
 ghost use mathlib.Core.Bool.{Bool, true, false, _&&_};
 ghost use Prim.Native.Nat.{_<_, _≤_};
-ghost use lib.ListN.{getD};
 ghost use Rattle.tables.specs.Lines.{lineOf, kindIn, firstIn};
 ghost use Rattle.tables.specs.Notes.{lookIn};
 ghost use Rattle.tables.specs.Types.{isWord, isArray, isWordSort, isArraySort, isFixed, ty, sortAt, typeOf};
 ghost use Rattle.tables.specs.Pick.{pick};
-
-// The entry of the line a; 0 past the end.
-pub fn at(xs: &[u8], a: u64) -> u8
-    ensures { λ r. ⌜ r ≡ getD (now (xs .entry)) a 0 ⌝ }
-{
-    if a < xs.len() as u64 {
-        let i = a as usize;
-        return xs[i];
-    }
-    0
-}
 
 // The sort that a line's second word names: in a program the word is the width.
 pub fn sort_at(program: bool, notes: &[[u8; 5]], s: u64) -> Ty

@@ -14,7 +14,8 @@ use Rattle.circuits.specs.Meaning.{cellsAt}
 use Rattle.circuits.specs.Answers.{linesOf}
 use Rattle.circuits.proofs.Fitting.{fit-as, op-as}
 use Rattle.peeks.specs.Peek.{stepZero}
-use Rattle.peeks.proofs.Peeking.{kept, number, word-arg, word-same, cell-same, cell-read, pair, fact, state-fact, chosen, given-asks, given-is, is-write, is-one, is-two, first-cell, Alike, deep, left-word, right-word, left-cell, right-cell, same-words, alike-none, alike-more, alike-not, alike-all, shape-cmp}
+use Rattle.tables.proofs.Shapes.{shape-cmp}
+use Rattle.peeks.proofs.Peeking.{kept, number, word-arg, word-same, cell-same, cell-read, pair, fact, state-fact, chosen, given-asks, given-is, is-write, is-one, is-two, first-cell, Alike, deep, left-word, right-word, left-cell, right-cell, same-words, alike-none, alike-more, alike-not, alike-all}
 use borrow.Author.Needs.{needs}
 use borrow.Fn.Kinds.{In}
 use borrow.Fn.PlainCycle.{Measures, is, falls, and}

@@ -15,7 +15,7 @@ use Rattle.programs.proofs.notes.loose.Reads as loose-reads
 use Rattle.programs.proofs.notes.number.Reads as number-reads
 use Rattle.programs.proofs.notes.store.Reads as store-reads
 use Rattle.programs.proofs.notes.width.Reads as width-reads
-use Rattle.tables.proofs.check.put.Reads as put-reads
+use Rattle.programs.proofs.flags.put.Reads as put-reads
 
 loose-requires : tie.Need-loose-requires
 loose-requires c κs = search needs

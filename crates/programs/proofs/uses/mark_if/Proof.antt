@@ -5,7 +5,7 @@ use Rattle.programs.proofs.uses.mark_if.Statement.{statement}
 use Rattle.programs.proofs.uses.mark_if.Tie as tie
 use Rattle.programs.proofs.uses.mark_if.Reads as reads
 use Rattle.programs.proofs.uses.mark_if.Lts as lts
-use Rattle.tables.proofs.check.put.Reads as put-reads
+use Rattle.programs.proofs.flags.put.Reads as put-reads
 
 put-requires : tie.Need-put-requires
 put-requires c κs = search needs

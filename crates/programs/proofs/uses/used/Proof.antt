@@ -5,7 +5,7 @@ use Rattle.programs.proofs.uses.used.Statement.{statement}
 use Rattle.programs.proofs.uses.used.Tie as tie
 use Rattle.programs.proofs.uses.used.Reads as reads
 use Rattle.programs.proofs.uses.used.Lts as lts
-use Rattle.tables.proofs.types.at.Reads as at-reads
+use Rattle.programs.proofs.flags.at.Reads as at-reads
 
 returns : tie.Need-returns
 returns c = rw (not-true (c .before .before .args .line) (c .if1 .taken))

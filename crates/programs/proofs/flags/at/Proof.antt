@@ -1,10 +1,10 @@
 use mathlib.Core.Path.{sym}
 use lib.ListN.{List·getD-eq-default}
 use borrow.Author.Needs.{needs}
-use Rattle.tables.proofs.types.at.Statement.{statement}
-use Rattle.tables.proofs.types.at.Tie as tie
-use Rattle.tables.proofs.types.at.Reads as reads
-use Rattle.tables.proofs.types.at.Lts as lts
+use Rattle.programs.proofs.flags.at.Statement.{statement}
+use Rattle.programs.proofs.flags.at.Tie as tie
+use Rattle.programs.proofs.flags.at.Reads as reads
+use Rattle.programs.proofs.flags.at.Lts as lts
 
 shared-slice-read-result : tie.Need-shared-slice-read-result
 shared-slice-read-result c = search needs

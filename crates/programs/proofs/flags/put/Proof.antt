@@ -1,10 +1,10 @@
 use mathlib.Core.Path.{sym}
 use lib.Seq.{set-out}
 use borrow.Author.Needs.{needs}
-use Rattle.tables.proofs.check.put.Statement.{statement}
-use Rattle.tables.proofs.check.put.Tie as tie
-use Rattle.tables.proofs.check.put.Reads as reads
-use Rattle.tables.proofs.check.put.Lts as lts
+use Rattle.programs.proofs.flags.put.Statement.{statement}
+use Rattle.programs.proofs.flags.put.Tie as tie
+use Rattle.programs.proofs.flags.put.Reads as reads
+use Rattle.programs.proofs.flags.put.Lts as lts
 
 slice-write-xs : tie.Need-slice-write-xs
 slice-write-xs c = search needs
