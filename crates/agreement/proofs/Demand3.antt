@@ -1,22 +1,18 @@
 -- Demand 3: the runs of a circuit, of its flat circuit and of that one's program are alike in every signal byte and in the first counted bad, for all starts, inputs and
 -- step counts: one theorem. Assumes nothing.
-use Prim.Native.Nat.{ℕ, _+_, _*_, _≤_, _<_, _^_}
-use mathlib.Core.Path.{_≡_, refl, sym, ap, _∙_, subst, subst⁻¹}
-use mathlib.Core.Bool.{Bool, true, false}
+use Prim.Native.Nat.{ℕ, _*_}
+use mathlib.Core.Path.{_≡_, sym, ap, _∙_, subst, subst⁻¹}
+use mathlib.Core.Bool.{true, false}
 use mathlib.Core.List.{List, [], _∷_}
 use native.Mathlib.Omega.{arith}
-use lib.ListN.{length}
 use Rattle.tables.specs.declared.Checked.the-variants.{Accepted}
 use Rattle.tables.specs.Lines.{Line}
-use Rattle.tables.specs.Tables.{checked}
-use Rattle.circuits.specs.Meaning.{Sig}
 use Rattle.circuits.specs.Layout.{layout}
 use Rattle.circuits.specs.Run.{run, bytes, firstBad}
-use Rattle.circuits.specs.Answers.{linesOf, ready, ran, signalsLeft}
-use Rattle.flattening.specs.Answers.{flattened, targetLeft as flatLeft}
+use Rattle.circuits.specs.Answers.{linesOf, ready}
+use Rattle.flattening.specs.Answers.{targetLeft as flatLeft}
 use Rattle.flattening.proofs.Leaves.{answered, flat-accepted, flat-counts, flat-run}
-use Rattle.programs.specs.Translation.{translate}
-use Rattle.programs.specs.Answers.{translated, programOf, targetLeft as programLeft}
+use Rattle.programs.specs.Answers.{targetLeft as programLeft}
 use Rattle.programs.proofs.LaidLines.{same-counts}
 use Rattle.programs.proofs.Runs.{Small, alike}
 use Rattle.programs.proofs.Done.{is-done, flat-ok, target-accepted, target-lines}

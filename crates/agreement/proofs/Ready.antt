@@ -1,13 +1,12 @@
 -- A run that is lent what it asks for is not refused, and then answers by its signals. Assumes nothing.
 use Prim.Native.Nat.{ℕ, _+_, _*_, _≤_}
-use mathlib.Core.Path.{_≡_, refl, sym, ap, _∙_}
+use mathlib.Core.Path.{_≡_}
 use mathlib.Core.Bool.{Bool}
 use mathlib.Core.List.{List}
 use lib.ListN.{length}
 use borrow.Author.Tests.{le-leb, eq-eqb}
 use Rattle.tables.specs.declared.Checked.the-variants.{Accepted}
 use Rattle.tables.specs.Tables.{checked}
-use Rattle.circuits.specs.declared.Ran.{Ran}
 use Rattle.circuits.specs.Layout.{layout}
 use Rattle.circuits.specs.Run.{run, bytes, firstBad}
 use Rattle.circuits.specs.Answers.{linesOf, ready, ran, signalsLeft}

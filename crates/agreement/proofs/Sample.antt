@@ -1,9 +1,6 @@
 -- The request's circuit meets the premises of demand 3: three steps from the starts 0 0 with the inputs 0 0 1. Assumes nothing.
-use Prim.Native.Nat.{ℕ}
-use mathlib.Core.Path.{_≡_, refl}
-use mathlib.Core.Bool.{Bool, true, false}
-use mathlib.Core.List.{List, [], _∷_}
-use native.Mathlib.Omega.{arith}
+use mathlib.Core.Path.{refl}
+use mathlib.Core.List.{[], _∷_}
 use lib.Dec.{lit<, lit≤}
 use Rattle.tables.specs.Kinds.{rowOf}
 use Rattle.tables.specs.Rules.{suits, fault}

@@ -13,13 +13,13 @@ use Rattle.tables.specs.Pick.{pick}
 use Rattle.tables.specs.Lines.{Line, Expr}
 use Rattle.tables.specs.Types.{noTy, isFixed, noCtx, tyAt, given}
 use Rattle.tables.proofs.Kept.{both}
-use Rattle.tables.proofs.Showing.{by-place, snoc-other, earlier}
+use Rattle.tables.proofs.Showing.{by-place, snoc-other}
 use Rattle.tables.proofs.Facts.{Ok, AllOk}
 use Rattle.circuits.specs.Cells.{choose, say, same, part, put}
 use Rattle.circuits.specs.Layout.{Layout, typeAt, placeAt, size, lay, layout, typeOf}
 use Rattle.circuits.specs.Meaning.{Acc, cellsAt, wordAt, widthAt, opWord, cellsE, stateWords, cellsOf, stsOf, evalLine, evalAll, noAcc, step}
 use Rattle.circuits.specs.Run.{rowOf, start}
-use Rattle.circuits.proofs.Laid.{later, more-types}
+use Rattle.circuits.proofs.Laid.{more-types}
 use Rattle.circuits.proofs.Walked.{accAt, acc-suc, acc-lay, eval-append}
 
 -- ---- later lines leave the cells of earlier ones

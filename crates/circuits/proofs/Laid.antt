@@ -10,7 +10,7 @@ use lib.Seq.{getD-at}
 use Rattle.tables.specs.declared.Ty.{Ty}
 use Rattle.tables.specs.Pick.{pick}
 use Rattle.tables.specs.Lines.{Line, Expr, wordsOf, firstIn, secondIn, thirdIn}
-use Rattle.tables.specs.Types.{noTy, lineType, tyAt, given, grow, fixedExpr}
+use Rattle.tables.specs.Types.{noTy, lineType, tyAt, given, fixedExpr}
 use Rattle.tables.proofs.Showing.{snoc-other, by-place}
 use Rattle.tables.proofs.Values.{val-value}
 use Rattle.tables.proofs.Wide.{AllWide, line-wide, grow-wide}

@@ -20,8 +20,9 @@ use Rattle.circuits.specs.Answers.{linesOf}
 use Rattle.circuits.specs.Model.{countsOf, totalsOf, placeBy, Small, AllPlaced, Sized, Ready, Typed, markOf, marks}
 use Rattle.tables.specs.declared.Checked.the-variants.{Accepted}
 use Rattle.tables.specs.Tables.{checked}
+use Rattle.tables.proofs.Encoding.{fits-table}
 use Rattle.circuits.specs.declared.Totals.{Totals}
-use Rattle.circuits.proofs.Walked.{sound-at, ok-here, lay-next, later-at, number-at, lay-done, line-here, fits-table, lines-many}
+use Rattle.circuits.proofs.Walked.{sound-at, ok-here, lay-next, later-at, number-at, lay-done, line-here, lines-many}
 use Rattle.circuits.proofs.Answering.{signals-many}
 use Rattle.circuits.proofs.Laid.{Sound, type-new, place-new, type-old, place-old, more-places, more-types, line-deep}
 

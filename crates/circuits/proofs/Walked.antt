@@ -1,5 +1,5 @@
 -- All lines of a step on the work area: after i lines it holds what the first i lines mean. Assumes nothing.
-use Prim.Native.Nat.{ℕ, zero, suc, _+_, _*_, _≤_, _<_}
+use Prim.Native.Nat.{ℕ, zero, suc, _+_, _≤_, _<_}
 use mathlib.Core.Path.{_≡_, refl, sym, ap, ap₂, _∙_, subst}
 use mathlib.Core.Bool.{Bool, false}
 use mathlib.Core.List.{List, [], _∷_, _++_, append-nil}
@@ -12,9 +12,8 @@ use Rattle.tables.specs.Lines.{Line, lineOf, records, counted, recordAt}
 use Rattle.tables.specs.Types.{tyAt, given}
 use Rattle.tables.specs.Tables.{checked}
 use Rattle.tables.proofs.Counted.{record-at}
-use Rattle.tables.proofs.Checking.{roomy}
-use Rattle.tables.proofs.Sound.{accepted-room, accepted-ok}
-use Rattle.tables.proofs.Encoding.{length-decode}
+use Rattle.tables.proofs.Sound.{accepted-ok}
+use Rattle.tables.proofs.Encoding.{length-decode, fits-table}
 use Rattle.tables.proofs.Facts.{Ok, AllOk}
 use Rattle.circuits.specs.Cells.{choose}
 use Rattle.circuits.specs.Layout.{Layout, typeAt, placeAt, noLayout, lay, layAll, layout}
@@ -52,14 +51,11 @@ lay-rest p C i = ap (layAll p noLayout) (sym (take-append-drop i C)) ∙ lay-app
 -- ---- the lines of an accepted table
 
 module _ (p : Bool) (t : List ℕ) (n : ℕ) (acc : checked p t n ≡ Accepted) where
-  pub fits-table : (n ≤ 16384) × (5 * n ≤ length t)
-  fits-table = roomy (length t) n (accepted-room p t n acc .1)
-
   pub lines-many : length (linesOf t n) ≡ n
   lines-many = length-decode p t n acc
 
   pub line-here : (i : ℕ) → i < n → getD (linesOf t n) i Line.junk ≡ lineOf (recordAt t i)
-  line-here i h = List·getD-map lineOf (records (counted t n)) i [] ∙ ap lineOf (record-at n t i (fits-table .1) h)
+  line-here i h = List·getD-map lineOf (records (counted t n)) i [] ∙ ap lineOf (record-at n t i (fits-table p t n acc .1) h)
 
   pub lines-ok : AllOk p (noLayout .ctx) (linesOf t n)
   lines-ok = accepted-ok p t n acc

@@ -1,6 +1,6 @@
 -- What the lines of a circuit (p false) mean, and those of a program (p true). A value has 2 ^ iw cells, a word one. What a line's cells are is said over three
 -- lookups of its operands (width, word, cells), so that the same text speaks of the values so far and of a work area that holds them. Assumes nothing.
-use Prim.Native.Nat.{ℕ, zero, suc, _+_, _%_, _^_}
+use Prim.Native.Nat.{ℕ, _+_, _%_, _^_}
 use mathlib.Core.Bool.{Bool, true, false, not, _||_}
 use mathlib.Core.List.{List, [], _∷_, _++_}
 use lib.ListN.{getD, set, replicate}

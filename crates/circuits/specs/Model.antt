@@ -1,7 +1,7 @@
 -- A step's lines as the code computes them, in a work area: the cells of all value lines in line order, then the state words. The lists `off`, `wid`, `num` and
 -- `pos` hold for each line its first word in the work area, its width, its cells, and its place (of a state's first word, an input or a signal); the state words
 -- begin at `all`. Assumes nothing.
-use Prim.Native.Nat.{ℕ, zero, suc, _+_, _*_, _%_, _^_, _≤_, _<_}
+use Prim.Native.Nat.{ℕ, zero, suc, _+_, _^_, _≤_, _<_}
 use mathlib.Core.Path.{_≡_}
 use mathlib.Core.Logic.{_⊎_}
 use mathlib.Core.Bool.{Bool, true, false}

@@ -1,8 +1,7 @@
 // Runs of neighbouring words: the work area holds the cells of a line as one run. The lists have an entry for each line.
 use words::low;
 ghost use mathlib.Core.Path.{_≡_};
-ghost use mathlib.Core.Bool.{Bool, true, false};
-ghost use mathlib.Core.List.{List, [], _∷_};
+ghost use mathlib.Core.Bool.{true, false};
 ghost use Prim.Native.Nat.{_+_, _≤_, _<_};
 ghost use lib.ListN.{length, drop, getD, set, replicate};
 ghost use Rattle.words.specs.Word.{Width};

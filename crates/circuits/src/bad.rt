@@ -1,7 +1,7 @@
 // The first counted bad, from the signal bytes of all steps and the signals' classes: 1 for a bad line, 0 for a constraint.
 use crate::Ran;
 ghost use mathlib.Core.Path.{_≡_};
-ghost use mathlib.Core.Bool.{Bool, true, false, not, _&&_};
+ghost use mathlib.Core.Bool.{true, false, not, _&&_};
 ghost use Prim.Native.Nat.{_+_, _*_, _≤_, _<_};
 ghost use lib.Dec.{eqb};
 ghost use lib.ListN.{length};

@@ -1,16 +1,17 @@
 // One line of a step: its cells go to its run of the work area. `first` is true as the run starts, where init lines store and no line signals.
 use crate::area;
+use tables::records::WORDS;
 ghost use mathlib.Core.Path.{_≡_};
-ghost use mathlib.Core.Bool.{Bool, true, false, not, _||_};
-ghost use mathlib.Core.List.{List, [], _∷_};
-ghost use Prim.Native.Nat.{_+_, _≤_, _<_};
+ghost use mathlib.Core.Bool.{true, false, not, _||_};
+ghost use mathlib.Core.List.{[], _∷_};
+ghost use Prim.Native.Nat.{_+_};
 ghost use lib.ListN.{length, getD, set, replicate};
 ghost use Rattle.words.specs.Word.{Width, bit};
 ghost use Rattle.tables.specs.Pick.{pick};
 ghost use Rattle.tables.specs.Lines.{lineOf};
 ghost use Rattle.circuits.specs.Cells.{choose, say, same, put};
 ghost use Rattle.circuits.specs.Meaning.{opWord, inputWord};
-ghost use Rattle.circuits.specs.Model.{wordIn, runIn, stateIn, workIn, sigsIn, Word, Run, FitWord, FitOne, FitTwo, FitCmp, FitIte, FitRead, FitWrite, Own, FitInput, FitState, FitInit, FitNext, FitMark, FitL};
+ghost use Rattle.circuits.specs.Model.{wordIn, runIn, stateIn, workIn, sigsIn, Word, Run, FitWord, FitOne, FitTwo, FitCmp, FitIte, FitRead, FitWrite, FitInput, FitState, FitInit, FitNext, FitMark, FitL};
 
 // A word operator, of a program or of a circuit.
 pub fn word(program: bool, k: u64, w: u64, u: u64, v: u64, a: u64, b: u64, c: u64) -> u64
@@ -312,7 +313,7 @@ fn line_mark(
 pub fn line(
     program: bool,
     first: bool,
-    rec: [u64; 5],
+    rec: [u64; WORDS],
     n: usize,
     off: &[u32; 16385],
     wid: &[u8; 16385],

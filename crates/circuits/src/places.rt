@@ -3,10 +3,10 @@ use crate::Spot;
 use crate::Totals;
 use tables::Checked;
 use tables::records;
+use tables::records::WORDS;
 ghost use mathlib.Core.Path.{_≡_};
-ghost use mathlib.Core.Bool.{Bool, true, false};
-ghost use mathlib.Core.List.{List, _++_};
-ghost use Prim.Native.Nat.{_+_, _*_, _^_, _≤_, _<_};
+ghost use mathlib.Core.List.{_++_};
+ghost use Prim.Native.Nat.{_+_, _^_, _≤_, _<_};
 ghost use lib.ListN.{length, take, getD, set};
 ghost use Rattle.tables.specs.Lines.{lineOf};
 ghost use Rattle.tables.specs.Tables.{checked};
@@ -24,7 +24,7 @@ pub fn cells_of(idx: &[u8; 16385], n: usize) -> usize
 }
 
 // The counts after a line of m cells.
-fn count_line(rec: [u64; 5], m: usize, t: Totals) -> Totals
+fn count_line(rec: [u64; WORDS], m: usize, t: Totals) -> Totals
     requires { ⌜ Small (countsOf t) m ⌝ }
     ensures { λ r. ⌜ r ≡ totalsOf (countOf (countsOf t) m (lineOf rec)) ⌝ }
 {
@@ -67,7 +67,7 @@ fn more_cells(m: usize, t: Totals) -> Totals
 }
 
 // The place of a line after those counted.
-fn find_spot(rec: [u64; 5], t: Totals) -> Spot
+fn find_spot(rec: [u64; WORDS], t: Totals) -> Spot
     ensures { λ r. ⌜ (r .off ≡ placeBy (countsOf t) (lineOf rec) .off) × (r .at ≡ placeBy (countsOf t) (lineOf rec) .at) ⌝ }
 {
     let k = rec[0];
@@ -140,7 +140,7 @@ pub fn lay_out(
 }
 
 // A record's signal, if it has one, goes to the classes after the g so far: 1 for a bad line, 0 for a constraint. Answers how many there are now.
-fn note_mark(rec: [u64; 5], g: usize, bad: &mut [u8]) -> usize
+fn note_mark(rec: [u64; WORDS], g: usize, bad: &mut [u8]) -> usize
     requires { ⌜ g < length (now bad) ⌝ }
     ensures { λ r. ⌜ (take r (now (bad .exit)) ≡ take g (now (bad .entry)) ++ markOf (lineOf rec)) × (r ≡ g + length (markOf (lineOf rec))) ⌝ }
 {

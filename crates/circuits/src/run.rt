@@ -8,11 +8,11 @@ use tables::Checked;
 use tables::Refusal;
 use tables::check;
 use tables::notes;
+use tables::notes::BYTES;
 use tables::records;
 ghost use mathlib.Core.Path.{_≡_};
-ghost use mathlib.Core.Bool.{Bool, true, false};
-ghost use mathlib.Core.List.{List};
-ghost use Prim.Native.Nat.{_+_, _*_, _≤_, _<_};
+ghost use mathlib.Core.Bool.{false};
+ghost use Prim.Native.Nat.{_+_, _*_, _<_};
 ghost use lib.ListN.{length, replicate};
 ghost use Rattle.circuits.specs.Run.{bytes, firstBad, run};
 ghost use Rattle.circuits.specs.Answers.{linesOf, lent as lentOf, ran, signalsLeft};
@@ -135,7 +135,7 @@ fn run_noted(
     program: bool,
     table: &[u64],
     count: usize,
-    notes: &[[u8; 5]],
+    notes: &[[u8; BYTES]],
     k: usize,
     starts: &[u64],
     inputs: &[u64],
@@ -177,7 +177,7 @@ pub fn run_table(
 {
     check::clear(signals);
     records::clear(work);
-    let mut notes = [[0u8; 5]; 16385];
+    let mut notes = [[0u8; BYTES]; 16385];
     match check::check(program, table, count, &mut notes) {
         Checked::Refused(r) => {
             return Ran::Refused(r);

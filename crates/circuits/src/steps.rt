@@ -3,12 +3,11 @@ use crate::area;
 use crate::eval;
 use tables::records;
 ghost use mathlib.Core.Path.{_≡_};
-ghost use mathlib.Core.Bool.{Bool, true, false};
-ghost use mathlib.Core.List.{List};
+ghost use mathlib.Core.Bool.{true, false};
 ghost use Prim.Native.Nat.{_+_, _*_, _≤_, _<_};
 ghost use lib.ListN.{length, drop, replicate};
 ghost use Rattle.circuits.specs.Meaning.{step};
-ghost use Rattle.circuits.specs.Run.{bytesOf, bytes, steps as stepsOf, run, start};
+ghost use Rattle.circuits.specs.Run.{bytesOf, bytes, steps as stepsOf, run};
 ghost use Rattle.circuits.specs.Answers.{linesOf};
 ghost use Rattle.circuits.specs.Model.{Ready};
 

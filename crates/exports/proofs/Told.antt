@@ -6,7 +6,7 @@ use mathlib.Core.Path.{_≡_, refl, sym, ap, _∙_, subst}
 use mathlib.Core.Bool.{Bool, true, false}
 use mathlib.Core.List.{List, [], _∷_}
 use lib.Dec.{T}
-use lib.ListN.{length, set, take, drop, replicate, length-replicate}
+use lib.ListN.{length, set, take, drop, length-replicate}
 use borrow.Author.Tests.{eqb-true}
 use Rattle.texts.specs.Naming.{nameOf}
 use Rattle.exports.specs.Answers.{three, given, zeros, Named}

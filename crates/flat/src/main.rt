@@ -3,8 +3,12 @@ use flattening::Flattened;
 use libc::STDIN_FILENO;
 use libc::STDOUT_FILENO;
 use tables::Refusal;
+use tables::records::WORDS;
 use texts::ReadOutcome;
 use texts::WriteOutcome;
+
+// A table of 1,600 records.
+const TABLE: usize = 1600 * WORDS;
 
 // Prints `refused N L`, L the text line, 0 if none.
 fn refuse(r: Refusal, line: usize) {
@@ -31,8 +35,8 @@ fn print(table: &[u64], count: usize) {
 fn main() {
     let mut text = [0u8; 65537];
     let n = io::read_full(STDIN_FILENO, &mut text);
-    let mut table = [0; 8000];
-    let mut target = [0; 8000];
+    let mut table = [0; TABLE];
+    let mut target = [0; TABLE];
     match texts::read(&text[..n], &mut table) {
         ReadOutcome::Refused(r, line) => refuse(r, line),
         ReadOutcome::Done(count) => match flattening::flatten(&table, count, &mut target) {

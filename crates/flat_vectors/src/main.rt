@@ -1,6 +1,8 @@
 // Flattens the cases of the request, and prints each flat circuit as text.
 use flattening::Flattened;
 use tables::Refusal;
+use tables::records;
+use tables::records::WORDS;
 use texts::ReadOutcome;
 use texts::WriteOutcome;
 
@@ -54,10 +56,10 @@ fn print(table: &[u64], count: usize) {
 
 // Every word past the first m records is 0.
 fn zero_past(target: &[u64], m: usize) -> bool {
-    if target.len() / 5 < m {
+    if records::room_of(target.len()) < m {
         return false;
     }
-    let from = 5 * m;
+    let from = WORDS * m;
     zero(&target[from..])
 }
 

@@ -11,7 +11,7 @@ use lib.Pow.{pow-pos, pow-mono}
 use borrow.Author.Tests.{eq-eqb, ne-eqb, lt-ltb}
 use Rattle.tables.specs.declared.Ty.{Ty}
 use Rattle.tables.specs.Pick.{pick}
-use Rattle.tables.specs.Lines.{Line, Expr, five, encode, giveKind, cmpKind}
+use Rattle.tables.specs.Lines.{Line, Expr, fields, encode, giveKind, cmpKind}
 use Rattle.tables.specs.Types.{tyAt, given}
 use Rattle.tables.specs.Rules.{valueIndex}
 use Rattle.tables.proofs.Facts.{IsWord, OkValue, Ok}
@@ -26,7 +26,8 @@ use Rattle.flattening.proofs.CellLaws.{from-at, length-from}
 use Rattle.flattening.proofs.Rel.{Inv, KnownRel, word-small}
 use Rattle.flattening.proofs.Placing.{join-some}
 use Rattle.flattening.proofs.Laying.{size-two}
-use Rattle.flattening.proofs.Rowing.{words-ext, words-more, encode-append, const-words, state-words, give-words, ite-words, cmp-words, join-words, writePair, write-words, before, readPair, read-words}
+use Rattle.tables.proofs.Places.{encode-append}
+use Rattle.flattening.proofs.Rowing.{words-ext, words-more, const-words, state-words, give-words, ite-words, cmp-words, join-words, writePair, write-words, before, readPair, read-words}
 
 -- what is kept of a constant
 abbrev pub KnownNote : Option ℕ → ℕ → Type 0
@@ -60,13 +61,13 @@ module _ (H : Held) where
   down-at a t j v d e = sym e ∙ rw (ne-eqb a 0 d)
 
   rows-as : (n k s : ℕ) (x y z : Source) (X Y Z : ℕ → ℕ) → ((j : ℕ) → j < n → X j ≡ sourceAt H x j) → ((j : ℕ) → j < n → Y j ≡ sourceAt H y j) → ((j : ℕ) → j < n → Z j ≡ sourceAt H z j)
-      → words n (λ j. five k s (X j) (Y j) (Z j)) ≡ words n (rowAt H k s x y z)
-  rows-as n k s x y z X Y Z a b c = words-ext n (λ j. five k s (X j) (Y j) (Z j)) (rowAt H k s x y z) (λ j l i. five k s (a j l i) (b j l i) (c j l i))
+      → words n (λ j. fields k s (X j) (Y j) (Z j)) ≡ words n (rowAt H k s x y z)
+  rows-as n k s x y z X Y Z a b c = words-ext n (λ j. fields k s (X j) (Y j) (Z j)) (rowAt H k s x y z) (λ j l i. fields k s (a j l i) (b j l i) (c j l i))
 
-  pairs-as : (n p o i s : ℕ) (c x y : Source) (g : ℕ → List ℕ) (C B X Y : ℕ → ℕ) → ((j : ℕ) → j < n → g j ≡ five 21 o i (C j) 0 ++ five 53 s (B j) (X j) (Y j)) → ((j : ℕ) → j < n → C j ≡ sourceAt H c j)
+  pairs-as : (n p o i s : ℕ) (c x y : Source) (g : ℕ → List ℕ) (C B X Y : ℕ → ℕ) → ((j : ℕ) → j < n → g j ≡ fields 21 o i (C j) 0 ++ fields 53 s (B j) (X j) (Y j)) → ((j : ℕ) → j < n → C j ≡ sourceAt H c j)
       → ((j : ℕ) → j < n → B j ≡ suc (p + 2 * j)) → ((j : ℕ) → j < n → X j ≡ sourceAt H x j) → ((j : ℕ) → j < n → Y j ≡ sourceAt H y j) → words n g ≡ words n (pairAt H p o i s c x y)
   pairs-as n p o i s c x y g C B X Y e ec eb ex ey =
-      words-ext n g (pairAt H p o i s c x y) (λ j l. e j l ∙ (λ m. five 21 o i (ec j l m) 0 ++ five 53 s (eb j l m) (ex j l m) (ey j l m)))
+      words-ext n g (pairAt H p o i s c x y) (λ j l. e j l ∙ (λ m. fields 21 o i (ec j l m) 0 ++ fields 53 s (eb j l m) (ex j l m) (ey j l m)))
 
   -- the joins of an eq
   joined-words : (e : Bool) (s p n : ℕ) → 0 < n → encode (joinAll e s (suc p + n) (from (suc p) n)) ≡ joinWords H p (joinKind e) s n
@@ -79,7 +80,7 @@ module _ (H : Held) where
       let q₁ : suc p ≡ p + 1 = omega arith in
       let q₂ : suc (suc p) ≡ p + 2 = omega arith in
       let q₃ : m ≡ n - 2 = omega arith in
-      ap₂ (λ (x y : List ℕ). x ++ y) (λ i. five k s (q₁ i) (q₂ i) 0)
+      ap₂ (λ (x y : List ℕ). x ++ y) (λ i. fields k s (q₁ i) (q₂ i) 0)
       (join-words e s c (suc (suc (suc p))) m
       ∙ rows-as m k s (run (p + n + 1) 1) (run (p + 3) 1) (still 0) (λ j. c + j) (λ j. suc (suc (suc p)) + j) (λ j. 0) (λ j l. omega arith) (λ j l. omega arith) (λ j l. still-at 0 j)
       ∙ ap (λ (x : ℕ). words x (rowAt H k s (run (p + n + 1) 1) (run (p + 3) 1) (still 0))) q₃)
@@ -153,7 +154,7 @@ module _ {A B : Acc} {I : List Info} (v : Inv A B I) (N : Notes) (ne : Neat N) (
       let q : infoAt I i .width ≡ wideIn N i = v .rel i .sort (k .index .is) .wide ∙ sym (tl .w i (omega (arith, k .index .is))) in
       let n = 2 ^ (infoAt I i .width) in
       let s = infoAt I i .elem in
-      ap (λ (w : List ℕ). five 1 0 1 0 0 ++ w)
+      ap (λ (w : List ℕ). fields 1 0 1 0 0 ++ w)
       (const-words s 0 n ∙ rows-as H n 3 s (run 0 1) (still 0) (still 0) (λ j. 0 + j) (λ j. 0) (λ j. 0) (λ j l. omega arith) (λ j l. still-at H 0 j) (λ j l. still-at H 0 j)
       ∙ ap₂ (λ (x y : ℕ). words (2 ^ x) (rowAt H 3 y (run 0 1) (still 0) (still 0))) q (elem-of i (k .index .is)))
 
@@ -306,17 +307,17 @@ module _ {A B : Acc} {I : List Info} (v : Inv A B I) (N : Notes) (ne : Neat N) (
   pub line-words : (l : Line) → Ok false (tyAt (A .lay .ctx)) (given (A .lay .ctx)) l → encode (chunk I (suc p) l .lines) ≡ flatWords N p l
   line-words (Line.bitvec w) k = refl
   line-words (Line.array i e) k = array-words i e k
-  line-words (Line.input s) k = ap (λ (e : ℕ). five 4 e 0 0 0) (elem-of s (k .is))
+  line-words (Line.input s) k = ap (λ (e : ℕ). fields 4 e 0 0 0) (elem-of s (k .is))
   line-words (Line.state s) k = state-line-words s k
-  line-words (Line.val s (Expr.const c)) k = ap (λ (e : ℕ). five 3 e c 0 0) (elem-of s (k .sort .is))
-  line-words (Line.val s (Expr.one h a x y)) k = ap₂ (λ (e w : ℕ). five h e w x y) (elem-of s (k .sort .is)) (word-line a (k .arg))
-  line-words (Line.val s (Expr.two h a b)) k = λ i. five h (elem-of s (k .sort .is) i) (word-line a (k .left) i) (word-line b (k .right) i) 0
+  line-words (Line.val s (Expr.const c)) k = ap (λ (e : ℕ). fields 3 e c 0 0) (elem-of s (k .sort .is))
+  line-words (Line.val s (Expr.one h a x y)) k = ap₂ (λ (e w : ℕ). fields h e w x y) (elem-of s (k .sort .is)) (word-line a (k .arg))
+  line-words (Line.val s (Expr.two h a b)) k = λ i. fields h (elem-of s (k .sort .is) i) (word-line a (k .left) i) (word-line b (k .right) i) 0
   line-words (Line.val s (Expr.cmp e a b)) k = cmp-line-words s e a b k
   line-words (Line.val s (Expr.ite c a b)) k = ite-line-words s c a b k
   line-words (Line.val s (Expr.read a i)) k = read-line-words s a i k
   line-words (Line.val s (Expr.write a i x)) k = write-line-words s a i x k
   line-words (Line.give m s q a) k = give-line-words m s q a k
-  line-words (Line.mark true a) k = ap (λ (w : ℕ). five 8 0 w 0 0) (word-line a (k .word))
-  line-words (Line.mark false a) k = ap (λ (w : ℕ). five 9 0 w 0 0) (word-line a (k .word))
-  line-words (Line.output a) k = ap (λ (w : ℕ). five 10 0 w 0 0) (word-line a k)
+  line-words (Line.mark true a) k = ap (λ (w : ℕ). fields 8 0 w 0 0) (word-line a (k .word))
+  line-words (Line.mark false a) k = ap (λ (w : ℕ). fields 9 0 w 0 0) (word-line a (k .word))
+  line-words (Line.output a) k = ap (λ (w : ℕ). fields 10 0 w 0 0) (word-line a k)
   line-words Line.junk k = absurd k

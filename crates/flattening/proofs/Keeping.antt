@@ -3,7 +3,6 @@ use Prim.Native.Nat.{ℕ, zero, suc, _+_, _-_, _*_, _≤_, _<_}
 use mathlib.Core.Path.{_≡_, refl, sym, ap, ap₂, _∙_, subst⁻¹}
 use mathlib.Core.Logic.{_≢_}
 use mathlib.Core.Bool.{Bool, true, false}
-use mathlib.Core.Option.{none}
 use mathlib.Core.List.{List, [], _∷_}
 use native.Mathlib.Omega.{arith}
 use native.Mathlib.Decide.{decLt}
@@ -13,7 +12,7 @@ use lib.Seq.{getD-set-same, getD-set-other}
 use borrow.Author.Tests.{eqb-true, eqb-false}
 use Rattle.tables.specs.declared.Ty.{Ty}
 use Rattle.tables.specs.Pick.{pick}
-use Rattle.tables.specs.Lines.{five}
+use Rattle.tables.specs.Lines.{fields}
 use Rattle.flattening.specs.declared.Made.{Made}
 use Rattle.flattening.specs.Flat.{from, Info, writeCells, joined, joinedAll}
 use Rattle.flattening.specs.Model.{Held, nothing, keptOf, atOf, oldOf, keyOf, cellBy, cellIn, Sound}
@@ -22,7 +21,7 @@ use Rattle.flattening.proofs.Holding.{cell-own, cell-new, cell-old}
 use Rattle.flattening.proofs.Agreeing.{KnownNote, NoteRel}
 
 abbrev pub keptNow : Made → List ℕ
-keptNow m = five (m .at) (m .bit) (m .old) (m .key) (m .con)
+keptNow m = fields (m .at) (m .bit) (m .old) (m .key) (m .con)
 
 -- the list with what is kept of the line n
 abbrev pub noted : Notes → ℕ → Made → Notes

@@ -1,5 +1,5 @@
 -- What flattening leaves for an accepted table: the flat table with the count answered is accepted, has no record of kind 2, and runs as the circuit does. Assumes nothing.
-use Prim.Native.Nat.{ℕ, _+_, _-_, _*_, _≤_, _<_}
+use Prim.Native.Nat.{ℕ, _+_, _-_, _≤_, _<_}
 use mathlib.Core.Path.{_≡_, refl, sym, ap, ap₂, _∙_, subst, subst⁻¹}
 use mathlib.Core.Logic.{_≢_}
 use mathlib.Core.Bool.{Bool, true, false, _&&_}
@@ -13,7 +13,7 @@ use Rattle.tables.specs.declared.Refusal.the-variants.{NotATable, TargetTooSmal
 use Rattle.tables.specs.declared.Checked.{Checked}
 use Rattle.tables.specs.declared.Checked.the-variants.{Accepted, Refused}
 use Rattle.tables.specs.Pick.{pick}
-use Rattle.tables.specs.Lines.{Line, encode, counted, records, recordAt, wordsOf, kindIn}
+use Rattle.tables.specs.Lines.{Line, encode, counted, records, recordAt, wordsOf, kindIn, span}
 use Rattle.tables.specs.Types.{noCtx}
 use Rattle.tables.specs.Tables.{whole, room, checked}
 use Rattle.tables.proofs.Kept.{both}
@@ -67,7 +67,7 @@ module _ (t : List ℕ) (n len m : ℕ) (e : flattened t n len ≡ Done m) where
   a = answered t n len m e
 
   abbrev rest : List ℕ
-  rest = replicate (len - 5 * m) 0
+  rest = replicate (len - span m) 0
 
   abbrev F : List Line
   F = flatLines t n
@@ -83,11 +83,11 @@ module _ (t : List ℕ) (n len m : ℕ) (e : flattened t n len ≡ Done m) where
   unfolding targetLeft flatTable
   left = ap (λ (r : Flattened). leftOf r len (encode (flatLines t n))) e
 
-  small : (m ≤ 16384) × (5 * m ≤ len)
+  small : (m ≤ 16384) × (span m ≤ len)
   small = roomy len m (a .fits)
 
   length-left : length (encode F ++ rest) ≡ len
-  length-left = length-append (encode F) rest ∙ omega (arith, length-encode F, length-replicate {A = ℕ} (len - 5 * m) 0, a .count, small .1)
+  length-left = length-append (encode F) rest ∙ omega (arith, length-encode F, length-replicate {A = ℕ} (len - span m) 0, a .count, small .1)
 
   -- the target keeps its length
   pub target-length : length (targetLeft t n len) ≡ len
@@ -109,7 +109,7 @@ module _ (t : List ℕ) (n len m : ℕ) (e : flattened t n len ≡ Done m) where
     where
       same : recordAt (targetLeft t n len) i ≡ getD (map wordsOf F) i []
       same =
-          sym (record-at m (targetLeft t n len) i (subst⁻¹ (λ (x : ℕ). 5 * m ≤ x) target-length (small .1)) h)
+          sym (record-at m (targetLeft t n len) i (subst⁻¹ (λ (x : ℕ). span m ≤ x) target-length (small .1)) h)
           ∙ ap (λ (rs : List (List ℕ)). getD rs i []) (ap records (ap₂ (λ (x : List ℕ) (k : ℕ). counted x k) left (sym (a .count)) ∙ counted-encode F rest) ∙ records-encode F)
 
   -- it has as many state words, inputs and signals

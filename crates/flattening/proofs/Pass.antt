@@ -16,7 +16,7 @@ use Rattle.tables.specs.declared.Ty.{Ty}
 use Rattle.tables.specs.declared.Checked.the-variants.{Accepted}
 use Rattle.tables.specs.declared.Refusal.the-variants.{TargetTooSmall}
 use Rattle.tables.specs.Pick.{pick}
-use Rattle.tables.specs.Lines.{Line, Expr, five, lineOf, kindIn, records, recordAt, decode, encode, counted, cmpKind, giveKind}
+use Rattle.tables.specs.Lines.{Line, Expr, fields, lineOf, kindIn, records, recordAt, decode, encode, counted, cmpKind, giveKind, span}
 use Rattle.tables.proofs.Values.{val-value}
 use Rattle.tables.specs.Types.{lineType, Ctx, noTy, tyAt, given, grow, growAll, noCtx, context}
 use Rattle.tables.specs.Notes.{lookIn}
@@ -26,9 +26,10 @@ use Rattle.tables.proofs.Checking.{roomy}
 use Rattle.tables.proofs.Showing.{snoc-other}
 use Rattle.tables.proofs.Counted.{length-records, record-at}
 use Rattle.tables.proofs.Facts.{Ok, AllOk}
+use Rattle.tables.proofs.Places.{encode-append}
 use Rattle.tables.proofs.Sound.{accepted-lawful, accepted-room, accepted-ok}
 use Rattle.tables.proofs.Complete.{length-encode}
-use Rattle.tables.proofs.Encoding.{length-decode}
+use Rattle.tables.proofs.Encoding.{fits-table, length-decode}
 use Rattle.tables.proofs.Wide.{all-wide}
 use Rattle.circuits.specs.Cells.{put}
 use Rattle.circuits.specs.Layout.{Layout, typeAt, typeOf, lay, layAll, noLayout, layout}
@@ -46,7 +47,6 @@ use Rattle.flattening.proofs.Rel.{Inv}
 use Rattle.flattening.proofs.Holding.{nothing-kept}
 use Rattle.flattening.proofs.Placing.{length-row, length-pairs, join-some}
 use Rattle.flattening.proofs.Laying.{size-two}
-use Rattle.flattening.proofs.Rowing.{encode-append}
 use Rattle.flattening.proofs.Alike.{zeros, step-lay}
 use Rattle.flattening.proofs.Agreeing.{NoteRel, Told, line-words}
 use Rattle.flattening.proofs.Keeping.{keptNow, noted, Holds, kept-other, kept-new, note-other, sound-new}
@@ -55,30 +55,30 @@ use Rattle.flattening.proofs.Passing.{lineIn, chunkAt, sofar, all-lines
 
 -- ---- the number of words of a line's records
 
-join-length : (H : Held) (p j s n : ℕ) → 0 < n → length (joinWords H p j s n) ≡ 5 * (n - 1)
+join-length : (H : Held) (p j s n : ℕ) → 0 < n → length (joinWords H p j s n) ≡ span (n - 1)
 join-length H p j s zero h = absurd (omega arith)
 join-length H p j s (suc zero) h = refl
 join-length H p j s (suc (suc m)) h =
     let n = suc (suc m) in
     let W = words (n - 2) (rowAt H j s (run (p + n + 1) 1) (run (p + 3) 1) (still 0)) in
-    ap length (join-some H p j s n (omega arith)) ∙ length-append (five j s (p + 1) (p + 2) 0) W ∙ omega (arith, length-row H j s (run (p + n + 1) 1) (run (p + 3) 1) (still 0) (n - 2))
+    ap length (join-some H p j s n (omega arith)) ∙ length-append (fields j s (p + 1) (p + 2) 0) W ∙ omega (arith, length-row H j s (run (p + n + 1) 1) (run (p + 3) 1) (still 0) (n - 2))
 
-pick-length : (b : Bool) (w : List ℕ) (k : ℕ) → length w ≡ 5 * k → length (pick b w []) ≡ 5 * pick b k 0
+pick-length : (b : Bool) (w : List ℕ) (k : ℕ) → length w ≡ span k → length (pick b w []) ≡ span (pick b k 0)
 pick-length true w k e = e
 pick-length false w k e = refl
 
-read-length : (H : Held) (p o i s a n : ℕ) → 2 ≤ n → length (readWords H p o i s a n) ≡ 5 * (2 * (n - 1))
+read-length : (H : Held) (p o i s a n : ℕ) → 2 ≤ n → length (readWords H p o i s a n) ≡ span (2 * (n - 1))
 read-length H p o i s a n h =
     let c₁ = runDown (o + 1) (n - 2) in
     let c₂ = runDown (o + 1) (n - 3) in
     length-append (words 1 (pairAt H p o i s c₁ (ofDown a (n - 2)) (still (cellIn H a (n - 1))))) (words (n - 2) (pairAt H (p + 2) o i s c₂ (ofDown a (n - 3)) (run (p + 2) 2)))
     ∙ omega (arith, length-pairs H p o i s c₁ (ofDown a (n - 2)) (still (cellIn H a (n - 1))) 1, length-pairs H (p + 2) o i s c₂ (ofDown a (n - 3)) (run (p + 2) 2) (n - 2))
 
-words-length : (N : Notes) (p : ℕ) (l : Line) → Deep N l → length (flatWords N p l) ≡ 5 * flatCount N l
+words-length : (N : Notes) (p : ℕ) (l : Line) → Deep N l → length (flatWords N p l) ≡ span (flatCount N l)
 words-length N p (Line.bitvec w) d = refl
 words-length N p (Line.array i e) d =
     let n = 2 ^ wideIn N i in
-    length-append (five 1 0 1 0 0) (words n (rowAt (N .held) 3 (sortIn N i) (run 0 1) (still 0) (still 0))) ∙ omega (arith, length-row (N .held) 3 (sortIn N i) (run 0 1) (still 0) (still 0) n)
+    length-append (fields 1 0 1 0 0) (words n (rowAt (N .held) 3 (sortIn N i) (run 0 1) (still 0) (still 0))) ∙ omega (arith, length-row (N .held) 3 (sortIn N i) (run 0 1) (still 0) (still 0) n)
 words-length N p (Line.input s) d = refl
 words-length N p (Line.state s) d = length-row (N .held) 5 (sortIn N s) (still 0) (still 0) (still 0) (sizeIn N s)
 words-length N p (Line.val s (Expr.const c)) d = refl
@@ -156,8 +156,8 @@ module _ (t : List ℕ) (n : ℕ) (acc : checked false t n ≡ Accepted) where
   abbrev pub C : List Line
   C = decode (counted t n)
 
-  many : (n ≤ 16384) × (5 * n ≤ length t)
-  many = roomy (length t) n (accepted-room false t n acc .1)
+  many : (n ≤ 16384) × (span n ≤ length t)
+  many = fits-table false t n acc
 
   size-C : length C ≡ n
   size-C = length-decode false t n acc
@@ -206,7 +206,7 @@ module _ (t : List ℕ) (n : ℕ) (acc : checked false t n ≡ Accepted) where
       pub rel : (a : ℕ) → NoteRel (notes kept types) (typeAt (walked C i .lay) a) a (infoAt (sofar C i .infos) a)
       pub count : p ≡ length (sofar C i .lines)
       pub fits : p ≤ room len
-      pub words : target ≡ encode (sofar C i .lines) ++ replicate (len - 5 * p) 0
+      pub words : target ≡ encode (sofar C i .lines) ++ replicate (len - span p) 0
 
     told : (i : ℕ) → i ≤ n → (kept : List (List ℕ)) → Told (walked C i) (notes kept types)
     told i h kept =
@@ -273,7 +273,7 @@ module _ (t : List ℕ) (n : ℕ) (acc : checked false t n ≡ Accepted) where
       too-many g = omega (arith, g, next-length, lines-le C (suc i) (subst⁻¹ (λ (m : ℕ). suc i ≤ m) size-C h))
 
       pub length-target : length target ≡ len
-      length-target = ap length (s .words) ∙ length-append (encode (sofar C i .lines)) (replicate (len - 5 * p) 0) ∙ omega (arith, length-encode (sofar C i .lines), length-replicate {A = ℕ} (len - 5 * p) 0, s .count, roomy len p (s .fits) .1)
+      length-target = ap length (s .words) ∙ length-append (encode (sofar C i .lines)) (replicate (len - span p) 0) ∙ omega (arith, length-encode (sofar C i .lines), length-replicate {A = ℕ} (len - span p) 0, s .count, roomy len p (s .fits) .1)
 
       pub fit : p + flatCount (notes kept types) (lineIn C i) ≤ room len → Fit (notes kept types) p (lineIn C i) (length target)
       fit g =
@@ -349,7 +349,7 @@ module _ (t : List ℕ) (n : ℕ) (acc : checked false t n ≡ Accepted) where
                 (note-other (notes kept types) (suc i) m (s .neat .sound) a d
                 (λ z. ap (λ (x : Info). x .cells) (List·getD-eq-default (sofar C i .infos) noInfo {n = a} (omega (arith, len-infos)))) (s .rel a)))
 
-        further : {target₁ : List ℕ} → target₁ ≡ put target (5 * p) (flatWords (notes kept types) p (lineIn C i))
+        further : {target₁ : List ℕ} → target₁ ≡ put target (span p) (flatWords (notes kept types) p (lineIn C i))
             → Pass (suc i) (m .next) (set kept (suc i) (keptNow m)) target₁
         further e =
             record {
@@ -377,13 +377,13 @@ module _ (t : List ℕ) (n : ℕ) (acc : checked false t n ≡ Accepted) where
             q : ℕ
             q = flatCount (notes kept types) (lineIn C i)
 
-            all-words : put target (5 * p) (flatWords (notes kept types) p (lineIn C i)) ≡ encode (sofar C (suc i) .lines) ++ replicate (len - 5 * m .next) 0
+            all-words : put target (span p) (flatWords (notes kept types) p (lineIn C i)) ≡ encode (sofar C (suc i) .lines) ++ replicate (len - span (m .next)) 0
             all-words =
-                let e₁ : 5 * p ≡ length (encode (sofar C i .lines)) = omega (arith, length-encode (sofar C i .lines), s .count) in
-                let e₂ : len - 5 * p - 5 * flatCount (notes kept types) (lineIn C i) ≡ len - 5 * m .next = omega (arith, next-of (notes kept types) p (lineIn C i)) in
-                ap₂ (λ (x y : List ℕ). put x (5 * p) y) (s .words) (sym chunk-words)
-                ∙ put-end (encode (sofar C i .lines)) (encode (chunkAt (sofar C i) (lineIn C i) .lines)) (5 * p) (len - 5 * p) (5 * flatCount (notes kept types) (lineIn C i)) e₁
-                (length-encode (chunkAt (sofar C i) (lineIn C i) .lines) ∙ ap (λ (x : ℕ). 5 * x) chunk-length)
+                let e₁ : span p ≡ length (encode (sofar C i .lines)) = omega (arith, length-encode (sofar C i .lines), s .count) in
+                let e₂ : len - span p - span (flatCount (notes kept types) (lineIn C i)) ≡ len - span (m .next) = omega (arith, next-of (notes kept types) p (lineIn C i)) in
+                ap₂ (λ (x y : List ℕ). put x (span p) y) (s .words) (sym chunk-words)
+                ∙ put-end (encode (sofar C i .lines)) (encode (chunkAt (sofar C i) (lineIn C i) .lines)) (span p) (len - span p) (span (flatCount (notes kept types) (lineIn C i))) e₁
+                (length-encode (chunkAt (sofar C i) (lineIn C i) .lines) ∙ ap (λ (x : ℕ). span x) chunk-length)
                 ∙ ap₂ (λ (x : List ℕ) (y : ℕ). x ++ replicate y 0) (sym (encode-append (sofar C i .lines) (chunkAt (sofar C i) (lineIn C i) .lines))) e₂
 
         -- the same, as the code says it
@@ -423,7 +423,7 @@ module _ (t : List ℕ) (n : ℕ) (acc : checked false t n ≡ Accepted) where
               (empty-note (typeAt (noAcc .lay) a) a (none-type a));
           count = refl;
           fits = omega arith;
-          words = ap (λ (x : ℕ). replicate {A = ℕ} x 0) (let e : len ≡ len - 5 * 0 = omega arith in e);
+          words = ap (λ (x : ℕ). replicate {A = ℕ} x 0) (let e : len ≡ len - span 0 = omega arith in e);
         }
       where
         zero-le : (k a c : ℕ) → keptOf (replicate size nothing) k a ≤ c
@@ -455,7 +455,7 @@ module _ (t : List ℕ) (n : ℕ) (acc : checked false t n ≡ Accepted) where
 
         pub done-target : target ≡ targetLeft t n len
         unfolding targetLeft flatTable
-        done-target = s .words ∙ ap (λ (ls : List Line). encode ls ++ replicate (len - 5 * p) 0) whole-lines ∙ ap (λ (r : Flattened). leftOf r len (encode (flatLines t n))) done
+        done-target = s .words ∙ ap (λ (ls : List Line). encode ls ++ replicate (len - span p) 0) whole-lines ∙ ap (λ (r : Flattened). leftOf r len (encode (flatLines t n))) done
 
 -- the index widths of all lines
 wide-at : (t : List ℕ) (n : ℕ) → checked false t n ≡ Accepted → (a : ℕ) → 0 < tyAt (context false (decode (counted t n))) a .cls → tyAt (context false (decode (counted t n))) a .iw ≤ 8
@@ -520,11 +520,11 @@ module _ {t : List ℕ} {n : ℕ} {types kept₀ : List (List ℕ)} {target₀ :
       (subst⁻¹ (λ (x : List ℕ). Pass t n (q .accepted) types (q .iw) (q .w) (length target₀) (q .size) (q .wide) 0 0 (replicate (q .size) nothing) x) (q .empty)
       (begun t n (q .accepted) types (q .iw) (q .w) (length target₀) (q .size) (q .wide) (shallow .deep)))
 
-  pub record-fits : (i : ℕ) → i < n → 5 * i + 5 ≤ length t
-  record-fits i h = let q = roomy (length t) n (accepted-room false t n (b .accepted) .1) .1 in omega arith
+  pub record-fits : (i : ℕ) → i < n → span (i + 1) ≤ length t
+  record-fits i h = let q = fits-table false t n (b .accepted) .1 in omega arith
 
   pub line-fits : (i : ℕ) → i < n → (i + 1 ≤ 16384) × (i + 1 < b .size)
-  line-fits i h = let q = roomy (length t) n (accepted-room false t n (b .accepted) .1) .0 in let w = b .wide in (omega arith, omega arith)
+  line-fits i h = let q = fits-table false t n (b .accepted) .0 in let w = b .wide in (omega arith, omega arith)
 
   module _ {i p : ℕ} {kept : List (List ℕ)} {target : List ℕ} (g : Going t n types kept₀ target₀ i p kept target) (h : i < n) (r : List ℕ) (er : r ≡ recordAt t i) where
     S : Pass t n (b .accepted) types (b .iw) (b .w) (length target₀) (b .size) (b .wide) i p kept target
@@ -593,5 +593,5 @@ module _ {t : List ℕ} {n : ℕ} {types kept₀ : List (List ℕ)} {target₀ :
     same-target =
         let s = g b in
         let L = sofar (decode (counted t n)) i .lines in
-        ap length (s .words) ∙ length-append (encode L) (replicate (length target₀ - 5 * p) 0)
-        ∙ omega (arith, length-encode L, length-replicate {A = ℕ} (length target₀ - 5 * p) 0, s .count, roomy (length target₀) p (s .fits) .1)
+        ap length (s .words) ∙ length-append (encode L) (replicate (length target₀ - span p) 0)
+        ∙ omega (arith, length-encode L, length-replicate {A = ℕ} (length target₀ - span p) 0, s .count, roomy (length target₀) p (s .fits) .1)

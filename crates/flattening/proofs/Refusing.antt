@@ -12,8 +12,8 @@ use Rattle.tables.specs.Lines.{decode, counted}
 use Rattle.tables.specs.Types.{context}
 use Rattle.tables.specs.Notes.{blank, Shows}
 use Rattle.tables.specs.Tables.{whole, checked}
-use Rattle.tables.proofs.Checking.{roomy, fresh}
-use Rattle.tables.proofs.Sound.{accepted-room}
+use Rattle.tables.proofs.Checking.{fresh}
+use Rattle.tables.proofs.Encoding.{fits-table}
 use Rattle.flattening.specs.declared.Flattened.{Flattened}
 use Rattle.flattening.specs.declared.Flattened.the-variants.{Refused}
 use Rattle.flattening.specs.Flat.{flatTable}
@@ -64,7 +64,7 @@ module _ (t : List ℕ) (n : ℕ) {target : List ℕ} where
         even = k .clear .even;
         empty = k .clear .empty;
         size = k .size;
-        wide = k .wide (roomy (length t) n (accepted-room false t n (sym a) .1) .0);
+        wide = k .wide (fits-table false t n (sym a) .0);
         no-kept = k .no-kept;
       }
 

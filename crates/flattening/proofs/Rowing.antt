@@ -7,7 +7,8 @@ use native.Mathlib.Omega.{arith}
 use lib.Dec.{eqb, eqb·suc-zero}
 use lib.ListN.{length, getD, replicate}
 use Rattle.tables.specs.Pick.{pick}
-use Rattle.tables.specs.Lines.{Line, Expr, five, wordsOf, encode, giveKind, cmpKind}
+use Rattle.tables.specs.Lines.{Line, Expr, fields, encode, giveKind, cmpKind}
+use Rattle.tables.proofs.Places.{encode-append}
 use Rattle.flattening.specs.Flat.{from, constLines, giveLines, iteLines, cmpLines, joinKind, joinLines, writeLines, Chain, readLines}
 use Rattle.flattening.specs.Model.{words}
 
@@ -22,58 +23,54 @@ words-cons (suc n) g = ap (λ (x : List ℕ). x ++ g (suc n)) (words-cons n g) �
 pub words-more : (n : ℕ) (g : ℕ → List ℕ) → words (suc n) g ≡ words 1 g ++ words n (λ j. g (suc j))
 words-more n g = words-cons n g
 
-pub encode-append : (xs ys : List Line) → encode (xs ++ ys) ≡ encode xs ++ encode ys
-encode-append [] ys = refl
-encode-append (l ∷ xs) ys = ap (λ (w : List ℕ). wordsOf l ++ w) (encode-append xs ys) ∙ sym (append-assoc (wordsOf l) (encode xs) (encode ys))
-
 -- a line more in front
 front : (n : ℕ) (g : ℕ → List ℕ) (r w : List ℕ) → r ≡ g 0 → w ≡ words n (λ j. g (suc j)) → r ++ w ≡ words (suc n) g
 front n g r w e f = ap₂ (λ (x y : List ℕ). x ++ y) e f ∙ sym (words-cons n g)
 
-pub const-words : (s k n : ℕ) → encode (constLines s (from k n)) ≡ words n (λ j. five 3 s (k + j) 0 0)
+pub const-words : (s k n : ℕ) → encode (constLines s (from k n)) ≡ words n (λ j. fields 3 s (k + j) 0 0)
 const-words s k zero = refl
 const-words s k (suc n) =
     let e : k ≡ k + 0 = omega arith in
-    front n (λ j. five 3 s (k + j) 0 0) (five 3 s k 0 0) (encode (constLines s (from (suc k) n))) (ap (λ (x : ℕ). five 3 s x 0 0) e)
-    (const-words s (suc k) n ∙ words-ext n (λ j. five 3 s (suc k + j) 0 0) (λ j. five 3 s (k + suc j) 0 0) (λ j l. let q : suc k + j ≡ k + suc j = omega arith in ap (λ (x : ℕ). five 3 s x 0 0) q))
+    front n (λ j. fields 3 s (k + j) 0 0) (fields 3 s k 0 0) (encode (constLines s (from (suc k) n))) (ap (λ (x : ℕ). fields 3 s x 0 0) e)
+    (const-words s (suc k) n ∙ words-ext n (λ j. fields 3 s (suc k + j) 0 0) (λ j. fields 3 s (k + suc j) 0 0) (λ j l. let q : suc k + j ≡ k + suc j = omega arith in ap (λ (x : ℕ). fields 3 s x 0 0) q))
 
-pub state-words : (s n : ℕ) → encode (replicate n (Line.state s)) ≡ words n (λ j. five 5 s 0 0 0)
+pub state-words : (s n : ℕ) → encode (replicate n (Line.state s)) ≡ words n (λ j. fields 5 s 0 0 0)
 state-words s zero = refl
-state-words s (suc n) = front n (λ j. five 5 s 0 0 0) (five 5 s 0 0 0) (encode (replicate n (Line.state s))) refl (state-words s n)
+state-words s (suc n) = front n (λ j. fields 5 s 0 0 0) (fields 5 s 0 0 0) (encode (replicate n (Line.state s))) refl (state-words s n)
 
-pub give-words : (m : Bool) (s : ℕ) (qs vs : List ℕ) → length qs ≡ length vs → encode (giveLines m s qs vs) ≡ words (length qs) (λ j. five (giveKind m) s (getD qs j 0) (getD vs j 0) 0)
+pub give-words : (m : Bool) (s : ℕ) (qs vs : List ℕ) → length qs ≡ length vs → encode (giveLines m s qs vs) ≡ words (length qs) (λ j. fields (giveKind m) s (getD qs j 0) (getD vs j 0) 0)
 give-words m s [] vs n = refl
 give-words m s (q ∷ qs) [] n = absurd (omega arith)
 give-words m s (q ∷ qs) (v ∷ vs) n =
-    front (length qs) (λ j. five (giveKind m) s (getD (q ∷ qs) j 0) (getD (v ∷ vs) j 0) 0) (five (giveKind m) s q v 0) (encode (giveLines m s qs vs)) refl (give-words m s qs vs (omega arith))
+    front (length qs) (λ j. fields (giveKind m) s (getD (q ∷ qs) j 0) (getD (v ∷ vs) j 0) 0) (fields (giveKind m) s q v 0) (encode (giveLines m s qs vs)) refl (give-words m s qs vs (omega arith))
 
-pub ite-words : (s c : ℕ) (ps qs : List ℕ) → length ps ≡ length qs → encode (iteLines s c ps qs) ≡ words (length ps) (λ j. five 53 s c (getD ps j 0) (getD qs j 0))
+pub ite-words : (s c : ℕ) (ps qs : List ℕ) → length ps ≡ length qs → encode (iteLines s c ps qs) ≡ words (length ps) (λ j. fields 53 s c (getD ps j 0) (getD qs j 0))
 ite-words s c [] qs n = refl
 ite-words s c (p ∷ ps) [] n = absurd (omega arith)
-ite-words s c (p ∷ ps) (q ∷ qs) n = front (length ps) (λ j. five 53 s c (getD (p ∷ ps) j 0) (getD (q ∷ qs) j 0)) (five 53 s c p q) (encode (iteLines s c ps qs)) refl (ite-words s c ps qs (omega arith))
+ite-words s c (p ∷ ps) (q ∷ qs) n = front (length ps) (λ j. fields 53 s c (getD (p ∷ ps) j 0) (getD (q ∷ qs) j 0)) (fields 53 s c p q) (encode (iteLines s c ps qs)) refl (ite-words s c ps qs (omega arith))
 
-pub cmp-words : (e : Bool) (s : ℕ) (ps qs : List ℕ) → length ps ≡ length qs → encode (cmpLines e s ps qs) ≡ words (length ps) (λ j. five (cmpKind e) s (getD ps j 0) (getD qs j 0) 0)
+pub cmp-words : (e : Bool) (s : ℕ) (ps qs : List ℕ) → length ps ≡ length qs → encode (cmpLines e s ps qs) ≡ words (length ps) (λ j. fields (cmpKind e) s (getD ps j 0) (getD qs j 0) 0)
 cmp-words e s [] qs n = refl
 cmp-words e s (p ∷ ps) [] n = absurd (omega arith)
 cmp-words e s (p ∷ ps) (q ∷ qs) n =
-    front (length ps) (λ j. five (cmpKind e) s (getD (p ∷ ps) j 0) (getD (q ∷ qs) j 0) 0) (five (cmpKind e) s p q 0) (encode (cmpLines e s ps qs)) refl (cmp-words e s ps qs (omega arith))
+    front (length ps) (λ j. fields (cmpKind e) s (getD (p ∷ ps) j 0) (getD (q ∷ qs) j 0) 0) (fields (cmpKind e) s p q 0) (encode (cmpLines e s ps qs)) refl (cmp-words e s ps qs (omega arith))
 
 -- joins, each of the one before it
-pub join-words : (e : Bool) (s c q n : ℕ) → encode (joinLines e s c (suc c) (from q n)) ≡ words n (λ j. five (joinKind e) s (c + j) (q + j) 0)
+pub join-words : (e : Bool) (s c q n : ℕ) → encode (joinLines e s c (suc c) (from q n)) ≡ words n (λ j. fields (joinKind e) s (c + j) (q + j) 0)
 join-words e s c q zero = refl
 join-words e s c q (suc n) =
     let f : c ≡ c + 0 = omega arith in
     let g : q ≡ q + 0 = omega arith in
-    front n (λ j. five (joinKind e) s (c + j) (q + j) 0) (five (joinKind e) s c q 0) (encode (joinLines e s (suc c) (suc (suc c)) (from (suc q) n))) (λ i. five (joinKind e) s (f i) (g i) 0)
-    (join-words e s (suc c) (suc q) n ∙ words-ext n (λ j. five (joinKind e) s (suc c + j) (suc q + j) 0) (λ j. five (joinKind e) s (c + suc j) (q + suc j) 0)
+    front n (λ j. fields (joinKind e) s (c + j) (q + j) 0) (fields (joinKind e) s c q 0) (encode (joinLines e s (suc c) (suc (suc c)) (from (suc q) n))) (λ i. fields (joinKind e) s (f i) (g i) 0)
+    (join-words e s (suc c) (suc q) n ∙ words-ext n (λ j. fields (joinKind e) s (suc c + j) (suc q + j) 0) (λ j. fields (joinKind e) s (c + suc j) (q + suc j) 0)
     (λ j l.
     let a : suc c + j ≡ c + suc j = omega arith in
     let b : suc q + j ≡ q + suc j = omega arith in
-    (λ i. five (joinKind e) s (a i) (b i) 0)))
+    (λ i. fields (joinKind e) s (a i) (b i) 0)))
 
 -- a write's pair for the cell j
 abbrev pub writePair : (o s i v b : ℕ) (ks ps : List ℕ) → ℕ → List ℕ
-writePair o s i v b ks ps j = five 21 o i (getD ks j 0) 0 ++ five 53 s (b + 2 * j) v (getD ps j 0)
+writePair o s i v b ks ps j = fields 21 o i (getD ks j 0) 0 ++ fields 53 s (b + 2 * j) v (getD ps j 0)
 
 pub write-words : (o s i v b : ℕ) (ks ps : List ℕ) → length ks ≡ length ps → encode (writeLines o s i v b ks ps) ≡ words (length ps) (writePair o s i v b ks ps)
 write-words o s i v b [] [] n = refl
@@ -81,17 +78,17 @@ write-words o s i v b [] (p ∷ ps) n = absurd (omega arith)
 write-words o s i v b (k ∷ ks) [] n = absurd (omega arith)
 write-words o s i v b (k ∷ ks) (p ∷ ps) n =
     let e : b ≡ b + 2 * 0 = omega arith in
-    front (length ps) (writePair o s i v b (k ∷ ks) (p ∷ ps)) (five 21 o i k 0 ++ five 53 s b v p) (encode (writeLines o s i v (suc (suc b)) ks ps)) (ap (λ (x : ℕ). five 21 o i k 0 ++ five 53 s x v p) e)
+    front (length ps) (writePair o s i v b (k ∷ ks) (p ∷ ps)) (fields 21 o i k 0 ++ fields 53 s b v p) (encode (writeLines o s i v (suc (suc b)) ks ps)) (ap (λ (x : ℕ). fields 21 o i k 0 ++ fields 53 s x v p) e)
     (write-words o s i v (suc (suc b)) ks ps (omega arith)
     ∙ words-ext (length ps) (writePair o s i v (suc (suc b)) ks ps) (λ j. writePair o s i v b (k ∷ ks) (p ∷ ps) (suc j))
-    (λ j l. let q : suc (suc b) + 2 * j ≡ b + 2 * suc j = omega arith in ap (λ (x : ℕ). five 21 o i (getD ks j 0) 0 ++ five 53 s x v (getD ps j 0)) q))
+    (λ j l. let q : suc (suc b) + 2 * j ≡ b + 2 * suc j = omega arith in ap (λ (x : ℕ). fields 21 o i (getD ks j 0) 0 ++ fields 53 s x v (getD ps j 0)) q))
 
 -- a read's pair t, of the cells after the first one, m of them: the constants fall
 abbrev pub before : (b m : ℕ) (ps : List ℕ) → ℕ → ℕ
 before b m ps t = pick (eqb t 0) (getD ps m 0) (b + (2 * t - 1))
 
 abbrev pub readPair : (o s i b m : ℕ) (ks ps : List ℕ) → ℕ → List ℕ
-readPair o s i b m ks ps t = five 21 o i (getD ks (m - 1 - t) 0) 0 ++ five 53 s (b + 2 * t) (getD ps (m - 1 - t) 0) (before b m ps t)
+readPair o s i b m ks ps t = fields 21 o i (getD ks (m - 1 - t) 0) 0 ++ fields 53 s (b + 2 * t) (getD ps (m - 1 - t) 0) (before b m ps t)
 
 pub record ReadWords (o s i b m : ℕ) (ks ps : List ℕ) (r : Chain) : Type 0 where
   pub lines : encode (r .made) ≡ words m (readPair o s i b m ks ps)
@@ -101,7 +98,7 @@ pub record ReadWords (o s i b m : ℕ) (ks ps : List ℕ) (r : Chain) : Type 0 w
 read-shift : (o s i b m k p : ℕ) (ks ps : List ℕ) (t : ℕ) → t < m → readPair o s i b m ks ps t ≡ readPair o s i b (suc m) (k ∷ ks) (p ∷ ps) t
 read-shift o s i b m k p ks ps t l =
     let e : suc m - 1 - t ≡ suc (m - 1 - t) = omega arith in
-    ap (λ (x : ℕ). five 21 o i (getD (k ∷ ks) x 0) 0 ++ five 53 s (b + 2 * t) (getD (p ∷ ps) x 0) (before b m ps t)) (sym e)
+    ap (λ (x : ℕ). fields 21 o i (getD (k ∷ ks) x 0) 0 ++ fields 53 s (b + 2 * t) (getD (p ∷ ps) x 0) (before b m ps t)) (sym e)
 
 pub read-words : (o s i b : ℕ) (ks : List ℕ) (p : ℕ) (ps : List ℕ) → length ps ≤ length ks → ReadWords o s i b (length ps) ks (p ∷ ps) (readLines o s i b ks p ps)
 read-words o s i b ks p [] h = record { lines = refl; top = omega arith; end = refl }
@@ -116,7 +113,7 @@ read-words o s i b (k ∷ ks) p (q ∷ ps) h =
       lines =
           encode-append (r .made) (Line.val o (Expr.cmp true i k) ∷ Line.val s (Expr.ite (r .top) p (r .end)) ∷ [])
           ∙ ap₂ (λ (x y : List ℕ). x ++ y) (w .lines ∙ words-ext m (readPair o s i b m ks (q ∷ ps)) g (read-shift o s i b m k p ks (q ∷ ps)))
-          ((λ j. five 21 o i k 0 ++ five 53 s (w .top j) p (w .end j)) ∙ ap (λ (x : ℕ). five 21 o i (getD (k ∷ ks) x 0) 0 ++ five 53 s (b + 2 * m) (getD (p ∷ q ∷ ps) x 0) (before b m (q ∷ ps) m)) (sym z));
+          ((λ j. fields 21 o i k 0 ++ fields 53 s (w .top j) p (w .end j)) ∙ ap (λ (x : ℕ). fields 21 o i (getD (k ∷ ks) x 0) 0 ++ fields 53 s (b + 2 * m) (getD (p ∷ q ∷ ps) x 0) (before b m (q ∷ ps) m)) (sym z));
       top = omega (arith, w .top);
       end =
           let e = w .top in

@@ -1,9 +1,10 @@
 -- The answers of flattening: 1 for either table, 11, 12, the first that holds; else the number of records of the flat circuit. Assumes nothing.
-use Prim.Native.Nat.{ℕ, _-_, _*_}
+use Prim.Native.Nat.{ℕ, _-_}
 use mathlib.Core.Bool.{false, _&&_}
 use mathlib.Core.List.{List, _++_}
 use lib.Dec.{leb}
 use lib.ListN.{length, replicate}
+use Rattle.tables.specs.Lines.{span}
 use Rattle.tables.specs.declared.Refusal.the-variants.{NotATable, TargetTooSmall}
 use Rattle.tables.specs.declared.Checked.{Checked}
 use Rattle.tables.specs.declared.Checked.the-variants.{Accepted, Refused}
@@ -30,7 +31,7 @@ flattened t n len =
 
 -- what the target holds then: the flat table and zeros past its end; zeros after a refusal
 abbrev pub leftOf : Flattened → ℕ → List ℕ → List ℕ
-leftOf (Done m) len f = f ++ replicate (len - 5 * m) 0
+leftOf (Done m) len f = f ++ replicate (len - span m) 0
 leftOf (RefusedFlat r) len f = replicate len 0
 
 unfoldable pub targetLeft : (t : List ℕ) (n len : ℕ) → List ℕ

@@ -7,7 +7,7 @@ use lib.ListN.{replicate}
 use Rattle.tables.specs.declared.Refusal.the-variants.{NotATable, BadTable, TargetTooSmall}
 use Rattle.tables.specs.declared.Checked.the-variants.{Accepted}
 use Rattle.tables.specs.Kinds.{rowOf}
-use Rattle.tables.specs.Lines.{Line, five, encode, bitvec, array, input, state, val, give, mark, output, const, two, cmp, ite, read, write}
+use Rattle.tables.specs.Lines.{Line, fields, encode, bitvec, array, input, state, val, give, mark, output, const, two, cmp, ite, read, write}
 use Rattle.tables.specs.Rules.{suits, fault}
 use Rattle.tables.specs.Tables.{checked}
 use Rattle.circuits.specs.Examples.{circuit}
@@ -21,8 +21,8 @@ use Rattle.flattening.specs.Answers.{flattened, targetLeft}
 -- 12 eq 3 8 5, 13 ite 2 12 9 7, 14 next 2 6 11, 15 next 2 7 13, 16 eq 3 8 4, 17 ite 2 16 6 7, 18 eq 1 17 9, 19 bad 18
 abbrev pub flat : List ℕ
 flat =
-    five 1 0 1 0 0 ++ five 1 0 3 0 0 ++ five 1 0 1 0 0 ++ five 3 1 0 0 0 ++ five 3 1 1 0 0 ++ five 5 2 0 0 0 ++ five 5 2 0 0 0 ++ five 4 1 0 0 0 ++ five 3 2 5 0 0 ++ five 21 3 8 4 0
-    ++ five 53 2 10 9 6 ++ five 21 3 8 5 0 ++ five 53 2 12 9 7 ++ five 7 2 6 11 0 ++ five 7 2 7 13 0 ++ five 21 3 8 4 0 ++ five 53 2 16 6 7 ++ five 21 1 17 9 0 ++ five 8 0 18 0 0
+    fields 1 0 1 0 0 ++ fields 1 0 3 0 0 ++ fields 1 0 1 0 0 ++ fields 3 1 0 0 0 ++ fields 3 1 1 0 0 ++ fields 5 2 0 0 0 ++ fields 5 2 0 0 0 ++ fields 4 1 0 0 0 ++ fields 3 2 5 0 0 ++ fields 21 3 8 4 0
+    ++ fields 53 2 10 9 6 ++ fields 21 3 8 5 0 ++ fields 53 2 12 9 7 ++ fields 7 2 6 11 0 ++ fields 7 2 7 13 0 ++ fields 21 3 8 4 0 ++ fields 53 2 16 6 7 ++ fields 21 1 17 9 0 ++ fields 8 0 18 0 0
 
 flat-table : flatTable circuit 11 ≡ flat
 unfolding flatTable flatten
@@ -33,7 +33,7 @@ exact-answer : flattened circuit 11 95 ≡ Done 19
 unfolding flattened checked fault suits rowOf flatten
 exact-answer = refl
 
-spare-target : targetLeft circuit 11 100 ≡ flat ++ five 0 0 0 0 0
+spare-target : targetLeft circuit 11 100 ≡ flat ++ fields 0 0 0 0 0
 unfolding targetLeft flattened checked fault suits rowOf flatTable flatten
 spare-target = refl
 

@@ -5,7 +5,7 @@ use mathlib.Core.Bool.{Bool, true, false}
 use mathlib.Core.List.{List, [], _++_}
 use lib.Dec.{eqb, leb, ltb}
 use Rattle.tables.specs.Pick.{pick}
-use Rattle.tables.specs.Lines.{Line, Expr, five, giveKind, markKind, cmpKind}
+use Rattle.tables.specs.Lines.{Line, Expr, fields, giveKind, markKind, cmpKind, span}
 use Rattle.tables.specs.Notes.{lookIn}
 use Rattle.circuits.specs.Cells.{put}
 use Rattle.flattening.specs.declared.Source.{Source}
@@ -33,12 +33,12 @@ ofDown a t = record { line = a; base = 0; step = 0; falling = true; top = t }
 -- ---- the words of the records, where n is a number of cells
 
 abbrev pub arrayWords : Held → (s n : ℕ) → List ℕ
-arrayWords H s n = five 1 0 1 0 0 ++ words n (rowAt H 3 s (run 0 1) (still 0) (still 0))
+arrayWords H s n = fields 1 0 1 0 0 ++ words n (rowAt H 3 s (run 0 1) (still 0) (still 0))
 
 -- the first of the ands, or ors, takes the first two tests; each of the others the one before it and the next test
 abbrev pub joinWords : Held → (p j s n : ℕ) → List ℕ
 joinWords H p j s n =
-    pick (leb 2 n) (five j s (p + 1) (p + 2) 0 ++ words (n - 2) (rowAt H j s (run (p + n + 1) 1) (run (p + 3) 1) (still 0))) []
+    pick (leb 2 n) (fields j s (p + 1) (p + 2) 0 ++ words (n - 2) (rowAt H j s (run (p + n + 1) 1) (run (p + 3) 1) (still 0))) []
 
 abbrev pub cmpWords : Held → (p k j s x y n : ℕ) → List ℕ
 cmpWords H p k j s x y n = words n (rowAt H k s (of x) (of y) (still 0)) ++ joinWords H p j s n
@@ -120,9 +120,9 @@ flatCount N Line.junk = 1
 
 -- the words of their records
 abbrev pub exprWords : Notes → (p s : ℕ) → Expr → List ℕ
-exprWords N p s (Expr.const v) = five 3 (sortIn N s) v 0 0
-exprWords N p s (Expr.one k a x y) = five k (sortIn N s) (wordIn N a) x y
-exprWords N p s (Expr.two k a b) = five k (sortIn N s) (wordIn N a) (wordIn N b) 0
+exprWords N p s (Expr.const v) = fields 3 (sortIn N s) v 0 0
+exprWords N p s (Expr.one k a x y) = fields k (sortIn N s) (wordIn N a) x y
+exprWords N p s (Expr.two k a b) = fields k (sortIn N s) (wordIn N a) (wordIn N b) 0
 exprWords N p s (Expr.cmp e a b) = cmpWords (N .held) p (cmpKind e) (joinKind e) (sortIn N s) a b (sizeIn N a)
 exprWords N p s (Expr.ite c a b) = words (sizeIn N a) (rowAt (N .held) 53 (sortIn N s) (still (wordIn N c)) (of a) (of b))
 exprWords N p s (Expr.read a i) = pick (eqb (conIn N i) 0) (readWords (N .held) p (bitIn N a) (wordIn N i) (sortIn N s) a (sizeIn N a)) []
@@ -134,15 +134,15 @@ givenFrom N true v = still (wordIn N v)
 givenFrom N false v = of v
 
 abbrev pub flatWords : Notes → ℕ → Line → List ℕ
-flatWords N p (Line.bitvec w) = five 1 0 w 0 0
+flatWords N p (Line.bitvec w) = fields 1 0 w 0 0
 flatWords N p (Line.array i e) = arrayWords (N .held) (sortIn N i) (2 ^ wideIn N i)
-flatWords N p (Line.input s) = five 4 (sortIn N s) 0 0 0
+flatWords N p (Line.input s) = fields 4 (sortIn N s) 0 0 0
 flatWords N p (Line.state s) = words (sizeIn N s) (rowAt (N .held) 5 (sortIn N s) (still 0) (still 0) (still 0))
 flatWords N p (Line.val s e) = exprWords N p s e
 flatWords N p (Line.give m s q v) = words (sizeIn N q) (rowAt (N .held) (giveKind m) (sortIn N s) (of q) (givenFrom N m v) (still 0))
-flatWords N p (Line.mark m a) = five (markKind m) 0 (wordIn N a) 0 0
-flatWords N p (Line.output a) = five 10 0 (wordIn N a) 0 0
-flatWords N p Line.junk = five 0 0 0 0 0
+flatWords N p (Line.mark m a) = fields (markKind m) 0 (wordIn N a) 0 0
+flatWords N p (Line.output a) = fields 10 0 (wordIn N a) 0 0
+flatWords N p Line.junk = fields 0 0 0 0 0
 
 -- what is kept: q is the number of flat lines after the line
 abbrev pub exprMade : Notes → (p q s : ℕ) → Expr → Made
@@ -203,13 +203,13 @@ Deep N Line.junk = Unit {0}
 pub record Fit (N : Notes) (p : ℕ) (l : Line) (len : ℕ) : Type 0 where
   pub neat : Neat N
   pub low : p ≤ 60000
-  pub room : 5 * (p + flatCount N l) ≤ len
+  pub room : span (p + flatCount N l) ≤ len
   pub deep : Deep N l
 
 -- it is made flat: r is what is kept of it, and the words of its records go to the target
 pub record Laid (N : Notes) (p : ℕ) (l : Line) (target target₁ : List ℕ) (r : Made) : Type 0 where
   pub kept : r ≡ flatMade N p l
-  pub words : target₁ ≡ put target (5 * p) (flatWords N p l)
+  pub words : target₁ ≡ put target (span p) (flatWords N p l)
 
 -- no line has more than 256 cells
 pub record Shallow (types : List (List ℕ)) : Type 0 where

@@ -5,7 +5,7 @@ use mathlib.Core.List.{List, [], _++_}
 use lib.Dec.{eqb}
 use lib.ListN.{getD}
 use Rattle.tables.specs.Pick.{pick}
-use Rattle.tables.specs.Lines.{five}
+use Rattle.tables.specs.Lines.{fields}
 use Rattle.flattening.specs.declared.Source.{Source}
 
 -- What is kept of each line: at, bit, old, key, con. Of a line whose `old` is 0, the cell j is held by the flat line at + key * j. A write by a constant index swaps one
@@ -15,7 +15,7 @@ Held = List (List ℕ)
 
 -- what is kept of no line
 abbrev pub nothing : List ℕ
-nothing = five 0 0 0 0 0
+nothing = fields 0 0 0 0 0
 
 -- the number k of what is kept of the line m
 abbrev pub keptOf : Held → (k m : ℕ) → ℕ
@@ -76,8 +76,8 @@ words (suc n) g = words n g ++ g n
 
 -- the record j of a row
 abbrev pub rowAt : Held → (k s : ℕ) → (x y z : Source) → ℕ → List ℕ
-rowAt H k s x y z j = five k s (sourceAt H x j) (sourceAt H y j) (sourceAt H z j)
+rowAt H k s x y z j = fields k s (sourceAt H x j) (sourceAt H y j) (sourceAt H z j)
 
 -- the pair j of an eq and an ite: the ite's condition is the line of the eq
 abbrev pub pairAt : Held → (p o i s : ℕ) → (c x y : Source) → ℕ → List ℕ
-pairAt H p o i s c x y j = five 21 o i (sourceAt H c j) 0 ++ five 53 s (suc (p + 2 * j)) (sourceAt H x j) (sourceAt H y j)
+pairAt H p o i s c x y j = fields 21 o i (sourceAt H c j) 0 ++ fields 53 s (suc (p + 2 * j)) (sourceAt H x j) (sourceAt H y j)

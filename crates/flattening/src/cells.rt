@@ -1,11 +1,14 @@
 // The flat line of a cell.
 use crate::Source;
 ghost use mathlib.Core.Path.{_≡_};
-ghost use Prim.Native.Nat.{_≤_, _<_};
+ghost use Prim.Native.Nat.{_<_};
 ghost use Rattle.flattening.specs.Model.{keptOf, cellIn, turnAt, sourceAt, Sound, Tame};
 
+// The numbers kept of a line.
+pub const KEPT: usize = 5;
+
 // The number k of what is kept of the line a; 0 past the end.
-pub fn entry(kept: &[[u64; 5]], k: usize, a: u64) -> u64
+pub fn entry(kept: &[[u64; KEPT]], k: usize, a: u64) -> u64
     requires { ⌜ k < 5 ⌝ }
     ensures { λ r. ⌜ r ≡ keptOf (now (kept .entry)) k a ⌝ }
 {
@@ -17,7 +20,7 @@ pub fn entry(kept: &[[u64; 5]], k: usize, a: u64) -> u64
 }
 
 // The flat line of the cell j of the line a.
-pub fn cell(kept: &[[u64; 5]], a: u64, j: u64) -> u64
+pub fn cell(kept: &[[u64; KEPT]], a: u64, j: u64) -> u64
     requires { ⌜ Sound (now kept) × (j < 256) ⌝ }
     ensures { λ r. ⌜ r ≡ cellIn (now (kept .entry)) a j ⌝ }
 {
@@ -45,7 +48,7 @@ pub fn turn(s: Source, j: u64) -> u64
 }
 
 // The word j of a source.
-pub fn source(kept: &[[u64; 5]], s: Source, j: u64) -> u64
+pub fn source(kept: &[[u64; KEPT]], s: Source, j: u64) -> u64
     requires { ⌜ Sound (now kept) × (Tame s × (j < 256)) ⌝ }
     ensures { λ r. ⌜ r ≡ sourceAt (now (kept .entry)) s j ⌝ }
 {

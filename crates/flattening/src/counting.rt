@@ -1,6 +1,9 @@
 // The number of flat lines that a line leaves.
 use crate::cells;
+use crate::cells::KEPT;
 use crate::making;
+use tables::notes::BYTES;
+use tables::records::WORDS;
 ghost use mathlib.Core.Path.{_≡_};
 ghost use mathlib.Core.Bool.{true, false};
 ghost use Prim.Native.Nat.{_+_, _-_, _≤_};
@@ -31,7 +34,7 @@ pub fn count_write(c: u64, n: usize) -> usize
 }
 
 // The line of a record.
-pub fn count_line(rec: [u64; 5], kept: &[[u64; 5]], types: &[[u8; 5]]) -> usize
+pub fn count_line(rec: [u64; WORDS], kept: &[[u64; KEPT]], types: &[[u8; BYTES]]) -> usize
     requires { ⌜ (knownOf false (kindIn rec) ≡ true) × (Shallow (now types) × Deep (notes (now kept) (now types)) (lineOf rec)) ⌝ }
     ensures { λ r. ⌜ r ≡ flatCount (notes (now (kept .entry)) (now (types .entry))) (lineOf rec) ⌝ }
 {

@@ -1,7 +1,9 @@
 // Flattening: a circuit with arrays becomes a circuit of words alone.
+use crate::cells::KEPT;
 use tables::Checked;
 use tables::Refusal;
 use tables::check;
+use tables::notes::BYTES;
 use tables::records;
 
 pub mod cells; // the flat line of a cell
@@ -65,8 +67,8 @@ fn few(table: &[u64], count: usize, target: &mut [u64]) -> Flattened
     requires { ⌜ Clear (now table) (now target) × (count < 512) ⌝ }
     ensures { λ r. ⌜ (r ≡ flattened (now (table .entry)) count (length (now (target .entry)))) × (now (target .exit) ≡ targetLeft (now (table .entry)) count (length (now (target .entry)))) ⌝ }
 {
-    let mut notes = [[0u8; 5]; 512];
-    let mut kept = [[0u64; 5]; 512];
+    let mut notes = [[0u8; BYTES]; 512];
+    let mut kept = [[0u64; KEPT]; 512];
     checked(table, count, &mut notes, &mut kept, target)
 }
 
@@ -75,8 +77,8 @@ fn many(table: &[u64], count: usize, target: &mut [u64]) -> Flattened
     requires { ⌜ Clear (now table) (now target) ⌝ }
     ensures { λ r. ⌜ (r ≡ flattened (now (table .entry)) count (length (now (target .entry)))) × (now (target .exit) ≡ targetLeft (now (table .entry)) count (length (now (target .entry)))) ⌝ }
 {
-    let mut notes = [[0u8; 5]; 16385];
-    let mut kept = [[0u64; 5]; 16385];
+    let mut notes = [[0u8; BYTES]; 16385];
+    let mut kept = [[0u64; KEPT]; 16385];
     checked(table, count, &mut notes, &mut kept, target)
 }
 
@@ -84,8 +86,8 @@ fn many(table: &[u64], count: usize, target: &mut [u64]) -> Flattened
 fn checked(
     table: &[u64],
     count: usize,
-    notes: &mut [[u8; 5]],
-    kept: &mut [[u64; 5]],
+    notes: &mut [[u8; BYTES]],
+    kept: &mut [[u64; KEPT]],
     target: &mut [u64],
 ) -> Flattened
     requires { ⌜ Blank (now table) count (now notes) (now kept) (now target) ⌝ }

@@ -1,26 +1,34 @@
 // One line: its flat lines go to the target, and what later lines need of it is answered.
 use crate::Made;
 use crate::cells;
+use crate::cells::KEPT;
 use crate::making;
 use crate::rows;
+use tables::notes::BYTES;
 use tables::records;
+use tables::records::WORDS;
 ghost use mathlib.Core.Path.{_≡_};
-ghost use mathlib.Core.Bool.{Bool, true, false};
+ghost use mathlib.Core.Bool.{true, false};
 ghost use Prim.Native.Nat.{_+_, _*_, _≤_, _<_};
-ghost use mathlib.Core.List.{List, [], _∷_};
-ghost use lib.Dec.{ltb};
 ghost use lib.ListN.{length};
-ghost use Rattle.tables.specs.Pick.{pick};
-ghost use Rattle.tables.specs.Lines.{Line, Expr, five, lineOf, kindIn, giveKind, cmpKind};
+ghost use Rattle.tables.specs.Lines.{Line, Expr, lineOf, kindIn, cmpKind, span};
 ghost use Rattle.tables.specs.Tables.{known as knownOf};
 ghost use Rattle.circuits.specs.Cells.{put};
 ghost use Rattle.flattening.specs.Flat.{joinKind};
 ghost use Rattle.flattening.specs.Making.{notes, made, small as smallOf, Fit, Laid};
 
 // A line that leaves one flat line.
-pub fn single(rec: [u64; 5], p: usize, a: u64, b: u64, k: u64, c: u64, target: &mut [u64]) -> Made
-    requires { ⌜ 5 * (p + 1) ≤ length (now target) ⌝ }
-    ensures { λ r. ⌜ (r ≡ made (p + 1) a b 0 k c) × (now (target .exit) ≡ put (now (target .entry)) (5 * p) rec) ⌝ }
+pub fn single(
+    rec: [u64; WORDS],
+    p: usize,
+    a: u64,
+    b: u64,
+    k: u64,
+    c: u64,
+    target: &mut [u64],
+) -> Made
+    requires { ⌜ span (p + 1) ≤ length (now target) ⌝ }
+    ensures { λ r. ⌜ (r ≡ made (p + 1) a b 0 k c) × (now (target .exit) ≡ put (now (target .entry)) (span p) rec) ⌝ }
 {
     records::put(target, p, rec);
     Made {
@@ -79,23 +87,31 @@ pub fn join_kind(e: bool) -> u64
 // A word sort is copied.
 pub fn line_bitvec(
     w: u64,
-    kept: &[[u64; 5]],
-    types: &[[u8; 5]],
+    kept: &[[u64; KEPT]],
+    types: &[[u8; BYTES]],
     p: usize,
     target: &mut [u64],
 ) -> Made
     requires { ⌜ Fit (notes (now kept) (now types)) p (Line.bitvec w) (length (now target)) ⌝ }
     ensures { λ r. ⌜ Laid (notes (now (kept .entry)) (now (types .entry))) p (Line.bitvec w) (now (target .entry)) (now (target .exit)) r ⌝ }
 {
-    single([1, 0, w, 0, 0], p, (p + 1) as u64, 0, 0, 0, target)
+    single(
+        records::of(1, 0, w, 0, 0),
+        p,
+        (p + 1) as u64,
+        0,
+        0,
+        0,
+        target,
+    )
 }
 
 // An array sort: a width-1 sort, then the index constants.
 pub fn line_array(
     i: u64,
     e: u64,
-    kept: &[[u64; 5]],
-    types: &[[u8; 5]],
+    kept: &[[u64; KEPT]],
+    types: &[[u8; BYTES]],
     p: usize,
     target: &mut [u64],
 ) -> Made
@@ -117,8 +133,8 @@ pub fn line_array(
 // An input is copied.
 pub fn line_input(
     s: u64,
-    kept: &[[u64; 5]],
-    types: &[[u8; 5]],
+    kept: &[[u64; KEPT]],
+    types: &[[u8; BYTES]],
     p: usize,
     target: &mut [u64],
 ) -> Made
@@ -126,7 +142,7 @@ pub fn line_input(
     ensures { λ r. ⌜ Laid (notes (now (kept .entry)) (now (types .entry))) p (Line.input s) (now (target .entry)) (now (target .exit)) r ⌝ }
 {
     single(
-        [4, cells::entry(kept, 0, s), 0, 0, 0],
+        records::of(4, cells::entry(kept, 0, s), 0, 0, 0),
         p,
         (p + 1) as u64,
         cells::entry(kept, 1, s),
@@ -139,8 +155,8 @@ pub fn line_input(
 // One state for each cell.
 pub fn line_state(
     s: u64,
-    kept: &[[u64; 5]],
-    types: &[[u8; 5]],
+    kept: &[[u64; KEPT]],
+    types: &[[u8; BYTES]],
     p: usize,
     target: &mut [u64],
 ) -> Made
@@ -164,8 +180,8 @@ pub fn line_state(
 pub fn line_const(
     s: u64,
     v: u64,
-    kept: &[[u64; 5]],
-    types: &[[u8; 5]],
+    kept: &[[u64; KEPT]],
+    types: &[[u8; BYTES]],
     p: usize,
     target: &mut [u64],
 ) -> Made
@@ -173,7 +189,7 @@ pub fn line_const(
     ensures { λ r. ⌜ Laid (notes (now (kept .entry)) (now (types .entry))) p (Line.val s (Expr.const v)) (now (target .entry)) (now (target .exit)) r ⌝ }
 {
     single(
-        [3, cells::entry(kept, 0, s), v, 0, 0],
+        records::of(3, cells::entry(kept, 0, s), v, 0, 0),
         p,
         (p + 1) as u64,
         cells::entry(kept, 1, s),
@@ -190,8 +206,8 @@ pub fn line_one(
     a: u64,
     x: u64,
     y: u64,
-    kept: &[[u64; 5]],
-    types: &[[u8; 5]],
+    kept: &[[u64; KEPT]],
+    types: &[[u8; BYTES]],
     p: usize,
     target: &mut [u64],
 ) -> Made
@@ -199,7 +215,7 @@ pub fn line_one(
     ensures { λ r. ⌜ Laid (notes (now (kept .entry)) (now (types .entry))) p (Line.val s (Expr.one k a x y)) (now (target .entry)) (now (target .exit)) r ⌝ }
 {
     single(
-        [k, cells::entry(kept, 0, s), cells::cell(kept, a, 0), x, y],
+        records::of(k, cells::entry(kept, 0, s), cells::cell(kept, a, 0), x, y),
         p,
         (p + 1) as u64,
         cells::entry(kept, 1, s),
@@ -215,8 +231,8 @@ pub fn line_two(
     s: u64,
     a: u64,
     b: u64,
-    kept: &[[u64; 5]],
-    types: &[[u8; 5]],
+    kept: &[[u64; KEPT]],
+    types: &[[u8; BYTES]],
     p: usize,
     target: &mut [u64],
 ) -> Made
@@ -224,13 +240,13 @@ pub fn line_two(
     ensures { λ r. ⌜ Laid (notes (now (kept .entry)) (now (types .entry))) p (Line.val s (Expr.two k a b)) (now (target .entry)) (now (target .exit)) r ⌝ }
 {
     single(
-        [
+        records::of(
             k,
             cells::entry(kept, 0, s),
             cells::cell(kept, a, 0),
             cells::cell(kept, b, 0),
             0,
-        ],
+        ),
         p,
         (p + 1) as u64,
         cells::entry(kept, 1, s),
@@ -246,8 +262,8 @@ pub fn line_cmp(
     s: u64,
     x: u64,
     y: u64,
-    kept: &[[u64; 5]],
-    types: &[[u8; 5]],
+    kept: &[[u64; KEPT]],
+    types: &[[u8; BYTES]],
     p: usize,
     target: &mut [u64],
 ) -> Made
@@ -283,8 +299,8 @@ pub fn line_ite(
     c: u64,
     x: u64,
     y: u64,
-    kept: &[[u64; 5]],
-    types: &[[u8; 5]],
+    kept: &[[u64; KEPT]],
+    types: &[[u8; BYTES]],
     p: usize,
     target: &mut [u64],
 ) -> Made
@@ -318,8 +334,8 @@ pub fn line_read(
     s: u64,
     a: u64,
     i: u64,
-    kept: &[[u64; 5]],
-    types: &[[u8; 5]],
+    kept: &[[u64; KEPT]],
+    types: &[[u8; BYTES]],
     p: usize,
     target: &mut [u64],
 ) -> Made
@@ -366,8 +382,8 @@ pub fn line_write(
     a: u64,
     i: u64,
     v: u64,
-    kept: &[[u64; 5]],
-    types: &[[u8; 5]],
+    kept: &[[u64; KEPT]],
+    types: &[[u8; BYTES]],
     p: usize,
     target: &mut [u64],
 ) -> Made
@@ -416,8 +432,8 @@ pub fn line_give(
     s: u64,
     q: u64,
     v: u64,
-    kept: &[[u64; 5]],
-    types: &[[u8; 5]],
+    kept: &[[u64; KEPT]],
+    types: &[[u8; BYTES]],
     p: usize,
     target: &mut [u64],
 ) -> Made
@@ -459,8 +475,8 @@ pub fn line_give(
 pub fn line_mark(
     m: bool,
     a: u64,
-    kept: &[[u64; 5]],
-    types: &[[u8; 5]],
+    kept: &[[u64; KEPT]],
+    types: &[[u8; BYTES]],
     p: usize,
     target: &mut [u64],
 ) -> Made
@@ -469,16 +485,16 @@ pub fn line_mark(
 {
     let x = cells::cell(kept, a, 0);
     if m {
-        return single([8, 0, x, 0, 0], p, 0, 0, 0, 0, target);
+        return single(records::of(8, 0, x, 0, 0), p, 0, 0, 0, 0, target);
     }
-    single([9, 0, x, 0, 0], p, 0, 0, 0, 0, target)
+    single(records::of(9, 0, x, 0, 0), p, 0, 0, 0, 0, target)
 }
 
 // An output is copied.
 pub fn line_output(
     a: u64,
-    kept: &[[u64; 5]],
-    types: &[[u8; 5]],
+    kept: &[[u64; KEPT]],
+    types: &[[u8; BYTES]],
     p: usize,
     target: &mut [u64],
 ) -> Made
@@ -486,7 +502,7 @@ pub fn line_output(
     ensures { λ r. ⌜ Laid (notes (now (kept .entry)) (now (types .entry))) p (Line.output a) (now (target .entry)) (now (target .exit)) r ⌝ }
 {
     single(
-        [10, 0, cells::cell(kept, a, 0), 0, 0],
+        records::of(10, 0, cells::cell(kept, a, 0), 0, 0),
         p,
         0,
         0,
@@ -498,9 +514,9 @@ pub fn line_output(
 
 // The line of a record of an operator.
 fn operator(
-    rec: [u64; 5],
-    kept: &[[u64; 5]],
-    types: &[[u8; 5]],
+    rec: [u64; WORDS],
+    kept: &[[u64; KEPT]],
+    types: &[[u8; BYTES]],
     p: usize,
     target: &mut [u64],
 ) -> Made
@@ -528,9 +544,9 @@ fn operator(
 
 // The line of a record of a circuit.
 pub fn line(
-    rec: [u64; 5],
-    kept: &[[u64; 5]],
-    types: &[[u8; 5]],
+    rec: [u64; WORDS],
+    kept: &[[u64; KEPT]],
+    types: &[[u8; BYTES]],
     p: usize,
     target: &mut [u64],
 ) -> Made

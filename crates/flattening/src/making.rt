@@ -2,18 +2,19 @@
 use crate::Made;
 use crate::Source;
 use crate::cells;
+use crate::cells::KEPT;
 use crate::rows;
 use tables::notes;
+use tables::notes::BYTES;
 use tables::records;
 ghost use mathlib.Core.Path.{_≡_};
 ghost use Prim.Native.Nat.{_+_, _-_, _*_, _^_, _≤_, _<_};
-ghost use mathlib.Core.List.{_++_};
 ghost use lib.ListN.{length};
-ghost use Rattle.tables.specs.Lines.{five};
+ghost use Rattle.tables.specs.Lines.{span};
 ghost use Rattle.tables.specs.Notes.{lookIn};
 ghost use Rattle.circuits.specs.Cells.{put};
-ghost use Rattle.flattening.specs.Model.{cellIn, Sound, Tame, words, rowAt, pairAt};
-ghost use Rattle.flattening.specs.Making.{run, still, of, runDown, ofDown, arrayWords, joinWords, cmpWords, readWords, writeWords};
+ghost use Rattle.flattening.specs.Model.{Sound};
+ghost use Rattle.flattening.specs.Making.{run, of, runDown, ofDown, arrayWords, joinWords, cmpWords, readWords};
 
 // 2 to the power of w.
 pub fn power(w: u8) -> usize
@@ -34,7 +35,7 @@ pub fn power(w: u8) -> usize
 }
 
 // The cells of the line a.
-pub fn size(types: &[[u8; 5]], a: u64) -> usize
+pub fn size(types: &[[u8; BYTES]], a: u64) -> usize
     requires { ⌜ lookIn (now types) a .iw ≤ 8 ⌝ }
     ensures { λ r. ⌜ r ≡ 2 ^ (lookIn (now (types .entry)) a .iw) ⌝ }
 {
@@ -43,7 +44,7 @@ pub fn size(types: &[[u8; 5]], a: u64) -> usize
 }
 
 // The cells of an array whose index sort is the line a.
-pub fn index_size(types: &[[u8; 5]], a: u64) -> usize
+pub fn index_size(types: &[[u8; BYTES]], a: u64) -> usize
     requires { ⌜ lookIn (now types) a .w ≤ 8 ⌝ }
     ensures { λ r. ⌜ r ≡ 2 ^ (lookIn (now (types .entry)) a .w) ⌝ }
 {
@@ -113,24 +114,28 @@ pub fn less(n: usize, k: usize) -> usize
 }
 
 // An array sort of n cells, whose index sort has the flat line s: a width-1 sort, then the index constants.
-pub fn array_lines(kept: &[[u64; 5]], s: u64, n: usize, p: usize, target: &mut [u64])
-    requires { ⌜ Sound (now kept) × ((n ≤ 256) × (5 * (p + (1 + n)) ≤ length (now target))) ⌝ }
-    ensures { λ _. ⌜ now (target .exit) ≡ put (now (target .entry)) (5 * p) (arrayWords (now (kept .entry)) s n) ⌝ }
+pub fn array_lines(kept: &[[u64; KEPT]], s: u64, n: usize, p: usize, target: &mut [u64])
+    requires { ⌜ Sound (now kept) × ((n ≤ 256) × (span (p + (1 + n)) ≤ length (now target))) ⌝ }
+    ensures { λ _. ⌜ now (target .exit) ≡ put (now (target .entry)) (span p) (arrayWords (now (kept .entry)) s n) ⌝ }
 {
-    records::put(target, p, [1, 0, 1, 0, 0]);
+    records::put(target, p, records::of(1, 0, 1, 0, 0));
     let z = run(0, 0);
     rows::rows(kept, target, p + 1, n, 3, s, run(0, 1), z, z);
 }
 
 // The ands, or ors, of n tests that begin at the place p, from the left.
-pub fn join_lines(kept: &[[u64; 5]], j: u64, s: u64, n: usize, p: usize, target: &mut [u64])
-    requires { ⌜ Sound (now kept) × ((n ≤ 256) × ((p ≤ 65536) × (5 * (p + (n + (n - 1))) ≤ length (now target)))) ⌝ }
-    ensures { λ _. ⌜ now (target .exit) ≡ put (now (target .entry)) (5 * (p + n)) (joinWords (now (kept .entry)) p j s n) ⌝ }
+pub fn join_lines(kept: &[[u64; KEPT]], j: u64, s: u64, n: usize, p: usize, target: &mut [u64])
+    requires { ⌜ Sound (now kept) × ((n ≤ 256) × ((p ≤ 65536) × (span (p + (n + (n - 1))) ≤ length (now target)))) ⌝ }
+    ensures { λ _. ⌜ now (target .exit) ≡ put (now (target .entry)) (span (p + n)) (joinWords (now (kept .entry)) p j s n) ⌝ }
 {
     if n < 2 {
         return;
     }
-    records::put(target, p + n, [j, s, (p + 1) as u64, (p + 2) as u64, 0]);
+    records::put(
+        target,
+        p + n,
+        records::of(j, s, (p + 1) as u64, (p + 2) as u64, 0),
+    );
     rows::rows(
         kept,
         target,
@@ -146,7 +151,7 @@ pub fn join_lines(kept: &[[u64; 5]], j: u64, s: u64, n: usize, p: usize, target:
 
 // eq or neq, of the kind k, of two values of n cells: a test for each cell, then their ands, or ors, of the kind j.
 pub fn cmp_lines(
-    kept: &[[u64; 5]],
+    kept: &[[u64; KEPT]],
     k: u64,
     j: u64,
     s: u64,
@@ -156,8 +161,8 @@ pub fn cmp_lines(
     p: usize,
     target: &mut [u64],
 )
-    requires { ⌜ Sound (now kept) × ((n ≤ 256) × ((p ≤ 65536) × (5 * (p + (n + (n - 1))) ≤ length (now target)))) ⌝ }
-    ensures { λ _. ⌜ now (target .exit) ≡ put (now (target .entry)) (5 * p) (cmpWords (now (kept .entry)) p k j s x y n) ⌝ }
+    requires { ⌜ Sound (now kept) × ((n ≤ 256) × ((p ≤ 65536) × (span (p + (n + (n - 1))) ≤ length (now target)))) ⌝ }
+    ensures { λ _. ⌜ now (target .exit) ≡ put (now (target .entry)) (span p) (cmpWords (now (kept .entry)) p k j s x y n) ⌝ }
 {
     rows::rows(kept, target, p, n, k, s, of(x), of(y), run(0, 0));
     join_lines(kept, j, s, n, p, target);
@@ -165,7 +170,7 @@ pub fn cmp_lines(
 
 // A read of the cells of a by the index i, from the last cell: o is the width-1 sort line, and the index constants stand after it.
 pub fn read_lines(
-    kept: &[[u64; 5]],
+    kept: &[[u64; KEPT]],
     o: u64,
     i: u64,
     s: u64,
@@ -174,8 +179,8 @@ pub fn read_lines(
     p: usize,
     target: &mut [u64],
 )
-    requires { ⌜ Sound (now kept) × ((2 ≤ n) × ((n ≤ 256) × ((p ≤ 60000) × ((o ≤ 65536) × (5 * (p + 2 * (n - 1)) ≤ length (now target)))))) ⌝ }
-    ensures { λ _. ⌜ now (target .exit) ≡ put (now (target .entry)) (5 * p) (readWords (now (kept .entry)) p o i s a n) ⌝ }
+    requires { ⌜ Sound (now kept) × ((2 ≤ n) × ((n ≤ 256) × ((p ≤ 60000) × ((o ≤ 65536) × (span (p + 2 * (n - 1)) ≤ length (now target)))))) ⌝ }
+    ensures { λ _. ⌜ now (target .exit) ≡ put (now (target .entry)) (span p) (readWords (now (kept .entry)) p o i s a n) ⌝ }
 {
     let last = cells::cell(kept, a, (n - 1) as u64);
     let m = n - 2;

@@ -1,8 +1,10 @@
 // The pass over the lines: each is counted, and then its flat lines are written.
 use crate::Flattened;
+use crate::cells::KEPT;
 use crate::counting;
 use crate::lines;
 use tables::Refusal;
+use tables::notes::BYTES;
 use tables::records;
 ghost use mathlib.Core.Path.{_≡_};
 ghost use lib.ListN.{length};
@@ -13,8 +15,8 @@ ghost use Rattle.flattening.specs.Begun.{Begun};
 pub fn all_lines(
     table: &[u64],
     count: usize,
-    types: &[[u8; 5]],
-    kept: &mut [[u64; 5]],
+    types: &[[u8; BYTES]],
+    kept: &mut [[u64; KEPT]],
     target: &mut [u64],
 ) -> Flattened
     requires { ⌜ Begun (now table) count (now types) (now kept) (now target) ⌝ }

@@ -6,26 +6,26 @@ use mathlib.Core.Bool.{Bool, true, false}
 use mathlib.Core.List.{List, [], _∷_, _++_}
 use native.Mathlib.Omega.{arith}
 use lib.Dec.{eqb}
-use lib.ListN.{length, take, drop, getD, replicate, length-append, length-drop, length-replicate, List·getD-append}
+use lib.ListN.{length, take, drop, getD, replicate, length-drop, length-replicate, List·getD-append}
 use lib.Seq.{drop-at, take-all, take-length, take-append-le, drop-append-le, take-suc}
 use borrow.Author.Tests.{eq-eqb, ne-eqb}
 use Rattle.tables.specs.declared.Ty.{Ty}
 use Rattle.tables.specs.declared.Checked.the-variants.{Accepted}
 use Rattle.tables.specs.Pick.{pick}
-use Rattle.tables.specs.Lines.{Line, Expr}
-use Rattle.tables.specs.Types.{tyAt, given, sortAt, lineType}
+use Rattle.tables.specs.Lines.{Line}
+use Rattle.tables.specs.Types.{tyAt, given, sortAt}
 use Rattle.tables.specs.Tables.{checked}
 use Rattle.tables.proofs.Facts.{Ok, OkGive}
 use Rattle.tables.proofs.Showing.{by-place, earlier}
 use Rattle.circuits.specs.Cells.{choose, lows, part, put}
 use Rattle.circuits.specs.Layout.{Place, Layout, typeAt, placeAt, size, typeOf, placeOf, noLayout, lay, layout}
-use Rattle.circuits.specs.Meaning.{Acc, cellsAt, wordAt, cellsOf, stsOf, evalLine, step}
+use Rattle.circuits.specs.Meaning.{Acc, wordAt, cellsOf, stsOf, evalLine, step}
 use Rattle.circuits.specs.Answers.{linesOf}
 use Rattle.peeks.specs.Looks.{noteInit, initAfter, initOf}
 use Rattle.circuits.proofs.Puts as laws
 use Rattle.circuits.proofs.Laid.{Sound, not-four, type-new, place-new, type-old, place-old, more-types, grew, later}
 use Rattle.circuits.proofs.Walked.{accAt, acc-suc, lines-many, number-at}
-use Rattle.peeks.proofs.Whole.{lay-is, facts-of, held-at, all-lines, HeldBy}
+use Rattle.peeks.proofs.Whole.{lay-is, facts-of, held-at, all-lines}
 
 -- ---- the value of the init, one line more
 

@@ -2,11 +2,11 @@
 use Prim.Native.Nat.{ℕ, zero, suc, _+_, _-_, _%_, _^_, _≤_, _<_}
 use mathlib.Core.Path.{_≡_, refl, sym, ap, ap₂, _∙_, subst}
 use mathlib.Core.Bool.{Bool, true, false}
-use mathlib.Core.List.{List, [], _∷_, _++_}
+use mathlib.Core.List.{List, [], _∷_}
 use native.Mathlib.Omega.{arith}
 use native.Mathlib.Nat.{mod-eq-of-lt, mod-mod}
 use lib.Pow.{pow-pos}
-use lib.ListN.{length, take, drop, getD, set, replicate, getD-replicate}
+use lib.ListN.{length, take, getD, set, getD-replicate}
 use lib.Seq.{take-all, getD-set-same, getD-set-other}
 use Rattle.words.specs.Word.{Width, bit}
 use Rattle.tables.specs.declared.Ty.{Ty}
@@ -19,7 +19,7 @@ use Rattle.tables.proofs.Showing.{earlier}
 use Rattle.tables.proofs.Values.{val-iw, val-w}
 use Rattle.tables.proofs.Wide.{sort-wide}
 use Rattle.circuits.specs.Cells.{choose, say, same, lows, part}
-use Rattle.circuits.specs.Layout.{Place, Layout, typeAt, placeAt, size, typeOf, placeOf, noLayout, lay, layAll, layout}
+use Rattle.circuits.specs.Layout.{Place, Layout, typeAt, placeAt, size, typeOf, placeOf, noLayout, lay, layout}
 use Rattle.circuits.specs.Meaning.{opWord, cellsE, Acc, cellsAt, wordAt, widthAt, cellsOf, step}
 use Rattle.circuits.specs.Run.{rowOf, start}
 use Rattle.circuits.specs.Answers.{linesOf}
@@ -27,13 +27,12 @@ use Rattle.peeks.specs.Peek.{stepZero}
 use Rattle.circuits.specs.Model.{FitWord}
 use Rattle.peeks.specs.Looks.{initOf, Looks}
 use Rattle.circuits.proofs.Fitting.{fit-as}
-use Rattle.circuits.proofs.Laid.{Sound, Later, later, grew, type-new, place-new, type-old, more-types, more-places}
-use Rattle.circuits.proofs.Held.{Held}
+use Rattle.circuits.proofs.Laid.{Later, later, grew, type-new, place-new, type-old, more-types, more-places}
 use Rattle.circuits.proofs.Simulation.{word-one, word-two, is-sort}
-use Rattle.circuits.proofs.Walked.{accAt, lines-many, line-here, number-at, later-at, sound-at, Facts}
+use Rattle.circuits.proofs.Walked.{accAt, lines-many, line-here, number-at, later-at, Facts}
 use Rattle.circuits.proofs.Placing.{all-sound, lines-here}
 use Rattle.circuits.proofs.Earlier.{cells-first, cells-here, fixed-alike}
-use Rattle.peeks.proofs.Whole.{offs, ats, wids, nums, HeldBy, whole, lay-is, facts-of, held-at, held-whole, lay-whole, cells-many, cells-small}
+use Rattle.peeks.proofs.Whole.{offs, ats, wids, nums, HeldBy, lay-is, facts-of, held-at, held-whole, lay-whole, cells-many, cells-small}
 use Rattle.peeks.proofs.Begun.{startOf, Begun, begun}
 use Rattle.circuits.proofs.Puts as laws
 

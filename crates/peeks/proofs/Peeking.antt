@@ -1,5 +1,5 @@
 -- What peek's two functions ask of the lines that they look at, and what they find. Assumes nothing.
-use Prim.Native.Nat.{ℕ, zero, suc, _+_, _-_, _*_, _%_, _^_, _≤_, _<_}
+use Prim.Native.Nat.{ℕ, zero, suc, _+_, _-_, _%_, _^_, _≤_, _<_}
 use mathlib.Core.Path.{_≡_, refl, sym, ap, ap₂, _∙_, subst}
 use mathlib.Core.Logic.{inl, inr}
 use mathlib.Core.Bool.{Bool, true, false, _&&_}
@@ -10,19 +10,18 @@ use lib.Pow.{pow-pos}
 use lib.ListN.{length, drop, getD, set, length-set, drop-of-length-le}
 use lib.Seq.{getD-set-same, getD-set-other}
 use Rattle.tables.specs.declared.Checked.the-variants.{Accepted}
-use Rattle.tables.specs.Lines.{Line, Shape, isBitvec, isArray, isConst, isInput, isState, isOutput, isOne, isTwo, isIte, isRead, isWrite, isJunk, isGive, isMark, isCmp, shapeOf, build, lineOf, kindIn, sortIn, firstIn, secondIn, thirdIn, recordAt}
+use Rattle.tables.specs.Lines.{Shape, isBitvec, isArray, isConst, isInput, isState, isOutput, isOne, isTwo, isIte, isRead, isWrite, isJunk, isGive, isMark, isCmp, shapeOf, build, lineOf, kindIn, sortIn, firstIn, secondIn, thirdIn, recordAt, span}
 use Rattle.tables.specs.Tables.{checked}
-use Rattle.tables.proofs.Facts.{IsArray}
 use Rattle.tables.proofs.Shapes.{KindOf, kind-of, line-as}
 use Rattle.tables.proofs.Showing.{by-place}
+use Rattle.tables.proofs.Encoding.{fits-table}
 use Rattle.words.specs.Word.{Width}
 use Rattle.circuits.specs.Cells.{choose, same}
 use Rattle.circuits.specs.Layout.{Layout, typeAt, size, layout}
 use Rattle.circuits.specs.Meaning.{Acc, cellsAt, wordAt}
 use Rattle.circuits.specs.Answers.{linesOf}
 use Rattle.peeks.specs.Peek.{stepZero}
-use Rattle.peeks.specs.Looks.{Looks, Found, WordLine, ArrayLine, CellLine, StateLine, Pair}
-use Rattle.circuits.proofs.Walked.{fits-table}
+use Rattle.peeks.specs.Looks.{Looks, Found, WordLine, CellLine, StateLine, Pair}
 use Rattle.circuits.proofs.Placing.{all-sound}
 use Rattle.peeks.proofs.Looked.{Arg, FactCmp, FactRead, FactIte, Fact, number-of, facts, cells-of}
 use Rattle.circuits.proofs.Puts as laws
@@ -65,7 +64,7 @@ pub record Chosen (A : Acc) (Z : Layout) (m c e : ℕ) : Type 0 where
 pub record Number (t : List ℕ) (n m : ℕ) : Type 0 where
   pub least : 1 ≤ m
   pub most : m ≤ 64
-  pub here : 5 * (m - 1) + 5 ≤ length t
+  pub here : span (m - 1 + 1) ≤ length t
 
 module _ {t : List ℕ} {n : ℕ} {idx wid pos ini S R : List ℕ} (lk : Looks t n idx wid pos ini S R) where
   abbrev A : Acc

@@ -1,10 +1,10 @@
 -- The answers of a peek, test by test, and the value where none holds. Assumes nothing.
 use Prim.Native.Nat.{ℕ, zero, suc, _+_, _^_, _≤_, _<_}
 use mathlib.Core.Path.{_≡_, refl, sym, ap, ap₂, _∙_, subst}
-use mathlib.Core.Bool.{Bool, true, false, _&&_}
+use mathlib.Core.Bool.{Bool, true, false}
 use mathlib.Core.List.{List}
 use native.Mathlib.Omega.{arith}
-use lib.Dec.{leb, ltb, eqb}
+use lib.Dec.{leb, eqb}
 use lib.ListN.{length, getD, replicate, length-replicate}
 use borrow.Author.Tests.{le-leb, lt-leb, lt-ltb, le-ltb, eq-eqb, ne-eqb, leb-true, ltb-true, eqb-true}
 use Rattle.tables.specs.declared.Ty.{Ty}
@@ -14,16 +14,15 @@ use Rattle.tables.specs.declared.Checked.{Checked}
 use Rattle.tables.specs.declared.Checked.the-variants.{Accepted, Refused}
 use Rattle.tables.specs.Pick.{pick}
 use Rattle.tables.specs.Notes.{lookIn, Spread}
-use Rattle.tables.specs.Types.{isValue, context, tyAt, Ctx, growAll, noCtx}
+use Rattle.tables.specs.Types.{isValue, context, tyAt, Ctx}
 use Rattle.tables.specs.Tables.{checked}
 use Rattle.tables.proofs.Checking.{not-accepted, zeros-at}
 use Rattle.tables.proofs.Spreading.{index-widths, word-widths}
 use Rattle.tables.proofs.Kept.{both}
 use Rattle.tables.proofs.Showing.{earlier}
 use Rattle.circuits.specs.declared.Totals.{Totals}
-use Rattle.peeks.specs.declared.Peeked.{Peeked}
 use Rattle.peeks.specs.declared.Peeked.the-variants.{Value, Refused as RefusedPeek}
-use Rattle.circuits.specs.Layout.{Counts, typeAt, size, noLayout, layAll, layout}
+use Rattle.circuits.specs.Layout.{Counts, typeAt, size, noLayout, layout}
 use Rattle.circuits.specs.Meaning.{Acc, cellsAt, wordAt}
 use Rattle.circuits.specs.Answers.{linesOf}
 use Rattle.peeks.specs.Peek.{stepZero, peekAt, hasCell, mayPeek, seenAs, peeked}

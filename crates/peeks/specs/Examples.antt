@@ -1,9 +1,9 @@
 -- Peeks at the first step of the request's circuit, from the start words 3 and 12, on the row 1; computed. Assumes nothing.
 use mathlib.Core.Path.{_≡_, refl}
-use mathlib.Core.List.{List, [], _∷_, _++_}
+use mathlib.Core.List.{[], _∷_, _++_}
 use Rattle.tables.specs.declared.Refusal.the-variants.{NoSuchCell}
 use Rattle.tables.specs.Kinds.{rowOf as kindRow}
-use Rattle.tables.specs.Lines.{five}
+use Rattle.tables.specs.Lines.{fields}
 use Rattle.tables.specs.Rules.{suits, fault}
 use Rattle.tables.specs.Tables.{checked}
 use Rattle.circuits.specs.Cells.{put}
@@ -11,7 +11,6 @@ use Rattle.circuits.specs.Layout.{layout}
 use Rattle.circuits.specs.Meaning.{step}
 use Rattle.circuits.specs.Run.{start}
 use Rattle.circuits.specs.Examples.{circuit}
-use Rattle.peeks.specs.declared.Peeked.{Peeked}
 use Rattle.peeks.specs.declared.Peeked.the-variants.{Value, Refused}
 use Rattle.peeks.specs.Peek.{stepZero, peekAt, peeked}
 
@@ -49,6 +48,6 @@ peek-next = refl
 
 -- an array state with an init: its word stands in every cell
 peek-init :
-    peeked (five 1 0 1 0 0 ++ five 1 0 3 0 0 ++ five 2 0 1 2 0 ++ five 3 2 5 0 0 ++ five 5 3 0 0 0 ++ five 6 3 5 4 0) 6 5 1 (3 ∷ 12 ∷ []) [] ≡ Value 5
+    peeked (fields 1 0 1 0 0 ++ fields 1 0 3 0 0 ++ fields 2 0 1 2 0 ++ fields 3 2 5 0 0 ++ fields 5 3 0 0 0 ++ fields 6 3 5 4 0) 6 5 1 (3 ∷ 12 ∷ []) [] ≡ Value 5
 unfolding peeked checked fault suits kindRow layout peekAt stepZero start step put
 peek-init = refl

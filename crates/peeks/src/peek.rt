@@ -9,10 +9,11 @@ use tables::Refusal;
 use tables::Ty;
 use tables::check;
 use tables::notes;
+use tables::notes::BYTES;
 use tables::records;
+use tables::records::WORDS;
 ghost use mathlib.Core.Path.{_≡_};
-ghost use mathlib.Core.Bool.{Bool, true, false};
-ghost use mathlib.Core.List.{List};
+ghost use mathlib.Core.Bool.{true, false};
 ghost use Prim.Native.Nat.{ℕ, _+_, _%_, _^_, _≤_, _<_};
 ghost use lib.ListN.{length, getD, set, replicate};
 ghost use Rattle.words.specs.Word.{Width};
@@ -26,7 +27,7 @@ ghost use Rattle.circuits.specs.Model.{FitWord, Noted, countsOf};
 ghost use Rattle.peeks.specs.Looks.{noteInit, initOf, Laid, Looks, Found, WordLine, CellLine, StateLine, HasCell, Pair, Types, lentPeek};
 
 // An init's record notes the line of its value at its state.
-fn note_init(rec: [u64; 5], ini: &mut [u64])
+fn note_init(rec: [u64; WORDS], ini: &mut [u64])
     ensures { λ _. ⌜ ((q : ℕ) → q < length (now (ini .entry)) → getD (now (ini .exit)) q 0 ≡ noteInit q (getD (now (ini .entry)) q 0) (lineOf rec)) ⌝ }
 {
     if rec[0] != 6 {
@@ -83,7 +84,7 @@ fn start_word(n: usize, k: usize, wid: &[u8; 16385], pos: &[u32; 16385], starts:
 }
 
 // An operator of one word, v, on the line n.
-fn one(rec: [u64; 5], n: usize, wid: &[u8; 16385], v: u64) -> u64
+fn one(rec: [u64; WORDS], n: usize, wid: &[u8; 16385], v: u64) -> u64
     requires { ⌜ (n ≤ 16384) × ((firstIn rec ≤ 16384) × FitWord false (kindIn rec) (getD (now wid) n 0) (getD (now wid) (firstIn rec) 0) 64 v (secondIn rec) (thirdIn rec)) ⌝ }
     ensures { λ r. ⌜ r ≡ opWord false (kindIn rec) (getD (now (wid .entry)) (firstIn rec) 0) 64 v (secondIn rec) (thirdIn rec) ⌝ }
 {
@@ -93,7 +94,7 @@ fn one(rec: [u64; 5], n: usize, wid: &[u8; 16385], v: u64) -> u64
 }
 
 // An operator of two words, x and y, on the line n.
-fn two(rec: [u64; 5], n: usize, wid: &[u8; 16385], x: u64, y: u64) -> u64
+fn two(rec: [u64; WORDS], n: usize, wid: &[u8; 16385], x: u64, y: u64) -> u64
     requires { ⌜ (n ≤ 16384) × ((firstIn rec ≤ 16384) × ((secondIn rec ≤ 16384) × FitWord false (kindIn rec) (getD (now wid) n 0) (getD (now wid) (firstIn rec) 0) (getD (now wid) (secondIn rec) 0) x y 0)) ⌝ }
     ensures { λ r. ⌜ r ≡ opWord false (kindIn rec) (getD (now (wid .entry)) (firstIn rec) 0) (getD (now (wid .entry)) (secondIn rec) 0) x y 0 ⌝ }
 {
@@ -104,7 +105,7 @@ fn two(rec: [u64; 5], n: usize, wid: &[u8; 16385], x: u64, y: u64) -> u64
 }
 
 // The word of the constant or of the input on the line n.
-fn given(rec: [u64; 5], n: usize, wid: &[u8; 16385], pos: &[u32; 16385], row: &[u64]) -> u64
+fn given(rec: [u64; WORDS], n: usize, wid: &[u8; 16385], pos: &[u32; 16385], row: &[u64]) -> u64
     requires { ⌜ ((kindIn rec ≡ 3 → ⊥) → (n ≤ 16384) × ((getD (now pos) n 0 < length (now row)) × Width (getD (now wid) n 0))) ⌝ }
     ensures { λ r. ⌜ ((kindIn rec ≡ 3 → r ≡ firstIn rec) × ((kindIn rec ≡ 3 → ⊥) → r ≡ getD (now (row .entry)) (getD (now (pos .entry)) n 0) 0 % 2 ^ getD (now (wid .entry)) n 0)) ⌝ }
 {
@@ -403,7 +404,7 @@ fn peek_checked(
 fn peek_noted(
     table: &[u64],
     count: usize,
-    notes: &[[u8; 5]],
+    notes: &[[u8; BYTES]],
     line: usize,
     k: usize,
     starts: &[u64],
@@ -430,7 +431,7 @@ pub fn peek(
 ) -> Peeked
     ensures { λ r. ⌜ r ≡ peeked (now (table .entry)) count line cell (now (starts .entry)) (now (row .entry)) ⌝ }
 {
-    let mut notes = [[0u8; 5]; 16385];
+    let mut notes = [[0u8; BYTES]; 16385];
     match check::check(false, table, count, &mut notes) {
         Checked::Refused(r) => {
             return Peeked::Refused(r);

@@ -5,6 +5,7 @@ use flattening::Flattened;
 use programs::Translated;
 use tables::Refusal;
 use tables::records;
+use tables::records::WORDS;
 use texts::ReadOutcome;
 
 fn say(s: &[u8]) {
@@ -20,8 +21,8 @@ fn say_refusal(r: Refusal) {
     say_number(tables::number(r));
 }
 
-// The number of an instruction, and its five words.
-fn say_record(n: u64, rec: [u64; 5]) {
+// The number of an instruction, and its words.
+fn say_record(n: u64, rec: [u64; WORDS]) {
     say_number(n);
     say(b": ");
     say_number(rec[0]);
@@ -40,7 +41,7 @@ fn say_record(n: u64, rec: [u64; 5]) {
 fn say_records(program: &[u64], count: usize) {
     let mut i: usize = 0;
     while i < count {
-        if program.len() / 5 <= i {
+        if records::room_of(program.len()) <= i {
             return;
         }
         let rec = records::record(program, i);

@@ -1,11 +1,12 @@
 -- The answers of translating, test by test. Assumes nothing.
-use Prim.Native.Nat.{ℕ, _*_, _≤_, _<_}
+use Prim.Native.Nat.{ℕ, _≤_, _<_}
 use mathlib.Core.Path.{_≡_, sym, ap, ap₂, _∙_}
 use mathlib.Core.Bool.{Bool, true, false, _&&_}
 use mathlib.Core.List.{List}
 use native.Mathlib.Omega.{arith}
 use lib.ListN.{length, replicate, length-replicate}
 use borrow.Author.Tests.{le-leb, lt-leb}
+use Rattle.tables.specs.Lines.{span}
 use Rattle.tables.specs.declared.Refusal.{Refusal}
 use Rattle.tables.specs.declared.Refusal.the-variants.{NotATable, TargetTooSmall, ArrayPresent}
 use Rattle.tables.specs.declared.Checked.{Checked}
@@ -73,5 +74,5 @@ too-small m len h = sym (ap (λ (b : Bool). pick b (Done m) (RefusedTranslation 
 pub fits-target : (m len : ℕ) → m ≤ room len → Done m ≡ fitting m len
 fits-target m len h = sym (ap (λ (b : Bool). pick b (Done m) (RefusedTranslation TargetTooSmall)) (le-leb m (room len) h))
 
-pub room-words : (m len : ℕ) → m ≤ room len → 5 * m ≤ len
+pub room-words : (m len : ℕ) → m ≤ room len → span m ≤ len
 room-words m len h = omega arith

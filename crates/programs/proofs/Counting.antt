@@ -14,7 +14,7 @@ use Rattle.programs.specs.Translation.{Info, noInfo, widthOf, numberOf, 
 use Rattle.programs.specs.Answers.{programOf}
 use Rattle.programs.specs.Records.{numberAt, flagAt, emitted, Marked, Taken, Fresh}
 use Rattle.programs.proofs.Modelled.{Agrees, agrees}
-use Rattle.programs.proofs.Keeping.{Keeps, keeps-start, keeps-more, line-at, no-line, fits-table, few-emitted}
+use Rattle.programs.proofs.Keeping.{Keeps, keeps-start, keeps-more, line-at, no-line, few-emitted}
 
 pub record Walk (z : ℕ) (t : List ℕ) (n i b : ℕ) (wd num lo : List ℕ) : Type 0 where
   pub J : List Info

@@ -1,5 +1,5 @@
 -- What a translation that is not refused leaves: an accepted program, whose lines are the definition's. Assumes nothing.
-use Prim.Native.Nat.{ℕ, _-_, _*_, _≤_}
+use Prim.Native.Nat.{ℕ, _-_, _≤_}
 use mathlib.Core.Path.{_≡_, refl, ap, _∙_, subst⁻¹}
 use mathlib.Core.Bool.{Bool, true, false, _&&_}
 use mathlib.Core.List.{List, _++_}
@@ -11,7 +11,7 @@ use Rattle.tables.specs.declared.Checked.{Checked}
 use Rattle.tables.specs.declared.Checked.the-variants.{Accepted, Refused}
 use Rattle.tables.specs.declared.Refusal.the-variants.{NotATable, TargetTooSmall}
 use Rattle.tables.specs.Pick.{pick}
-use Rattle.tables.specs.Lines.{encode}
+use Rattle.tables.specs.Lines.{encode, span}
 use Rattle.tables.specs.Types.{noCtx}
 use Rattle.tables.specs.Tables.{whole, room, checked}
 use Rattle.tables.proofs.Kept.{both}
@@ -66,24 +66,24 @@ module _ (t : List ℕ) (n len m : ℕ) (e : translated t n len ≡ Done m) wher
   flat-ok = accepted-ok false t n (done .accepted)
 
   -- the target holds the program's records, and zeros
-  target-is : targetLeft t n len ≡ encode (programOf t n) ++ replicate (len - 5 * m) 0
+  target-is : targetLeft t n len ≡ encode (programOf t n) ++ replicate (len - span m) 0
   unfolding targetLeft
   target-is = ap (λ (r : Translated). leftOf r len (programOf t n)) e
 
   -- and keeps its length
-  length-is : length (encode (programOf t n) ++ replicate (len - 5 * m) 0) ≡ len
+  length-is : length (encode (programOf t n) ++ replicate (len - span m) 0) ≡ len
   length-is =
-      omega (arith, length-append (encode (programOf t n)) (replicate (len - 5 * m) 0), length-encode (programOf t n), length-replicate {A = ℕ} (len - 5 * m) 0, done .count, done .fits)
+      omega (arith, length-append (encode (programOf t n)) (replicate (len - span m) 0), length-encode (programOf t n), length-replicate {A = ℕ} (len - span m) 0, done .count, done .fits)
 
   -- neither 1 nor 20 holds of it with the count answered
   pub target-accepted : checked true (targetLeft t n len) m ≡ Accepted
   target-accepted =
       ap (λ (x : List ℕ). checked true x m) target-is
-      ∙ ap (checked true (encode (programOf t n) ++ replicate (len - 5 * m) 0)) (done .count)
-      ∙ program-accepted (linesOf t n) (replicate (len - 5 * m) 0) flat-ok (done .flat) (omega (arith, done .count, done .fits)) (rw length-is (done .even))
+      ∙ ap (checked true (encode (programOf t n) ++ replicate (len - span m) 0)) (done .count)
+      ∙ program-accepted (linesOf t n) (replicate (len - span m) 0) flat-ok (done .flat) (omega (arith, done .count, done .fits)) (rw length-is (done .even))
 
   -- and its lines are the program of the flat circuit
   pub target-lines : linesOf (targetLeft t n len) m ≡ programOf t n
   target-lines =
-      ap (λ (x : List ℕ). linesOf x m) target-is ∙ ap (linesOf (encode (programOf t n) ++ replicate (len - 5 * m) 0)) (done .count)
-      ∙ lines-back true (programOf t n) (replicate (len - 5 * m) 0) (translated-ok (linesOf t n) flat-ok (done .flat))
+      ap (λ (x : List ℕ). linesOf x m) target-is ∙ ap (linesOf (encode (programOf t n) ++ replicate (len - span m) 0)) (done .count)
+      ∙ lines-back true (programOf t n) (replicate (len - span m) 0) (translated-ok (linesOf t n) flat-ok (done .flat))

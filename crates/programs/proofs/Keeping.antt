@@ -1,5 +1,5 @@
 -- The lists that the code keeps hold what the definition knows of the lines so far; and the line at hand. Assumes nothing.
-use Prim.Native.Nat.{ℕ, zero, suc, _+_, _*_, _≤_, _<_}
+use Prim.Native.Nat.{ℕ, zero, suc, _+_, _≤_, _<_}
 use mathlib.Core.Path.{_≡_, refl, sym, ap, ap₂, _∙_, subst, subst⁻¹}
 use mathlib.Core.Bool.{Bool, true, false}
 use mathlib.Core.List.{List, [], _∷_, _++_, map}
@@ -19,9 +19,9 @@ use Rattle.tables.proofs.Kept.{both}
 use Rattle.tables.proofs.Formed.{words-back}
 use Rattle.tables.proofs.Showing.{by-place, snoc-other}
 use Rattle.tables.proofs.Counted.{length-records, record-at, length-record}
-use Rattle.tables.proofs.Checking.{roomy}
 use Rattle.tables.proofs.Facts.{Ok, OkExpr, AllOk}
-use Rattle.tables.proofs.Sound.{accepted-lawful, accepted-room, accepted-ok}
+use Rattle.tables.proofs.Sound.{accepted-lawful, accepted-ok}
+use Rattle.tables.proofs.Encoding.{fits-table}
 use Rattle.circuits.specs.Answers.{linesOf}
 use Rattle.programs.specs.Translation.{Info, noInfo, infoAt, widthOf, numberOf, looseOf}
 use Rattle.programs.specs.Records.{numberAt, flagAt, looseIn, widthIn, numberIn, emitted, Taken, Ample}
@@ -156,13 +156,10 @@ map-length : (rs : List (List ℕ)) → length (map lineOf rs) ≡ length rs
 map-length [] = refl
 map-length (r ∷ rs) = ap suc (map-length rs)
 
-pub fits-table : (t : List ℕ) (n : ℕ) → checked false t n ≡ Accepted → (n ≤ 16384) × (5 * n ≤ length t)
-fits-table t n e = roomy (length t) n (accepted-room false t n e .1)
-
 pub line-at : (t : List ℕ) (n i : ℕ) → checked false t n ≡ Accepted → i < n → LineAt t n i
 line-at t n i e l =
     let rs = records (counted t n) in
-    let f = fits-table t n e in
+    let f = fits-table false t n e in
     let nr : length rs ≡ n = length-records n t (f .1) in
     let li : i < length rs = omega arith in
     let ra : getD rs i [] ≡ recordAt t i = record-at n t i (f .1) l in
@@ -179,7 +176,7 @@ line-at t n i e l =
 
 -- past the last line
 pub no-line : (t : List ℕ) (n i : ℕ) → checked false t n ≡ Accepted → n ≤ i → drop i (linesOf t n) ≡ []
-no-line t n i e l = past (linesOf t n) i (omega (arith, map-length (records (counted t n)), length-records n t (fits-table t n e .1)))
+no-line t n i e l = past (linesOf t n) i (omega (arith, map-length (records (counted t n)), length-records n t (fits-table false t n e .1)))
   where
     past : (ls : List Line) (i : ℕ) → length ls ≤ i → drop i ls ≡ []
     past [] zero h = refl

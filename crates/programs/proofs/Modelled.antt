@@ -9,7 +9,7 @@ use lib.ListN.{length}
 use borrow.Author.Tests.{le-leb, lt-leb, ne-eqb}
 use Rattle.words.specs.Kinds.{needKind₁, needKind₂}
 use Rattle.tables.specs.Pick.{pick, inside}
-use Rattle.tables.specs.Lines.{Line, Expr, bitvec, array, input, state, val, give, mark, output, junk, const, one, two, cmp, ite, read, write, five, wordsOf, encode, kindIn, sortIn, firstIn, secondIn}
+use Rattle.tables.specs.Lines.{Line, Expr, bitvec, array, input, state, val, give, mark, output, junk, const, one, two, cmp, ite, read, write, fields, wordsOf, encode, kindIn, sortIn, firstIn, secondIn}
 use Rattle.programs.specs.Uses.{looseLine, when, needs}
 use Rattle.programs.specs.Translation.{isArraySort, Info, info, widthOf, numberOf, looseOf, Made, put, made}
 use Rattle.programs.specs.Records.{firstLine, secondLine, thirdLine, hasValue, looseIn, instruction, maskWords, widthIn, numberIn, emitted}
@@ -217,7 +217,7 @@ module _ (N : ℕ → Bool) (J : List Info) (b : ℕ) (zero-w : widthOf J 0 ≡ 
   agrees (val s (write a i v)) k = value (val s (write a i v)) (val (W s) (write (M a) (M i) (M v))) _ refl refl refl (never (W s)) refl
   agrees (give true s q v) k = plain (give true s q v) (give true (W s) (M q) (M v)) refl refl refl (never (W s)) refl
   agrees (give false s q v) k = plain (give false s q v) (give false (W s) (M q) (M v)) refl refl refl (never (W s)) refl
-  agrees (mark true a) k = plain (mark true a) (mark true (M a)) refl refl refl (never (W 0)) (ap (λ (w : ℕ). five 8 w (M a) 0 0) zero-w)
-  agrees (mark false a) k = plain (mark false a) (mark false (M a)) refl refl refl (never (W 0)) (ap (λ (w : ℕ). five 9 w (M a) 0 0) zero-w)
-  agrees (output a) k = plain (output a) (output (M a)) refl refl refl (never (W 0)) (ap (λ (w : ℕ). five 10 w (M a) 0 0) zero-w)
+  agrees (mark true a) k = plain (mark true a) (mark true (M a)) refl refl refl (never (W 0)) (ap (λ (w : ℕ). fields 8 w (M a) 0 0) zero-w)
+  agrees (mark false a) k = plain (mark false a) (mark false (M a)) refl refl refl (never (W 0)) (ap (λ (w : ℕ). fields 9 w (M a) 0 0) zero-w)
+  agrees (output a) k = plain (output a) (output (M a)) refl refl refl (never (W 0)) (ap (λ (w : ℕ). fields 10 w (M a) 0 0) zero-w)
   agrees junk k = record { info = sym (rw (never (W 0))); code = refl; count = refl }

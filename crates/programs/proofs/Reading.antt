@@ -10,7 +10,7 @@ use borrow.Author.Tests.{eq-eqb, ne-eqb}
 use Rattle.words.specs.Kinds.{looseKind, needKind₁, needKind₂}
 use Rattle.words.proofs.Table.{table, at}
 use Rattle.tables.specs.Pick.{pick}
-use Rattle.tables.specs.Lines.{five, kindIn, sortIn, firstIn, secondIn, thirdIn}
+use Rattle.tables.specs.Lines.{fields, kindIn, sortIn, firstIn, secondIn, thirdIn}
 use Rattle.programs.specs.Records.{firstLine, secondLine, thirdLine, usesOf, looseHow, looseIn, instruction}
 
 -- ---- the table, compared by computing
@@ -64,7 +64,7 @@ module _ (W : ℕ → ℕ) (L : ℕ → Bool) (r : List ℕ) where
 
 module _ (W M : ℕ → ℕ) (r : List ℕ) where
   pub instruction-read : {w a b c : ℕ} {f₁ f₂ f₃ : Bool} → w ≡ W (sortIn r) → f₁ ≡ firstLine (kindIn r) → a ≡ pick f₁ (M (firstIn r)) (firstIn r) → f₂ ≡ secondLine (kindIn r)
-      → b ≡ pick f₂ (M (secondIn r)) (secondIn r) → f₃ ≡ thirdLine (kindIn r) → c ≡ pick f₃ (M (thirdIn r)) (thirdIn r) → five (kindIn r) w a b c ≡ instruction W M r
+      → b ≡ pick f₂ (M (secondIn r)) (secondIn r) → f₃ ≡ thirdLine (kindIn r) → c ≡ pick f₃ (M (thirdIn r)) (thirdIn r) → fields (kindIn r) w a b c ≡ instruction W M r
   instruction-read ew e₁ q₁ e₂ q₂ e₃ q₃ =
-      λ i. five (kindIn r) (ew i) ((q₁ ∙ ap (λ (t : Bool). pick t (M (firstIn r)) (firstIn r)) e₁) i) ((q₂ ∙ ap (λ (t : Bool). pick t (M (secondIn r)) (secondIn r)) e₂) i)
+      λ i. fields (kindIn r) (ew i) ((q₁ ∙ ap (λ (t : Bool). pick t (M (firstIn r)) (firstIn r)) e₁) i) ((q₂ ∙ ap (λ (t : Bool). pick t (M (secondIn r)) (secondIn r)) e₂) i)
       ((q₃ ∙ ap (λ (t : Bool). pick t (M (thirdIn r)) (thirdIn r)) e₃) i)

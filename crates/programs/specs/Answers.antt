@@ -1,5 +1,5 @@
 -- The answers of translating: 1 for either list, 11, 19, 12, the first that holds; else the number of records of the program. Assumes nothing.
-use Prim.Native.Nat.{ℕ, _-_, _*_}
+use Prim.Native.Nat.{ℕ, _-_}
 use mathlib.Core.Bool.{Bool, true, false, _&&_}
 use mathlib.Core.List.{List, _++_}
 use lib.Dec.{leb}
@@ -8,7 +8,7 @@ use Rattle.tables.specs.declared.Refusal.the-variants.{NotATable, TargetTooSmal
 use Rattle.tables.specs.declared.Checked.{Checked}
 use Rattle.tables.specs.declared.Checked.the-variants.{Accepted, Refused}
 use Rattle.tables.specs.Pick.{pick}
-use Rattle.tables.specs.Lines.{Line, encode}
+use Rattle.tables.specs.Lines.{Line, encode, span}
 use Rattle.tables.specs.Tables.{whole, room, checked}
 use Rattle.circuits.specs.Answers.{linesOf}
 use Rattle.programs.specs.declared.Translated.{Translated}
@@ -41,7 +41,7 @@ translated t n len =
 
 -- what the target holds then: the program's records and zeros past their end; zeros after a refusal
 abbrev pub leftOf : Translated → ℕ → List Line → List ℕ
-leftOf (Done m) len p = encode p ++ replicate (len - 5 * m) 0
+leftOf (Done m) len p = encode p ++ replicate (len - span m) 0
 leftOf (RefusedTranslation r) len p = replicate len 0
 
 unfoldable pub targetLeft : (t : List ℕ) (n len : ℕ) → List ℕ

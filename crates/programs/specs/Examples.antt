@@ -7,7 +7,7 @@ use lib.ListN.{length, getD, replicate}
 use Rattle.tables.specs.declared.Refusal.the-variants.{NotATable, BadTable, TargetTooSmall, ArrayPresent}
 use Rattle.tables.specs.declared.Checked.the-variants.{Accepted}
 use Rattle.tables.specs.Kinds.{rowOf}
-use Rattle.tables.specs.Lines.{Line, five, encode}
+use Rattle.tables.specs.Lines.{Line, fields, encode}
 use Rattle.tables.specs.Rules.{suits, fault}
 use Rattle.tables.specs.Tables.{checked}
 use Rattle.circuits.specs.Examples.{circuit, program}
@@ -21,8 +21,8 @@ use Rattle.programs.specs.Answers.{programOf, translated, targetLeft}
 -- 12 eq 3 8 5, 13 ite 2 12 9 7, 14 next 2 6 11, 15 next 2 7 13, 16 eq 3 8 4, 17 ite 2 16 6 7, 18 eq 1 17 9, 19 bad 18
 abbrev pub flat : List ℕ
 flat =
-    five 1 0 1 0 0 ++ five 1 0 3 0 0 ++ five 1 0 1 0 0 ++ five 3 1 0 0 0 ++ five 3 1 1 0 0 ++ five 5 2 0 0 0 ++ five 5 2 0 0 0 ++ five 4 1 0 0 0 ++ five 3 2 5 0 0 ++ five 21 3 8 4 0
-    ++ five 53 2 10 9 6 ++ five 21 3 8 5 0 ++ five 53 2 12 9 7 ++ five 7 2 6 11 0 ++ five 7 2 7 13 0 ++ five 21 3 8 4 0 ++ five 53 2 16 6 7 ++ five 21 1 17 9 0 ++ five 8 0 18 0 0
+    fields 1 0 1 0 0 ++ fields 1 0 3 0 0 ++ fields 1 0 1 0 0 ++ fields 3 1 0 0 0 ++ fields 3 1 1 0 0 ++ fields 5 2 0 0 0 ++ fields 5 2 0 0 0 ++ fields 4 1 0 0 0 ++ fields 3 2 5 0 0 ++ fields 21 3 8 4 0
+    ++ fields 53 2 10 9 6 ++ fields 21 3 8 5 0 ++ fields 53 2 12 9 7 ++ fields 7 2 6 11 0 ++ fields 7 2 7 13 0 ++ fields 21 3 8 4 0 ++ fields 53 2 16 6 7 ++ fields 21 1 17 9 0 ++ fields 8 0 18 0 0
 
 flat-program : encode (programOf flat 19) ≡ program
 unfolding translate
@@ -46,16 +46,16 @@ flat-accepted = refl
 -- 13 and 1 9 10, 14 eq 4 13 12, 15 add 3 8 8, 16 output 15, 17 bad 14, 18 slice 1 11 7 0
 abbrev pub second : List ℕ
 second =
-    five 1 0 8 0 0 ++ five 1 0 16 0 0 ++ five 1 0 64 0 0 ++ five 1 0 1 0 0 ++ five 4 1 0 0 0 ++ five 4 1 0 0 0 ++ five 4 4 0 0 0 ++ five 4 3 0 0 0 ++ five 39 1 5 6 0 ++ five 47 1 5 9 0
-    ++ five 52 2 10 6 0 ++ five 53 1 7 10 5 ++ five 33 1 9 10 0 ++ five 21 4 13 12 0 ++ five 39 3 8 8 0 ++ five 10 0 15 0 0 ++ five 8 0 14 0 0 ++ five 18 1 11 7 0
+    fields 1 0 8 0 0 ++ fields 1 0 16 0 0 ++ fields 1 0 64 0 0 ++ fields 1 0 1 0 0 ++ fields 4 1 0 0 0 ++ fields 4 1 0 0 0 ++ fields 4 4 0 0 0 ++ fields 4 3 0 0 0 ++ fields 39 1 5 6 0 ++ fields 47 1 5 9 0
+    ++ fields 52 2 10 6 0 ++ fields 53 1 7 10 5 ++ fields 33 1 9 10 0 ++ fields 21 4 13 12 0 ++ fields 39 3 8 8 0 ++ fields 10 0 15 0 0 ++ fields 8 0 14 0 0 ++ fields 18 1 11 7 0
 
 -- Masks: 3, of the input that is concat's low operand; 5, of ite's condition; 8, of sll's amount, and not of its data; 12 and 14, of what eq compares. The and is loose
 -- though one of its operands is masked. Nothing of width 64 is.
 abbrev pub secondProgram : List ℕ
 secondProgram =
-    five 4 8 0 0 0 ++ five 4 8 0 0 0 ++ five 56 8 2 0 0 ++ five 4 1 0 0 0 ++ five 56 1 4 0 0 ++ five 4 64 0 0 0 ++ five 39 8 1 3 0 ++ five 56 8 7 0 0 ++ five 47 8 1 8 0
-    ++ five 52 16 9 3 0 ++ five 53 8 5 9 1 ++ five 56 8 11 0 0 ++ five 33 8 8 9 0 ++ five 56 8 13 0 0 ++ five 21 1 14 12 0 ++ five 39 64 6 6 0 ++ five 10 0 16 0 0 ++ five 8 0 15 0 0
-    ++ five 18 8 10 7 0
+    fields 4 8 0 0 0 ++ fields 4 8 0 0 0 ++ fields 56 8 2 0 0 ++ fields 4 1 0 0 0 ++ fields 56 1 4 0 0 ++ fields 4 64 0 0 0 ++ fields 39 8 1 3 0 ++ fields 56 8 7 0 0 ++ fields 47 8 1 8 0
+    ++ fields 52 16 9 3 0 ++ fields 53 8 5 9 1 ++ fields 56 8 11 0 0 ++ fields 33 8 8 9 0 ++ fields 56 8 13 0 0 ++ fields 21 1 14 12 0 ++ fields 39 64 6 6 0 ++ fields 10 0 16 0 0 ++ fields 8 0 15 0 0
+    ++ fields 18 8 10 7 0
 
 second-accepted : checked false second 18 ≡ Accepted
 unfolding checked fault suits rowOf
@@ -72,7 +72,7 @@ pub exact-answer : translated flat 19 85 ≡ Done 17
 unfolding translated checked fault suits rowOf translate
 exact-answer = refl
 
-spare-target : targetLeft flat 19 90 ≡ program ++ five 0 0 0 0 0
+spare-target : targetLeft flat 19 90 ≡ program ++ fields 0 0 0 0 0
 unfolding targetLeft translated checked fault suits rowOf translate
 spare-target = refl
 

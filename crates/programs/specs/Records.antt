@@ -7,7 +7,7 @@ use lib.Dec.{leb, eqb}
 use lib.ListN.{length, getD, set, replicate}
 use Rattle.words.specs.Word.{bit}
 use Rattle.tables.specs.Pick.{pick, inside}
-use Rattle.tables.specs.Lines.{Line, five, kindIn, sortIn, firstIn, secondIn, thirdIn, recorded}
+use Rattle.tables.specs.Lines.{Line, fields, kindIn, sortIn, firstIn, secondIn, thirdIn, recorded}
 use Rattle.programs.specs.Uses.{looseLine, needed}
 
 -- ---- by kind
@@ -76,11 +76,11 @@ looseIn W L r = looseLine (W (sortIn r)) (kindIn r) (firstLine (kindIn r) && L (
 -- its instruction
 abbrev pub instruction : (W M : ℕ → ℕ) → List ℕ → List ℕ
 instruction W M r =
-    five (kindIn r) (W (sortIn r)) (pick (firstLine (kindIn r)) (M (firstIn r)) (firstIn r)) (pick (secondLine (kindIn r)) (M (secondIn r)) (secondIn r))
+    fields (kindIn r) (W (sortIn r)) (pick (firstLine (kindIn r)) (M (firstIn r)) (firstIn r)) (pick (secondLine (kindIn r)) (M (secondIn r)) (secondIn r))
     (pick (thirdLine (kindIn r)) (M (thirdIn r)) (thirdIn r))
 
 abbrev pub maskWords : (w b : ℕ) → List ℕ
-maskWords w b = five 56 w b 0 0
+maskWords w b = fields 56 w b 0 0
 
 -- what is kept of it: its width, and the instruction that uses of it take, where m says that it has a mask
 abbrev pub widthIn : (W : ℕ → ℕ) → List ℕ → ℕ

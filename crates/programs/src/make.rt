@@ -6,10 +6,10 @@ use tables::records;
 ghost use mathlib.Core.Path.{_≡_};
 ghost use mathlib.Core.Bool.{false};
 ghost use mathlib.Core.List.{_++_};
-ghost use Prim.Native.Nat.{_-_, _*_, _≤_, _<_};
+ghost use Prim.Native.Nat.{_-_, _≤_, _<_};
 ghost use lib.ListN.{length, replicate};
 ghost use Rattle.tables.specs.declared.Checked.the-variants.{Accepted};
-ghost use Rattle.tables.specs.Lines.{encode};
+ghost use Rattle.tables.specs.Lines.{encode, span};
 ghost use Rattle.tables.specs.Tables.{checked};
 ghost use Rattle.circuits.specs.Answers.{linesOf};
 ghost use Rattle.programs.specs.Answers.{programOf, fitting, leftOf};
@@ -48,8 +48,8 @@ fn count_many(table: &[u64], count: usize, marks: &[u8]) -> usize
 
 // The instructions go to the target, which is zero.
 fn writing(table: &[u64], count: usize, marks: &[u8], target: &mut [u64])
-    requires { ⌜ (checked false (now table) count ≡ Accepted) × (Marked (linesOf (now table) count) (now marks) × ((now target ≡ replicate (length (now target)) 0) × (5 * length (programOf (now table) count) ≤ length (now target)))) ⌝ }
-    ensures { λ _. ⌜ now (target .exit) ≡ encode (programOf (now (table .entry)) count) ++ replicate (length (now (target .entry)) - 5 * length (programOf (now (table .entry)) count)) 0 ⌝ }
+    requires { ⌜ (checked false (now table) count ≡ Accepted) × (Marked (linesOf (now table) count) (now marks) × ((now target ≡ replicate (length (now target)) 0) × (span (length (programOf (now table) count)) ≤ length (now target)))) ⌝ }
+    ensures { λ _. ⌜ now (target .exit) ≡ encode (programOf (now (table .entry)) count) ++ replicate (length (now (target .entry)) - span (length (programOf (now (table .entry)) count))) 0 ⌝ }
 {
     if count < 512 {
         write_few(table, count, marks, target);
@@ -59,8 +59,8 @@ fn writing(table: &[u64], count: usize, marks: &[u8], target: &mut [u64])
 }
 
 fn write_few(table: &[u64], count: usize, marks: &[u8], target: &mut [u64])
-    requires { ⌜ (count < 512) × ((checked false (now table) count ≡ Accepted) × (Marked (linesOf (now table) count) (now marks) × ((now target ≡ replicate (length (now target)) 0) × (5 * length (programOf (now table) count) ≤ length (now target))))) ⌝ }
-    ensures { λ _. ⌜ now (target .exit) ≡ encode (programOf (now (table .entry)) count) ++ replicate (length (now (target .entry)) - 5 * length (programOf (now (table .entry)) count)) 0 ⌝ }
+    requires { ⌜ (count < 512) × ((checked false (now table) count ≡ Accepted) × (Marked (linesOf (now table) count) (now marks) × ((now target ≡ replicate (length (now target)) 0) × (span (length (programOf (now table) count)) ≤ length (now target))))) ⌝ }
+    ensures { λ _. ⌜ now (target .exit) ≡ encode (programOf (now (table .entry)) count) ++ replicate (length (now (target .entry)) - span (length (programOf (now (table .entry)) count))) 0 ⌝ }
 {
     let mut wd = [0u64; 512];
     let mut num = [0u64; 512];
@@ -69,8 +69,8 @@ fn write_few(table: &[u64], count: usize, marks: &[u8], target: &mut [u64])
 }
 
 fn write_many(table: &[u64], count: usize, marks: &[u8], target: &mut [u64])
-    requires { ⌜ (checked false (now table) count ≡ Accepted) × (Marked (linesOf (now table) count) (now marks) × ((now target ≡ replicate (length (now target)) 0) × (5 * length (programOf (now table) count) ≤ length (now target)))) ⌝ }
-    ensures { λ _. ⌜ now (target .exit) ≡ encode (programOf (now (table .entry)) count) ++ replicate (length (now (target .entry)) - 5 * length (programOf (now (table .entry)) count)) 0 ⌝ }
+    requires { ⌜ (checked false (now table) count ≡ Accepted) × (Marked (linesOf (now table) count) (now marks) × ((now target ≡ replicate (length (now target)) 0) × (span (length (programOf (now table) count)) ≤ length (now target)))) ⌝ }
+    ensures { λ _. ⌜ now (target .exit) ≡ encode (programOf (now (table .entry)) count) ++ replicate (length (now (target .entry)) - span (length (programOf (now (table .entry)) count))) 0 ⌝ }
 {
     let mut wd = [0u64; 16385];
     let mut num = [0u64; 16385];

@@ -1,6 +1,8 @@
 // What is kept of a line for later lines, and its instruction.
 use crate::flags;
 use crate::uses;
+use tables::records;
+use tables::records::WORDS;
 ghost use mathlib.Core.Bool.{_&&_};
 ghost use mathlib.Core.Path.{_≡_};
 ghost use Prim.Native.Nat.{_≤_, _<_};
@@ -32,7 +34,7 @@ pub fn store(xs: &mut [u64], n: u64, v: u64)
 }
 
 // The record's line is loose.
-pub fn loose(rec: [u64; 5], wd: &[u64], lo: &[u8]) -> bool
+pub fn loose(rec: [u64; WORDS], wd: &[u64], lo: &[u8]) -> bool
     requires { ⌜ kindIn rec ≤ 55 ⌝ }
     ensures { λ r. ⌜ r ≡ looseIn (numberAt (now (wd .entry))) (flagAt (now (lo .entry))) rec ⌝ }
 {
@@ -58,7 +60,7 @@ pub fn operand(line: bool, num: &[u64], a: u64) -> u64
 }
 
 // The record's instruction.
-pub fn instruction(rec: [u64; 5], wd: &[u64], num: &[u64]) -> [u64; 5]
+pub fn instruction(rec: [u64; WORDS], wd: &[u64], num: &[u64]) -> [u64; WORDS]
     ensures { λ r. ⌜ r ≡ instructionOf (numberAt (now (wd .entry))) (numberAt (now (num .entry))) rec ⌝ }
 {
     let k = rec[0];
@@ -66,11 +68,11 @@ pub fn instruction(rec: [u64; 5], wd: &[u64], num: &[u64]) -> [u64; 5]
     let a = operand(uses::first_line(k), num, rec[2]);
     let b = operand(uses::second_line(k), num, rec[3]);
     let c = operand(uses::third_line(k), num, rec[4]);
-    [k, w, a, b, c]
+    records::of(k, w, a, b, c)
 }
 
 // The line's width.
-pub fn width(rec: [u64; 5], wd: &[u64]) -> u64
+pub fn width(rec: [u64; WORDS], wd: &[u64]) -> u64
     ensures { λ r. ⌜ r ≡ widthIn (numberAt (now (wd .entry))) rec ⌝ }
 {
     if rec[0] == 1 {
@@ -131,7 +133,7 @@ pub fn flag(t: bool) -> u8
 
 // The line n goes to the lists; answers whether it gets a mask.
 pub fn take(
-    rec: [u64; 5],
+    rec: [u64; WORDS],
     n: u64,
     need: bool,
     b: u64,

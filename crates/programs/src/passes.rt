@@ -2,13 +2,14 @@
 use crate::notes;
 use crate::uses;
 use tables::records;
+use tables::records::WORDS;
 ghost use mathlib.Core.Path.{_≡_};
 ghost use mathlib.Core.Bool.{true, false};
 ghost use mathlib.Core.List.{_++_};
-ghost use Prim.Native.Nat.{_+_, _-_, _*_, _≤_, _<_};
+ghost use Prim.Native.Nat.{_+_, _-_, _≤_, _<_};
 ghost use lib.ListN.{length, replicate};
 ghost use Rattle.tables.specs.declared.Checked.the-variants.{Accepted};
-ghost use Rattle.tables.specs.Lines.{encode};
+ghost use Rattle.tables.specs.Lines.{encode, span};
 ghost use Rattle.tables.specs.Tables.{checked};
 ghost use Rattle.circuits.specs.Answers.{linesOf};
 ghost use Rattle.programs.specs.Translation.{hasArray};
@@ -70,8 +71,8 @@ pub fn count_all(
 }
 
 // The e instructions of a line go to the target: the instruction, of width w, at the number b, and its mask.
-pub fn emit(e: usize, ins: [u64; 5], w: u64, b: usize, target: &mut [u64])
-    requires { ⌜ (1 ≤ b) × ((b < 65536) × ((e ≤ 2) × (5 * (b - 1) + 5 * e ≤ length (now target)))) ⌝ }
+pub fn emit(e: usize, ins: [u64; WORDS], w: u64, b: usize, target: &mut [u64])
+    requires { ⌜ (1 ≤ b) × ((b < 65536) × ((e ≤ 2) × (span (b - 1 + e) ≤ length (now target)))) ⌝ }
     ensures { λ _. ⌜ now (target .exit) ≡ written e ins w b (now (target .entry)) ⌝ }
 {
     if e == 0 {
@@ -79,7 +80,7 @@ pub fn emit(e: usize, ins: [u64; 5], w: u64, b: usize, target: &mut [u64])
     }
     records::put(target, b - 1, ins);
     if e == 2 {
-        records::put(target, b, [56, w, b as u64, 0, 0]);
+        records::put(target, b, records::of(56, w, b as u64, 0, 0));
     }
 }
 
@@ -93,8 +94,8 @@ pub fn write_all(
     lo: &mut [u8],
     target: &mut [u64],
 )
-    requires { ⌜ (checked false (now table) count ≡ Accepted) × (Marked (linesOf (now table) count) (now marks) × (Fresh count (now wd) (now num) (now lo) × ((now target ≡ replicate (length (now target)) 0) × (5 * length (programOf (now table) count) ≤ length (now target))))) ⌝ }
-    ensures { λ _. ⌜ now (target .exit) ≡ encode (programOf (now (table .entry)) count) ++ replicate (length (now (target .entry)) - 5 * length (programOf (now (table .entry)) count)) 0 ⌝ }
+    requires { ⌜ (checked false (now table) count ≡ Accepted) × (Marked (linesOf (now table) count) (now marks) × (Fresh count (now wd) (now num) (now lo) × ((now target ≡ replicate (length (now target)) 0) × (span (length (programOf (now table) count)) ≤ length (now target))))) ⌝ }
+    ensures { λ _. ⌜ now (target .exit) ≡ encode (programOf (now (table .entry)) count) ++ replicate (length (now (target .entry)) - span (length (programOf (now (table .entry)) count))) 0 ⌝ }
 {
     let mut i: usize = 0;
     let mut b: usize = 1;

@@ -1,5 +1,6 @@
 // Loose lines and needing uses, by kind; and the marks of lines that have a needing use.
 use crate::flags;
+use tables::records::WORDS;
 ghost use mathlib.Core.Bool.{_&&_};
 ghost use mathlib.Core.Path.{_≡_};
 ghost use Prim.Native.Nat.{_≤_, _/_, _%_, _^_};
@@ -135,7 +136,7 @@ pub fn mark_if(v: u8, a: u64, marks: &mut [u8])
 }
 
 // A mark at each line that the record needs clean.
-pub fn mark(rec: [u64; 5], marks: &mut [u8])
+pub fn mark(rec: [u64; WORDS], marks: &mut [u8])
     requires { ⌜ kindIn rec ≤ 55 ⌝ }
     ensures { λ _. ⌜ now (marks .exit) ≡ marked rec (now (marks .entry)) ⌝ }
 {

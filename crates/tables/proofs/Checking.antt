@@ -1,21 +1,19 @@
 -- The answers of the check of a table, and the notes it starts from. Assumes nothing.
-use Prim.Native.Nat.{ℕ, zero, suc, _+_, _*_, _/_, _≤_, _<_, min}
+use Prim.Native.Nat.{ℕ, zero, suc, _≤_, _<_}
 use mathlib.Core.Path.{_≡_, refl, sym, ap, _∙_, subst}
-use mathlib.Core.Bool.{Bool, true, false, _&&_}
-use mathlib.Core.List.{List, [], _∷_}
+use mathlib.Core.Bool.{Bool, true, false}
+use mathlib.Core.List.{List}
 use native.Mathlib.Omega.{arith}
-use lib.Dec.{eqb, leb}
+use lib.Dec.{eqb}
 use lib.ListN.{length, getD, replicate, length-replicate}
 use borrow.Author.Tests.{le-leb, lt-leb}
-use Rattle.tables.specs.declared.Ty.{Ty}
 use Rattle.tables.specs.declared.Refusal.{Refusal}
 use Rattle.tables.specs.declared.Refusal.the-variants.{NotATable}
-use Rattle.tables.specs.declared.Checked.{Checked}
 use Rattle.tables.specs.declared.Checked.the-variants.{Accepted, Refused}
-use Rattle.tables.specs.Lines.{records, counted}
+use Rattle.tables.specs.Lines.{records, counted, span}
 use Rattle.tables.specs.Types.{ty, noTy, noCtx, tyAt, given}
 use Rattle.tables.specs.Tables.{whole, room, lawful, broken, checked}
-use Rattle.tables.specs.Notes.{blank, noteAt, lookIn, markIn, givenIn, Shows, Fresh}
+use Rattle.tables.specs.Notes.{blank, noteAt, markIn, givenIn, Shows, Fresh}
 
 module _ (p : Bool) (t : List ℕ) (n : ℕ) where
   pub no-table : whole (length t) ≡ false → Refused NotATable ≡ checked p t n
@@ -37,7 +35,7 @@ module _ (p : Bool) (t : List ℕ) (n : ℕ) where
 pub not-accepted : (r : Refusal) → Refused r ≡ Accepted → ⊥
 not-accepted r e = let z : _≡_ {A = ℕ} 0 1 = cc in omega arith
 
-pub roomy : (len n : ℕ) → n ≤ room len → (n ≤ 16384) × (5 * n ≤ len)
+pub roomy : (len n : ℕ) → n ≤ room len → (n ≤ 16384) × (span n ≤ len)
 roomy len n h = (omega arith, omega arith)
 
 -- ---- lists of zeros and blank notes

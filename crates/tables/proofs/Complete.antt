@@ -1,26 +1,27 @@
 -- A line of which the named facts hold has a record that keeps the rules, and is read back from it. Assumes nothing.
-use Prim.Native.Nat.{ℕ, zero, suc, _+_, _*_, _^_, _≤_, _<_}
+use Prim.Native.Nat.{ℕ, _+_, _^_, _≤_}
 use mathlib.Core.Path.{_≡_, refl, sym, ap, ap₂, _∙_, subst}
 use mathlib.Core.Logic.{_⊎_, inl, inr}
 use mathlib.Core.Bool.{Bool, true, false, not, _&&_, _||_}
-use mathlib.Core.List.{List, [], _∷_, _++_, map}
+use mathlib.Core.List.{List, [], _∷_, map}
 use native.Mathlib.Omega.{arith}
-use lib.Dec.{T, eqb, leb, ltb}
+use lib.Dec.{eqb}
 use lib.ListN.{length, length-append}
 use borrow.Author.Tests.{eq-eqb, lt-ltb, le-leb, eqb-true}
 use Rattle.tables.specs.declared.Ty.{Ty}
-use Rattle.tables.specs.Pick.{all, inside}
+use Rattle.tables.specs.Pick.{all}
 use Rattle.tables.specs.Kinds.{rowOf, sortClass, firstClass, secondClass, thirdClass}
-use Rattle.tables.specs.Lines.{Line, Expr, Shape, isOne, isTwo, shapeOf, build, five, lineOf, wordsOf, records, decode, encode, kindIn, sortIn, firstIn, secondIn, thirdIn}
-use Rattle.tables.specs.Types.{isSort, isValue, isFixed, isState, isWord, isArray, isWordSort, isArraySort, sortAt, Ctx, tyAt, given, grow}
-use Rattle.tables.specs.Rules.{suits, classes, fits, same, onceRules, fault}
-use Rattle.tables.specs.Tables.{known, unused, tidy, formed, keeps, lawful}
+use Rattle.tables.specs.Lines.{Line, Expr, isOne, isTwo, shapeOf, fields, lineOf, wordsOf, records, decode, encode, kindIn, span, recordSize}
+use Rattle.tables.specs.Types.{isSort, isValue, isWord, isArray, isWordSort, isArraySort, sortAt, Ctx, tyAt, given, grow}
+use Rattle.tables.specs.Rules.{suits, fits, same}
+use Rattle.tables.specs.Tables.{known, unused, tidy, keeps, lawful}
 use Rattle.tables.proofs.Every.{at-each}
 use Rattle.tables.proofs.Shapes.{line-as, shape-one, shape-two, fits-as, once-as}
 use Rattle.tables.proofs.Answers.{Passed, all-passed}
 use Rattle.tables.proofs.Kept.{both, either}
-use Rattle.tables.proofs.Facts.{IsValue, IsWord, IsArray, IsSort, IsWordSort, IsArraySort, Same, OkConst, OneKind, OkOne, OkTwo, OkCmp, OkIte, OkRead, OkWrite, OkExpr, OkBitvec, OkArray, OkInit, OkValue, OkGive, OkMark, Ok, AllOk}
+use Rattle.tables.proofs.Facts.{IsValue, IsWord, IsArray, IsSort, IsWordSort, IsArraySort, Same, OneKind, OkExpr, Ok, AllOk}
 use Rattle.tables.proofs.Laws.{or-true}
+use Rattle.tables.proofs.Places.{records-front}
 use Rattle.tables.proofs.Sound.{from-to, one-row, two-row}
 
 -- ---- classes
@@ -65,8 +66,8 @@ again p L G (Line.array i e) k = refl
 again p L G (Line.input s) k = refl
 again p L G (Line.state s) k = refl
 again p L G (Line.val s (Expr.const v)) k = refl
-again p L G (Line.val s (Expr.one n a x y)) k = line-as (five n s a x y) isOne (one-shape p n (k .kind))
-again p L G (Line.val s (Expr.two n a b)) k = line-as (five n s a b 0) isTwo (shape-two n (k .least) (k .most))
+again p L G (Line.val s (Expr.one n a x y)) k = line-as (fields n s a x y) isOne (one-shape p n (k .kind))
+again p L G (Line.val s (Expr.two n a b)) k = line-as (fields n s a b 0) isTwo (shape-two n (k .least) (k .most))
 again p L G (Line.val s (Expr.cmp true a b)) k = refl
 again p L G (Line.val s (Expr.cmp false a b)) k = refl
 again p L G (Line.val s (Expr.ite c a b)) k = refl
@@ -135,17 +136,17 @@ module _ (p : Bool) (L : ℕ → Ty) (G : Bool → ℕ → Bool) where
   val-kept : (s : ℕ) (e : Expr) → OkExpr p L (sortAt p L s) e → keeps p L G (wordsOf (Line.val s e)) ≡ true
   unfolding rowOf suits
   val-kept s (Expr.const v) k =
-      kept p L G (five 3 s v 0 0) (shared p 3 refl refl) refl
+      kept p L G (fields 3 s v 0 0) (shared p 3 refl refl) refl
       (record { class = and₄ (of-word-sort (k .sort)) refl refl refl; width = and₂ (lt-ltb v (2 ^ (sortAt p L s .w)) (k .fits)) refl; once = refl })
   val-kept s (Expr.one n a x y) k =
       let h = both (eqb (sortClass (rowOf n)) 5) _ (one-row n (kind-any p n (k .kind))) in
-      kept p L G (five n s a x y) (one-known p n (k .kind))
+      kept p L G (fields n s a x y) (one-known p n (k .kind))
       (and₄ (used (sortClass (rowOf n)) 5 s (eqb-true (sortClass (rowOf n)) 5 (h .0)) refl) (used (firstClass (rowOf n)) 1 a (eqb-true (firstClass (rowOf n)) 1 (h .1)) refl) (k .spare₂) (k .spare₃))
       (record {
         class = and₄ (subst (λ (m : ℕ). suits m (sortAt p L s) ≡ true) (sym (eqb-true (sortClass (rowOf n)) 5 (h .0))) (of-word-sort (k .sort)))
             (subst (λ (m : ℕ). suits m (L a) ≡ true) (sym (eqb-true (firstClass (rowOf n)) 1 (h .1))) (of-word (k .arg))) (number-suits (secondClass (rowOf n)) (L x) (one-second n (kind-any p n (k .kind)))) (number-suits (thirdClass (rowOf n)) (L y) (one-third n (kind-any p n (k .kind))));
-        width = sym (fits-as (five n s a x y) isOne (one-shape p n (k .kind)) (sortAt p L s) (L a) (L x) (L y) (sym (and₂ (k .rule) refl)));
-        once = sym (once-as (five n s a x y) isOne (one-shape p n (k .kind)) G (L x) refl);
+        width = sym (fits-as (fields n s a x y) isOne (one-shape p n (k .kind)) (sortAt p L s) (L a) (L x) (L y) (sym (and₂ (k .rule) refl)));
+        once = sym (once-as (fields n s a x y) isOne (one-shape p n (k .kind)) G (L x) refl);
       })
   val-kept s (Expr.two n a b) k =
       let h = both (eqb (sortClass (rowOf n)) 5) _ (two-row n (k .least) (k .most)) in
@@ -153,44 +154,44 @@ module _ (p : Bool) (L : ℕ → Ty) (G : Bool → ℕ → Bool) where
       let e₀ = eqb-true (sortClass (rowOf n)) 5 (h .0) in
       let e₁ = eqb-true (firstClass (rowOf n)) 1 (h₂ .0) in
       let e₂ = eqb-true (secondClass (rowOf n)) 1 (h₂ .1) in
-      kept p L G (five n s a b 0) (shared p n (and₂ (le-leb 1 n (omega arith)) (le-leb n 55 (omega arith))) (rw (le-leb 3 n (omega arith), le-leb n 53 (omega arith))))
+      kept p L G (fields n s a b 0) (shared p n (and₂ (le-leb 1 n (omega arith)) (le-leb n 55 (omega arith))) (rw (le-leb 3 n (omega arith), le-leb n 53 (omega arith))))
       (and₄ (used (sortClass (rowOf n)) 5 s e₀ refl) (used (firstClass (rowOf n)) 1 a e₁ refl) (used (secondClass (rowOf n)) 1 b e₂ refl) (unused-zero (thirdClass (rowOf n))))
       (record {
         class = and₄ (subst (λ (m : ℕ). suits m (sortAt p L s) ≡ true) (sym e₀) (of-word-sort (k .sort))) (subst (λ (m : ℕ). suits m (L a) ≡ true) (sym e₁) (of-word (k .left)))
             (subst (λ (m : ℕ). suits m (L b) ≡ true) (sym e₂) (of-word (k .right))) (number-suits (thirdClass (rowOf n)) (L 0) (two-third n (k .least) (k .most)));
-        width = sym (fits-as (five n s a b 0) isTwo (shape-two n (k .least) (k .most)) (sortAt p L s) (L a) (L b) (L 0) (sym (and₂ (k .rule) refl)));
-        once = sym (once-as (five n s a b 0) isTwo (shape-two n (k .least) (k .most)) G (L b) refl);
+        width = sym (fits-as (fields n s a b 0) isTwo (shape-two n (k .least) (k .most)) (sortAt p L s) (L a) (L b) (L 0) (sym (and₂ (k .rule) refl)));
+        once = sym (once-as (fields n s a b 0) isTwo (shape-two n (k .least) (k .most)) G (L b) refl);
       })
   val-kept s (Expr.cmp true a b) k =
-      kept p L G (five 21 s a b 0) (shared p 21 refl refl) refl
+      kept p L G (fields 21 s a b 0) (shared p 21 refl refl) refl
       (record {
         class = and₄ (of-word-sort (k .sort)) (of-value (k .left)) (of-value (k .right)) refl;
         width = and₂ (eq-eqb (sortAt p L s .w) 1 (k .bit)) (and₂ (of-same (k .same)) refl);
         once = refl;
       })
   val-kept s (Expr.cmp false a b) k =
-      kept p L G (five 22 s a b 0) (shared p 22 refl refl) refl
+      kept p L G (fields 22 s a b 0) (shared p 22 refl refl) refl
       (record {
         class = and₄ (of-word-sort (k .sort)) (of-value (k .left)) (of-value (k .right)) refl;
         width = and₂ (eq-eqb (sortAt p L s .w) 1 (k .bit)) (and₂ (of-same (k .same)) refl);
         once = refl;
       })
   val-kept s (Expr.ite c a b) k =
-      kept p L G (five 53 s c a b) (shared p 53 refl refl) refl
+      kept p L G (fields 53 s c a b) (shared p 53 refl refl) refl
       (record {
         class = and₄ (of-sort (k .sort)) (of-word (k .cond)) (of-value (k .left)) (of-value (k .right));
         width = and₂ (eq-eqb (L c .w) 1 (k .bit)) (and₂ (of-same (k .sameA)) (and₂ (of-same (k .sameB)) refl));
         once = refl;
       })
   val-kept s (Expr.read a i) k =
-      kept p L G (five 54 s a i 0) (circuits p 54 (k .form) refl) refl
+      kept p L G (fields 54 s a i 0) (circuits p 54 (k .form) refl) refl
       (record {
         class = and₄ (of-word-sort (k .sort)) (of-array (k .arr)) (of-word (k .index)) refl;
         width = and₂ (eq-eqb (L a .w) (sortAt p L s .w) (k .wide)) (and₂ (eq-eqb (L i .w) (L a .iw) (k .iw)) refl);
         once = refl;
       })
   val-kept s (Expr.write a i v) k =
-      kept p L G (five 55 s a i v) (circuits p 55 (k .form) refl) refl
+      kept p L G (fields 55 s a i v) (circuits p 55 (k .form) refl) refl
       (record {
         class = and₄ (of-array-sort (k .sort)) (of-array (k .arr)) (of-word (k .index)) (of-word (k .value));
         width = and₂ (of-same (k .same)) (and₂ (eq-eqb (L i .w) (sortAt p L s .iw) (k .iw)) (and₂ (eq-eqb (L v .w) (sortAt p L s .w) (k .vw)) refl));
@@ -200,66 +201,57 @@ module _ (p : Bool) (L : ℕ → Ty) (G : Bool → ℕ → Bool) where
   pub complete : (l : Line) → Ok p L G l → keeps p L G (wordsOf l) ≡ true
   unfolding rowOf suits
   complete (Line.bitvec w) k =
-      kept p L G (five 1 0 w 0 0) (circuits p 1 (k .form) refl) refl (record { class = refl; width = and₂ (and₂ (le-leb 1 w (k .least)) (le-leb w 64 (k .most))) refl; once = refl })
+      kept p L G (fields 1 0 w 0 0) (circuits p 1 (k .form) refl) refl (record { class = refl; width = and₂ (and₂ (le-leb 1 w (k .least)) (le-leb w 64 (k .most))) refl; once = refl })
   complete (Line.array i e) k =
-      kept p L G (five 2 0 i e 0) (circuits p 2 (k .form) refl) refl
+      kept p L G (fields 2 0 i e 0) (circuits p 2 (k .form) refl) refl
       (record { class = and₄ refl (of-word-sort (k .index)) (of-word-sort (k .element)) refl; width = and₂ (le-leb (L i .w) 8 (k .most)) refl; once = refl })
-  complete (Line.input s) k = kept p L G (five 4 s 0 0 0) (shared p 4 refl refl) refl (record { class = and₄ (of-word-sort k) refl refl refl; width = refl; once = refl })
-  complete (Line.state s) k = kept p L G (five 5 s 0 0 0) (shared p 5 refl refl) refl (record { class = and₄ (of-sort k) refl refl refl; width = refl; once = refl })
+  complete (Line.input s) k = kept p L G (fields 4 s 0 0 0) (shared p 4 refl refl) refl (record { class = and₄ (of-word-sort k) refl refl refl; width = refl; once = refl })
+  complete (Line.state s) k = kept p L G (fields 5 s 0 0 0) (shared p 5 refl refl) refl (record { class = and₄ (of-sort k) refl refl refl; width = refl; once = refl })
   complete (Line.val s e) k = val-kept s e k
   complete (Line.give true s q v) k =
-      kept p L G (five 6 s q v 0) (shared p 6 refl refl) refl
+      kept p L G (fields 6 s q v 0) (shared p 6 refl refl) refl
       (record {
         class = and₄ (of-sort (k .sort)) (eq-eqb (L q .cls) 4 (k .state)) (of-word (k .value .word)) refl;
         width = and₂ (of-same (k .same)) (and₂ (eq-eqb (L v .w) (sortAt p L s .w) (k .w)) (and₂ (eq-eqb (L v .iw) 0 (k .iw)) refl));
         once = and₂ (ap not (k .once)) (and₂ (lt-ltb v q (k .value .below)) (and₂ (eq-eqb (L v .cls) 2 (k .value .fixed)) refl));
       })
   complete (Line.give false s q v) k =
-      kept p L G (five 7 s q v 0) (shared p 7 refl refl) refl
+      kept p L G (fields 7 s q v 0) (shared p 7 refl refl) refl
       (record {
         class = and₄ (of-sort (k .sort)) (eq-eqb (L q .cls) 4 (k .state)) (of-value (k .value)) refl;
         width = and₂ (of-same (k .same)) (and₂ (eq-eqb (L v .w) (sortAt p L s .w) (k .w)) (and₂ (eq-eqb (L v .iw) (sortAt p L s .iw) (k .iw)) refl));
         once = and₂ (ap not (k .once)) refl;
       })
   complete (Line.mark true a) k =
-      kept p L G (five 8 0 a 0 0) (shared p 8 refl refl) refl (record { class = and₄ refl (of-word (k .word)) refl refl; width = and₂ (eq-eqb (L a .w) 1 (k .bit)) refl; once = refl })
+      kept p L G (fields 8 0 a 0 0) (shared p 8 refl refl) refl (record { class = and₄ refl (of-word (k .word)) refl refl; width = and₂ (eq-eqb (L a .w) 1 (k .bit)) refl; once = refl })
   complete (Line.mark false a) k =
-      kept p L G (five 9 0 a 0 0) (shared p 9 refl refl) refl (record { class = and₄ refl (of-word (k .word)) refl refl; width = and₂ (eq-eqb (L a .w) 1 (k .bit)) refl; once = refl })
-  complete (Line.output a) k = kept p L G (five 10 0 a 0 0) (shared p 10 refl refl) refl (record { class = and₄ refl (of-word k) refl refl; width = refl; once = refl })
+      kept p L G (fields 9 0 a 0 0) (shared p 9 refl refl) refl (record { class = and₄ refl (of-word (k .word)) refl refl; width = and₂ (eq-eqb (L a .w) 1 (k .bit)) refl; once = refl })
+  complete (Line.output a) k = kept p L G (fields 10 0 a 0 0) (shared p 10 refl refl) refl (record { class = and₄ refl (of-word k) refl refl; width = refl; once = refl })
   complete Line.junk k = absurd k
 
 -- ---- all lines
 
--- a record is five words
-pub five-words : (l : Line) → length (wordsOf l) ≡ 5
-five-words (Line.bitvec w) = refl
-five-words (Line.array i e) = refl
-five-words (Line.input s) = refl
-five-words (Line.state s) = refl
-five-words (Line.val s (Expr.const v)) = refl
-five-words (Line.val s (Expr.one k a x y)) = refl
-five-words (Line.val s (Expr.two k a b)) = refl
-five-words (Line.val s (Expr.cmp e a b)) = refl
-five-words (Line.val s (Expr.ite c a b)) = refl
-five-words (Line.val s (Expr.read a i)) = refl
-five-words (Line.val s (Expr.write a i v)) = refl
-five-words (Line.give m s q v) = refl
-five-words (Line.mark m a) = refl
-five-words (Line.output a) = refl
-five-words Line.junk = refl
+-- a line's record has the size of a record
+pub line-size : (l : Line) → length (wordsOf l) ≡ recordSize
+line-size (Line.bitvec w) = refl
+line-size (Line.array i e) = refl
+line-size (Line.input s) = refl
+line-size (Line.state s) = refl
+line-size (Line.val s (Expr.const v)) = refl
+line-size (Line.val s (Expr.one k a x y)) = refl
+line-size (Line.val s (Expr.two k a b)) = refl
+line-size (Line.val s (Expr.cmp e a b)) = refl
+line-size (Line.val s (Expr.ite c a b)) = refl
+line-size (Line.val s (Expr.read a i)) = refl
+line-size (Line.val s (Expr.write a i v)) = refl
+line-size (Line.give m s q v) = refl
+line-size (Line.mark m a) = refl
+line-size (Line.output a) = refl
+line-size Line.junk = refl
 
-records-of : (r t : List ℕ) → length r ≡ 5 → records (r ++ t) ≡ r ∷ records t
-records-of [] t h = absurd (omega arith)
-records-of (k ∷ []) t h = absurd (omega arith)
-records-of (k ∷ s ∷ []) t h = absurd (omega arith)
-records-of (k ∷ s ∷ a ∷ []) t h = absurd (omega arith)
-records-of (k ∷ s ∷ a ∷ b ∷ []) t h = absurd (omega arith)
-records-of (k ∷ s ∷ a ∷ b ∷ c ∷ []) t h = refl
-records-of (k ∷ s ∷ a ∷ b ∷ c ∷ x ∷ r) t h = absurd (omega arith)
-
-pub length-encode : (ls : List Line) → length (encode ls) ≡ 5 * length ls
+pub length-encode : (ls : List Line) → length (encode ls) ≡ span (length ls)
 length-encode [] = refl
-length-encode (l ∷ ls) = length-append (wordsOf l) (encode ls) ∙ omega (arith, five-words l, length-encode ls)
+length-encode (l ∷ ls) = length-append (wordsOf l) (encode ls) ∙ omega (arith, line-size l, length-encode ls)
 
 all-again : (p : Bool) (c : Ctx) (ls : List Line) → AllOk p c ls → map lineOf (map wordsOf ls) ≡ ls
 all-again p c [] k = refl
@@ -267,7 +259,7 @@ all-again p c (l ∷ ls) k = ap₂ (λ (x : Line) (xs : List Line). x ∷ xs) (a
 
 pub records-encode : (ls : List Line) → records (encode ls) ≡ map wordsOf ls
 records-encode [] = refl
-records-encode (l ∷ ls) = records-of (wordsOf l) (encode ls) (five-words l) ∙ ap (λ (rs : List (List ℕ)). wordsOf l ∷ rs) (records-encode ls)
+records-encode (l ∷ ls) = records-front (wordsOf l) (encode ls) (line-size l) ∙ ap (λ (rs : List (List ℕ)). wordsOf l ∷ rs) (records-encode ls)
 
 pub decode-encode : (p : Bool) (c : Ctx) (ls : List Line) → AllOk p c ls → decode (encode ls) ≡ ls
 decode-encode p c ls k = ap (map lineOf) (records-encode ls) ∙ all-again p c ls k

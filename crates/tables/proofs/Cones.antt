@@ -14,7 +14,7 @@ use Rattle.tables.specs.Types.{isFixed, sortAt, lineType, Ctx, tyAt, noC
 use Rattle.tables.specs.Cone.{lineAt, usesExpr, uses, Cone, itself, under, isFree}
 use Rattle.tables.proofs.Kept.{both, either, no-yes}
 use Rattle.tables.proofs.Showing.{earlier}
-use Rattle.tables.proofs.Facts.{Ok, OkExpr, AllOk}
+use Rattle.tables.proofs.Facts.{OkExpr, AllOk}
 use Rattle.tables.proofs.Entries.{Entry, entry, keeps-type, length-all}
 
 -- every operand of a value is fixed

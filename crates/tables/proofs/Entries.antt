@@ -1,12 +1,11 @@
 -- What an accepted table's context holds of each line: the type that the line had when it was read, of lines before it the types they had then. Assumes nothing.
-use Prim.Native.Nat.{ℕ, zero, suc, _+_, _≤_, _<_}
+use Prim.Native.Nat.{ℕ, zero, suc, _+_, _<_}
 use mathlib.Core.Path.{_≡_, refl, sym, ap, _∙_, subst}
 use mathlib.Core.Bool.{Bool}
-use mathlib.Core.List.{List, [], _∷_, _++_}
+use mathlib.Core.List.{List, [], _∷_}
 use native.Mathlib.Omega.{arith}
 use lib.ListN.{length, getD, length-append, List·getD-append}
 use lib.Seq.{getD-at}
-use Rattle.tables.specs.declared.Ty.{Ty}
 use Rattle.tables.specs.Lines.{Line}
 use Rattle.tables.specs.Types.{noTy, lineType, Ctx, tyAt, given, grow, growAll}
 use Rattle.tables.proofs.Facts.{Ok, AllOk}

@@ -1,20 +1,20 @@
 -- A record that is formed is the record of its line: an accepted table is the encoding of its lines. Assumes nothing.
-use Prim.Native.Nat.{ℕ, suc, _+_, _-_, _≤_, _<_}
-use mathlib.Core.Path.{_≡_, refl, sym, ap, ap₂, _∙_, subst}
-use mathlib.Core.Logic.{_⊎_, inl, inr}
-use mathlib.Core.Bool.{Bool, true, false, not, _&&_, _||_}
-use mathlib.Core.List.{List, [], _∷_, _++_, map}
+use Prim.Native.Nat.{ℕ, _+_, _-_, _≤_}
+use mathlib.Core.Path.{_≡_, refl, sym, ap, _∙_, subst}
+use mathlib.Core.Bool.{Bool, true, false}
+use mathlib.Core.List.{List}
 use native.Mathlib.Omega.{arith}
-use lib.Dec.{T, eqb, eqb→eq}
+use lib.Dec.{eqb, eqb→eq}
 use lib.ListN.{length}
-use borrow.Author.Tests.{eqb-true, eq-eqb}
+use borrow.Author.Tests.{eqb-true}
 use Rattle.tables.specs.Pick.{all}
 use Rattle.tables.specs.Kinds.{rowOf, sortClass, firstClass, secondClass, thirdClass}
-use Rattle.tables.specs.Lines.{Line, Shape, isBitvec, isArray, isConst, isInput, isState, isOutput, isOne, isTwo, isIte, isRead, isWrite, isJunk, isGive, isMark, isCmp, shapeOf, build, lineOf, five, wordsOf, records, decode, encode, kindIn, sortIn, firstIn, secondIn, thirdIn}
+use Rattle.tables.specs.Lines.{Shape, isBitvec, isArray, isConst, isInput, isState, isOutput, isOne, isTwo, isIte, isRead, isWrite, isJunk, isGive, isMark, isCmp, shapeOf, build, lineOf, fields, wordsOf, kindIn, sortIn, firstIn, secondIn, thirdIn, recordSize}
 use Rattle.tables.specs.Tables.{known, unused, tidy, formed}
 use Rattle.tables.proofs.Every.{at-each}
 use Rattle.tables.proofs.Shapes.{KindOf, kind-of, line-as, no-junk}
 use Rattle.tables.proofs.Kept.{both, known-range}
+use Rattle.tables.proofs.Places.{fields-of, fields-eq}
 
 -- a place that the row lacks is 0
 zero-at : (k x : ℕ) → unused k x ≡ true → k ≡ 0 → x ≡ 0
@@ -47,50 +47,41 @@ two-third k h l =
     let q : n + 23 ≡ k = omega arith in
     subst (λ (m : ℕ). thirdClass (rowOf m) ≡ 0) q (eqb→eq (thirdClass (rowOf (n + 23))) 0 (at-each (λ (m : ℕ). eqb (thirdClass (rowOf (m + 23))) 0) 30 tt n (omega arith)))
 
-five-eq : {k s a b c k₁ s₁ a₁ b₁ c₁ : ℕ} → k₁ ≡ k → s₁ ≡ s → a₁ ≡ a → b₁ ≡ b → c₁ ≡ c → five k₁ s₁ a₁ b₁ c₁ ≡ five k s a b c
-five-eq ek es ea eb ec = λ i. five (ek i) (es i) (ea i) (eb i) (ec i)
-
-module _ (p : Bool) (k s a b c : ℕ) (h : formed p (five k s a b c) ≡ true) where
+module _ (p : Bool) (k s a b c : ℕ) (h : formed p (fields k s a b c) ≡ true) where
   r : List ℕ
-  r = five k s a b c
+  r = fields k s a b c
 
-  row-zeros : Zeros (rowOf k) (five k s a b c)
-  row-zeros = zeros (rowOf k) (five k s a b c) (both (known p k) _ h .1)
+  row-zeros : Zeros (rowOf k) (fields k s a b c)
+  row-zeros = zeros (rowOf k) (fields k s a b c) (both (known p k) _ h .1)
 
   -- by the kind's number
-  row-at : (n : ℕ) → k ≡ n → Zeros (rowOf n) (five k s a b c)
-  row-at n e = subst (λ (m : ℕ). Zeros (rowOf m) (five k s a b c)) e row-zeros
+  row-at : (n : ℕ) → k ≡ n → Zeros (rowOf n) (fields k s a b c)
+  row-at n e = subst (λ (m : ℕ). Zeros (rowOf m) (fields k s a b c)) e row-zeros
 
-  back : (S : Shape) → shapeOf k ≡ S → KindOf S k → wordsOf (build S k s a b c) ≡ five k s a b c
+  back : (S : Shape) → shapeOf k ≡ S → KindOf S k → wordsOf (build S k s a b c) ≡ fields k s a b c
   unfolding rowOf
-  back isBitvec e q = let z = row-at 1 q in five-eq (sym q) (sym (z .sort refl)) refl (sym (z .second refl)) (sym (z .third refl))
-  back isArray e q = let z = row-at 2 q in five-eq (sym q) (sym (z .sort refl)) refl refl (sym (z .third refl))
-  back isConst e q = let z = row-at 3 q in five-eq (sym q) refl refl (sym (z .second refl)) (sym (z .third refl))
-  back isInput e q = let z = row-at 4 q in five-eq (sym q) refl (sym (z .first refl)) (sym (z .second refl)) (sym (z .third refl))
-  back isState e q = let z = row-at 5 q in five-eq (sym q) refl (sym (z .first refl)) (sym (z .second refl)) (sym (z .third refl))
-  back isOutput e q = let z = row-at 10 q in five-eq (sym q) (sym (z .sort refl)) refl (sym (z .second refl)) (sym (z .third refl))
+  back isBitvec e q = let z = row-at 1 q in fields-eq (sym q) (sym (z .sort refl)) refl (sym (z .second refl)) (sym (z .third refl))
+  back isArray e q = let z = row-at 2 q in fields-eq (sym q) (sym (z .sort refl)) refl refl (sym (z .third refl))
+  back isConst e q = let z = row-at 3 q in fields-eq (sym q) refl refl (sym (z .second refl)) (sym (z .third refl))
+  back isInput e q = let z = row-at 4 q in fields-eq (sym q) refl (sym (z .first refl)) (sym (z .second refl)) (sym (z .third refl))
+  back isState e q = let z = row-at 5 q in fields-eq (sym q) refl (sym (z .first refl)) (sym (z .second refl)) (sym (z .third refl))
+  back isOutput e q = let z = row-at 10 q in fields-eq (sym q) (sym (z .sort refl)) refl (sym (z .second refl)) (sym (z .third refl))
   back isOne e q = refl
-  back isTwo e q = five-eq refl refl refl refl (sym (row-zeros .third (two-third k (q .0) (q .1))))
-  back isIte e q = five-eq (sym q) refl refl refl refl
-  back isRead e q = let z = row-at 54 q in five-eq (sym q) refl refl refl (sym (z .third refl))
-  back isWrite e q = five-eq (sym q) refl refl refl refl
+  back isTwo e q = fields-eq refl refl refl refl (sym (row-zeros .third (two-third k (q .0) (q .1))))
+  back isIte e q = fields-eq (sym q) refl refl refl refl
+  back isRead e q = let z = row-at 54 q in fields-eq (sym q) refl refl refl (sym (z .third refl))
+  back isWrite e q = fields-eq (sym q) refl refl refl refl
   back isJunk e q = let g = known-range p k (both (known p k) _ h .0) in absurd (no-junk k (g .0) (g .1) e)
-  back (isGive true) e q = let z = row-at 6 q in five-eq (sym q) refl refl refl (sym (z .third refl))
-  back (isGive false) e q = let z = row-at 7 q in five-eq (sym q) refl refl refl (sym (z .third refl))
-  back (isMark true) e q = let z = row-at 8 q in five-eq (sym q) (sym (z .sort refl)) refl (sym (z .second refl)) (sym (z .third refl))
-  back (isMark false) e q = let z = row-at 9 q in five-eq (sym q) (sym (z .sort refl)) refl (sym (z .second refl)) (sym (z .third refl))
-  back (isCmp true) e q = let z = row-at 21 q in five-eq (sym q) refl refl refl (sym (z .third refl))
-  back (isCmp false) e q = let z = row-at 22 q in five-eq (sym q) refl refl refl (sym (z .third refl))
+  back (isGive true) e q = let z = row-at 6 q in fields-eq (sym q) refl refl refl (sym (z .third refl))
+  back (isGive false) e q = let z = row-at 7 q in fields-eq (sym q) refl refl refl (sym (z .third refl))
+  back (isMark true) e q = let z = row-at 8 q in fields-eq (sym q) (sym (z .sort refl)) refl (sym (z .second refl)) (sym (z .third refl))
+  back (isMark false) e q = let z = row-at 9 q in fields-eq (sym q) (sym (z .sort refl)) refl (sym (z .second refl)) (sym (z .third refl))
+  back (isCmp true) e q = let z = row-at 21 q in fields-eq (sym q) refl refl refl (sym (z .third refl))
+  back (isCmp false) e q = let z = row-at 22 q in fields-eq (sym q) refl refl refl (sym (z .third refl))
 
-  pub five-back : wordsOf (lineOf (five k s a b c)) ≡ five k s a b c
-  five-back = ap wordsOf (line-as (five k s a b c) (shapeOf k) refl) ∙ back (shapeOf k) refl (kind-of k)
+  fields-back : wordsOf (lineOf (fields k s a b c)) ≡ fields k s a b c
+  fields-back = ap wordsOf (line-as (fields k s a b c) (shapeOf k) refl) ∙ back (shapeOf k) refl (kind-of k)
 
 -- the record of a formed record's line is that record
-pub words-back : (p : Bool) (r : List ℕ) → length r ≡ 5 → formed p r ≡ true → wordsOf (lineOf r) ≡ r
-words-back p [] l h = absurd (omega arith)
-words-back p (k ∷ []) l h = absurd (omega arith)
-words-back p (k ∷ s ∷ []) l h = absurd (omega arith)
-words-back p (k ∷ s ∷ a ∷ []) l h = absurd (omega arith)
-words-back p (k ∷ s ∷ a ∷ b ∷ []) l h = absurd (omega arith)
-words-back p (k ∷ s ∷ a ∷ b ∷ c ∷ []) l h = five-back p k s a b c h
-words-back p (k ∷ s ∷ a ∷ b ∷ c ∷ x ∷ r) l h = absurd (omega arith)
+pub words-back : (p : Bool) (r : List ℕ) → length r ≡ recordSize → formed p r ≡ true → wordsOf (lineOf r) ≡ r
+words-back p r l h = fields-back p (kindIn r) (sortIn r) (firstIn r) (secondIn r) (thirdIn r) h ∙ sym (fields-of r l)

@@ -34,7 +34,7 @@ shifted-out v m h = go (ltb v m) refl
     go true e = eq-eqb (v / m) 0 (div-eq-of-lt (ltb-true v m e))
     go false e = ne-eqb (v / m) 0 (λ z. omega (arith, ltb-false v m e, empty z))
 
--- ---- a record is five words of a table
+-- ---- the words of a record
 
 part-cons : (t : List ℕ) (k n m : ℕ) → suc n ≡ m → n < length t → take (suc k) (drop n t) ≡ getD t n 0 ∷ take k (drop m t)
 part-cons t k n m e h = ap (take (suc k)) (drop-cons t n 0 h) ∙ ap (λ (j : ℕ). getD t n 0 ∷ take k (drop j t)) e

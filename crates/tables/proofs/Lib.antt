@@ -3,6 +3,7 @@ pub mod Every
 pub mod Shapes
 pub mod Answers
 pub mod Kept
+pub mod Places
 pub mod Formed
 pub mod Showing
 pub mod Counted

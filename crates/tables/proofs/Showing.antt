@@ -1,26 +1,26 @@
 -- The notes that a check keeps go on holding the context, line after line. Assumes nothing.
 use Prim.Native.Nat.{ℕ, zero, suc, _+_, _≤_, _<_}
 use mathlib.Core.Path.{_≡_, refl, sym, ap, ap₂, _∙_, subst}
-use mathlib.Core.Logic.{_⊎_, inl, inr}
-use mathlib.Core.Bool.{Bool, true, false, not, _&&_, _||_}
+use mathlib.Core.Logic.{inl, inr}
+use mathlib.Core.Bool.{Bool, true, false, not, _||_}
 use mathlib.Core.List.{List, [], _∷_, _++_}
 use native.Mathlib.Omega.{arith}
-use lib.Dec.{T, eqb, leb}
-use lib.ListN.{length, getD, set, length-set, length-append, List·getD-append, List·getD-eq-default}
+use lib.Dec.{eqb, leb}
+use lib.ListN.{length, getD, set, length-set, length-append, List·getD-eq-default}
 use lib.Seq.{getD-set-same, getD-set-other, getD-at, set-out}
 use borrow.Author.Tests.{eqb-true, eqb-false, eq-eqb, ne-eqb, leb-true, leb-false}
 use Rattle.tables.specs.declared.Ty.{Ty}
 use Rattle.tables.specs.Pick.{pick, all, among, alike}
 use Rattle.tables.specs.Kinds.{rowOf, sortClass, firstClass}
-use Rattle.tables.specs.Lines.{Line, Shape, isBitvec, isArray, isConst, isInput, isState as stateShape, isOutput, isOne, isTwo, isIte, isRead, isWrite, isJunk, isGive, isMark, isCmp, giveKind, shapeOf, build, lineOf, wordsOf, kindIn, sortIn, firstIn, secondIn, thirdIn}
+use Rattle.tables.specs.Lines.{Shape, isBitvec, isArray, isConst, isInput, isState as stateShape, isOutput, isOne, isTwo, isIte, isRead, isWrite, isJunk, isGive, isMark, isCmp, giveKind, shapeOf, build, lineOf, kindIn, sortIn, firstIn, secondIn, thirdIn, recordSize}
 use Rattle.tables.specs.Types.{ty, noTy, isState, sortAt, recordType, lineType, Ctx, tyAt, givenBy, given, givenAfter, grow}
 use Rattle.tables.specs.Rules.{suits, classes, fault}
 use Rattle.tables.specs.Tables.{formed, keeps}
 use Rattle.tables.specs.Notes.{blank, noteAt, lookIn, markIn, givenIn, Shows, typed, marked, markedBy, noted}
 use Rattle.tables.proofs.Laws.{or-true, or-false}
 use Rattle.tables.proofs.Shapes.{KindOf, kind-of, line-as, no-junk}
-use Rattle.tables.proofs.Answers.{Passed, passed}
-use Rattle.tables.proofs.Kept.{both, no-yes}
+use Rattle.tables.proofs.Answers.{passed}
+use Rattle.tables.proofs.Kept.{both}
 use Rattle.tables.proofs.Formed.{words-back}
 
 -- ---- lists that grow at the end
@@ -196,7 +196,7 @@ length-noted p r n notes =
 
 -- ---- one line more
 
-module _ {notes : List (List ℕ)} {c : Ctx} (p : Bool) (r : List ℕ) {n : ℕ} (sh : Shows notes c) (ln : length (c .tys) ≡ n) (hn : n < length notes) (lr : length r ≡ 5)
+module _ {notes : List (List ℕ)} {c : Ctx} (p : Bool) (r : List ℕ) {n : ℕ} (sh : Shows notes c) (ln : length (c .tys) ≡ n) (hn : n < length notes) (lr : length r ≡ recordSize)
     (kp : keeps p (tyAt c) (given c) r ≡ true) where
   lookups : lookIn notes ≡ tyAt c
   lookups = λ i a. sh .types a i

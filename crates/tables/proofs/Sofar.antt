@@ -1,13 +1,13 @@
 -- Where the check of a table's records stands after i of them: the answer from the start is the answer from here, and the notes hold the context. Assumes nothing.
-use Prim.Native.Nat.{ℕ, zero, suc, _+_, _*_, _≤_, _<_}
+use Prim.Native.Nat.{ℕ, suc, _+_, _≤_, _<_}
 use mathlib.Core.Path.{_≡_, refl, sym, ap, ap₂, _∙_, subst}
 use mathlib.Core.Bool.{Bool, true, false, _&&_}
-use mathlib.Core.List.{List, [], _∷_, map}
+use mathlib.Core.List.{List, [], map}
 use native.Mathlib.Omega.{arith}
 use lib.ListN.{length, getD, take, drop}
 use lib.Seq.{take-length, drop-length}
 use Rattle.tables.specs.declared.Ty.{Ty}
-use Rattle.tables.specs.Lines.{lineOf, records, decode, recordAt, counted}
+use Rattle.tables.specs.Lines.{lineOf, records, decode, recordAt, counted, span}
 use Rattle.tables.specs.Types.{Ctx, tyAt, given, grow, growAll, noCtx, context}
 use Rattle.tables.specs.Tables.{keeps, lawful}
 use Rattle.tables.specs.Notes.{lookIn, givenIn, Shows, noted}
@@ -24,7 +24,7 @@ pub record Sofar (p : Bool) (t : List ℕ) (n i : ℕ) (notes : List (List ℕ))
 pub begun : {p : Bool} {t : List ℕ} {n : ℕ} {notes : List (List ℕ)} → n < length notes → Shows notes noCtx → Sofar p t n 0 notes
 begun a s = record { most = omega arith; answer = refl; shows = s; ample = a; lines = refl }
 
-module _ {p : Bool} {t : List ℕ} {n i : ℕ} {notes : List (List ℕ)} (S : Sofar p t n i notes) (room : 5 * n ≤ length t) (l : i < n) where
+module _ {p : Bool} {t : List ℕ} {n i : ℕ} {notes : List (List ℕ)} (S : Sofar p t n i notes) (room : span n ≤ length t) (l : i < n) where
   rs : List (List ℕ)
   rs = records (counted t n)
 
@@ -83,7 +83,7 @@ module _ {p : Bool} {t : List ℕ} {n i : ℕ} {notes : List (List ℕ)} (S : So
           lines = ap (λ (x : Ctx). length (x .tys)) next ∙ length-more p (recordAt t i) (S .shows) ln (omega arith) lr kp;
         }
 
-module _ {p : Bool} {t : List ℕ} {n i : ℕ} {notes : List (List ℕ)} (S : Sofar p t n i notes) (room : 5 * n ≤ length t) (l : n ≤ i) where
+module _ {p : Bool} {t : List ℕ} {n i : ℕ} {notes : List (List ℕ)} (S : Sofar p t n i notes) (room : span n ≤ length t) (l : n ≤ i) where
   done : i ≡ length (records (counted t n))
   done = omega (arith, length-records n t room, S .most)
 

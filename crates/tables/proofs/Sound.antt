@@ -1,30 +1,28 @@
 -- A record that keeps the rules has a line of which the named facts hold. Assumes nothing.
-use Prim.Native.Nat.{ℕ, suc, _+_, _-_, _^_, _≤_, _<_}
+use Prim.Native.Nat.{ℕ, _+_, _-_, _^_, _≤_, _<_}
 use mathlib.Core.Path.{_≡_, refl, sym, ap, _∙_, subst}
 use mathlib.Core.Logic.{_⊎_, inl, inr}
-use mathlib.Core.Bool.{Bool, true, false, not, _&&_, _||_}
+use mathlib.Core.Bool.{Bool, true, false, not, _&&_}
 use mathlib.Core.List.{List, [], _∷_, map}
 use native.Mathlib.Omega.{arith}
-use lib.Dec.{T, eqb, leb, ltb, eqb→eq}
+use lib.Dec.{T, eqb, leb, ltb}
 use lib.ListN.{length}
 use borrow.Author.Tests.{eqb-true, ltb-true, leb-true, not-true}
-use mir.Facts.{and-yes}
 use Rattle.tables.specs.declared.Ty.{Ty}
 use Rattle.tables.specs.declared.Refusal.the-variants.{NotATable}
-use Rattle.tables.specs.declared.Checked.{Checked}
 use Rattle.tables.specs.declared.Checked.the-variants.{Accepted, Refused}
 use Rattle.tables.specs.Pick.{pick, all, inside}
 use Rattle.tables.specs.Kinds.{rowOf, sortClass, firstClass, secondClass, thirdClass}
-use Rattle.tables.specs.Lines.{Line, Expr, Shape, isBitvec, isArray as arrayShape, isConst, isInput, isState as stateShape, isOutput, isOne, isTwo, isIte, isRead, isWrite, isJunk, isGive, isMark, isCmp, giveKind, shapeOf, build, lineOf, records, decode, counted}
-use Rattle.tables.specs.Types.{isSort, isValue, isFixed, isState, isWord, isArray, isWordSort, isArraySort, sortAt, Ctx, tyAt, given, grow, noCtx}
+use Rattle.tables.specs.Lines.{Line, Shape, isBitvec, isArray as arrayShape, isConst, isInput, isState as stateShape, isOutput, isOne, isTwo, isIte, isRead, isWrite, isJunk, isGive, isMark, isCmp, giveKind, shapeOf, build, lineOf, records, decode, counted, kindIn, sortIn, firstIn, secondIn, thirdIn}
+use Rattle.tables.specs.Types.{isSort, isValue, isFixed, isWord, isArray, isWordSort, isArraySort, sortAt, Ctx, tyAt, given, grow, noCtx}
 use Rattle.tables.specs.Rules.{suits, classes, fits, same, onceRules, fault}
 use Rattle.tables.specs.Tables.{whole, room, known, unused, tidy, formed, keeps, lawful, broken, checked}
 use Rattle.tables.proofs.Every.{at-each}
-use Rattle.tables.proofs.Shapes.{KindOf, kind-of, line-as, range, no-junk}
-use Rattle.tables.proofs.Answers.{Passed, passed}
-use Rattle.tables.proofs.Kept.{both, no-yes, known-range}
+use Rattle.tables.proofs.Shapes.{KindOf, kind-of, range}
+use Rattle.tables.proofs.Answers.{passed}
+use Rattle.tables.proofs.Kept.{both, no-yes}
 use Rattle.tables.proofs.Checking.{not-accepted}
-use Rattle.tables.proofs.Facts.{IsValue, IsWord, IsArray, IsSort, IsWordSort, IsArraySort, Same, OkConst, OneKind, OkOne, OkTwo, OkCmp, OkIte, OkRead, OkWrite, OkExpr, OkBitvec, OkArray, OkInit, OkValue, OkGive, OkMark, Ok, AllOk}
+use Rattle.tables.proofs.Facts.{IsValue, IsWord, IsArray, IsSort, IsWordSort, IsArraySort, Same, OneKind, OkCmp, OkMark, Ok, AllOk}
 
 -- ---- classes
 
@@ -257,48 +255,24 @@ module _ (p : Bool) (L : ℕ → Ty) (G : Bool → ℕ → Bool) (k s x y z : �
   shape-ok (isCmp true) e q f o = cmp-ok 21 q refl refl refl f
   shape-ok (isCmp false) e q f o = cmp-ok 22 q refl refl refl f
 
--- a record of five words that keeps the rules
-pub sound : (p : Bool) (L : ℕ → Ty) (G : Bool → ℕ → Bool) (k s x y z : ℕ) → keeps p L G (k ∷ s ∷ x ∷ y ∷ z ∷ []) ≡ true → Ok p L G (lineOf (k ∷ s ∷ x ∷ y ∷ z ∷ []))
-sound p L G k s x y z h =
-    let r = k ∷ s ∷ x ∷ y ∷ z ∷ [] in
+-- a record that keeps the rules
+pub sound : (p : Bool) (L : ℕ → Ty) (G : Bool → ℕ → Bool) (r : List ℕ) → keeps p L G r ≡ true → Ok p L G (lineOf r)
+sound p L G r h =
+    let k : ℕ = kindIn r in
     let h₁ = both (formed p r) _ h in
     let h₂ = both (known p k) _ (h₁ .0) in
     let g = passed p L G r (eqb-true (fault p L G r) 0 (h₁ .1)) in
-    shape-ok p L G k s x y z (h₂ .0) (h₂ .1) (g .class) (shapeOf k) refl (kind-of k) (g .width) (g .once)
+    shape-ok p L G k (sortIn r) (firstIn r) (secondIn r) (thirdIn r) (h₂ .0) (h₂ .1) (g .class) (shapeOf k) refl (kind-of k) (g .width) (g .once)
 
 -- ---- all records
 
--- every record that a table has is of five words
-abbrev Fives : List (List ℕ) → Type 0
-Fives [] = Unit {0}
-Fives (r ∷ rs) = (length r ≡ 5) × Fives rs
-
-records-five : (t : List ℕ) → Fives (records t)
-records-five [] = tt
-records-five (k ∷ []) = tt
-records-five (k ∷ s ∷ []) = tt
-records-five (k ∷ s ∷ a ∷ []) = tt
-records-five (k ∷ s ∷ a ∷ b ∷ []) = tt
-records-five (k ∷ s ∷ a ∷ b ∷ c ∷ t) = (refl, records-five t)
-
-sound-five : (p : Bool) (L : ℕ → Ty) (G : Bool → ℕ → Bool) (r : List ℕ) → length r ≡ 5 → keeps p L G r ≡ true → Ok p L G (lineOf r)
-sound-five p L G [] l h = absurd (omega arith)
-sound-five p L G (k ∷ []) l h = absurd (omega arith)
-sound-five p L G (k ∷ s ∷ []) l h = absurd (omega arith)
-sound-five p L G (k ∷ s ∷ a ∷ []) l h = absurd (omega arith)
-sound-five p L G (k ∷ s ∷ a ∷ b ∷ []) l h = absurd (omega arith)
-sound-five p L G (k ∷ s ∷ a ∷ b ∷ c ∷ []) l h = sound p L G k s a b c h
-sound-five p L G (k ∷ s ∷ a ∷ b ∷ c ∷ x ∷ r) l h = absurd (omega arith)
-
-all-sound : (p : Bool) (c : Ctx) (rs : List (List ℕ)) → Fives rs → lawful p c rs ≡ true → AllOk p c (map lineOf rs)
-all-sound p c [] l h = tt
-all-sound p c (r ∷ rs) l h =
-    let e = both (keeps p (tyAt c) (given c) r) _ h in
-    (sound-five p (tyAt c) (given c) r (l .0) (e .0), all-sound p (grow p c (lineOf r)) rs (l .1) (e .1))
+all-sound : (p : Bool) (c : Ctx) (rs : List (List ℕ)) → lawful p c rs ≡ true → AllOk p c (map lineOf rs)
+all-sound p c [] h = tt
+all-sound p c (r ∷ rs) h = let e = both (keeps p (tyAt c) (given c) r) _ h in (sound p (tyAt c) (given c) r (e .0), all-sound p (grow p c (lineOf r)) rs (e .1))
 
 -- the lines of an accepted table
 pub lawful-ok : (p : Bool) (t : List ℕ) → lawful p noCtx (records t) ≡ true → AllOk p noCtx (decode t)
-lawful-ok p t h = all-sound p noCtx (records t) (records-five t) h
+lawful-ok p t h = all-sound p noCtx (records t) h
 
 pub accepted-lawful : (p : Bool) (t : List ℕ) (n : ℕ) → checked p t n ≡ Accepted → lawful p noCtx (records (counted t n)) ≡ true
 unfolding checked

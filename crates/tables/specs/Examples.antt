@@ -1,22 +1,21 @@
 -- The rules computed on small tables. Each has its lines as a comment. Assumes nothing.
 use Prim.Native.Nat.{ℕ}
 use mathlib.Core.Path.{_≡_, refl}
-use mathlib.Core.Bool.{Bool, true, false}
+use mathlib.Core.Bool.{true, false}
 use mathlib.Core.List.{List, [], _∷_, _++_, map}
-use Rattle.tables.specs.declared.Checked.{Checked}
 use Rattle.tables.specs.declared.Checked.the-variants.{Accepted, Refused}
 use Rattle.tables.specs.declared.Refusal.the-variants.{NotATable, BadTable, BadProgram}
 use Rattle.tables.specs.Kinds.{rowOf}
-use Rattle.tables.specs.Lines.{five, decode}
-use Rattle.tables.specs.Types.{Ctx, tyAt, given, context}
+use Rattle.tables.specs.Lines.{fields, decode}
+use Rattle.tables.specs.Types.{tyAt, given, context}
 use Rattle.tables.specs.Rules.{suits, fault}
 use Rattle.tables.specs.Tables.{checked}
 
 -- 1 sort bitvec 1, 2 sort bitvec 3, 3 sort array 1 2, 4 state 3, 5 input 1, 6 constd 2 5, 7 write 3 4 5 6, 8 next 3 4 7, 9 read 2 4 5, 10 eq 1 9 6, 11 bad 10
 abbrev request : List ℕ
 request =
-    five 1 0 1 0 0 ++ five 1 0 3 0 0 ++ five 2 0 1 2 0 ++ five 5 3 0 0 0 ++ five 4 1 0 0 0 ++ five 3 2 5 0 0 ++ five 55 3 4 5 6 ++ five 7 3 4 7 0 ++ five 54 2 4 5 0 ++ five 21 1 9 6 0
-    ++ five 8 0 10 0 0
+    fields 1 0 1 0 0 ++ fields 1 0 3 0 0 ++ fields 2 0 1 2 0 ++ fields 5 3 0 0 0 ++ fields 4 1 0 0 0 ++ fields 3 2 5 0 0 ++ fields 55 3 4 5 6 ++ fields 7 3 4 7 0 ++ fields 54 2 4 5 0 ++ fields 21 1 9 6 0
+    ++ fields 8 0 10 0 0
 
 abbrev judged : List ℕ → List ℕ → ℕ
 judged t r = fault false (tyAt (context false (decode t))) (given (context false (decode t))) r
@@ -24,28 +23,28 @@ judged t r = fault false (tyAt (context false (decode t))) (given (context false
 -- after the request's lines: a read of a word, an operand that is no line (8); an eq of two widths, an eq of an array and a word (9); a second next, an init
 -- whose value stands behind its state (10); an output, which breaks no rule
 judged-after : map (judged request)
-    (five 54 2 6 5 0 ∷ five 11 2 12 0 0 ∷ five 21 1 5 6 0 ∷ five 21 1 4 6 0 ∷ five 7 3 4 4 0 ∷ five 6 3 4 6 0 ∷ five 10 0 6 0 0 ∷ [])
+    (fields 54 2 6 5 0 ∷ fields 11 2 12 0 0 ∷ fields 21 1 5 6 0 ∷ fields 21 1 4 6 0 ∷ fields 7 3 4 4 0 ∷ fields 6 3 4 6 0 ∷ fields 10 0 6 0 0 ∷ [])
     ≡ 8 ∷ 8 ∷ 9 ∷ 9 ∷ 10 ∷ 10 ∷ 0 ∷ []
 unfolding fault suits rowOf context
 judged-after = refl
 
 -- 1 sort bitvec 9, 2 sort bitvec 8, 3 input 2, 4 constd 2 7, 5 state 2: an array by 9 bits (9) and by 8 (0); an init by the input (10), by the constant (0), by 256 (8: no line)
 abbrev small : List ℕ
-small = five 1 0 9 0 0 ++ five 1 0 8 0 0 ++ five 4 2 0 0 0 ++ five 3 2 7 0 0 ++ five 5 2 0 0 0
+small = fields 1 0 9 0 0 ++ fields 1 0 8 0 0 ++ fields 4 2 0 0 0 ++ fields 3 2 7 0 0 ++ fields 5 2 0 0 0
 
-judged-small : map (judged small) (five 2 0 1 1 0 ∷ five 2 0 2 1 0 ∷ five 6 2 5 3 0 ∷ five 6 2 5 4 0 ∷ five 6 2 5 256 0 ∷ five 3 2 256 0 0 ∷ five 3 2 255 0 0 ∷ [])
+judged-small : map (judged small) (fields 2 0 1 1 0 ∷ fields 2 0 2 1 0 ∷ fields 6 2 5 3 0 ∷ fields 6 2 5 4 0 ∷ fields 6 2 5 256 0 ∷ fields 3 2 256 0 0 ∷ fields 3 2 255 0 0 ∷ [])
     ≡ 9 ∷ 0 ∷ 10 ∷ 0 ∷ 8 ∷ 9 ∷ 0 ∷ []
 unfolding fault suits rowOf context
 judged-small = refl
 
 -- the request's table with its count; fewer records; too many; a word that is not used; a length that is no multiple of five
-answers : checked false request 11 ∷ checked false request 4 ∷ checked false request 12 ∷ checked false (five 4 1 0 0 0) 1 ∷ checked false (five 1 0 8 0 1) 1 ∷ checked false (1 ∷ []) 0 ∷ []
+answers : checked false request 11 ∷ checked false request 4 ∷ checked false request 12 ∷ checked false (fields 4 1 0 0 0) 1 ∷ checked false (fields 1 0 8 0 1) 1 ∷ checked false (1 ∷ []) 0 ∷ []
     ≡ Accepted ∷ Accepted ∷ Refused BadTable ∷ Refused BadTable ∷ Refused BadTable ∷ Refused NotATable ∷ []
 unfolding checked fault suits rowOf
 answers = refl
 
 -- 1 input, 2 its mask, both of width 3: a program; with a mask of another width, or with a sort record, it is none
-programs : checked true (five 4 3 0 0 0 ++ five 56 3 1 0 0) 2 ∷ checked true (five 4 3 0 0 0 ++ five 56 4 1 0 0) 2 ∷ checked true (five 1 0 3 0 0) 1 ∷ []
+programs : checked true (fields 4 3 0 0 0 ++ fields 56 3 1 0 0) 2 ∷ checked true (fields 4 3 0 0 0 ++ fields 56 4 1 0 0) 2 ∷ checked true (fields 1 0 3 0 0) 1 ∷ []
     ≡ Accepted ∷ Refused BadProgram ∷ Refused BadProgram ∷ []
 unfolding checked fault suits rowOf
 programs = refl

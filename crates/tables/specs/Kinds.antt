@@ -1,7 +1,6 @@
 -- The one constant table of the kinds: a row for each of the kinds 1 to 55, in order. A row has the word's length, the word's letters in ten places, and then the
 -- class of the line's sort, the number of its operands and the classes of up to three operands. The five other words for a constant are the reader's. Assumes nothing.
 use Prim.Native.Nat.{ℕ, _-_}
-use mathlib.Core.Bool.{Bool}
 use mathlib.Core.List.{List, [], _∷_}
 use lib.Dec.{eqb}
 use lib.ListN.{getD, take, drop}

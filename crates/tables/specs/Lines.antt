@@ -115,30 +115,38 @@ abbrev pub cmpKind : Bool → ℕ
 cmpKind true = 21
 cmpKind false = 22
 
-abbrev pub five : (k s a b c : ℕ) → List ℕ
-five k s a b c = k ∷ s ∷ a ∷ b ∷ c ∷ []
+-- the record of a kind, a sort line and three operands
+abbrev pub fields : (k s a b c : ℕ) → List ℕ
+fields k s a b c = k ∷ s ∷ a ∷ b ∷ c ∷ []
 
 abbrev pub exprWords : ℕ → Expr → List ℕ
-exprWords s (Expr.const v) = five 3 s v 0 0
-exprWords s (Expr.one k a x y) = five k s a x y
-exprWords s (Expr.two k a b) = five k s a b 0
-exprWords s (Expr.cmp e a b) = five (cmpKind e) s a b 0
-exprWords s (Expr.ite c a b) = five 53 s c a b
-exprWords s (Expr.read a i) = five 54 s a i 0
-exprWords s (Expr.write a i v) = five 55 s a i v
+exprWords s (Expr.const v) = fields 3 s v 0 0
+exprWords s (Expr.one k a x y) = fields k s a x y
+exprWords s (Expr.two k a b) = fields k s a b 0
+exprWords s (Expr.cmp e a b) = fields (cmpKind e) s a b 0
+exprWords s (Expr.ite c a b) = fields 53 s c a b
+exprWords s (Expr.read a i) = fields 54 s a i 0
+exprWords s (Expr.write a i v) = fields 55 s a i v
 
 abbrev pub wordsOf : Line → List ℕ
-wordsOf (Line.bitvec w) = five 1 0 w 0 0
-wordsOf (Line.array i e) = five 2 0 i e 0
-wordsOf (Line.input s) = five 4 s 0 0 0
-wordsOf (Line.state s) = five 5 s 0 0 0
+wordsOf (Line.bitvec w) = fields 1 0 w 0 0
+wordsOf (Line.array i e) = fields 2 0 i e 0
+wordsOf (Line.input s) = fields 4 s 0 0 0
+wordsOf (Line.state s) = fields 5 s 0 0 0
 wordsOf (Line.val s e) = exprWords s e
-wordsOf (Line.give m s q v) = five (giveKind m) s q v 0
-wordsOf (Line.mark m a) = five (markKind m) 0 a 0 0
-wordsOf (Line.output a) = five 10 0 a 0 0
-wordsOf Line.junk = five 0 0 0 0 0
+wordsOf (Line.give m s q v) = fields (giveKind m) s q v 0
+wordsOf (Line.mark m a) = fields (markKind m) 0 a 0 0
+wordsOf (Line.output a) = fields 10 0 a 0 0
+wordsOf Line.junk = fields 0 0 0 0 0
 
 -- ---- tables
+
+-- the words of a record, and of n records
+abbrev pub recordSize : ℕ
+recordSize = 5
+
+abbrev pub span : ℕ → ℕ
+span n = recordSize * n
 
 -- the records of a table
 abbrev pub records : List ℕ → List (List ℕ)
@@ -147,7 +155,7 @@ records (k ∷ []) = []
 records (k ∷ s ∷ []) = []
 records (k ∷ s ∷ a ∷ []) = []
 records (k ∷ s ∷ a ∷ b ∷ []) = []
-records (k ∷ s ∷ a ∷ b ∷ c ∷ t) = five k s a b c ∷ records t
+records (k ∷ s ∷ a ∷ b ∷ c ∷ t) = fields k s a b c ∷ records t
 
 abbrev pub decode : List ℕ → List Line
 decode t = map lineOf (records t)
@@ -158,11 +166,11 @@ encode (l ∷ ls) = wordsOf l ++ encode ls
 
 -- the record at the place i, from 0, and the first n records
 abbrev pub recordAt : List ℕ → ℕ → List ℕ
-recordAt t i = take 5 (drop (5 * i) t)
+recordAt t i = take recordSize (drop (span i) t)
 
 abbrev pub counted : List ℕ → ℕ → List ℕ
-counted t n = take (5 * n) t
+counted t n = take (span n) t
 
 -- a table with the record r at the place i
 abbrev pub recorded : List ℕ → ℕ → List ℕ → List ℕ
-recorded t i r = paste t (5 * i) r 5
+recorded t i r = paste t (span i) r recordSize

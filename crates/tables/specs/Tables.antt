@@ -11,17 +11,17 @@ use Rattle.tables.specs.declared.Checked.{Checked}
 use Rattle.tables.specs.declared.Checked.the-variants.{Accepted, Refused}
 use Rattle.tables.specs.Pick.{pick, inside, all}
 use Rattle.tables.specs.Kinds.{rowOf, sortClass, firstClass, secondClass, thirdClass}
-use Rattle.tables.specs.Lines.{lineOf, records, counted, kindIn, sortIn, firstIn, secondIn, thirdIn}
+use Rattle.tables.specs.Lines.{lineOf, recordSize, records, counted, kindIn, sortIn, firstIn, secondIn, thirdIn}
 use Rattle.tables.specs.Types.{Ctx, tyAt, given, grow, noCtx}
 use Rattle.tables.specs.Rules.{fault}
 
--- a list whose length is no multiple of five is no table
+-- a list that holds no whole number of records is no table
 abbrev pub whole : ℕ → Bool
-whole len = eqb (len % 5) 0
+whole len = eqb (len % recordSize) 0
 
 -- the records that a list of so many words holds; at most 16,384 count
 abbrev pub room : ℕ → ℕ
-room len = min (len / 5) 16384
+room len = min (len / recordSize) 16384
 
 -- the kinds of a circuit, 1 to 55, and of a program, 3 to 53 and 56
 abbrev pub known : Bool → ℕ → Bool

@@ -4,12 +4,13 @@ use crate::Refusal;
 use crate::Ty;
 use crate::kinds;
 use crate::notes;
+use crate::notes::BYTES;
 use crate::records;
+use crate::records::WORDS;
 use crate::rules;
 use crate::types;
 ghost use mathlib.Core.Path.{_≡_};
-ghost use mathlib.Core.Bool.{Bool, true, false};
-ghost use mathlib.Core.List.{List, [], _∷_};
+ghost use mathlib.Core.Bool.{true, false};
 ghost use Prim.Native.Nat.{_+_, _*_, _≤_, _<_};
 ghost use lib.ListN.{length, replicate};
 ghost use Rattle.tables.specs.Pick.{all};
@@ -17,7 +18,7 @@ ghost use Rattle.tables.specs.Kinds.{rows};
 ghost use Rattle.tables.specs.Lines.{lineOf, kindIn, firstIn, records, decode, counted};
 ghost use Rattle.tables.specs.Types.{recordType, noCtx, context};
 ghost use Rattle.tables.specs.Notes.{lookIn, givenIn, Shows, Fresh, noted};
-ghost use Rattle.tables.specs.Tables.{known as knownOf, unused as unusedOf, tidy as tidyOf, keeps, whole, room, lawful, checked, broken};
+ghost use Rattle.tables.specs.Tables.{known as knownOf, unused as unusedOf, tidy as tidyOf, keeps, lawful, checked, broken};
 
 // The kind is one of a circuit, or of a program.
 pub fn known(program: bool, k: u64) -> bool
@@ -49,7 +50,7 @@ pub fn unused(k: u8, x: u64) -> bool
 }
 
 // The places that the row lacks hold 0.
-pub fn tidy(row: [u8; 16], rec: [u64; 5]) -> bool
+pub fn tidy(row: [u8; 16], rec: [u64; WORDS]) -> bool
     ensures { λ r. ⌜ r ≡ all (tidyOf row rec) ⌝ }
 {
     if !unused(row[11], rec[1]) {
@@ -65,7 +66,7 @@ pub fn tidy(row: [u8; 16], rec: [u64; 5]) -> bool
 }
 
 // The type of a record that keeps the rules, after the lines noted.
-fn type_in(program: bool, rec: [u64; 5], notes: &[[u8; 5]]) -> Ty
+fn type_in(program: bool, rec: [u64; WORDS], notes: &[[u8; BYTES]]) -> Ty
     requires { ⌜ (kindIn rec ≡ 1 → firstIn rec ≤ 64) ⌝ }
     ensures { λ r. ⌜ r ≡ recordType program (lookIn (now (notes .entry))) rec (lineOf rec) ⌝ }
 {
@@ -77,7 +78,7 @@ fn type_in(program: bool, rec: [u64; 5], notes: &[[u8; 5]]) -> Ty
 }
 
 // The line n, whose record keeps the rules, is noted.
-pub fn note(program: bool, rec: [u64; 5], n: u64, notes: &mut [[u8; 5]])
+pub fn note(program: bool, rec: [u64; WORDS], n: u64, notes: &mut [[u8; BYTES]])
     requires { ⌜ (kindIn rec ≡ 1 → firstIn rec ≤ 64) ⌝ }
     ensures { λ _. ⌜ now (notes .exit) ≡ noted program rec n (now (notes .entry)) ⌝ }
 {
@@ -99,7 +100,12 @@ pub fn clear(xs: &mut [u8])
 }
 
 // The record breaks no rule after the lines noted.
-fn keeps_rules(program: bool, kinds: &[[u8; 16]; 55], rec: [u64; 5], notes: &[[u8; 5]]) -> bool
+fn keeps_rules(
+    program: bool,
+    kinds: &[[u8; 16]; 55],
+    rec: [u64; WORDS],
+    notes: &[[u8; BYTES]],
+) -> bool
     requires { ⌜ now kinds ≡ rows ⌝ }
     ensures { λ r. ⌜ r ≡ keeps program (lookIn (now (notes .entry))) (givenIn (now (notes .entry))) rec ⌝ }
 {
@@ -118,9 +124,9 @@ fn keeps_rules(program: bool, kinds: &[[u8; 16]; 55], rec: [u64; 5], notes: &[[u
 fn take_record(
     program: bool,
     kinds: &[[u8; 16]; 55],
-    rec: [u64; 5],
+    rec: [u64; WORDS],
     n: u64,
-    notes: &mut [[u8; 5]],
+    notes: &mut [[u8; BYTES]],
 ) -> bool
     requires { ⌜ now kinds ≡ rows ⌝ }
     ensures { λ r. ⌜ (r ≡ keeps program (lookIn (now (notes .entry))) (givenIn (now (notes .entry))) rec) × (r ≡ true → now (notes .exit) ≡ noted program rec n (now (notes .entry))) ⌝ }
@@ -138,7 +144,7 @@ fn lines(
     kinds: &[[u8; 16]; 55],
     table: &[u64],
     count: usize,
-    notes: &mut [[u8; 5]],
+    notes: &mut [[u8; BYTES]],
 ) -> bool
     requires { ⌜ (now kinds ≡ rows) × ((count ≤ 16384) × ((5 * count ≤ length (now table)) × ((count < length (now notes)) × Shows (now notes) noCtx))) ⌝ }
     ensures { λ r. ⌜ (r ≡ lawful program noCtx (records (counted (now (table .entry)) count))) × (r ≡ true → Shows (now (notes .exit)) (context program (decode (counted (now (table .entry)) count)))) ⌝ }
@@ -155,7 +161,7 @@ fn lines(
 }
 
 // The check of a table with its count. Where it is accepted the notes, blank before, hold its context.
-pub fn check(program: bool, table: &[u64], count: usize, notes: &mut [[u8; 5]]) -> Checked
+pub fn check(program: bool, table: &[u64], count: usize, notes: &mut [[u8; BYTES]]) -> Checked
     requires { ⌜ Fresh count (now notes) ⌝ }
     ensures { λ r. ⌜ (r ≡ checked program (now (table .entry)) count) × (r ≡ Checked.Accepted → Shows (now (notes .exit)) (context program (decode (counted (now (table .entry)) count)))) ⌝ }
 {
@@ -187,7 +193,7 @@ fn accept_few(program: bool, table: &[u64], count: usize) -> Checked
     requires { ⌜ count < 512 ⌝ }
     ensures { λ r. ⌜ r ≡ checked program (now (table .entry)) count ⌝ }
 {
-    let mut notes = [[0u8; 5]; 512];
+    let mut notes = [[0u8; BYTES]; 512];
     check(program, table, count, &mut notes)
 }
 
@@ -195,7 +201,7 @@ fn accept_few(program: bool, table: &[u64], count: usize) -> Checked
 fn accept_many(program: bool, table: &[u64], count: usize) -> Checked
     ensures { λ r. ⌜ r ≡ checked program (now (table .entry)) count ⌝ }
 {
-    let mut notes = [[0u8; 5]; 16385];
+    let mut notes = [[0u8; BYTES]; 16385];
     check(program, table, count, &mut notes)
 }
 

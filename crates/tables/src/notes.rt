@@ -1,15 +1,18 @@
 // What a check keeps of each line, at the line's number: its class, its index width, its width, and two marks, of a state that has an init line and of one that has a
 // next line.
 use crate::Ty;
+use crate::records::WORDS;
 ghost use mathlib.Core.Path.{_≡_};
-ghost use mathlib.Core.Bool.{Bool, true, false};
-ghost use Prim.Native.Nat.{_+_, _≤_, _<_};
-ghost use lib.ListN.{length, getD, set};
+ghost use Prim.Native.Nat.{_+_, _<_};
+ghost use lib.ListN.{length, set};
 ghost use Rattle.tables.specs.Lines.{giveKind};
 ghost use Rattle.tables.specs.Notes.{noteAt, lookIn, typed as typedOf, marked as markedOf, markedBy, Spread};
 
+// The bytes of a note.
+pub const BYTES: usize = 5;
+
 // The note of the line a; of no line past the end.
-pub fn at(notes: &[[u8; 5]], a: u64) -> [u8; 5]
+pub fn at(notes: &[[u8; BYTES]], a: u64) -> [u8; BYTES]
     ensures { λ r. ⌜ r ≡ noteAt (now (notes .entry)) a ⌝ }
 {
     if a < notes.len() as u64 {
@@ -20,7 +23,7 @@ pub fn at(notes: &[[u8; 5]], a: u64) -> [u8; 5]
 }
 
 // The type of the line a.
-pub fn look(notes: &[[u8; 5]], a: u64) -> Ty
+pub fn look(notes: &[[u8; BYTES]], a: u64) -> Ty
     ensures { λ r. ⌜ r ≡ lookIn (now (notes .entry)) a ⌝ }
 {
     let r = at(notes, a);
@@ -32,7 +35,7 @@ pub fn look(notes: &[[u8; 5]], a: u64) -> Ty
 }
 
 // A note goes to the line n; a place past the end is left.
-pub fn put(notes: &mut [[u8; 5]], n: u64, r: [u8; 5])
+pub fn put(notes: &mut [[u8; BYTES]], n: u64, r: [u8; BYTES])
     ensures { λ _. ⌜ now (notes .exit) ≡ set (now (notes .entry)) n r ⌝ }
 {
     if n < notes.len() as u64 {
@@ -42,7 +45,7 @@ pub fn put(notes: &mut [[u8; 5]], n: u64, r: [u8; 5])
 }
 
 // A type goes to the line n.
-pub fn put_type(notes: &mut [[u8; 5]], n: u64, y: Ty)
+pub fn put_type(notes: &mut [[u8; BYTES]], n: u64, y: Ty)
     ensures { λ _. ⌜ now (notes .exit) ≡ set (now (notes .entry)) n (typedOf y (noteAt (now (notes .entry)) n)) ⌝ }
 {
     let r = at(notes, n);
@@ -50,7 +53,7 @@ pub fn put_type(notes: &mut [[u8; 5]], n: u64, y: Ty)
 }
 
 // A note with the mark of an init, or of a next.
-fn marked(init: bool, r: [u8; 5]) -> [u8; 5]
+fn marked(init: bool, r: [u8; BYTES]) -> [u8; BYTES]
     ensures { λ v. ⌜ v ≡ markedOf init r ⌝ }
 {
     if init {
@@ -60,7 +63,7 @@ fn marked(init: bool, r: [u8; 5]) -> [u8; 5]
 }
 
 // A record of the kind k, an init or a next, marks its state.
-pub fn mark(init: bool, k: u64, rec: [u64; 5], notes: &mut [[u8; 5]])
+pub fn mark(init: bool, k: u64, rec: [u64; WORDS], notes: &mut [[u8; BYTES]])
     requires { ⌜ k ≡ giveKind init ⌝ }
     ensures { λ _. ⌜ now (notes .exit) ≡ markedBy init rec (now (notes .entry)) ⌝ }
 {
@@ -71,7 +74,7 @@ pub fn mark(init: bool, k: u64, rec: [u64; 5], notes: &mut [[u8; 5]])
 }
 
 // The index widths and the widths of the lines up to count go to lists of their own.
-pub fn widths(notes: &[[u8; 5]], count: usize, idx: &mut [u8], wid: &mut [u8])
+pub fn widths(notes: &[[u8; BYTES]], count: usize, idx: &mut [u8], wid: &mut [u8])
     requires { ⌜ (count < length (now idx)) × (count < length (now wid)) ⌝ }
     ensures { λ _. ⌜ Spread (now (notes .entry)) (count + 1) (now (idx .entry)) (now (wid .entry)) (now (idx .exit)) (now (wid .exit)) ⌝ }
 {

@@ -2,15 +2,25 @@
 ghost use mathlib.Core.Path.{_≡_};
 ghost use Prim.Native.Nat.{_+_, _*_, _≤_};
 ghost use lib.ListN.{length, replicate};
-ghost use Rattle.tables.specs.Lines.{recordAt, recorded};
+ghost use Rattle.tables.specs.Lines.{fields, span, recordAt, recorded};
 ghost use Rattle.tables.specs.Tables.{room, whole};
 
+// The words of a record.
+pub const WORDS: usize = 5;
+
+// The record of the kind k, the sort line s and the operands a, b and c.
+pub fn of(k: u64, s: u64, a: u64, b: u64, c: u64) -> [u64; WORDS]
+    ensures { λ r. ⌜ r ≡ fields k s a b c ⌝ }
+{
+    [k, s, a, b, c]
+}
+
 // The record at the place i, from 0.
-pub fn record(table: &[u64], i: usize) -> [u64; 5]
-    requires { ⌜ 5 * i + 5 ≤ length (now table) ⌝ }
+pub fn record(table: &[u64], i: usize) -> [u64; WORDS]
+    requires { ⌜ span (i + 1) ≤ length (now table) ⌝ }
     ensures { λ r. ⌜ r ≡ recordAt (now (table .entry)) i ⌝ }
 {
-    let at = 5 * i;
+    let at = WORDS * i;
     [
         table[at],
         table[at + 1],
@@ -24,7 +34,7 @@ pub fn record(table: &[u64], i: usize) -> [u64; 5]
 pub fn room_of(len: usize) -> usize
     ensures { λ r. ⌜ r ≡ room len ⌝ }
 {
-    let n = len / 5;
+    let n = len / WORDS;
     if 16384 < n {
         return 16384;
     }
@@ -32,13 +42,13 @@ pub fn room_of(len: usize) -> usize
 }
 
 // A record goes to the place i.
-pub fn put(table: &mut [u64], i: usize, rec: [u64; 5])
-    requires { ⌜ 5 * i + 5 ≤ length (now table) ⌝ }
+pub fn put(table: &mut [u64], i: usize, rec: [u64; WORDS])
+    requires { ⌜ span (i + 1) ≤ length (now table) ⌝ }
     ensures { λ _. ⌜ now (table .exit) ≡ recorded (now (table .entry)) i rec ⌝ }
 {
-    let at = 5 * i;
+    let at = WORDS * i;
     let mut j: usize = 0;
-    while j < 5 {
+    while j < WORDS {
         let v = rec[j];
         table[at + j] = v;
         j += 1;
@@ -56,9 +66,9 @@ pub fn clear(table: &mut [u64])
     }
 }
 
-// The length is a multiple of five.
+// A list of so many words holds a whole number of records.
 pub fn is_table(len: usize) -> bool
     ensures { λ r. ⌜ r ≡ whole len ⌝ }
 {
-    len % 5 == 0
+    len % WORDS == 0
 }

@@ -1,11 +1,12 @@
 // The rules 8, 9 and 10 for a record after earlier lines. t is the type of its sort, a, b and c are those of its operands.
 use crate::Ty;
 use crate::notes;
+use crate::notes::BYTES;
+use crate::records::WORDS;
 use crate::types;
 ghost use mathlib.Core.Path.{_≡_};
-ghost use mathlib.Core.Bool.{Bool, true, false};
-ghost use mathlib.Core.List.{[], _∷_};
-ghost use Prim.Native.Nat.{_^_, _≤_, _<_};
+ghost use mathlib.Core.Bool.{true, false};
+ghost use Prim.Native.Nat.{_^_, _<_};
 ghost use lib.Dec.{ltb};
 ghost use Rattle.tables.specs.Pick.{all, inside};
 ghost use Rattle.tables.specs.Kinds.{rowOf};
@@ -180,7 +181,7 @@ pub fn fits_give(init: bool, t: Ty, a: Ty, b: Ty) -> bool
 }
 
 // Rule 9.
-pub fn fits(rec: [u64; 5], t: Ty, a: Ty, b: Ty, c: Ty) -> bool
+pub fn fits(rec: [u64; WORDS], t: Ty, a: Ty, b: Ty, c: Ty) -> bool
     ensures { λ r. ⌜ r ≡ all (fitsOf (lineOf rec) t a b c) ⌝ }
 {
     let k = rec[0];
@@ -209,7 +210,7 @@ pub fn fits(rec: [u64; 5], t: Ty, a: Ty, b: Ty, c: Ty) -> bool
 }
 
 // Rule 10: b is the type of the second operand.
-pub fn once(rec: [u64; 5], b: Ty, notes: &[[u8; 5]]) -> bool
+pub fn once(rec: [u64; WORDS], b: Ty, notes: &[[u8; BYTES]]) -> bool
     ensures { λ r. ⌜ r ≡ all (onceRules (lineOf rec) (givenIn (now (notes .entry))) b) ⌝ }
 {
     let k = rec[0];
@@ -231,7 +232,7 @@ pub fn once(rec: [u64; 5], b: Ty, notes: &[[u8; 5]]) -> bool
 }
 
 // The first of 8, 9 and 10 that holds of a record after the lines that the notes hold, or 0. The row is that of its kind.
-pub fn fault(program: bool, row: [u8; 16], rec: [u64; 5], notes: &[[u8; 5]]) -> u64
+pub fn fault(program: bool, row: [u8; 16], rec: [u64; WORDS], notes: &[[u8; BYTES]]) -> u64
     requires { ⌜ row ≡ rowOf (kindIn rec) ⌝ }
     ensures { λ r. ⌜ r ≡ faultOf program (lookIn (now (notes .entry))) (givenIn (now (notes .entry))) rec ⌝ }
 {

@@ -1,8 +1,10 @@
 // Types of lines: what is known of a line before anything is computed.
 use crate::Ty;
 use crate::notes;
+use crate::notes::BYTES;
+use crate::records::WORDS;
 ghost use mathlib.Core.Path.{_≡_};
-ghost use mathlib.Core.Bool.{Bool, true, false, _&&_};
+ghost use mathlib.Core.Bool.{true, false, _&&_};
 ghost use Prim.Native.Nat.{_<_, _≤_};
 ghost use Rattle.tables.specs.Lines.{lineOf, kindIn, firstIn};
 ghost use Rattle.tables.specs.Notes.{lookIn};
@@ -10,7 +12,7 @@ ghost use Rattle.tables.specs.Types.{isWord, isArray, isWordSort, isArra
 ghost use Rattle.tables.specs.Pick.{pick};
 
 // The sort that a line's second word names: in a program the word is the width.
-pub fn sort_at(program: bool, notes: &[[u8; 5]], s: u64) -> Ty
+pub fn sort_at(program: bool, notes: &[[u8; BYTES]], s: u64) -> Ty
     ensures { λ r. ⌜ r ≡ sortAt program (lookIn (now (notes .entry))) s ⌝ }
 {
     if !program {
@@ -111,7 +113,7 @@ pub fn value(fixed: bool, t: Ty) -> Ty
 }
 
 // The type of a record's line, from those of its sort and its operands.
-pub fn type_of(rec: [u64; 5], t: Ty, a: Ty, b: Ty, c: Ty) -> Ty
+pub fn type_of(rec: [u64; WORDS], t: Ty, a: Ty, b: Ty, c: Ty) -> Ty
     requires { ⌜ (kindIn rec ≡ 1 → firstIn rec ≤ 64) ⌝ }
     ensures { λ r. ⌜ r ≡ typeOf (lineOf rec) t a b c ⌝ }
 {
@@ -153,7 +155,7 @@ pub fn type_of(rec: [u64; 5], t: Ty, a: Ty, b: Ty, c: Ty) -> Ty
 }
 
 // The same, for the kinds of operators.
-fn type_of_value(rec: [u64; 5], t: Ty, a: Ty, b: Ty, c: Ty) -> Ty
+fn type_of_value(rec: [u64; WORDS], t: Ty, a: Ty, b: Ty, c: Ty) -> Ty
     requires { ⌜ 10 < kindIn rec ⌝ }
     ensures { λ r. ⌜ r ≡ typeOf (lineOf rec) t a b c ⌝ }
 {

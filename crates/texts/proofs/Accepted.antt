@@ -1,5 +1,5 @@
 -- What reading leaves is an accepted table: with the round trip, a table is accepted just where the text printed from it gives it back. Assumes nothing.
-use Prim.Native.Nat.{ℕ, suc, _+_, _-_, _*_, _≤_, _<_}
+use Prim.Native.Nat.{ℕ, suc, _+_, _-_, _≤_, _<_}
 use mathlib.Core.Path.{_≡_, refl, sym, ap, _∙_, subst}
 use mathlib.Core.Bool.{Bool, true, false}
 use mathlib.Core.List.{List, [], _∷_, _++_, append-nil, append-assoc}
@@ -10,53 +10,32 @@ use lib.Seq.{take-at}
 use borrow.Author.Tests.{leb-true, leb-false}
 use Rattle.tables.specs.declared.Refusal.{Refusal}
 use Rattle.tables.specs.declared.Checked.the-variants.{Accepted}
-use Rattle.tables.specs.Lines.{lineOf, records, counted}
+use Rattle.tables.specs.Lines.{lineOf, records, counted, span, recordSize}
 use Rattle.tables.specs.Types.{Ctx, noCtx, tyAt, given, grow}
 use Rattle.tables.specs.Tables.{whole, room, keeps, lawful, checked}
 use Rattle.tables.proofs.Checking.{is-lawful}
+use Rattle.tables.proofs.Places.{Sized, concat, records-concat, length-concat}
 use Rattle.texts.specs.Split.{split}
 use Rattle.texts.specs.Reading.{Reply, skip, no, got, lineTokens, readLine, done, refused, readLines, readText, tableOf}
 use Rattle.texts.proofs.Kept.{got-keeps, got-room}
 use Rattle.texts.proofs.Reached.{step-got, step-skip, step-no, text-1, text-2, text-lines}
-use Rattle.texts.proofs.Round.{concat}
-
-abbrev Fives : List (List ℕ) → Type 0
-Fives [] = Unit {0}
-Fives (r ∷ rs) = (length r ≡ 5) × Fives rs
-
-records-of : (rs : List (List ℕ)) → Fives rs → records (concat rs) ≡ rs
-records-of [] f = refl
-records-of (r ∷ rs) f = one r (f .0) (records-of rs (f .1))
-  where
-    one : (r : List ℕ) → length r ≡ 5 → records (concat rs) ≡ rs → records (r ++ concat rs) ≡ r ∷ rs
-    one [] l e = absurd (omega arith)
-    one (k ∷ []) l e = absurd (omega arith)
-    one (k ∷ s ∷ []) l e = absurd (omega arith)
-    one (k ∷ s ∷ a ∷ []) l e = absurd (omega arith)
-    one (k ∷ s ∷ a ∷ b ∷ []) l e = absurd (omega arith)
-    one (k ∷ s ∷ a ∷ b ∷ c ∷ []) l e = ap (λ (x : List (List ℕ)). (k ∷ s ∷ a ∷ b ∷ c ∷ []) ∷ x) e
-    one (k ∷ s ∷ a ∷ b ∷ c ∷ x ∷ r) l e = absurd (omega arith)
-
-length-of : (rs : List (List ℕ)) → Fives rs → length (concat rs) ≡ 5 * length rs
-length-of [] f = refl
-length-of (r ∷ rs) f = length-append r (concat rs) ∙ omega (arith, length-of rs (f .1))
 
 -- the records that lines have added to n others
 record Added (m n : ℕ) (c : Ctx) (e : List ℕ) (n′ : ℕ) (e′ : List ℕ) : Type 0 where
   rs : List (List ℕ)
   words : e′ ≡ e ++ concat rs
-  fives : Fives rs
+  sized : Sized rs
   law : lawful false c rs ≡ true
   count : n′ ≡ n + length rs
   most : n ≤ m → n′ ≤ m
 
-added-one : {m n n′ : ℕ} {c : Ctx} {e e′ : List ℕ} (r : List ℕ) → keeps false (tyAt c) (given c) r ≡ true → length r ≡ 5 → n < m
+added-one : {m n n′ : ℕ} {c : Ctx} {e e′ : List ℕ} (r : List ℕ) → keeps false (tyAt c) (given c) r ≡ true → length r ≡ recordSize → n < m
     → Added m (suc n) (grow false c (lineOf r)) (e ++ r) n′ e′ → Added m n c e n′ e′
 added-one {e = e} r k l h a =
     record {
       rs = r ∷ a .rs;
       words = a .words ∙ append-assoc e r (concat (a .rs));
-      fives = (l, a .fives);
+      sized = (l, a .sized);
       law = rw (k, a .law) refl;
       count = a .count ∙ omega arith;
       most = λ x. a .most h;
@@ -67,7 +46,7 @@ unfolding readLines
 adds m l n c e [] n′ e′ q =
     let a : n ≡ n′ = cc in
     let b : e ≡ e′ = cc in
-    record { rs = []; words = sym b ∙ sym (append-nil e); fives = tt; law = refl; count = sym a ∙ omega arith; most = λ h. omega arith }
+    record { rs = []; words = sym b ∙ sym (append-nil e); sized = tt; law = refl; count = sym a ∙ omega arith; most = λ h. omega arith }
 adds m l n c e (x ∷ xs) n′ e′ q =
     go (readLine (tyAt c) (given c) m n (lineTokens x)) refl (adds m (suc l) n c e xs n′ e′) (λ r. adds m (suc l) (suc n) (grow false c (lineOf r)) (e ++ r) xs n′ e′)
   where
@@ -89,10 +68,10 @@ read-accepted len s n e q = go (whole len) (leb (length s) 65536) refl refl
     taken : whole len ≡ true → Added (room len) 0 noCtx [] n e → checked false (tableOf len (done n e)) n ≡ Accepted
     taken w a =
         let z : List ℕ = replicate (len - length e) 0 in
-        let le : length e ≡ 5 * n = ap length (a .words) ∙ (length-of (a .rs) (a .fives) ∙ omega (arith, a .count)) in
+        let le : length e ≡ span n = ap length (a .words) ∙ (length-concat (a .rs) (a .sized) ∙ omega (arith, a .count)) in
         let few : n ≤ room len = a .most (omega arith) in
         let lt : length (e ++ z) ≡ len = length-append e z ∙ omega (arith, length-replicate {A = ℕ} (len - length e) 0, le, few) in
-        let rs : records (counted (e ++ z) n) ≡ a .rs = ap records (take-at e z (5 * n) le) ∙ (ap records (a .words) ∙ records-of (a .rs) (a .fives)) in
+        let rs : records (counted (e ++ z) n) ≡ a .rs = ap records (take-at e z (span n) le) ∙ (ap records (a .words) ∙ records-concat (a .rs) (a .sized)) in
         sym (is-lawful false (e ++ z) n (ap whole lt ∙ w) (subst (λ (k : ℕ). n ≤ room k) (sym lt) few) (sym (ap (lawful false noCtx) rs ∙ a .law)))
 
     go : (x y : Bool) → whole len ≡ x → leb (length s) 65536 ≡ y → checked false (tableOf len (done n e)) n ≡ Accepted

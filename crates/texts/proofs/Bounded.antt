@@ -11,7 +11,7 @@ use borrow.Author.Tests.{eqb-true, eqb-false, leb-true, leb-false, ltb-true, lt-
 use mir.Facts.{and-yes}
 use Rattle.tables.specs.declared.Ty.{Ty}
 use Rattle.tables.specs.Kinds.{rowOf, secondClass, thirdClass}
-use Rattle.tables.specs.Lines.{Line, Expr, lineOf, wordsOf, five, records}
+use Rattle.tables.specs.Lines.{Line, Expr, lineOf, wordsOf, fields, records, recordSize}
 use Rattle.tables.specs.Types.{Ctx, noCtx, tyAt, given, grow}
 use Rattle.tables.specs.Tables.{unused, formed, keeps, lawful}
 use Rattle.tables.proofs.Every.{every, at-each}
@@ -19,6 +19,7 @@ use Rattle.tables.proofs.Kept.{both}
 use Rattle.tables.proofs.Formed.{words-back}
 use Rattle.tables.proofs.Facts.{Ok, OkExpr, OkOne}
 use Rattle.tables.proofs.Wide.{AllWide, grow-wide}
+use Rattle.tables.proofs.Places.{Sized, records-sized}
 use Rattle.tables.proofs.Sound.{sound}
 use Rattle.tables.proofs.Showing.{earlier}
 
@@ -26,7 +27,7 @@ use Rattle.tables.proofs.Showing.{earlier}
 abbrev pub Words : List ℕ → Type 0
 Words t = (j : ℕ) → getD t j 0 < 2 ^ 64
 
-small : (k s a b c : ℕ) → k < 2 ^ 64 → s < 2 ^ 64 → a < 2 ^ 64 → b < 2 ^ 64 → c < 2 ^ 64 → Words (five k s a b c)
+small : (k s a b c : ℕ) → k < 2 ^ 64 → s < 2 ^ 64 → a < 2 ^ 64 → b < 2 ^ 64 → c < 2 ^ 64 → Words (fields k s a b c)
 small k s a b c hk hs ha hb hc zero = hk
 small k s a b c hk hs ha hb hc (suc zero) = hs
 small k s a b c hk hs ha hb hc (suc (suc zero)) = ha
@@ -138,24 +139,19 @@ module _ (c : Ctx) (w : AllWide (tyAt c)) (few : length (c .tys) ≤ 16385) wher
 
 abbrev pub Good : List (List ℕ) → Type 0
 Good [] = Unit {0}
-Good (r ∷ rs) = ((length r ≡ 5) × Words r) × Good rs
+Good (r ∷ rs) = ((length r ≡ recordSize) × Words r) × Good rs
 
-good-from : (c : Ctx) (t : List ℕ) → AllWide (tyAt c) → length (c .tys) + length (records t) ≤ 16385 → lawful false c (records t) ≡ true → Good (records t)
-good-from c [] w h e = tt
-good-from c (k ∷ []) w h e = tt
-good-from c (k ∷ s ∷ []) w h e = tt
-good-from c (k ∷ s ∷ a ∷ []) w h e = tt
-good-from c (k ∷ s ∷ a ∷ b ∷ []) w h e = tt
-good-from c (k ∷ s ∷ a ∷ b ∷ d ∷ t) w h e =
-    let r : List ℕ = five k s a b d in
-    let f = both (keeps false (tyAt c) (given c) (five k s a b d)) _ e in
-    let o = sound false (tyAt c) (given c) k s a b d (f .0) in
-    let x = words-back false (five k s a b d) refl (both (formed false (five k s a b d)) _ (f .0) .0) in
-    let g : length (grow false c (lineOf (five k s a b d)) .tys) ≡ length (c .tys) + 1 = length-append (c .tys) _ in
-    ((refl, subst Words x (line-words c w (omega arith) (lineOf (five k s a b d)) o)), good-from (grow false c (lineOf (five k s a b d))) t (grow-wide false c (lineOf (five k s a b d)) w o) (omega arith) (f .1))
+good-from : (c : Ctx) (rs : List (List ℕ)) → Sized rs → AllWide (tyAt c) → length (c .tys) + length rs ≤ 16385 → lawful false c rs ≡ true → Good rs
+good-from c [] z w h e = tt
+good-from c (r ∷ rs) z w h e =
+    let f = both (keeps false (tyAt c) (given c) r) _ e in
+    let o = sound false (tyAt c) (given c) r (f .0) in
+    let x = words-back false r (z .0) (both (formed false r) _ (f .0) .0) in
+    let g : length (grow false c (lineOf r) .tys) ≡ length (c .tys) + 1 = length-append (c .tys) _ in
+    ((z .0, subst Words x (line-words c w (omega arith) (lineOf r) o)), good-from (grow false c (lineOf r)) rs (z .1) (grow-wide false c (lineOf r) w o) (omega arith) (f .1))
 
 pub good-lawful : (t : List ℕ) → length (records t) ≤ 16384 → lawful false noCtx (records t) ≡ true → Good (records t)
-good-lawful t h e = good-from noCtx t none-wide (omega arith) e
+good-lawful t h e = good-from noCtx (records t) (records-sized t) none-wide (omega arith) e
   where
     none-wide : AllWide (tyAt noCtx)
     none-wide zero q = absurd (omega arith)

@@ -15,7 +15,7 @@ use Rattle.tables.specs.declared.Refusal.the-variants.{TextBuffer}
 use Rattle.tables.specs.declared.Checked.{Checked}
 use Rattle.tables.specs.declared.Checked.the-variants.{Accepted, Refused}
 use Rattle.tables.specs.Kinds.{rowOf, wordOf, countOf}
-use Rattle.tables.specs.Lines.{lineOf, kindIn, records, counted, recordAt}
+use Rattle.tables.specs.Lines.{lineOf, kindIn, records, counted, recordAt, span}
 use Rattle.tables.specs.Types.{Ctx, noCtx, tyAt, given, grow}
 use Rattle.tables.specs.Tables.{room, known, formed, keeps, lawful, checked}
 use Rattle.tables.proofs.Kept.{both}
@@ -28,7 +28,7 @@ use Rattle.texts.specs.Split.{spaced, join}
 use Rattle.texts.specs.Decimal.{digits, digitsF}
 use Rattle.texts.specs.Writing.{numbers, kindTokens, tokensOf, writeFrom, writeText, fitted, writeTable, writeAnswer, bufferOf}
 use Rattle.texts.proofs.Words.{row-shape, row-kind, sorted-most}
-use Rattle.texts.proofs.Reached.{drop-zeros}
+use Rattle.tables.proofs.Places.{drop-zeros}
 use Rattle.texts.proofs.Bounded.{Good, good-lawful}
 
 -- ---- digits printed
@@ -263,7 +263,7 @@ pub record Before (t : List ℕ) (n : ℕ) (out₀ out : List ℕ) (at p : ℕ) 
 
 pub before-all : (t : List ℕ) (n : ℕ) (out : List ℕ) → n ≤ room (length t) → lawful false noCtx (records (counted t n)) ≡ true → Before t n out out 0 0
 before-all t n out few law =
-    let fits : 5 * n ≤ length t = roomy (length t) n few .1 in
+    let fits : span n ≤ length t = roomy (length t) n few .1 in
     let m = text-most noCtx (records (counted t n)) 1 (good-lawful (counted t n) (omega (arith, length-records n t fits, roomy (length t) n few .0)) law) law (omega (arith, length-records n t fits)) in
     record {
       most = zero-le;
@@ -274,7 +274,7 @@ before-all t n out few law =
     }
 
 module _ {t : List ℕ} {n : ℕ} {out₀ out : List ℕ} {at p : ℕ} (B : Before t n out₀ out at p) (few : n ≤ room (length t)) where
-  fits : 5 * n ≤ length t
+  fits : span n ≤ length t
   fits = roomy (length t) n few .1
 
   pub after-all : n ≤ p → (at ≡ length (writeText (counted t n))) × (out ≡ sets out₀ 0 (writeText (counted t n)))

@@ -2,23 +2,24 @@
 use mathlib.Core.Path.{_≡_, refl, sym, ap, ap₂, _∙_, subst}
 use mathlib.Core.Bool.{Bool, true, false}
 use mathlib.Core.List.{List, [], _∷_, _++_}
-use Prim.Native.Nat.{ℕ, zero, suc, _+_, _-_, _*_, _≤_, _<_, min, zero-le}
+use Prim.Native.Nat.{ℕ, zero, suc, _+_, _-_, _≤_, _<_, min, zero-le}
 use native.Mathlib.Omega.{arith}
 use native.Mathlib.Numerals.{add-one}
 use lib.Dec.{ltb}
 use lib.ListN.{length, take, drop, getD, replicate, drop-of-length-le, length-append, length-replicate}
-use lib.Seq.{drop-cons, take-all, take-at, drop-append-add}
+use lib.Seq.{drop-cons}
 use borrow.Author.Tests.{eqb-true, ltb-true, ltb-false, le-leb, lt-leb}
 use Rattle.tables.specs.declared.Ty.{Ty}
 use Rattle.tables.specs.declared.Refusal.{Refusal}
 use Rattle.tables.specs.declared.Refusal.the-variants.{NotATable, TextTooLong}
 use Rattle.tables.specs.Pick.{inside, all}
-use Rattle.tables.specs.Lines.{Line, exprWords, lineOf, kindIn, sortIn, firstIn, secondIn, thirdIn, recorded}
+use Rattle.tables.specs.Lines.{Line, exprWords, lineOf, kindIn, sortIn, firstIn, secondIn, thirdIn, recorded, span, recordSize}
 use Rattle.tables.specs.Types.{noTy, lineType, Ctx, noCtx, tyAt, given, grow}
 use Rattle.tables.specs.Notes.{lookIn, givenIn, Shows, noted}
 use Rattle.tables.specs.Tables.{whole, room, formed, keeps}
 use Rattle.tables.specs.Rules.{fits, fault}
 use Rattle.tables.proofs.Kept.{both}
+use Rattle.tables.proofs.Places.{record-more}
 use Rattle.tables.proofs.Answers.{passed, sort-width}
 use Rattle.tables.proofs.Shapes.{range}
 use Rattle.tables.proofs.Showing.{length-noted, shows-more, length-more}
@@ -124,24 +125,14 @@ narrow-kept c r h k =
 
 -- ---- the table
 
-pub drop-zeros : (k m : ℕ) → drop {A = ℕ} k (replicate m 0) ≡ replicate (m - k) 0
-drop-zeros zero m = let q : m ≡ m - 0 = omega arith in ap (λ (j : ℕ). replicate {A = ℕ} j 0) q
-drop-zeros (suc k) zero = let q : 0 ≡ 0 - suc k = omega arith in ap (λ (j : ℕ). replicate {A = ℕ} j 0) q
-drop-zeros (suc k) (suc m) = let q : m - k ≡ suc m - suc k = omega arith in drop-zeros k m ∙ ap (λ (j : ℕ). replicate {A = ℕ} j 0) q
-
 -- a record is put behind n others
-module _ (len n : ℕ) (e r : List ℕ) (le : length e ≡ 5 * n) (lr : length r ≡ 5) where
+module _ (len n : ℕ) (e r : List ℕ) (le : length e ≡ span n) (lr : length r ≡ recordSize) where
   pub put-next : recorded (tableOf len (done n e)) n r ≡ tableOf len (done (n + 1) (e ++ r))
   put-next =
-      let z : List ℕ = replicate (len - length e) 0 in
-      let a : 5 * n + 5 ≡ length e + 5 = omega arith in
-      let b : len - length e - 5 ≡ len - length (e ++ r) = omega (arith, length-append e r) in
-      let d : drop (5 * n + 5) (e ++ z) ≡ replicate (len - length (e ++ r)) 0 =
-      ap (λ (k : ℕ). drop k (e ++ z)) a ∙ (drop-append-add e z 5 ∙ (drop-zeros 5 (len - length e) ∙ ap (λ (k : ℕ). replicate {A = ℕ} k 0) b)) in
-      ap (λ (x : List ℕ). (x ++ take 5 r) ++ drop (5 * n + 5) (e ++ z)) (take-at e z (5 * n) le)
-      ∙ (ap (λ (x : List ℕ). (e ++ x) ++ drop (5 * n + 5) (e ++ z)) (take-all 5 r (omega arith)) ∙ ap (λ (x : List ℕ). (e ++ r) ++ x) d)
+      let q : len - length e - length r ≡ len - length (e ++ r) = omega (arith, length-append e r) in
+      record-more e r (len - length e) n le lr ∙ ap (λ (k : ℕ). (e ++ r) ++ replicate {A = ℕ} k 0) q
 
-  pub next-size : length (e ++ r) ≡ 5 * (n + 1)
+  pub next-size : length (e ++ r) ≡ span (n + 1)
   next-size = length-append e r ∙ omega arith
 
 -- ---- before a line
@@ -151,7 +142,7 @@ pub record Reached (s : List ℕ) (len i n line : ℕ) (table : List ℕ) (notes
   pub within : i ≤ length s
   pub early : line ≤ i + 1
   pub most : n ≤ room len
-  pub size : length e ≡ 5 * n
+  pub size : length e ≡ span n
   pub filled : table ≡ tableOf len (done n e)
   pub shows : Shows notes c
   pub ample : length notes ≡ 16385
@@ -229,7 +220,7 @@ module _ {s table e : List ℕ} {notes : List (List ℕ)} {len i n line : ℕ} {
       is-got : readLine (tyAt c) (given c) (room len) n (lineTokens (take (f - i) (drop i s))) ≡ got (r .rec)
       is-got = sym as-line ∙ told-got (readLine (lookIn notes) (givenIn notes) m n (tokens (take (z - i) (drop i s)))) r er h
 
-      kept : (keeps false (tyAt c) (given c) (r .rec) ≡ true) × (length (r .rec) ≡ 5)
+      kept : (keeps false (tyAt c) (given c) (r .rec) ≡ true) × (length (r .rec) ≡ recordSize)
       kept = got-keeps (tyAt c) (given c) (room len) n (lineTokens (take (f - i) (drop i s))) (r .rec) is-got
 
       pub has-room : n < room len

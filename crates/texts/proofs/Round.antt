@@ -1,5 +1,5 @@
 -- The round trip: an accepted table, written as text and read again, gives the same records and the same count. Assumes nothing.
-use Prim.Native.Nat.{ℕ, zero, suc, _+_, _-_, _*_, _%_, _^_, _≤_, _<_}
+use Prim.Native.Nat.{ℕ, zero, suc, _+_, _-_, _^_, _≤_, _<_}
 use mathlib.Core.Path.{_≡_, refl, sym, ap, _∙_, subst}
 use mathlib.Core.Bool.{Bool, true, false, _&&_, _||_}
 use mathlib.Core.List.{List, [], _∷_, _++_, append-nil, append-assoc}
@@ -8,14 +8,14 @@ use lib.Dec.{T, eqb, leb, ltb, eqb→eq, leb→le}
 use lib.ListN.{length, getD, set}
 use lib.Seq.{length-take-le}
 use mir.Facts.{and-yes}
-use borrow.Author.Tests.{eqb-true, eqb-false, eq-eqb, lt-ltb, ltb-true, leb-true, leb-false}
+use borrow.Author.Tests.{eqb-true, eqb-false, eq-eqb, lt-ltb, ltb-true}
 use Rattle.tables.specs.declared.Ty.{Ty}
 use Rattle.tables.specs.declared.Refusal.the-variants.{TextBuffer}
 use Rattle.tables.specs.declared.Checked.{Checked}
 use Rattle.tables.specs.declared.Checked.the-variants.{Accepted, Refused}
 use Rattle.tables.specs.Pick.{pick, inside}
 use Rattle.tables.specs.Kinds.{rowOf, sortClass, countOf, firstClass, secondClass, thirdClass}
-use Rattle.tables.specs.Lines.{isBitvec, shapeOf, lineOf, five, kindIn, sortIn, firstIn, secondIn, thirdIn, records, counted}
+use Rattle.tables.specs.Lines.{isBitvec, shapeOf, lineOf, fields, kindIn, sortIn, firstIn, secondIn, thirdIn, records, counted, span, recordSize}
 use Rattle.tables.specs.Types.{Ctx, noCtx, tyAt, given, grow}
 use Rattle.tables.specs.Rules.{fault}
 use Rattle.tables.specs.Tables.{whole, room, known, unused, formed, keeps, lawful, checked}
@@ -25,7 +25,9 @@ use Rattle.tables.proofs.Shapes.{fits-as, range}
 use Rattle.tables.proofs.Answers.{passed}
 use Rattle.tables.proofs.Kept.{both}
 use Rattle.tables.proofs.Counted.{length-records}
-use Rattle.tables.proofs.Checking.{no-table, too-many, unlawful, not-accepted, roomy}
+use Rattle.tables.proofs.Checking.{roomy}
+use Rattle.tables.proofs.Places.{fields-of, fields-eq, concat, concat-records}
+use Rattle.tables.proofs.Sound.{accepted-room, accepted-lawful}
 use Rattle.texts.specs.declared.Num.the-variants.{Is}
 use Rattle.texts.specs.Forms.{firstOf, numbersOf}
 use Rattle.texts.specs.Split.{split, join}
@@ -60,19 +62,16 @@ module _ (k : ℕ) (low : k ≤ 55) (rec : List ℕ) (words : (j : ℕ) → getD
 
 -- ---- the words that a line does not use are 0, so nothing of a formed record is lost
 
-five-eq : {k s a b c s₁ a₁ b₁ c₁ : ℕ} → s₁ ≡ s → a₁ ≡ a → b₁ ≡ b → c₁ ≡ c → five k s₁ a₁ b₁ c₁ ≡ five k s a b c
-five-eq {k} es ea eb ec = λ i. five k (es i) (ea i) (eb i) (ec i)
-
 by-count : (q : Bool) (n k s a b c : ℕ) → n ≤ 3 → (q ≡ true → s ≡ 0) → (n ≤ 0 → a ≡ 0) → (n ≤ 1 → b ≡ 0) → (n ≤ 2 → c ≡ 0)
-    → copied (pick q 0 1 + n) (2 - pick q 0 1) (five k s a b c) (fresh k) ≡ five k s a b c
-by-count true zero k s a b c l z₁ z₂ z₃ z₄ = five-eq (sym (z₁ refl)) (sym (z₂ (omega arith))) (sym (z₃ (omega arith))) (sym (z₄ (omega arith)))
-by-count true (suc zero) k s a b c l z₁ z₂ z₃ z₄ = five-eq (sym (z₁ refl)) refl (sym (z₃ (omega arith))) (sym (z₄ (omega arith)))
-by-count true (suc (suc zero)) k s a b c l z₁ z₂ z₃ z₄ = five-eq (sym (z₁ refl)) refl refl (sym (z₄ (omega arith)))
-by-count true (suc (suc (suc zero))) k s a b c l z₁ z₂ z₃ z₄ = five-eq (sym (z₁ refl)) refl refl refl
+    → copied (pick q 0 1 + n) (2 - pick q 0 1) (fields k s a b c) (fresh k) ≡ fields k s a b c
+by-count true zero k s a b c l z₁ z₂ z₃ z₄ = fields-eq refl (sym (z₁ refl)) (sym (z₂ (omega arith))) (sym (z₃ (omega arith))) (sym (z₄ (omega arith)))
+by-count true (suc zero) k s a b c l z₁ z₂ z₃ z₄ = fields-eq refl (sym (z₁ refl)) refl (sym (z₃ (omega arith))) (sym (z₄ (omega arith)))
+by-count true (suc (suc zero)) k s a b c l z₁ z₂ z₃ z₄ = fields-eq refl (sym (z₁ refl)) refl refl (sym (z₄ (omega arith)))
+by-count true (suc (suc (suc zero))) k s a b c l z₁ z₂ z₃ z₄ = fields-eq refl (sym (z₁ refl)) refl refl refl
 by-count true (suc (suc (suc (suc n)))) k s a b c l z₁ z₂ z₃ z₄ = absurd (omega arith)
-by-count false zero k s a b c l z₁ z₂ z₃ z₄ = five-eq refl (sym (z₂ (omega arith))) (sym (z₃ (omega arith))) (sym (z₄ (omega arith)))
-by-count false (suc zero) k s a b c l z₁ z₂ z₃ z₄ = five-eq refl refl (sym (z₃ (omega arith))) (sym (z₄ (omega arith)))
-by-count false (suc (suc zero)) k s a b c l z₁ z₂ z₃ z₄ = five-eq refl refl refl (sym (z₄ (omega arith)))
+by-count false zero k s a b c l z₁ z₂ z₃ z₄ = fields-eq refl refl (sym (z₂ (omega arith))) (sym (z₃ (omega arith))) (sym (z₄ (omega arith)))
+by-count false (suc zero) k s a b c l z₁ z₂ z₃ z₄ = fields-eq refl refl refl (sym (z₃ (omega arith))) (sym (z₄ (omega arith)))
+by-count false (suc (suc zero)) k s a b c l z₁ z₂ z₃ z₄ = fields-eq refl refl refl refl (sym (z₄ (omega arith)))
 by-count false (suc (suc (suc zero))) k s a b c l z₁ z₂ z₃ z₄ = refl
 by-count false (suc (suc (suc (suc n)))) k s a b c l z₁ z₂ z₃ z₄ = absurd (omega arith)
 
@@ -99,8 +98,8 @@ no-class n m c x t u h = go (ltb m n) refl t
     go true e y = absurd (omega (arith, ltb-true m n e))
     go false e y = eqb-true x 0 (subst (λ (d : ℕ). unused d x ≡ true) (eqb→eq c 0 y) u)
 
-copied-five : (k s a b c : ℕ) → formed false (five k s a b c) ≡ true → copied (numbersOf (rowOf k)) (firstOf (rowOf k)) (five k s a b c) (fresh k) ≡ five k s a b c
-copied-five k s a b c h =
+copied-fields : (k s a b c : ℕ) → formed false (fields k s a b c) ≡ true → copied (numbersOf (rowOf k)) (firstOf (rowOf k)) (fields k s a b c) (fresh k) ≡ fields k s a b c
+copied-fields k s a b c h =
     let row : List ℕ = rowOf k in
     let f = both (known false k) _ h in
     let g = range 1 55 k (f .0) in
@@ -118,14 +117,11 @@ copied-five k s a b c h =
     (no-class (countOf (rowOf k)) 1 (secondClass (rowOf k)) b (t₃ .0) (u₃ .0))
     (no-class (countOf (rowOf k)) 2 (thirdClass (rowOf k)) c (t₃ .1) (u₄ .0))
 
-copied-back : (r : List ℕ) → length r ≡ 5 → formed false r ≡ true → copied (numbersOf (rowOf (kindIn r))) (firstOf (rowOf (kindIn r))) r (fresh (kindIn r)) ≡ r
-copied-back [] l h = absurd (omega arith)
-copied-back (k ∷ []) l h = absurd (omega arith)
-copied-back (k ∷ s ∷ []) l h = absurd (omega arith)
-copied-back (k ∷ s ∷ a ∷ []) l h = absurd (omega arith)
-copied-back (k ∷ s ∷ a ∷ b ∷ []) l h = absurd (omega arith)
-copied-back (k ∷ s ∷ a ∷ b ∷ c ∷ []) l h = copied-five k s a b c h
-copied-back (k ∷ s ∷ a ∷ b ∷ c ∷ x ∷ r) l h = absurd (omega arith)
+copied-back : (r : List ℕ) → length r ≡ recordSize → formed false r ≡ true → copied (numbersOf (rowOf (kindIn r))) (firstOf (rowOf (kindIn r))) r (fresh (kindIn r)) ≡ r
+copied-back r l h =
+    let e = fields-of r l in
+    ap (λ (x : List ℕ). copied (numbersOf (rowOf (kindIn r))) (firstOf (rowOf (kindIn r))) x (fresh (kindIn r))) e
+    ∙ (copied-fields (kindIn r) (sortIn r) (firstIn r) (secondIn r) (thirdIn r) h ∙ sym e)
 
 -- ---- a line
 
@@ -141,7 +137,7 @@ kind-toks : (k : ℕ) → 1 ≤ k → k ≤ 55 → Toks (kindTokens k)
 kind-toks zero a b = absurd (omega arith)
 kind-toks (suc i) a b = word-toks i (omega arith)
 
-module _ (L : ℕ → Ty) (G : Bool → ℕ → Bool) (r : List ℕ) (five-long : length r ≡ 5) (words : (j : ℕ) → getD r j 0 < 2 ^ 64) (kp : keeps false L G r ≡ true) where
+module _ (L : ℕ → Ty) (G : Bool → ℕ → Bool) (r : List ℕ) (sized : length r ≡ recordSize) (words : (j : ℕ) → getD r j 0 < 2 ^ 64) (kp : keeps false L G r ≡ true) where
   well : formed false r ≡ true
   well = both (formed false r) _ kp .0
 
@@ -182,21 +178,9 @@ module _ (L : ℕ → Ty) (G : Bool → ℕ → Bool) (r : List ℕ) (five-long 
       let ns : List (List ℕ) = numbers (numbersOf (rowOf (kindIn r))) (firstOf (rowOf (kindIn r))) r in
       let x = numbers-read (kindIn r) most r words (numbersOf (rowOf (kindIn r))) (firstOf (rowOf (kindIn r))) (fresh (kindIn r)) 0 in
       rw (decimal-digits (suc n) s, eq-eqb (suc n) (suc n) refl, lt-ltb n m h, readLine)
-      (rw (kind-word (kindIn r) least most ns, row-kind (kindIn r) most, kind-low (kindIn r) most, x .1, copied-back r five-long well) (large-got (x .0)))
+      (rw (kind-word (kindIn r) least most ns, row-kind (kindIn r) most, kind-low (kindIn r) most, x .1, copied-back r sized well) (large-got (x .0)))
 
 -- ---- the lines, the text
-
-abbrev pub concat : List (List ℕ) → List ℕ
-concat [] = []
-concat (r ∷ rs) = r ++ concat rs
-
-joined : (t : List ℕ) → length t % 5 ≡ 0 → concat (records t) ≡ t
-joined [] h = refl
-joined (k ∷ []) h = absurd (omega arith)
-joined (k ∷ s ∷ []) h = absurd (omega arith)
-joined (k ∷ s ∷ a ∷ []) h = absurd (omega arith)
-joined (k ∷ s ∷ a ∷ b ∷ []) h = absurd (omega arith)
-joined (k ∷ s ∷ a ∷ b ∷ c ∷ t) h = ap (λ (x : List ℕ). k ∷ s ∷ a ∷ b ∷ c ∷ x) (joined t (omega arith))
 
 lines-read : (m l n : ℕ) (c : Ctx) (e : List ℕ) (rs : List (List ℕ)) → n + length rs ≤ m → m ≤ 16384 → Good rs → lawful false c rs ≡ true
     → readLines m l n c e (split 10 (writeFrom (suc n) rs)) ≡ done (n + length rs) (e ++ concat rs)
@@ -218,13 +202,7 @@ pub record Held (t : List ℕ) (n : ℕ) : Type 0 where
   pub law : lawful false noCtx (records (counted t n)) ≡ true
 
 pub held : (t : List ℕ) (n : ℕ) → checked false t n ≡ Accepted → Held t n
-held t n e = go (whole (length t)) (leb n (room (length t))) (lawful false noCtx (records (counted t n))) refl refl refl
-  where
-    go : (x y z : Bool) → whole (length t) ≡ x → leb n (room (length t)) ≡ y → lawful false noCtx (records (counted t n)) ≡ z → Held t n
-    go true true true p q r = record { fits = leb-true n (room (length t)) q; law = r }
-    go true true false p q r = absurd (not-accepted _ (unlawful false t n p (leb-true n (room (length t)) q) (sym r) ∙ e))
-    go true false z p q r = absurd (not-accepted _ (too-many false t n p (leb-false n (room (length t)) q) ∙ e))
-    go false y z p q r = absurd (not-accepted _ (no-table false t n p ∙ e))
+held t n e = record { fits = accepted-room false t n e .1; law = accepted-lawful false t n e }
 
 -- For every accepted table and count whose written text has at most 65,536 bytes: reading that text into any table with room gives the same records and the same count.
 pub round-trip : (t : List ℕ) (n len : ℕ) → checked false t n ≡ Accepted → length (writeText (counted t n)) ≤ 65536 → whole len ≡ true → n ≤ room len
@@ -233,11 +211,11 @@ unfolding writeText
 round-trip t n len a b d l =
     let k = held t n a in
     let f = roomy (length t) n (k .fits) in
-    let c : length (counted t n) ≡ 5 * n = length-take-le (5 * n) t (f .1) in
+    let c : length (counted t n) ≡ span n = length-take-le (span n) t (f .1) in
     let z : length (records (counted t n)) ≡ n = length-records n t (f .1) in
     text-lines len (writeFrom 1 (records (counted t n))) d b
     ∙ (lines-read (room len) 1 0 noCtx [] (records (counted t n)) (omega arith) (omega arith) (good-lawful (counted t n) (omega arith) (k .law)) (k .law)
-    ∙ (rw (joined (counted t n) (omega arith)) (ap (λ (x : ℕ). done x (counted t n)) (omega arith))))
+    ∙ (rw (concat-records (counted t n) n c) (ap (λ (x : ℕ). done x (counted t n)) (omega arith))))
 
 -- what writing leaves, reading takes
 pub written-read : (t : List ℕ) (n size len : ℕ) (s : List ℕ) → writeTable t n size ≡ wrote s → length s ≤ 65536 → whole len ≡ true → n ≤ room len

@@ -162,16 +162,17 @@ module _ (L : ℕ → Ty) (G : Bool → ℕ → Bool) (f : ℕ) (l : List ℕ) (
   taken-few e h k = e ∙ ap asRead (sym (ended-few L G f (t .rec) (t .len) (t .big) (t .ok) (tokens (drop (t .at) l)) h k))
 
   -- the numbers were taken from a line of the form f, whose row is row
-  pub taken-from : (row : List ℕ) (k s i : ℕ) → x ≡ asRead (ended L G f (asTook l t)) → operands f (s + countOf row) (2 - s) (fresh k) false 0 (tokens (drop i l)) ≡ asTook l t
-      → s ≡ sorted row → row ≡ formRow f → k ≡ kindOf f → x ≡ asRead (ended L G f (numbersIn f (tokens (drop i l))))
-  taken-from row k s i e o es er ek =
+  pub taken-from : (row start : List ℕ) (k s i : ℕ) → x ≡ asRead (ended L G f (asTook l t)) → operands f (s + countOf row) (2 - s) start false 0 (tokens (drop i l)) ≡ asTook l t
+      → start ≡ fresh k → s ≡ sorted row → row ≡ formRow f → k ≡ kindOf f → x ≡ asRead (ended L G f (numbersIn f (tokens (drop i l))))
+  taken-from row start k s i e o eb es er ek =
       let ts : List (List ℕ) = tokens (drop i l) in
       e
       ∙ ap (λ (u : Took). asRead (ended L G f u))
       (sym o
+      ∙ (ap (λ (r : List ℕ). operands f (s + countOf row) (2 - s) r false 0 ts) eb
       ∙ (ap (λ (m : ℕ). operands f (m + countOf row) (2 - m) (fresh k) false 0 ts) es
       ∙ (ap (λ (r : List ℕ). operands f (sorted r + countOf r) (2 - sorted r) (fresh k) false 0 ts) er
-      ∙ ap (λ (m : ℕ). operands f (numbersOf (formRow f)) (firstOf (formRow f)) (fresh m) false 0 ts) ek)))
+      ∙ ap (λ (m : ℕ). operands f (numbersOf (formRow f)) (firstOf (formRow f)) (fresh m) false 0 ts) ek))))
 
 -- ---- lines
 

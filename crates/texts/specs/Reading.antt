@@ -10,7 +10,7 @@ use Rattle.tables.specs.declared.Refusal.{Refusal}
 use Rattle.tables.specs.declared.Refusal.the-variants.{NotATable, TextTooLong, WrongId, NoRecordLeft, UnknownWord, BadOperand, NumberTooLarge, WrongClass, Misfit, InitOrNext}
 use Rattle.tables.specs.Pick.{inside}
 use Rattle.tables.specs.Kinds.{wordOf}
-use Rattle.tables.specs.Lines.{lineOf, five, sortIn, firstIn}
+use Rattle.tables.specs.Lines.{lineOf, fields, sortIn, firstIn}
 use Rattle.tables.specs.Types.{Ctx, noCtx, tyAt, given, grow}
 use Rattle.tables.specs.Rules.{fault}
 use Rattle.tables.specs.Tables.{whole, room}
@@ -75,7 +75,7 @@ operands f (suc m) j rec big len (t ∷ ts) =
 
 -- all places but the kind are 0 before the numbers are put
 abbrev pub fresh : ℕ → List ℕ
-fresh k = five k 0 0 0 0
+fresh k = fields k 0 0 0 0
 
 abbrev pub numbersIn : ℕ → List (List ℕ) → Took
 numbersIn f ts = operands f (numbersOf (formRow f)) (firstOf (formRow f)) (fresh (kindOf f)) false 0 ts

@@ -4,7 +4,7 @@ use mathlib.Core.Bool.{Bool, true, false}
 use mathlib.Core.List.{List, [], _∷_}
 use lib.ListN.{drop}
 use Rattle.tables.specs.declared.Refusal.the-variants.{NotATable}
-use Rattle.tables.specs.Lines.{five}
+use Rattle.tables.specs.Lines.{fields}
 use Rattle.texts.specs.declared.Form.{Form}
 use Rattle.texts.specs.declared.Taken.{Taken}
 use Rattle.texts.specs.declared.Readout.{Readout}
@@ -28,8 +28,8 @@ asTook l t = tookAt (t .ok) (t .rec) (t .big) (t .len) (tokens (drop (t .at) l))
 
 -- 0 and the record, 1 for a blank line, 2 and the refusal
 abbrev pub asRead : Reply → Readout
-asRead skip = record { what = 1; code = NotATable; rec = five 0 0 0 0 0 }
-asRead (no r) = record { what = 2; code = r; rec = five 0 0 0 0 0 }
+asRead skip = record { what = 1; code = NotATable; rec = fields 0 0 0 0 0 }
+asRead (no r) = record { what = 2; code = r; rec = fields 0 0 0 0 0 }
 asRead (got rec) = record { what = 0; code = NotATable; rec = rec }
 
 -- two tokens or more

@@ -9,7 +9,9 @@ pub mod writing; // writing, byte after byte
 use tables::Checked;
 use tables::Refusal;
 use tables::check;
+use tables::notes::BYTES;
 use tables::records;
+use tables::records::WORDS;
 ghost use mathlib.Core.Path.{_≡_};
 ghost use lib.ListN.{length};
 ghost use Rattle.texts.specs.Reading.{readText, answerOf, tableOf};
@@ -47,14 +49,14 @@ pub struct Taken {
     big: bool,
     len: usize,
     at: usize,
-    rec: [u64; 5],
+    rec: [u64; WORDS],
 }
 
 // What a line gives: 0 and its record, 1 for a blank line, 2 and its refusal.
 pub struct Readout {
     what: u64,
     code: Refusal,
-    rec: [u64; 5],
+    rec: [u64; WORDS],
 }
 
 // A part of a text: from a place up to another.
@@ -74,7 +76,7 @@ pub fn read(text: &[u8], table: &mut [u64]) -> ReadOutcome
     if 65536 < text.len() {
         return ReadOutcome::Refused(Refusal::TextTooLong, 0);
     }
-    let mut notes = [[0u8; 5]; 16385];
+    let mut notes = [[0u8; BYTES]; 16385];
     reading::read_lines(text, table, &mut notes)
 }
 

@@ -10,7 +10,9 @@ use crate::tokens;
 use tables::Refusal;
 use tables::check;
 use tables::notes;
+use tables::notes::BYTES;
 use tables::records;
+use tables::records::WORDS;
 use tables::rules;
 ghost use mathlib.Core.Path.{_≡_};
 ghost use mathlib.Core.List.{[]};
@@ -18,7 +20,7 @@ ghost use mathlib.Core.Bool.{true, false};
 ghost use Prim.Native.Nat.{ℕ, _+_, _-_, _^_, _≤_, _<_};
 ghost use lib.ListN.{length, drop, replicate};
 ghost use Rattle.tables.specs.Kinds.{rowOf};
-ghost use Rattle.tables.specs.Lines.{kindIn, firstIn, recorded};
+ghost use Rattle.tables.specs.Lines.{kindIn, firstIn, recorded, recordSize};
 ghost use Rattle.tables.specs.Types.{noCtx};
 ghost use Rattle.tables.specs.Notes.{lookIn, givenIn, Shows, noted};
 ghost use Rattle.tables.specs.Tables.{room as roomOf};
@@ -67,8 +69,8 @@ pub fn number(f: usize, j: usize, t: &[u8]) -> Num
 }
 
 // m numbers from the place i of the line on, to the places j and up of a record.
-pub fn operands(l: &[u8], i: usize, f: usize, m: usize, j: usize, start: [u64; 5]) -> Taken
-    requires { do ⌜ (i ≤ (← ⟦l.len()⟧)) × ((1 ≤ j) × (j + m ≤ 5)) ⌝ }
+pub fn operands(l: &[u8], i: usize, f: usize, m: usize, j: usize, start: [u64; WORDS]) -> Taken
+    requires { do ⌜ (i ≤ (← ⟦l.len()⟧)) × ((1 ≤ j) × (j + m ≤ recordSize)) ⌝ }
     ensures { λ r. do ⌜ (r .at ≤ (← ⟦l.len()⟧ .entry)) × ((kindIn (r .rec) ≡ kindIn start) × (operandsOf f m j start false 0 (tokensIn (drop i (now (l .entry)))) ≡ asTook (now (l .entry)) r)) ⌝ }
 {
     let e = j + m;
@@ -130,12 +132,12 @@ pub fn refuse(r: Refusal) -> Readout
     Readout {
         what: 2,
         code: r,
-        rec: [0; 5],
+        rec: [0; WORDS],
     }
 }
 
 // 9, 10, or the record.
-pub fn ruled(a: u64, rec: [u64; 5]) -> Readout
+pub fn ruled(a: u64, rec: [u64; WORDS]) -> Readout
     ensures { λ x. ⌜ x ≡ asRead (ruledBy a rec) ⌝ }
 {
     if a == 0 {
@@ -163,7 +165,7 @@ pub fn ones(w: u8) -> u64
 }
 
 // The record after the words that give a value; w is the width of the line's sort.
-pub fn settle(w: u8, f: usize, rec: [u64; 5]) -> [u64; 5]
+pub fn settle(w: u8, f: usize, rec: [u64; WORDS]) -> [u64; WORDS]
     requires { ⌜ w ≤ 64 ⌝ }
     ensures { λ r. ⌜ r ≡ settled w f rec ⌝ }
 {
@@ -180,7 +182,13 @@ pub fn settle(w: u8, f: usize, rec: [u64; 5]) -> [u64; 5]
 }
 
 // 8, 9 and 10. The row is that of the record's kind.
-pub fn judge(row: [u8; 16], f: usize, len: usize, rec: [u64; 5], notes: &[[u8; 5]]) -> Readout
+pub fn judge(
+    row: [u8; 16],
+    f: usize,
+    len: usize,
+    rec: [u64; WORDS],
+    notes: &[[u8; BYTES]],
+) -> Readout
     requires { ⌜ row ≡ rowOf (kindIn rec) ⌝ }
     ensures { λ r. ⌜ r ≡ asRead (judged (lookIn (now (notes .entry))) (givenIn (now (notes .entry))) f len rec) ⌝ }
 {
@@ -202,10 +210,10 @@ pub fn judge(row: [u8; 16], f: usize, len: usize, rec: [u64; 5], notes: &[[u8; 5
 pub fn large(
     row: [u8; 16],
     f: usize,
-    rec: [u64; 5],
+    rec: [u64; WORDS],
     big: bool,
     len: usize,
-    notes: &[[u8; 5]],
+    notes: &[[u8; BYTES]],
 ) -> Readout
     requires { ⌜ (row ≡ rowOf (kindIn rec)) × ((a : ℕ) → lookIn (now notes) a .w ≤ 64) ⌝ }
     ensures { λ r. ⌜ r ≡ asRead (largeOf (lookIn (now (notes .entry))) (givenIn (now (notes .entry))) f rec big len) ⌝ }
@@ -225,7 +233,7 @@ pub fn large(
 }
 
 // What stands behind the numbers, 6, and what follows.
-pub fn finish(l: &[u8], row: [u8; 16], f: usize, t: Taken, notes: &[[u8; 5]]) -> Readout
+pub fn finish(l: &[u8], row: [u8; 16], f: usize, t: Taken, notes: &[[u8; BYTES]]) -> Readout
     requires { do ⌜ (t .at ≤ (← ⟦l.len()⟧)) × ((row ≡ rowOf (kindIn (t .rec))) × ((a : ℕ) → lookIn (now notes) a .w ≤ 64)) ⌝ }
     ensures { λ r. ⌜ r ≡ asRead (ended (lookIn (now (notes .entry))) (givenIn (now (notes .entry))) f (asTook (now (l .entry)) t)) ⌝ }
 {
@@ -240,7 +248,7 @@ pub fn finish(l: &[u8], row: [u8; 16], f: usize, t: Taken, notes: &[[u8; 5]]) ->
 }
 
 // The line behind its word, whose form is f.
-pub fn rest(l: &[u8], f: usize, at: usize, notes: &[[u8; 5]]) -> Readout
+pub fn rest(l: &[u8], f: usize, at: usize, notes: &[[u8; BYTES]]) -> Readout
     requires { do ⌜ (at ≤ (← ⟦l.len()⟧)) × ((1 ≤ f) × ((f ≤ 60) × ((a : ℕ) → lookIn (now notes) a .w ≤ 64))) ⌝ }
     ensures { λ r. ⌜ r ≡ asRead (ended (lookIn (now (notes .entry))) (givenIn (now (notes .entry))) f (numbersIn f (tokensIn (drop at (now (l .entry)))))) ⌝ }
 {
@@ -248,7 +256,7 @@ pub fn rest(l: &[u8], f: usize, at: usize, notes: &[[u8; 5]]) -> Readout
     let s = forms::sorted(row);
     let c = row[12] as usize;
     let k = forms::kind_of(f);
-    let t = operands(l, at, f, s + c, 2 - s, [k, 0, 0, 0, 0]);
+    let t = operands(l, at, f, s + c, 2 - s, records::of(k, 0, 0, 0, 0));
     let own = forms::kind_row(f, row);
     finish(l, own, f, t, notes)
 }
@@ -266,7 +274,7 @@ pub fn is_id(t: &[u8], n: u64) -> bool
 }
 
 // A line, after n records, with room for `room` of them.
-pub fn read_line(l: &[u8], n: usize, room: usize, notes: &[[u8; 5]]) -> Readout
+pub fn read_line(l: &[u8], n: usize, room: usize, notes: &[[u8; BYTES]]) -> Readout
     requires { ⌜ (n ≤ 16384) × ((a : ℕ) → lookIn (now notes) a .w ≤ 64) ⌝ }
     ensures { λ r. ⌜ r ≡ asRead (readLine (lookIn (now (notes .entry))) (givenIn (now (notes .entry))) room n (tokensIn (now (l .entry)))) ⌝ }
 {
@@ -275,7 +283,7 @@ pub fn read_line(l: &[u8], n: usize, room: usize, notes: &[[u8; 5]]) -> Readout
         return Readout {
             what: 1,
             code: Refusal::NotATable,
-            rec: [0; 5],
+            rec: [0; WORDS],
         };
     }
     let z = tokens::find_byte(l, a, 32);
@@ -294,7 +302,7 @@ pub fn read_line(l: &[u8], n: usize, room: usize, notes: &[[u8; 5]]) -> Readout
 }
 
 // The record of the line n + 1 goes to the table, and the line is noted.
-fn take(table: &mut [u64], n: usize, rec: [u64; 5], notes: &mut [[u8; 5]])
+fn take(table: &mut [u64], n: usize, rec: [u64; WORDS], notes: &mut [[u8; BYTES]])
     requires { ⌜ (n < roomOf (length (now table))) × (kindIn rec ≡ 1 → firstIn rec ≤ 64) ⌝ }
     ensures { λ _. ⌜ (now (table .exit) ≡ recorded (now (table .entry)) n rec) × (now (notes .exit) ≡ noted false rec (n + 1) (now (notes .entry))) ⌝ }
 {
@@ -304,7 +312,7 @@ fn take(table: &mut [u64], n: usize, rec: [u64; 5], notes: &mut [[u8; 5]])
 }
 
 // The lines of a text, into a table of zeros.
-pub fn read_lines(text: &[u8], table: &mut [u64], notes: &mut [[u8; 5]]) -> ReadOutcome
+pub fn read_lines(text: &[u8], table: &mut [u64], notes: &mut [[u8; BYTES]]) -> ReadOutcome
     requires { ⌜ (length (now text) ≤ 65536) × ((now table ≡ replicate (length (now table)) 0) × ((length (now notes) ≡ 16385) × Shows (now notes) noCtx)) ⌝ }
     ensures { λ r. ⌜ (r ≡ answerOf (readLines (roomOf (length (now (table .entry)))) 1 0 noCtx [] (split 10 (now (text .entry))))) × (now (table .exit) ≡ tableOf (length (now (table .entry))) (readLines (roomOf (length (now (table .entry)))) 1 0 noCtx [] (split 10 (now (text .entry))))) ⌝ }
 {

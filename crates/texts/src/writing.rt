@@ -2,6 +2,7 @@
 use crate::forms;
 use tables::kinds;
 use tables::records;
+use tables::records::WORDS;
 ghost use mathlib.Core.Path.{_≡_};
 ghost use mathlib.Core.Bool.{true, false};
 ghost use mathlib.Core.List.{[], _∷_, _++_};
@@ -9,7 +10,7 @@ ghost use Prim.Native.Nat.{_+_, _^_, _≤_, _<_};
 ghost use lib.ListN.{length, getD, set};
 ghost use lib.Seq.{sets};
 ghost use Rattle.tables.specs.Kinds.{rows, rowOf, wordOf};
-ghost use Rattle.tables.specs.Lines.{kindIn, records as recordsOf, counted};
+ghost use Rattle.tables.specs.Lines.{kindIn, records as recordsOf, counted, recordSize};
 ghost use Rattle.tables.specs.Types.{noCtx};
 ghost use Rattle.tables.specs.Tables.{room, lawful};
 ghost use Rattle.texts.specs.Split.{spaced, join};
@@ -76,8 +77,8 @@ pub fn put_kind(out: &mut [u8], at: usize, k: u64, r: [u8; 16]) -> usize
 }
 
 // m numbers of a record from the place j on, with a space before each.
-pub fn put_numbers(out: &mut [u8], at: usize, m: usize, j: usize, rec: [u64; 5]) -> usize
-    requires { ⌜ (j + m ≤ 5) × (at + length (spaced (numbers m j rec)) < 2 ^ 63) ⌝ }
+pub fn put_numbers(out: &mut [u8], at: usize, m: usize, j: usize, rec: [u64; WORDS]) -> usize
+    requires { ⌜ (j + m ≤ recordSize) × (at + length (spaced (numbers m j rec)) < 2 ^ 63) ⌝ }
     ensures { λ x. ⌜ (x ≡ at + length (spaced (numbers m j rec))) × (now (out .exit) ≡ sets (now (out .entry)) at (spaced (numbers m j rec))) ⌝ }
 {
     let e = j + m;
@@ -93,7 +94,13 @@ pub fn put_numbers(out: &mut [u8], at: usize, m: usize, j: usize, rec: [u64; 5])
 }
 
 // The line of a record, with its LF.
-pub fn put_line(kinds: &[[u8; 16]; 55], out: &mut [u8], at: usize, id: u64, rec: [u64; 5]) -> usize
+pub fn put_line(
+    kinds: &[[u8; 16]; 55],
+    out: &mut [u8],
+    at: usize,
+    id: u64,
+    rec: [u64; WORDS],
+) -> usize
     requires { ⌜ (now kinds ≡ rows) × ((1 ≤ kindIn rec) × ((kindIn rec ≤ 55) × (at + length (join (tokensOf id rec) ++ (10 ∷ [])) < 2 ^ 63))) ⌝ }
     ensures { λ x. ⌜ (x ≡ at + length (join (tokensOf id rec) ++ (10 ∷ []))) × (now (out .exit) ≡ sets (now (out .entry)) at (join (tokensOf id rec) ++ (10 ∷ []))) ⌝ }
 {

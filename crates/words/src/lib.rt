@@ -3,7 +3,7 @@
 ghost use mathlib.Core.Path.{_≡_};
 ghost use Prim.Native.Nat.{_+_, _-_, _*_, _%_, _^_, _<_, _≤_};
 ghost use Rattle.words.specs.Word.{Width, signed, word, toward};
-ghost use Rattle.words.specs.Op.{opOf, redxor, sext, eq, neq, ult, ulte, slt, slte, mul, udiv, urem, sdiv, srem, smod, sll, srl, sra, rol, ror};
+ghost use Rattle.words.specs.Op.{opOf, redxor, sext, eq, neq, ult, ulte, slt, slte, udiv, urem, sdiv, srem, smod, sll, srl, sra, rol, ror};
 ghost use Rattle.words.specs.Circuit.{circ};
 ghost use Rattle.words.specs.Program.{prog, classOf};
 ghost use Rattle.words.specs.Widths.{Widths, widthOf};

@@ -1,5 +1,5 @@
 -- The answer list first, then the name's part. Assumes nothing.
-use mathlib.Core.Path.{_≡_, sym, ap, _∙_}
+use mathlib.Core.Path.{sym, _∙_}
 use borrow.Author.Tests.{not-true, not-false}
 use Rattle.exports.proofs.Told.{three-length, is-told, is-refused, not-both, named}
 use borrow.Author.Needs.{needs}

@@ -1,5 +1,5 @@
 -- The answer list first, then the peek. Assumes nothing.
-use mathlib.Core.Path.{_≡_, sym, ap, _∙_}
+use mathlib.Core.Path.{sym, ap, _∙_}
 use borrow.Author.Tests.{not-true, not-false}
 use Rattle.exports.specs.Answers.{peekNumber, peekWords}
 use Rattle.exports.proofs.Told.{three-length, is-told, is-refused}

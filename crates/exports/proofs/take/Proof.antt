@@ -1,6 +1,6 @@
 -- The length is that of the zeros. Assumes nothing.
 use Prim.Native.Nat.{ℕ}
-use mathlib.Core.Path.{_≡_, ap}
+use mathlib.Core.Path.{ap}
 use lib.Dec.{eqb}
 use Rattle.exports.proofs.Told.{zeros-length}
 use borrow.Author.Needs.{needs}

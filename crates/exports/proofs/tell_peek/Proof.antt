@@ -1,6 +1,5 @@
 -- By the outcome. Assumes nothing.
-use Prim.Native.Nat.{ℕ}
-use mathlib.Core.Path.{_≡_, sym, ap, _∙_}
+use mathlib.Core.Path.{sym, ap, _∙_}
 use Rattle.exports.specs.Answers.{peekNumber, peekWords}
 use borrow.Author.Needs.{needs}
 use Rattle.exports.proofs.tell_peek.Statement.{statement}

@@ -1,5 +1,5 @@
 -- By the outcome. Assumes nothing.
-use mathlib.Core.Path.{_≡_, sym, ap, _∙_}
+use mathlib.Core.Path.{sym, ap, _∙_}
 use Rattle.exports.specs.Answers.{runNumber, runWords}
 use borrow.Author.Needs.{needs}
 use Rattle.exports.proofs.tell_run.Statement.{statement}

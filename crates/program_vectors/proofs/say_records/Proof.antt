@@ -1,5 +1,6 @@
 -- `say_records` meets its contract: it ends. Assumes nothing.
 use Prim.Native.Nat.{_-_, _≤_}
+use native.Mathlib.Omega.{arith}
 use borrow.Author.Needs.{needs}
 use Rattle.program_vectors.proofs.say_records.Statement.{statement}
 use Rattle.program_vectors.proofs.say_records.Tie as tie
@@ -17,11 +18,14 @@ abbrev μ-loop : tie.MeasureT-loop
 loop-holds : tie.Need-loop-holds Inv-loop μ-loop
 loop-holds c = search needs
 
+room-of-requires : tie.Need-room-of-requires Inv-loop μ-loop
+room-of-requires c κs = tt
+
 returns : tie.Need-returns Inv-loop μ-loop
 returns c = search needs
 
 record-requires : tie.Need-record-requires Inv-loop μ-loop
-record-requires c κs = search needs
+record-requires c κs = omega (arith, c .before .room-of .ensures)
 
 add-say-record : tie.Need-add-say-record Inv-loop μ-loop
 add-say-record c = search needs
@@ -48,6 +52,7 @@ say-records-spec =
     Inv-loop
     μ-loop
     loop-holds
+    room-of-requires
     returns
     record-requires
     add-say-record

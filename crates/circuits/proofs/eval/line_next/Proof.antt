@@ -1,5 +1,5 @@
 -- `eval::line_next` meets its contract. Assumes nothing.
-use mathlib.Core.Path.{refl, ap, ap₂, _∙_}
+use mathlib.Core.Path.{ap, ap₂, _∙_}
 use Prim.Native.Nat.{ℕ, _+_}
 use Rattle.circuits.specs.Cells.{put, part}
 use borrow.Author.Needs.{needs}

@@ -2,8 +2,8 @@
 use Prim.Native.Nat.{_-_}
 use mathlib.Core.Path.{refl, sym, _∙_}
 use native.Mathlib.Omega.{arith}
+use Rattle.tables.proofs.Encoding.{fits-table}
 use Rattle.circuits.specs.Answers.{linesOf}
-use Rattle.circuits.proofs.Walked.{fits-table}
 use Rattle.circuits.proofs.Placing.{Classed, class-more, class-ends}
 use Rattle.circuits.proofs.places.classes.Statement.{statement}
 use Rattle.circuits.proofs.places.classes.Tie as tie

@@ -3,8 +3,8 @@ use Prim.Native.Nat.{_-_}
 use mathlib.Core.Path.{sym, _∙_}
 use native.Mathlib.Omega.{arith}
 use Rattle.tables.specs.Lines.{lineOf}
+use Rattle.tables.proofs.Encoding.{fits-table}
 use Rattle.circuits.specs.Model.{countsOf}
-use Rattle.circuits.proofs.Walked.{fits-table}
 use Rattle.circuits.proofs.Placing.{Sofar, begun, deep-here, small-here, further, laid, place-small}
 use Rattle.circuits.proofs.places.lay_out.Statement.{statement}
 use Rattle.circuits.proofs.places.lay_out.Tie as tie

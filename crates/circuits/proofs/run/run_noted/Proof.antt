@@ -1,11 +1,10 @@
 -- `run::run_noted` meets its contract. Assumes nothing.
-use Prim.Native.Nat.{ℕ, _<_}
-use mathlib.Core.Path.{sym, subst}
+use Prim.Native.Nat.{ℕ}
 use native.Mathlib.Omega.{arith}
-use lib.ListN.{length, length-replicate}
+use lib.ListN.{length-replicate}
 use Rattle.tables.proofs.Checking.{zeros-at}
 use Rattle.tables.proofs.Spreading.{index-widths, word-widths}
-use Rattle.circuits.proofs.Walked.{fits-table}
+use Rattle.tables.proofs.Encoding.{fits-table}
 use Rattle.circuits.proofs.Placing.{typed}
 use borrow.Author.Needs.{needs}
 use Rattle.circuits.proofs.run.run_noted.Statement.{statement}

@@ -4,8 +4,9 @@ use mathlib.Core.Path.{_≡_, refl, _∙_, subst}
 use native.Mathlib.Omega.{arith}
 use lib.ListN.{length, drop, length-drop}
 use borrow.Author.Needs.{needs}
+use Rattle.tables.proofs.Encoding.{fits-table}
 use Rattle.circuits.specs.Answers.{linesOf}
-use Rattle.circuits.proofs.Walked.{Walked, fits-table, walk-start, walk-fit, walk-step, walk-ends}
+use Rattle.circuits.proofs.Walked.{Walked, walk-start, walk-fit, walk-step, walk-ends}
 use Rattle.circuits.proofs.steps.walk.Statement.{statement}
 use Rattle.circuits.proofs.steps.walk.Tie as tie
 

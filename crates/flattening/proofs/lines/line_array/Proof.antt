@@ -1,5 +1,5 @@
 -- A record and a row. Assumes nothing.
-use Prim.Native.Nat.{ℕ, _+_, _-_, _*_, _≤_}
+use Prim.Native.Nat.{ℕ, _+_, _-_, _≤_}
 use mathlib.Core.Path.{_∙_, subst⁻¹}
 use native.Mathlib.Omega.{arith}
 use lib.ListN.{length}
@@ -9,6 +9,7 @@ use Rattle.flattening.specs.Making.{made, arrayWords}
 use Rattle.flattening.proofs.Laying.{size-le}
 use Rattle.tables.specs.Notes.{lookIn}
 use borrow.Author.Needs.{needs}
+use Rattle.tables.specs.Lines.{span}
 use Rattle.flattening.proofs.lines.line_array.Statement.{statement}
 use Rattle.flattening.proofs.lines.line_array.Tie as tie
 use Rattle.flattening.proofs.lines.line_array.Reads as reads
@@ -24,7 +25,7 @@ entry-requires : tie.Need-entry-requires
 entry-requires c κs = omega arith
 
 array-lines-requires : tie.Need-array-lines-requires
-array-lines-requires c κs = let a = c .before .before .before .before .args in let e = c .before .before .index-size .ensures in (c .before .before .before .before .pre .neat .sound, (subst⁻¹ (λ (x : ℕ). x ≤ 256) e (size-le (lookIn (a .types .now) (a .i) .w) (c .before .before .before .before .pre .deep)), subst⁻¹ (λ (x : ℕ). 5 * (a .p + (1 + x)) ≤ length (a .target .now)) e (c .before .before .before .before .pre .room)))
+array-lines-requires c κs = let a = c .before .before .before .before .args in let e = c .before .before .index-size .ensures in (c .before .before .before .before .pre .neat .sound, (subst⁻¹ (λ (x : ℕ). x ≤ 256) e (size-le (lookIn (a .types .now) (a .i) .w) (c .before .before .before .before .pre .deep)), subst⁻¹ (λ (x : ℕ). span (a .p + (1 + x)) ≤ length (a .target .now)) e (c .before .before .before .before .pre .room)))
 
 add-t12 : tie.Need-add-t12
 add-t12 c = let a = c .before .before .before .before .before .before .before .args in let e = c .before .before .before .before .before .index-size .ensures in omega (arith, subst⁻¹ (λ (x : ℕ). x ≤ 256) e (size-le (lookIn (a .types .now) (a .i) .w) (c .before .before .before .before .before .before .before .pre .deep)))
@@ -42,7 +43,7 @@ same-length : tie.Need-same-length
 same-length c = c .before .before .before .array-lines .kept .1 .1 .1 .1 .0
 
 returns : tie.Need-returns
-returns c = let a = c .before .before .before .before .before .before .before .before .args in let H = a .kept .now in let e = c .before .before .before .before .before .before .index-size .ensures in record { kept = λ i. made (a .p + (1 + e i)) (c .entry2 .ensures i) (a .p + 1) 0 0 0; words = c .before .before .before .array-lines .ensures ∙ (λ i. put (a .target .now) (5 * a .p) (arrayWords H (c .before .before .before .before .before .entry .ensures i) (e i))) }
+returns c = let a = c .before .before .before .before .before .before .before .before .args in let H = a .kept .now in let e = c .before .before .before .before .before .before .index-size .ensures in record { kept = λ i. made (a .p + (1 + e i)) (c .entry2 .ensures i) (a .p + 1) 0 0 0; words = c .before .before .before .array-lines .ensures ∙ (λ i. put (a .target .now) (span (a .p)) (arrayWords H (c .before .before .before .before .before .entry .ensures i) (e i))) }
 
 pub line-array-spec : {M : Type 1} → statement M
 line-array-spec =

@@ -1,8 +1,9 @@
 -- One ite for each cell. Assumes nothing.
-use Prim.Native.Nat.{ℕ, _+_, _-_, _*_, _≤_}
+use Prim.Native.Nat.{ℕ, _+_, _-_, _≤_}
 use mathlib.Core.Path.{ap, _∙_, subst⁻¹}
 use native.Mathlib.Omega.{arith}
 use lib.ListN.{length}
+use Rattle.tables.specs.Lines.{span}
 use Rattle.circuits.specs.Cells.{put}
 use Rattle.flattening.specs.Model.{Tame, words, rowAt}
 use Rattle.flattening.specs.Making.{run, still, of, made}
@@ -40,7 +41,7 @@ of-requires-2 : tie.Need-of-requires-2
 of-requires-2 c κs = tt
 
 rows-requires : tie.Need-rows-requires
-rows-requires c κs = let a = c .before .before .before .before .before .before .before .before .args in (c .before .before .before .before .before .before .before .before .pre .neat .sound, (subst⁻¹ Tame (c .before .before .run .ensures) (tame-run (c .before .before .before .cell .result) 0 (omega (arith, subst⁻¹ (λ (x : ℕ). x ≤ 131072) (c .before .before .before .cell .ensures) (cell-bound (a .kept .now) (c .before .before .before .before .before .before .before .before .pre .neat .sound) (a .c) 0 (omega arith)))) (omega arith)), (subst⁻¹ Tame (c .before .of .ensures) (tame-of (a .x)), (subst⁻¹ Tame (c .of2 .ensures) (tame-of (a .y)), (subst⁻¹ (λ (x : ℕ). x ≤ 256) (c .before .before .before .before .before .before .size .ensures) (size-le (lookIn (a .types .now) (a .x) .iw) (c .before .before .before .before .before .before .before .before .pre .neat .deep (a .x))), subst⁻¹ (λ (x : ℕ). 5 * (a .p + x) ≤ length (a .target .now)) (c .before .before .before .before .before .before .size .ensures) (c .before .before .before .before .before .before .before .before .pre .room))))))
+rows-requires c κs = let a = c .before .before .before .before .before .before .before .before .args in (c .before .before .before .before .before .before .before .before .pre .neat .sound, (subst⁻¹ Tame (c .before .before .run .ensures) (tame-run (c .before .before .before .cell .result) 0 (omega (arith, subst⁻¹ (λ (x : ℕ). x ≤ 131072) (c .before .before .before .cell .ensures) (cell-bound (a .kept .now) (c .before .before .before .before .before .before .before .before .pre .neat .sound) (a .c) 0 (omega arith)))) (omega arith)), (subst⁻¹ Tame (c .before .of .ensures) (tame-of (a .x)), (subst⁻¹ Tame (c .of2 .ensures) (tame-of (a .y)), (subst⁻¹ (λ (x : ℕ). x ≤ 256) (c .before .before .before .before .before .before .size .ensures) (size-le (lookIn (a .types .now) (a .x) .iw) (c .before .before .before .before .before .before .before .before .pre .neat .deep (a .x))), subst⁻¹ (λ (x : ℕ). span (a .p + x) ≤ length (a .target .now)) (c .before .before .before .before .before .before .size .ensures) (c .before .before .before .before .before .before .before .before .pre .room))))))
 
 add-t18 : tie.Need-add-t18
 add-t18 c = let a = c .before .before .before .before .before .before .before .before .before .before .before .args in omega (arith, c .before .before .before .before .before .before .before .before .before .before .before .pre .low, subst⁻¹ (λ (x : ℕ). x ≤ 256) (c .before .before .before .before .before .before .before .before .before .size .ensures) (size-le (lookIn (a .types .now) (a .x) .iw) (c .before .before .before .before .before .before .before .before .before .before .before .pre .neat .deep (a .x))))
@@ -55,7 +56,7 @@ same-length : tie.Need-same-length
 same-length c = c .before .before .before .rows .kept .1 .0
 
 returns : tie.Need-returns
-returns c = let a = c .before .before .before .before .before .before .before .before .before .before .before .before .args in let H = a .kept .now in let r = c .before .before .before .before .before .before .run .ensures ∙ ap still (c .before .before .before .before .before .before .before .cell .ensures) in record { kept = λ i. made (a .p + c .before .before .before .before .before .before .before .before .before .before .size .ensures i) (a .p + 1) (c .entry2 .ensures i) 0 1 0; words = c .before .before .before .rows .ensures ∙ (λ i. put (a .target .now) (5 * a .p) (words (c .before .before .before .before .before .before .before .before .before .before .size .ensures i) (rowAt H 53 (c .before .before .before .before .before .before .before .before .entry .ensures i) (r i) (c .before .before .before .before .before .of .ensures i) (c .before .before .before .before .of2 .ensures i)))) }
+returns c = let a = c .before .before .before .before .before .before .before .before .before .before .before .before .args in let H = a .kept .now in let r = c .before .before .before .before .before .before .run .ensures ∙ ap still (c .before .before .before .before .before .before .before .cell .ensures) in record { kept = λ i. made (a .p + c .before .before .before .before .before .before .before .before .before .before .size .ensures i) (a .p + 1) (c .entry2 .ensures i) 0 1 0; words = c .before .before .before .rows .ensures ∙ (λ i. put (a .target .now) (span (a .p)) (words (c .before .before .before .before .before .before .before .before .before .before .size .ensures i) (rowAt H 53 (c .before .before .before .before .before .before .before .before .entry .ensures i) (r i) (c .before .before .before .before .before .of .ensures i) (c .before .before .before .before .of2 .ensures i)))) }
 
 pub line-ite-spec : {M : Type 1} → statement M
 line-ite-spec =

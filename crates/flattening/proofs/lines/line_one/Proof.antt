@@ -1,8 +1,8 @@
 -- An operator is copied. Assumes nothing.
 use native.Mathlib.Omega.{arith}
-use Prim.Native.Nat.{_+_, _-_, _*_}
+use Prim.Native.Nat.{_+_, _-_}
 use mathlib.Core.Path.{_∙_}
-use Rattle.tables.specs.Lines.{five}
+use Rattle.tables.specs.Lines.{fields, span}
 use Rattle.circuits.specs.Cells.{put}
 use Rattle.flattening.specs.Model.{words}
 use Rattle.flattening.specs.Making.{made}
@@ -21,6 +21,9 @@ entry-requires c κs = omega arith
 cell-requires : tie.Need-cell-requires
 cell-requires c κs = (c .before .before .pre .neat .sound, omega arith)
 
+of-requires : tie.Need-of-requires
+of-requires c κs = tt
+
 add-single : tie.Need-add-single
 add-single c = search needs
 
@@ -34,7 +37,7 @@ same-length : tie.Need-same-length
 same-length c = c .before .before .single .kept .1 .1 .1 .1 .1 .1 .0
 
 returns : tie.Need-returns
-returns c = let a = c .before .before .before .before .before .before .before .before .args in record { kept = c .before .before .single .ensures .0 ∙ (λ i. made (a .p + 1) (a .p + 1) (c .before .before .before .before .entry2 .ensures i) 0 1 (0)); words = c .before .before .single .ensures .1 ∙ (λ i. put (a .target .now) (5 * a .p) (five (a .k) (c .before .before .before .before .before .before .entry .ensures i) (c .before .before .before .before .before .cell .ensures i) (a .x) (a .y))) }
+returns c = let a = c .before .before .before .before .before .before .before .before .before .args in record { kept = c .before .before .single .ensures .0 ∙ (λ i. made (a .p + 1) (a .p + 1) (c .before .before .before .before .entry2 .ensures i) 0 1 (0)); words = c .before .before .single .ensures .1 ∙ (λ i. put (a .target .now) (span (a .p)) (c .before .before .before .before .before .of .ensures i)) ∙ (λ i. put (a .target .now) (span (a .p)) (fields (a .k) (c .before .before .before .before .before .before .before .entry .ensures i) (c .before .before .before .before .before .before .cell .ensures i) (a .x) (a .y))) }
 
 pub line-one-spec : {M : Type 1} → statement M
 line-one-spec =
@@ -42,6 +45,7 @@ line-one-spec =
     (tie.spec
     entry-requires
     cell-requires
+    of-requires
     add-single
     entry-requires-2
     single-requires

@@ -1,8 +1,9 @@
 -- One state for each cell. Assumes nothing.
-use Prim.Native.Nat.{ℕ, _+_, _-_, _*_, _≤_}
+use Prim.Native.Nat.{ℕ, _+_, _-_, _≤_}
 use mathlib.Core.Path.{_∙_, subst⁻¹}
 use native.Mathlib.Omega.{arith}
 use lib.ListN.{length}
+use Rattle.tables.specs.Lines.{span}
 use Rattle.circuits.specs.Cells.{put}
 use Rattle.flattening.specs.Model.{Tame, words, rowAt}
 use Rattle.flattening.specs.Making.{run, made}
@@ -28,7 +29,7 @@ run-requires : tie.Need-run-requires
 run-requires c κs = tt
 
 rows-requires : tie.Need-rows-requires
-rows-requires c κs = let a = c .before .before .before .before .before .args in (c .before .before .before .before .before .pre .neat .sound, (subst⁻¹ Tame (c .before .before .run .ensures) (tame-run 0 0 (omega arith) (omega arith)), (subst⁻¹ Tame (c .before .before .run .ensures) (tame-run 0 0 (omega arith) (omega arith)), (subst⁻¹ Tame (c .before .before .run .ensures) (tame-run 0 0 (omega arith) (omega arith)), (subst⁻¹ (λ (x : ℕ). x ≤ 256) (c .before .before .before .size .ensures) (size-le (lookIn (a .types .now) (a .s) .iw) (c .before .before .before .before .before .pre .neat .deep (a .s))), subst⁻¹ (λ (x : ℕ). 5 * (a .p + x) ≤ length (a .target .now)) (c .before .before .before .size .ensures) (c .before .before .before .before .before .pre .room))))))
+rows-requires c κs = let a = c .before .before .before .before .before .args in (c .before .before .before .before .before .pre .neat .sound, (subst⁻¹ Tame (c .before .before .run .ensures) (tame-run 0 0 (omega arith) (omega arith)), (subst⁻¹ Tame (c .before .before .run .ensures) (tame-run 0 0 (omega arith) (omega arith)), (subst⁻¹ Tame (c .before .before .run .ensures) (tame-run 0 0 (omega arith) (omega arith)), (subst⁻¹ (λ (x : ℕ). x ≤ 256) (c .before .before .before .size .ensures) (size-le (lookIn (a .types .now) (a .s) .iw) (c .before .before .before .before .before .pre .neat .deep (a .s))), subst⁻¹ (λ (x : ℕ). span (a .p + x) ≤ length (a .target .now)) (c .before .before .before .size .ensures) (c .before .before .before .before .before .pre .room))))))
 
 add-t12 : tie.Need-add-t12
 add-t12 c = let a = c .before .before .before .before .before .before .before .before .args in omega (arith, c .before .before .before .before .before .before .before .before .pre .low, subst⁻¹ (λ (x : ℕ). x ≤ 256) (c .before .before .before .before .before .before .size .ensures) (size-le (lookIn (a .types .now) (a .s) .iw) (c .before .before .before .before .before .before .before .before .pre .neat .deep (a .s))))
@@ -43,7 +44,7 @@ same-length : tie.Need-same-length
 same-length c = c .before .before .before .rows .kept .1 .0
 
 returns : tie.Need-returns
-returns c = let a = c .before .before .before .before .before .before .before .before .before .args in let H = a .kept .now in record { kept = λ i. made (a .p + c .before .before .before .before .before .before .before .size .ensures i) (a .p + 1) (c .entry2 .ensures i) 0 1 0; words = c .before .before .before .rows .ensures ∙ (λ i. put (a .target .now) (5 * a .p) (words (c .before .before .before .before .before .before .before .size .ensures i) (rowAt H 5 (c .before .before .before .before .entry .ensures i) (c .before .before .before .before .before .before .run .ensures i) (c .before .before .before .before .before .before .run .ensures i) (c .before .before .before .before .before .before .run .ensures i)))) }
+returns c = let a = c .before .before .before .before .before .before .before .before .before .args in let H = a .kept .now in record { kept = λ i. made (a .p + c .before .before .before .before .before .before .before .size .ensures i) (a .p + 1) (c .entry2 .ensures i) 0 1 0; words = c .before .before .before .rows .ensures ∙ (λ i. put (a .target .now) (span (a .p)) (words (c .before .before .before .before .before .before .before .size .ensures i) (rowAt H 5 (c .before .before .before .before .entry .ensures i) (c .before .before .before .before .before .before .run .ensures i) (c .before .before .before .before .before .before .run .ensures i) (c .before .before .before .before .before .before .run .ensures i)))) }
 
 pub line-state-spec : {M : Type 1} → statement M
 line-state-spec =

@@ -1,8 +1,9 @@
 -- A test for each cell, then their joins. Assumes nothing.
-use Prim.Native.Nat.{ℕ, _+_, _-_, _*_}
+use Prim.Native.Nat.{ℕ, _+_, _-_}
 use mathlib.Core.Path.{ap, _∙_, subst⁻¹}
 use mathlib.Core.List.{List}
 use native.Mathlib.Omega.{arith}
+use Rattle.tables.specs.Lines.{span}
 use Rattle.circuits.specs.Cells.{put}
 use Rattle.flattening.specs.Model.{Tame, words, rowAt}
 use Rattle.flattening.specs.Making.{run, still, of, joinWords}
@@ -35,7 +36,7 @@ same-length : tie.Need-same-length
 same-length c = c .before .before .join-lines .kept .1 .1 .1 .1 .1 .0 ∙ c .before .before .before .before .before .before .rows .kept .1 .0
 
 returns : tie.Need-returns
-returns c = let a = c .before .before .before .before .before .before .before .before .before .before .before .before .args in let H = a .kept .now in let U = words (a .n) (rowAt H (a .k) (a .s) (of (a .x)) (of (a .y)) (still 0)) in let J = joinWords H (a .p) (a .j) (a .s) (a .n) in c .before .before .join-lines .ensures ∙ ap (λ (t : List ℕ). put t (5 * (a .p + a .n)) J) (c .before .before .before .before .before .before .rows .ensures ∙ (λ i. put (a .target .now) (5 * a .p) (words (a .n) (rowAt H (a .k) (a .s) (c .before .before .before .before .before .before .before .before .before .of .ensures i) (c .before .before .before .before .before .before .before .before .of2 .ensures i) (c .before .before .before .before .before .before .before .run .ensures i))))) ∙ put-then (a .target .now) (a .p) (a .p + a .n) U J (omega (arith, c .before .before .before .before .before .before .before .before .before .before .before .before .pre .1 .1 .1)) (omega (arith, length-row H (a .k) (a .s) (of (a .x)) (of (a .y)) (still 0) (a .n)))
+returns c = let a = c .before .before .before .before .before .before .before .before .before .before .before .before .args in let H = a .kept .now in let U = words (a .n) (rowAt H (a .k) (a .s) (of (a .x)) (of (a .y)) (still 0)) in let J = joinWords H (a .p) (a .j) (a .s) (a .n) in c .before .before .join-lines .ensures ∙ ap (λ (t : List ℕ). put t (span (a .p + a .n)) J) (c .before .before .before .before .before .before .rows .ensures ∙ (λ i. put (a .target .now) (span (a .p)) (words (a .n) (rowAt H (a .k) (a .s) (c .before .before .before .before .before .before .before .before .before .of .ensures i) (c .before .before .before .before .before .before .before .before .of2 .ensures i) (c .before .before .before .before .before .before .before .run .ensures i))))) ∙ put-then (a .target .now) (a .p) (a .p + a .n) U J (omega (arith, c .before .before .before .before .before .before .before .before .before .before .before .before .pre .1 .1 .1)) (omega (arith, length-row H (a .k) (a .s) (of (a .x)) (of (a .y)) (still 0) (a .n)))
 
 pub cmp-lines-spec : {M : Type 1} → statement M
 cmp-lines-spec =

@@ -1,5 +1,5 @@
 -- The pair for the last cell but one, then the others, falling. Assumes nothing.
-use Prim.Native.Nat.{ℕ, _+_, _-_, _*_, _≤_}
+use Prim.Native.Nat.{ℕ, _+_, _-_, _≤_}
 use mathlib.Core.Path.{ap, _∙_, subst⁻¹}
 use mathlib.Core.List.{List}
 use native.Mathlib.Omega.{arith}
@@ -9,6 +9,7 @@ use Rattle.flattening.specs.Making.{run, still, runDown, ofDown}
 use Rattle.flattening.proofs.Holding.{cell-bound}
 use Rattle.flattening.proofs.Placing.{put-then, kept-length, length-pairs, tame-run, tame-run-down, tame-of-down}
 use borrow.Author.Needs.{needs}
+use Rattle.tables.specs.Lines.{span}
 use Rattle.flattening.proofs.making.read_lines.Statement.{statement}
 use Rattle.flattening.proofs.making.read_lines.Tie as tie
 use Rattle.flattening.proofs.making.read_lines.Reads as reads
@@ -72,7 +73,7 @@ same-length : tie.Need-same-length
 same-length c = c .before .before .pairs2 .kept .1 .0 ∙ c .before .before .before .before .before .before .before .before .before .before .pairs .kept .1 .0
 
 returns : tie.Need-returns
-returns c = let a = c .before .before .before .before .before .before .before .before .before .before .before .before .before .before .before .before .before .args in let H = a .kept .now in let U = words 1 (pairAt H (a .p) (a .o) (a .i) (a .s) (runDown (a .o + 1) (a .n - 2)) (ofDown (a .a) (a .n - 2)) (still (cellIn H (a .a) (a .n - 1)))) in let Z = words (a .n - 2) (pairAt H (a .p + 2) (a .o) (a .i) (a .s) (runDown (a .o + 1) (a .n - 3)) (ofDown (a .a) (a .n - 3)) (run (a .p + 2) 2)) in c .before .before .pairs2 .ensures ∙ (λ i. put (c .before .before .before .before .before .before .before .before .before .before .pairs .ensures i) (5 * (a .p + 2)) (words (a .n - 2) (pairAt H (a .p + 2) (a .o) (a .i) (a .s) ((c .before .before .before .before .before .run-down2 .ensures ∙ ap (λ (t : ℕ). runDown (a .o + 1) t) (c .before .before .before .before .before .before .before .less .ensures)) i) ((c .before .before .before .before .of-down2 .ensures ∙ ap (λ (t : ℕ). ofDown (a .a) t) (c .before .before .before .before .before .before .before .less .ensures)) i) (c .before .before .before .run2 .ensures i)))) ∙ ap (λ (t : List ℕ). put t (5 * (a .p + 2)) Z) (λ i. put (a .target .now) (5 * a .p) (words 1 (pairAt H (a .p) (a .o) (a .i) (a .s) (c .before .before .before .before .before .before .before .before .before .before .before .before .before .run-down .ensures i) (c .before .before .before .before .before .before .before .before .before .before .before .before .of-down .ensures i) ((c .before .before .before .before .before .before .before .before .before .before .before .run .ensures ∙ ap still (c .before .before .before .before .before .before .before .before .before .before .before .before .before .before .before .cell .ensures)) i)))) ∙ put-then (a .target .now) (a .p) (a .p + 2) U Z (omega (arith, c .before .before .before .before .before .before .before .before .before .before .before .before .before .before .before .before .before .pre .1 .1 .1 .1 .1)) (omega (arith, length-pairs H (a .p) (a .o) (a .i) (a .s) (runDown (a .o + 1) (a .n - 2)) (ofDown (a .a) (a .n - 2)) (still (cellIn H (a .a) (a .n - 1))) 1))
+returns c = let a = c .before .before .before .before .before .before .before .before .before .before .before .before .before .before .before .before .before .args in let H = a .kept .now in let U = words 1 (pairAt H (a .p) (a .o) (a .i) (a .s) (runDown (a .o + 1) (a .n - 2)) (ofDown (a .a) (a .n - 2)) (still (cellIn H (a .a) (a .n - 1)))) in let Z = words (a .n - 2) (pairAt H (a .p + 2) (a .o) (a .i) (a .s) (runDown (a .o + 1) (a .n - 3)) (ofDown (a .a) (a .n - 3)) (run (a .p + 2) 2)) in c .before .before .pairs2 .ensures ∙ (λ i. put (c .before .before .before .before .before .before .before .before .before .before .pairs .ensures i) (span (a .p + 2)) (words (a .n - 2) (pairAt H (a .p + 2) (a .o) (a .i) (a .s) ((c .before .before .before .before .before .run-down2 .ensures ∙ ap (λ (t : ℕ). runDown (a .o + 1) t) (c .before .before .before .before .before .before .before .less .ensures)) i) ((c .before .before .before .before .of-down2 .ensures ∙ ap (λ (t : ℕ). ofDown (a .a) t) (c .before .before .before .before .before .before .before .less .ensures)) i) (c .before .before .before .run2 .ensures i)))) ∙ ap (λ (t : List ℕ). put t (span (a .p + 2)) Z) (λ i. put (a .target .now) (span (a .p)) (words 1 (pairAt H (a .p) (a .o) (a .i) (a .s) (c .before .before .before .before .before .before .before .before .before .before .before .before .before .run-down .ensures i) (c .before .before .before .before .before .before .before .before .before .before .before .before .of-down .ensures i) ((c .before .before .before .before .before .before .before .before .before .before .before .run .ensures ∙ ap still (c .before .before .before .before .before .before .before .before .before .before .before .before .before .before .before .cell .ensures)) i)))) ∙ put-then (a .target .now) (a .p) (a .p + 2) U Z (omega (arith, c .before .before .before .before .before .before .before .before .before .before .before .before .before .before .before .before .before .pre .1 .1 .1 .1 .1)) (omega (arith, length-pairs H (a .p) (a .o) (a .i) (a .s) (runDown (a .o + 1) (a .n - 2)) (ofDown (a .a) (a .n - 2)) (still (cellIn H (a .a) (a .n - 1))) 1))
 
 pub read-lines-spec : {M : Type 1} → statement M
 read-lines-spec =

@@ -1,11 +1,11 @@
 -- The records passed are those of the pairs. Assumes nothing.
 use borrow.Author.Needs.{needs}
 use Prim.Native.Nat.{ℕ, _+_, _-_, _*_, _≤_}
-use mathlib.Core.Path.{_≡_, refl, ap, _∙_}
+use mathlib.Core.Path.{_≡_, refl, ap, ap₂, _∙_}
 use mathlib.Core.List.{List}
 use native.Mathlib.Omega.{arith}
 use lib.ListN.{length}
-use Rattle.tables.specs.Lines.{five, recorded}
+use Rattle.tables.specs.Lines.{recorded, span}
 use Rattle.circuits.specs.Cells.{put}
 use Rattle.flattening.specs.Model.{words, pairAt}
 use Rattle.flattening.proofs.Placing.{rows-none, pairs-length, pair-more}
@@ -17,7 +17,7 @@ use Rattle.flattening.proofs.cells.source.Reads as source-reads
 use Rattle.tables.proofs.records.put.Reads as put-reads
 
 abbrev Inv-loop : tie.InvT-loop
-Inv-loop kept target₀ p n o i s c x y j₀ target j = (j ≤ n) × ((length target ≡ length target₀) × (target ≡ put target₀ (5 * p) (words j (pairAt kept p o i s c x y))))
+Inv-loop kept target₀ p n o i s c x y j₀ target j = (j ≤ n) × ((length target ≡ length target₀) × (target ≡ put target₀ (span p) (words j (pairAt kept p o i s c x y))))
 
 abbrev μ-loop : tie.MeasureT-loop
 μ-loop kept target₀ p n o i s c x y j₀ target j = n - j
@@ -34,14 +34,20 @@ add-q c = search needs
 source-requires : tie.Need-source-requires Inv-loop μ-loop
 source-requires c κs = (c .before .before .before .pre .0, (c .before .before .before .pre .1 .0, omega (arith, c .before .before .before .pre .1 .1 .1 .1 .0)))
 
-add-t17 : tie.Need-add-t17 Inv-loop μ-loop
-add-t17 c = search needs
+of-requires : tie.Need-of-requires Inv-loop μ-loop
+of-requires c κs = tt
+
+add-of : tie.Need-add-of Inv-loop μ-loop
+add-of c = search needs
 
 source-requires-2 : tie.Need-source-requires-2 Inv-loop μ-loop
-source-requires-2 c κs = (c .before .before .before .before .pre .0, (c .before .before .before .before .pre .1 .1 .0, omega (arith, c .before .before .before .before .pre .1 .1 .1 .1 .0)))
+source-requires-2 c κs = (c .before .before .before .before .before .pre .0, (c .before .before .before .before .before .pre .1 .1 .0, omega (arith, c .before .before .before .before .before .pre .1 .1 .1 .1 .0)))
 
 source-requires-3 : tie.Need-source-requires-3 Inv-loop μ-loop
-source-requires-3 c κs = (c .before .before .before .before .before .pre .0, (c .before .before .before .before .before .pre .1 .1 .1 .0, omega (arith, c .before .before .before .before .before .pre .1 .1 .1 .1 .0)))
+source-requires-3 c κs = (c .before .before .before .before .before .before .pre .0, (c .before .before .before .before .before .before .pre .1 .1 .1 .0, omega (arith, c .before .before .before .before .before .before .pre .1 .1 .1 .1 .0)))
+
+of-requires-2 : tie.Need-of-requires-2 Inv-loop μ-loop
+of-requires-2 c κs = tt
 
 put-requires : tie.Need-put-requires Inv-loop μ-loop
 put-requires c κs = search needs
@@ -59,17 +65,15 @@ loop-less : tie.Need-loop-less Inv-loop μ-loop
 loop-less c = search needs
 
 loop-again : tie.Need-loop-again Inv-loop μ-loop
-loop-again c = let a = c .before .before .before .before .before .before .before .before .before .before .before .before .before .before .args in
+loop-again c = let a = c .before .before .before .before .before .before .before .before .before .before .before .before .before .before .before .before .args in
     let H = a .kept .now in
-    let j = c .before .before .before .before .before .before .before .before .before .before .before .before .loop .j in
+    let j = c .before .before .before .before .before .before .before .before .before .before .before .before .before .before .loop .j in
     let q = a .p + 2 * j in
-    let eq = five 21 (a .o) (a .i) (c .before .before .before .before .before .before .before .before .before .before .source .result) 0 in
-    let ite = five 53 (a .s) (q + 1) (c .before .before .before .before .before .before .before .before .before .source2 .result) (c .before .before .before .before .before .before .before .before .source3 .result) in
     let e =
     c .before .before .put2 .ensures
-    ∙ ap (λ (t : List ℕ). recorded t (q + 1) ite) (c .before .before .before .before .before .before .put .ensures ∙ ap (λ (t : List ℕ). recorded t q eq) (c .before .before .before .before .before .before .before .before .before .before .before .before .loop .inv .1 .1))
-    ∙ pair-more (a .target .now) (a .p) j H (a .o) (a .i) (a .s) (a .c) (a .x) (a .y) (c .before .before .before .before .before .before .before .before .before .before .source .result) (c .before .before .before .before .before .before .before .before .before .source2 .result) (c .before .before .before .before .before .before .before .before .source3 .result) (omega (arith, c .before .before .before .before .before .before .before .before .before .before .before .before .before .before .pre .1 .1 .1 .1 .1 .1)) (c .before .before .before .before .before .before .before .before .before .before .source .ensures) (c .before .before .before .before .before .before .before .before .before .source2 .ensures) (c .before .before .before .before .before .before .before .before .source3 .ensures) in
-    (omega arith, (ap length e ∙ pairs-length (a .target .now) (a .p) (a .n) (j + 1) H (a .o) (a .i) (a .s) (a .c) (a .x) (a .y) (c .before .before .before .before .before .before .before .before .before .before .before .before .before .before .pre .1 .1 .1 .1 .1 .1) (omega arith), e))
+    ∙ ap₂ (λ (t r : List ℕ). recorded t (q + 1) r) (c .before .before .before .before .before .before .put .ensures ∙ ap₂ (λ (t r : List ℕ). recorded t q r) (c .before .before .before .before .before .before .before .before .before .before .before .before .before .before .loop .inv .1 .1) (c .before .before .before .before .before .before .before .before .before .before .before .of .ensures)) (c .before .before .before .before .before .before .before .before .of2 .ensures)
+    ∙ pair-more (a .target .now) (a .p) j H (a .o) (a .i) (a .s) (a .c) (a .x) (a .y) (c .before .before .before .before .before .before .before .before .before .before .before .before .source .result) (c .before .before .before .before .before .before .before .before .before .before .source2 .result) (c .before .before .before .before .before .before .before .before .before .source3 .result) (omega (arith, c .before .before .before .before .before .before .before .before .before .before .before .before .before .before .before .before .pre .1 .1 .1 .1 .1 .1)) (c .before .before .before .before .before .before .before .before .before .before .before .before .source .ensures) (c .before .before .before .before .before .before .before .before .before .before .source2 .ensures) (c .before .before .before .before .before .before .before .before .before .source3 .ensures) in
+    (omega arith, (ap length e ∙ pairs-length (a .target .now) (a .p) (a .n) (j + 1) H (a .o) (a .i) (a .s) (a .c) (a .x) (a .y) (c .before .before .before .before .before .before .before .before .before .before .before .before .before .before .before .before .pre .1 .1 .1 .1 .1 .1) (omega arith), e))
 
 same-length : tie.Need-same-length Inv-loop μ-loop
 same-length c = search needs
@@ -77,7 +81,7 @@ same-length c = search needs
 returns : tie.Need-returns Inv-loop μ-loop
 returns c = let a = c .before .before .before .args in
     let q : c .before .loop .j ≡ a .n = omega arith in
-    c .before .loop .inv .1 .1 ∙ ap (λ (m : ℕ). put (a .target .now) (5 * a .p) (words m (pairAt (a .kept .now) (a .p) (a .o) (a .i) (a .s) (a .c) (a .x) (a .y)))) q
+    c .before .loop .inv .1 .1 ∙ ap (λ (m : ℕ). put (a .target .now) (span (a .p)) (words m (pairAt (a .kept .now) (a .p) (a .o) (a .i) (a .s) (a .c) (a .x) (a .y)))) q
 
 pub pairs-spec : {M : Type 1} → statement M
 pairs-spec =
@@ -89,9 +93,11 @@ pairs-spec =
     mul-q
     add-q
     source-requires
-    add-t17
+    of-requires
+    add-of
     source-requires-2
     source-requires-3
+    of-requires-2
     put-requires
     add-put
     put-requires-2

@@ -1,11 +1,11 @@
 -- The records passed are those of the row. Assumes nothing.
 use borrow.Author.Needs.{needs}
-use Prim.Native.Nat.{ℕ, _+_, _-_, _*_, _≤_}
-use mathlib.Core.Path.{_≡_, refl, ap, _∙_}
+use Prim.Native.Nat.{ℕ, _+_, _-_, _≤_}
+use mathlib.Core.Path.{_≡_, refl, ap, ap₂, _∙_}
 use mathlib.Core.List.{List}
 use native.Mathlib.Omega.{arith}
 use lib.ListN.{length}
-use Rattle.tables.specs.Lines.{five, recorded}
+use Rattle.tables.specs.Lines.{recorded, span}
 use Rattle.circuits.specs.Cells.{put}
 use Rattle.flattening.specs.Model.{words, rowAt}
 use Rattle.flattening.proofs.Placing.{rows-none, rows-length, row-more}
@@ -17,7 +17,7 @@ use Rattle.flattening.proofs.cells.source.Reads as source-reads
 use Rattle.tables.proofs.records.put.Reads as put-reads
 
 abbrev Inv-loop : tie.InvT-loop
-Inv-loop kept target₀ p n k s x y z j₀ target j = (j ≤ n) × ((length target ≡ length target₀) × (target ≡ put target₀ (5 * p) (words j (rowAt kept k s x y z))))
+Inv-loop kept target₀ p n k s x y z j₀ target j = (j ≤ n) × ((length target ≡ length target₀) × (target ≡ put target₀ (span p) (words j (rowAt kept k s x y z))))
 
 abbrev μ-loop : tie.MeasureT-loop
 μ-loop kept target₀ p n k s x y z j₀ target j = n - j
@@ -34,6 +34,9 @@ source-requires-2 c κs = (c .before .before .before .before .pre .0, (c .before
 source-requires-3 : tie.Need-source-requires-3 Inv-loop μ-loop
 source-requires-3 c κs = (c .before .before .before .before .before .pre .0, (c .before .before .before .before .before .pre .1 .1 .1 .0, omega (arith, c .before .before .before .before .before .pre .1 .1 .1 .1 .0)))
 
+of-requires : tie.Need-of-requires Inv-loop μ-loop
+of-requires c κs = tt
+
 add-put : tie.Need-add-put Inv-loop μ-loop
 add-put c = search needs
 
@@ -47,14 +50,14 @@ loop-less : tie.Need-loop-less Inv-loop μ-loop
 loop-less c = search needs
 
 loop-again : tie.Need-loop-again Inv-loop μ-loop
-loop-again c = let a = c .before .before .before .before .before .before .before .before .before .before .args in
+loop-again c = let a = c .before .before .before .before .before .before .before .before .before .before .before .args in
     let H = a .kept .now in
-    let j = c .before .before .before .before .before .before .before .before .loop .j in
+    let j = c .before .before .before .before .before .before .before .before .before .loop .j in
     let e =
     c .before .before .put .ensures
-    ∙ ap (λ (t : List ℕ). recorded t (a .p + j) (five (a .k) (a .s) (c .before .before .before .before .before .before .source .result) (c .before .before .before .before .before .source2 .result) (c .before .before .before .before .source3 .result))) (c .before .before .before .before .before .before .before .before .loop .inv .1 .1)
-    ∙ row-more (a .target .now) (a .p) j H (a .k) (a .s) (a .x) (a .y) (a .z) (c .before .before .before .before .before .before .source .result) (c .before .before .before .before .before .source2 .result) (c .before .before .before .before .source3 .result) (omega (arith, c .before .before .before .before .before .before .before .before .before .before .pre .1 .1 .1 .1 .1)) (c .before .before .before .before .before .before .source .ensures) (c .before .before .before .before .before .source2 .ensures) (c .before .before .before .before .source3 .ensures) in
-    (omega arith, (ap length e ∙ rows-length (a .target .now) (a .p) (a .n) (j + 1) H (a .k) (a .s) (a .x) (a .y) (a .z) (c .before .before .before .before .before .before .before .before .before .before .pre .1 .1 .1 .1 .1) (omega arith), e))
+    ∙ ap₂ (λ (t r : List ℕ). recorded t (a .p + j) r) (c .before .before .before .before .before .before .before .before .before .loop .inv .1 .1) (c .before .before .before .before .of .ensures)
+    ∙ row-more (a .target .now) (a .p) j H (a .k) (a .s) (a .x) (a .y) (a .z) (c .before .before .before .before .before .before .before .source .result) (c .before .before .before .before .before .before .source2 .result) (c .before .before .before .before .before .source3 .result) (omega (arith, c .before .before .before .before .before .before .before .before .before .before .before .pre .1 .1 .1 .1 .1)) (c .before .before .before .before .before .before .before .source .ensures) (c .before .before .before .before .before .before .source2 .ensures) (c .before .before .before .before .before .source3 .ensures) in
+    (omega arith, (ap length e ∙ rows-length (a .target .now) (a .p) (a .n) (j + 1) H (a .k) (a .s) (a .x) (a .y) (a .z) (c .before .before .before .before .before .before .before .before .before .before .before .pre .1 .1 .1 .1 .1) (omega arith), e))
 
 same-length : tie.Need-same-length Inv-loop μ-loop
 same-length c = search needs
@@ -62,7 +65,7 @@ same-length c = search needs
 returns : tie.Need-returns Inv-loop μ-loop
 returns c = let a = c .before .before .before .args in
     let q : c .before .loop .j ≡ a .n = omega arith in
-    c .before .loop .inv .1 .1 ∙ ap (λ (m : ℕ). put (a .target .now) (5 * a .p) (words m (rowAt (a .kept .now) (a .k) (a .s) (a .x) (a .y) (a .z)))) q
+    c .before .loop .inv .1 .1 ∙ ap (λ (m : ℕ). put (a .target .now) (span (a .p)) (words m (rowAt (a .kept .now) (a .k) (a .s) (a .x) (a .y) (a .z)))) q
 
 pub rows-spec : {M : Type 1} → statement M
 rows-spec =
@@ -74,6 +77,7 @@ rows-spec =
     source-requires
     source-requires-2
     source-requires-3
+    of-requires
     add-put
     put-requires
     add-j

@@ -2,8 +2,8 @@
 -- value of its own line, and a value or a cell for its own line's state. So the measure of a state is four times its line, of a value and of a cell one more, of a word
 -- two more, and of a comparison three more than four times the later of its lines. Assumes nothing.
 use Prim.Native.Nat.{ℕ, _+_, _-_, _*_, _<_}
-use mathlib.Core.Path.{_≡_, refl, sym, ap, _∙_}
-use mathlib.Core.Bool.{Bool, true, false}
+use mathlib.Core.Path.{refl, sym, ap, _∙_}
+use mathlib.Core.Bool.{Bool, false}
 use native.Mathlib.Omega.{arith}
 use lib.Dec.{eqb}
 use lib.ListN.{getD}

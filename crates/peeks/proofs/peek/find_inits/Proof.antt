@@ -4,8 +4,8 @@ use mathlib.Core.Bool.{false}
 use mathlib.Core.Path.{sym, _∙_}
 use mathlib.Core.List.{[]}
 use native.Mathlib.Omega.{arith}
+use Rattle.tables.proofs.Encoding.{fits-table}
 use Rattle.circuits.specs.Answers.{linesOf}
-use Rattle.circuits.proofs.Walked.{fits-table}
 use Rattle.peeks.proofs.Inits.{Noting, noting-none, noting-more, noting-ends}
 use Rattle.peeks.proofs.peek.find_inits.Statement.{statement}
 use Rattle.peeks.proofs.peek.find_inits.Tie as tie

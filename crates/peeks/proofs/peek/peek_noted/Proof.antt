@@ -3,9 +3,9 @@ use Prim.Native.Nat.{ℕ}
 use mathlib.Core.Bool.{false}
 use native.Mathlib.Omega.{arith}
 use lib.ListN.{length-replicate}
-use Rattle.circuits.proofs.Walked.{fits-table}
 use Rattle.peeks.proofs.Seen.{types-of}
 use borrow.Author.Needs.{needs}
+use Rattle.tables.proofs.Encoding.{fits-table}
 use Rattle.peeks.proofs.peek.peek_noted.Statement.{statement}
 use Rattle.peeks.proofs.peek.peek_noted.Tie as tie
 

@@ -1,10 +1,11 @@
 -- The lists are zero as they are made. Assumes nothing.
+use mathlib.Core.Bool.{false}
 use Prim.Native.Nat.{ℕ}
 use mathlib.Core.Path.{refl}
 use native.Mathlib.Omega.{arith}
 use lib.ListN.{length-replicate}
-use Rattle.programs.proofs.Keeping.{fits-table}
 use borrow.Author.Needs.{needs}
+use Rattle.tables.proofs.Encoding.{fits-table}
 use Rattle.programs.proofs.make.count_many.Statement.{statement}
 use Rattle.programs.proofs.make.count_many.Tie as tie
 use Rattle.programs.proofs.make.count_many.Reads as reads
@@ -26,7 +27,7 @@ slice-aggregate-count-all-3 c = search needs
 -- src/make.rt:46:5
 count-all-requires : tie.Need-count-all-requires
 count-all-requires c κs = let P = c .before .before .before .before .before .pre in
-    (P .0, (P .1, record { wide = omega (arith, fits-table (c .before .before .before .before .before .args .table .now) (c .before .before .before .before .before .args .count) (P .0) .0, length-replicate {A = ℕ} 16385 0); no-wd = refl; no-num = refl; no-lo = refl }))
+    (P .0, (P .1, record { wide = omega (arith, fits-table false (c .before .before .before .before .before .args .table .now) (c .before .before .before .before .before .args .count) (P .0) .0, length-replicate {A = ℕ} 16385 0); no-wd = refl; no-num = refl; no-lo = refl }))
 
 -- src/make.rt:39:1
 returns : tie.Need-returns

@@ -1,11 +1,11 @@
 -- The marks, the count, then the target if there is room. Assumes nothing.
 use native.Mathlib.Omega.{arith}
-use Prim.Native.Nat.{ℕ, _-_, _*_, _≤_, _<_}
+use Prim.Native.Nat.{ℕ, _-_, _≤_, _<_}
 use mathlib.Core.Path.{sym, ap, _∙_}
 use mathlib.Core.List.{_++_}
 use lib.ListN.{length, replicate}
 use Rattle.tables.specs.Tables.{room}
-use Rattle.tables.specs.Lines.{encode}
+use Rattle.tables.specs.Lines.{encode, span}
 use Rattle.programs.specs.Answers.{programOf}
 use Rattle.programs.specs.declared.Translated.the-variants.{Done}
 use Rattle.programs.proofs.Answering.{too-small, fits-target, room-words}
@@ -53,7 +53,7 @@ same-length c = search needs
 returns-2 : tie.Need-returns-2
 returns-2 c = let m : ℕ = length (programOf (c .before .before .before .before .before .before .before .before .before .before .before .before .before .before .args .table .now) (c .before .before .before .before .before .before .before .before .before .before .before .before .before .before .args .count)) in
     let h : m ≤ room (length (c .before .before .before .before .before .before .before .before .before .before .before .before .before .before .args .target .now)) = omega (arith, c .before .before .before .before .before .before .room-of .ensures, c .before .before .before .before .before .before .before .counting .ensures, c .before .before .before .before .before .if1 .left) in
-    (ap Done (c .before .before .before .before .before .before .before .counting .ensures) ∙ fits-target m (length (c .before .before .before .before .before .before .before .before .before .before .before .before .before .before .args .target .now)) h, c .before .before .writing .ensures ∙ ap (λ (x : ℕ). encode (programOf (c .before .before .before .before .before .before .before .before .before .before .before .before .before .before .args .table .now) (c .before .before .before .before .before .before .before .before .before .before .before .before .before .before .args .count)) ++ replicate (length (c .before .before .before .before .before .before .before .before .before .before .before .before .before .before .args .target .now) - 5 * x) 0) (sym (c .before .before .before .before .before .before .before .counting .ensures)))
+    (ap Done (c .before .before .before .before .before .before .before .counting .ensures) ∙ fits-target m (length (c .before .before .before .before .before .before .before .before .before .before .before .before .before .before .args .target .now)) h, c .before .before .writing .ensures ∙ ap (λ (x : ℕ). encode (programOf (c .before .before .before .before .before .before .before .before .before .before .before .before .before .before .args .table .now) (c .before .before .before .before .before .before .before .before .before .before .before .before .before .before .args .count)) ++ replicate (length (c .before .before .before .before .before .before .before .before .before .before .before .before .before .before .args .target .now) - span x) 0) (sym (c .before .before .before .before .before .before .before .counting .ensures)))
 
 pub make-spec : {M : Type 1} → statement M
 make-spec =

@@ -1,10 +1,11 @@
 -- The lists are zero as they are made. Assumes nothing.
+use mathlib.Core.Bool.{false}
 use Prim.Native.Nat.{ℕ}
 use mathlib.Core.Path.{refl}
 use native.Mathlib.Omega.{arith}
 use lib.ListN.{length-replicate}
-use Rattle.programs.proofs.Keeping.{fits-table}
 use borrow.Author.Needs.{needs}
+use Rattle.tables.proofs.Encoding.{fits-table}
 use Rattle.programs.proofs.make.write_many.Statement.{statement}
 use Rattle.programs.proofs.make.write_many.Tie as tie
 use Rattle.programs.proofs.make.write_many.Reads as reads
@@ -26,7 +27,7 @@ slice-aggregate-write-all-3 c = search needs
 -- src/make.rt:78:5
 write-all-requires : tie.Need-write-all-requires
 write-all-requires c κs = let P = c .before .before .before .before .before .before .before .pre in
-    (P .0, (P .1 .0, (record { wide = omega (arith, fits-table (c .before .before .before .before .before .before .before .args .table .now) (c .before .before .before .before .before .before .before .args .count) (P .0) .0, length-replicate {A = ℕ} 16385 0); no-wd = refl; no-num = refl; no-lo = refl }, P .1 .1)))
+    (P .0, (P .1 .0, (record { wide = omega (arith, fits-table false (c .before .before .before .before .before .before .before .args .table .now) (c .before .before .before .before .before .before .before .args .count) (P .0) .0, length-replicate {A = ℕ} 16385 0); no-wd = refl; no-num = refl; no-lo = refl }, P .1 .1)))
 
 -- src/make.rt:71:1
 same-length : tie.Need-same-length

@@ -1,4 +1,5 @@
 -- Width and operands, each as the kind asks. Assumes nothing.
+use mathlib.Core.Path.{_∙_}
 use Rattle.programs.specs.Records.{numberAt}
 use Rattle.programs.proofs.Reading.{instruction-read}
 use borrow.Author.Needs.{needs}
@@ -48,8 +49,11 @@ array-read-operand-3 c = search needs
 operand-requires-3 : tie.Need-operand-requires-3
 operand-requires-3 c κs = search needs
 
+of-requires : tie.Need-of-requires
+of-requires c κs = tt
+
 returns : tie.Need-returns
-returns c = instruction-read (numberAt (c .before .before .before .before .before .before .before .before .before .args .wd .now)) (numberAt (c .before .before .before .before .before .before .before .before .before .args .num .now)) (c .before .before .before .before .before .before .before .before .before .args .t1) (c .before .before .before .before .before .before .entry .ensures) (c .before .before .before .before .before .first-line .ensures) (c .before .before .before .before .operand .ensures) (c .before .before .before .second-line .ensures) (c .before .before .operand2 .ensures) (c .before .third-line .ensures) (c .operand3 .ensures)
+returns c = c .of .ensures ∙ instruction-read (numberAt (c .before .before .before .before .before .before .before .before .before .before .args .wd .now)) (numberAt (c .before .before .before .before .before .before .before .before .before .before .args .num .now)) (c .before .before .before .before .before .before .before .before .before .before .args .t1) (c .before .before .before .before .before .before .before .entry .ensures) (c .before .before .before .before .before .before .first-line .ensures) (c .before .before .before .before .before .operand .ensures) (c .before .before .before .before .second-line .ensures) (c .before .before .before .operand2 .ensures) (c .before .before .third-line .ensures) (c .before .operand3 .ensures)
 
 pub instruction-spec : {M : Type 1} → statement M
 instruction-spec =
@@ -67,4 +71,5 @@ instruction-spec =
     third-line-requires
     array-read-operand-3
     operand-requires-3
+    of-requires
     returns)

@@ -1,10 +1,11 @@
 -- The instructions so far and those ahead are the program's. Assumes nothing.
+use mathlib.Core.Bool.{false}
 use native.Mathlib.Omega.{arith}
 use lib.ListN.{length}
 use Prim.Native.Nat.{_+_, _-_}
 use Rattle.tables.specs.Lines.{kindIn}
 use borrow.Author.Needs.{needs}
-use Rattle.programs.proofs.Keeping.{fits-table, line-at, kind-of-record, zeros-length, few-emitted}
+use Rattle.programs.proofs.Keeping.{line-at, kind-of-record, zeros-length, few-emitted}
 use Rattle.programs.proofs.Counting.{Walk, walk-start, walk-more, walk-end, need-is}
 use Rattle.programs.proofs.passes.count_all.Statement.{statement}
 use Rattle.programs.proofs.passes.count_all.Tie as tie
@@ -14,6 +15,7 @@ use Rattle.programs.proofs.notes.emitted.Reads as emitted-reads
 use Rattle.programs.proofs.notes.take.Reads as take-reads
 use Rattle.programs.proofs.uses.used.Reads as used-reads
 use Rattle.tables.proofs.records.record.Reads as record-reads
+use Rattle.tables.proofs.Encoding.{fits-table}
 
 abbrev Inv-loop : tie.InvT-loop
 Inv-loop table count marks wd₀ num₀ lo₀ i₀ b₀ wd num lo i b = Walk (length wd₀) table count i b wd num lo
@@ -25,7 +27,7 @@ loop-holds : tie.Need-loop-holds Inv-loop μ-loop
 loop-holds c = walk-start (c .before .before .before .before .before .args .table .now) (c .before .before .before .before .before .args .count) (c .before .before .before .before .before .pre .1 .1)
 
 record-requires : tie.Need-record-requires Inv-loop μ-loop
-record-requires c κs = omega (arith, fits-table (c .before .before .before .before .before .before .before .args .table .now) (c .before .before .before .before .before .before .before .args .count) (c .before .before .before .before .before .before .before .pre .0) .1, c .loop-test .taken)
+record-requires c κs = omega (arith, fits-table false (c .before .before .before .before .before .before .before .args .table .now) (c .before .before .before .before .before .before .before .args .count) (c .before .before .before .before .before .before .before .pre .0) .1, c .loop-test .taken)
 
 add-n : tie.Need-add-n Inv-loop μ-loop
 add-n c = search needs
@@ -34,7 +36,7 @@ used-requires : tie.Need-used-requires Inv-loop μ-loop
 used-requires c κs = search needs
 
 take-requires : tie.Need-take-requires Inv-loop μ-loop
-take-requires c κs = (kind-of-record (c .before .before .before .before .before .before .before .before .before .before .before .before .args .table .now) (c .before .before .before .before .before .before .loop .i) (line-at (c .before .before .before .before .before .before .before .before .before .before .before .before .args .table .now) (c .before .before .before .before .before .before .before .before .before .before .before .before .args .count) (c .before .before .before .before .before .before .loop .i) (c .before .before .before .before .before .before .before .before .before .before .before .before .pre .0) (c .before .before .before .before .before .loop-test .taken) .kind) (c .before .before .before .before .«record» .ensures), omega (arith, c .before .before .before .before .before .before .loop .inv .few, c .before .before .before .before .before .loop-test .taken, fits-table (c .before .before .before .before .before .before .before .before .before .before .before .before .args .table .now) (c .before .before .before .before .before .before .before .before .before .before .before .before .args .count) (c .before .before .before .before .before .before .before .before .before .before .before .before .pre .0) .0))
+take-requires c κs = (kind-of-record (c .before .before .before .before .before .before .before .before .before .before .before .before .args .table .now) (c .before .before .before .before .before .before .loop .i) (line-at (c .before .before .before .before .before .before .before .before .before .before .before .before .args .table .now) (c .before .before .before .before .before .before .before .before .before .before .before .before .args .count) (c .before .before .before .before .before .before .loop .i) (c .before .before .before .before .before .before .before .before .before .before .before .before .pre .0) (c .before .before .before .before .before .loop-test .taken) .kind) (c .before .before .before .before .«record» .ensures), omega (arith, c .before .before .before .before .before .before .loop .inv .few, c .before .before .before .before .before .loop-test .taken, fits-table false (c .before .before .before .before .before .before .before .before .before .before .before .before .args .table .now) (c .before .before .before .before .before .before .before .before .before .before .before .before .args .count) (c .before .before .before .before .before .before .before .before .before .before .before .before .pre .0) .0))
 
 array-read-emitted : tie.Need-array-read-emitted Inv-loop μ-loop
 array-read-emitted c = search needs
@@ -43,7 +45,7 @@ emitted-requires : tie.Need-emitted-requires Inv-loop μ-loop
 emitted-requires c κs = search needs
 
 add-b : tie.Need-add-b Inv-loop μ-loop
-add-b c = omega (arith, c .emitted .ensures, few-emitted (kindIn (c .before .before .before .before .before .before .before .before .before .before .before .before .«record» .result)) (c .before .before .before .before .before .before .before .take .result), c .before .before .before .before .before .before .before .before .before .before .before .before .before .before .loop .inv .few, c .before .before .before .before .before .before .before .before .before .before .before .before .before .loop-test .taken, fits-table (c .before .before .before .before .before .before .before .before .before .before .before .before .before .before .before .before .before .before .before .before .args .table .now) (c .before .before .before .before .before .before .before .before .before .before .before .before .before .before .before .before .before .before .before .before .args .count) (c .before .before .before .before .before .before .before .before .before .before .before .before .before .before .before .before .before .before .before .before .pre .0) .0)
+add-b c = omega (arith, c .emitted .ensures, few-emitted (kindIn (c .before .before .before .before .before .before .before .before .before .before .before .before .«record» .result)) (c .before .before .before .before .before .before .before .take .result), c .before .before .before .before .before .before .before .before .before .before .before .before .before .before .loop .inv .few, c .before .before .before .before .before .before .before .before .before .before .before .before .before .loop-test .taken, fits-table false (c .before .before .before .before .before .before .before .before .before .before .before .before .before .before .before .before .before .before .before .before .args .table .now) (c .before .before .before .before .before .before .before .before .before .before .before .before .before .before .before .before .before .before .before .before .args .count) (c .before .before .before .before .before .before .before .before .before .before .before .before .before .before .before .before .before .before .before .before .pre .0) .0)
 
 add-i : tie.Need-add-i Inv-loop μ-loop
 add-i c = search needs
@@ -52,7 +54,7 @@ loop-less : tie.Need-loop-less Inv-loop μ-loop
 loop-less c = search needs
 
 loop-again : tie.Need-loop-again Inv-loop μ-loop
-loop-again c = rw (c .emitted .ensures) (walk-more (c .before .before .before .before .before .before .before .before .before .before .before .before .before .before .loop .inv) (c .before .before .before .before .before .before .before .before .before .before .before .before .before .before .before .before .before .before .before .before .pre .0) (c .before .before .before .before .before .before .before .before .before .before .before .before .before .loop-test .taken) (c .before .before .before .before .before .before .before .before .before .before .before .used .result) (need-is (c .before .before .before .before .before .before .before .before .before .before .before .before .before .before .before .before .before .before .before .before .pre .1 .0) (c .before .before .before .before .before .before .before .before .before .before .before .before .before .before .loop .i + 1) (omega (arith, c .before .before .before .before .before .before .before .before .before .before .before .before .before .loop-test .taken, fits-table (c .before .before .before .before .before .before .before .before .before .before .before .before .before .before .before .before .before .before .before .before .args .table .now) (c .before .before .before .before .before .before .before .before .before .before .before .before .before .before .before .before .before .before .before .before .args .count) (c .before .before .before .before .before .before .before .before .before .before .before .before .before .before .before .before .before .before .before .before .pre .0) .0)) (c .before .before .before .before .before .before .before .before .before .before .before .used .ensures)) (c .before .before .before .before .before .before .before .before .before .before .before .before .«record» .ensures) (c .before .before .before .before .before .before .before .take .ensures))
+loop-again c = rw (c .emitted .ensures) (walk-more (c .before .before .before .before .before .before .before .before .before .before .before .before .before .before .loop .inv) (c .before .before .before .before .before .before .before .before .before .before .before .before .before .before .before .before .before .before .before .before .pre .0) (c .before .before .before .before .before .before .before .before .before .before .before .before .before .loop-test .taken) (c .before .before .before .before .before .before .before .before .before .before .before .used .result) (need-is (c .before .before .before .before .before .before .before .before .before .before .before .before .before .before .before .before .before .before .before .before .pre .1 .0) (c .before .before .before .before .before .before .before .before .before .before .before .before .before .before .loop .i + 1) (omega (arith, c .before .before .before .before .before .before .before .before .before .before .before .before .before .loop-test .taken, fits-table false (c .before .before .before .before .before .before .before .before .before .before .before .before .before .before .before .before .before .before .before .before .args .table .now) (c .before .before .before .before .before .before .before .before .before .before .before .before .before .before .before .before .before .before .before .before .args .count) (c .before .before .before .before .before .before .before .before .before .before .before .before .before .before .before .before .before .before .before .before .pre .0) .0)) (c .before .before .before .before .before .before .before .before .before .before .before .used .ensures)) (c .before .before .before .before .before .before .before .before .before .before .before .before .«record» .ensures) (c .before .before .before .before .before .before .before .take .ensures))
 
 sub-result : tie.Need-sub-result Inv-loop μ-loop
 sub-result c = omega (arith, c .before .loop .inv .least)

@@ -1,10 +1,9 @@
 -- No instruction, two, or one. Assumes nothing.
-use mathlib.Core.Path.{ap, _∙_}
+use mathlib.Core.Path.{ap₂, _∙_}
 use Prim.Native.Nat.{ℕ}
 use mathlib.Core.List.{List}
 use borrow.Author.Tests.{eq-eqb, ne-eqb}
 use Rattle.tables.specs.Lines.{recorded}
-use Rattle.programs.specs.Records.{maskWords}
 use borrow.Author.Needs.{needs}
 use Rattle.programs.proofs.passes.emit.Statement.{statement}
 use Rattle.programs.proofs.passes.emit.Tie as tie
@@ -21,6 +20,9 @@ sub-put c = search needs
 put-requires : tie.Need-put-requires
 put-requires c κs = search needs
 
+of-requires : tie.Need-of-requires
+of-requires c κs = tt
+
 put-requires-2 : tie.Need-put-requires-2
 put-requires-2 c κs = search needs
 
@@ -28,8 +30,9 @@ same-length : tie.Need-same-length
 same-length c = search needs
 
 returns-2 : tie.Need-returns-2
-returns-2 c = rw (ne-eqb (c .before .before .before .before .before .before .before .before .before .before .before .args .e) 0 (c .before .before .before .before .before .before .before .before .before .if1 .left), eq-eqb (c .before .before .before .before .before .before .before .before .before .before .before .args .e) 2 (c .before .before .before .before .if2 .taken))
-    (c .before .before .put2 .ensures ∙ ap (λ (t : List ℕ). recorded t (c .before .before .before .before .before .before .before .before .before .before .before .args .b) (maskWords (c .before .before .before .before .before .before .before .before .before .before .before .args .w) (c .before .before .before .before .before .before .before .before .before .before .before .args .b))) (c .before .before .before .before .before .before .before .put .ensures))
+returns-2 c = rw (ne-eqb (c .before .before .before .before .before .before .before .before .before .before .before .before .args .e) 0 (c .before .before .before .before .before .before .before .before .before .before .if1 .left), eq-eqb (c .before .before .before .before .before .before .before .before .before .before .before .before .args .e) 2 (c .before .before .before .before .before .if2 .taken))
+    (c .before .before .put2 .ensures
+    ∙ ap₂ (λ (t r : List ℕ). recorded t (c .before .before .before .before .before .before .before .before .before .before .before .before .args .b) r) (c .before .before .before .before .before .before .before .before .put .ensures) (c .before .before .before .of .ensures))
 
 same-length-2 : tie.Need-same-length-2
 same-length-2 c = search needs
@@ -44,6 +47,7 @@ emit-spec =
     returns
     sub-put
     put-requires
+    of-requires
     put-requires-2
     same-length
     returns-2

@@ -1,14 +1,15 @@
 -- The answer from the start is the answer from here. Assumes nothing.
+use mathlib.Core.Bool.{false}
 use native.Mathlib.Omega.{arith}
 use Prim.Native.Nat.{_-_}
 use borrow.Author.Needs.{needs}
-use Rattle.programs.proofs.Keeping.{fits-table}
 use Rattle.programs.proofs.Marking.{NoneYet, array-start, array-found, array-further, array-none}
 use Rattle.programs.proofs.passes.has_array.Statement.{statement}
 use Rattle.programs.proofs.passes.has_array.Tie as tie
 use Rattle.programs.proofs.passes.has_array.Reads as reads
 use Rattle.programs.proofs.passes.has_array.Lts as lts
 use Rattle.tables.proofs.records.record.Reads as record-reads
+use Rattle.tables.proofs.Encoding.{fits-table}
 
 abbrev Inv-loop : tie.InvT-loop
 Inv-loop table count i₀ i = NoneYet table count i
@@ -20,7 +21,7 @@ loop-holds : tie.Need-loop-holds Inv-loop μ-loop
 loop-holds c = array-start (c .before .args .table .now) (c .before .args .count)
 
 record-requires : tie.Need-record-requires Inv-loop μ-loop
-record-requires c κs = omega (arith, fits-table (c .before .before .before .args .table .now) (c .before .before .before .args .count) (c .before .before .before .pre) .1, c .loop-test .taken)
+record-requires c κs = omega (arith, fits-table false (c .before .before .before .args .table .now) (c .before .before .before .args .count) (c .before .before .before .pre) .1, c .loop-test .taken)
 
 array-read-if1 : tie.Need-array-read-if1 Inv-loop μ-loop
 array-read-if1 c = search needs

@@ -1,8 +1,9 @@
 -- The marks so far and the lines ahead name the lines with a needing use. Assumes nothing.
+use mathlib.Core.Bool.{false}
 use native.Mathlib.Omega.{arith}
 use Prim.Native.Nat.{_-_}
 use borrow.Author.Needs.{needs}
-use Rattle.programs.proofs.Keeping.{fits-table, line-at, kind-of-record, zeros-length}
+use Rattle.programs.proofs.Keeping.{line-at, kind-of-record, zeros-length}
 use Rattle.programs.proofs.Marking.{Marking, marking-start, marking-more, marking-end}
 use Rattle.programs.proofs.passes.needing.Statement.{statement}
 use Rattle.programs.proofs.passes.needing.Tie as tie
@@ -10,6 +11,7 @@ use Rattle.programs.proofs.passes.needing.Reads as reads
 use Rattle.programs.proofs.passes.needing.Lts as lts
 use Rattle.programs.proofs.uses.mark.Reads as mark-reads
 use Rattle.tables.proofs.records.record.Reads as record-reads
+use Rattle.tables.proofs.Encoding.{fits-table}
 
 abbrev Inv-loop : tie.InvT-loop
 Inv-loop table count marks₀ i₀ marks i = Marking table count i marks
@@ -21,7 +23,7 @@ loop-holds : tie.Need-loop-holds Inv-loop μ-loop
 loop-holds c = marking-start (c .before .before .args .table .now) (c .before .before .args .count) (c .before .before .pre .1)
 
 record-requires : tie.Need-record-requires Inv-loop μ-loop
-record-requires c κs = omega (arith, fits-table (c .before .before .before .before .args .table .now) (c .before .before .before .before .args .count) (c .before .before .before .before .pre .0) .1, c .loop-test .taken)
+record-requires c κs = omega (arith, fits-table false (c .before .before .before .before .args .table .now) (c .before .before .before .before .args .count) (c .before .before .before .before .pre .0) .1, c .loop-test .taken)
 
 mark-requires : tie.Need-mark-requires Inv-loop μ-loop
 mark-requires c κs = kind-of-record (c .before .before .before .before .before .before .args .table .now) (c .before .before .before .loop .i) (line-at (c .before .before .before .before .before .before .args .table .now) (c .before .before .before .before .before .before .args .count) (c .before .before .before .loop .i) (c .before .before .before .before .before .before .pre .0) (c .before .before .loop-test .taken) .kind) (c .before .«record» .ensures)

@@ -1,7 +1,5 @@
 use mathlib.Core.Path.{refl, ap, _∙_}
 use lib.ListN.{set}
-use mathlib.Core.List.{List}
-use Prim.Native.Nat.{ℕ}
 use mathlib.Core.Bool.{true, false}
 use Rattle.tables.specs.declared.Ty.{Ty}
 use Rattle.tables.specs.Notes.{noteAt, typed, markedBy, noted}

@@ -1,4 +1,3 @@
-use mathlib.Core.Path.{_≡_}
 use Rattle.tables.proofs.check.refused.Statement.{statement}
 use Rattle.tables.proofs.check.refused.Tie as tie
 use Rattle.tables.proofs.check.refused.Reads as reads

@@ -3,7 +3,6 @@ use borrow.Author.Tests.{not-true, not-false}
 use Rattle.tables.specs.Notes.{lookIn, givenIn}
 use Rattle.tables.proofs.Answers.{sort-width}
 use Rattle.tables.proofs.Kept.{no-yes, kept-fault}
-use borrow.Author.Needs.{needs}
 use Rattle.tables.proofs.check.take_record.Statement.{statement}
 use Rattle.tables.proofs.check.take_record.Tie as tie
 use Rattle.tables.proofs.check.take_record.Reads as reads

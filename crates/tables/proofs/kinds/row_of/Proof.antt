@@ -1,5 +1,5 @@
 use Prim.Native.Nat.{ℕ}
-use mathlib.Core.Path.{ap, ap₂}
+use mathlib.Core.Path.{ap₂}
 use mathlib.Core.List.{List, []}
 use lib.ListN.{getD}
 use Rattle.tables.specs.Kinds.{rowOf}

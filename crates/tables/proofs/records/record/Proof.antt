@@ -1,5 +1,6 @@
 use mathlib.Core.Path.{sym}
 use Prim.Native.Nat.{_*_}
+use native.Mathlib.Omega.{arith}
 use Rattle.tables.proofs.Laws.{five-at}
 use borrow.Author.Needs.{needs}
 use Rattle.tables.proofs.records.record.Statement.{statement}
@@ -53,7 +54,7 @@ shared-slice-read-t22 : tie.Need-shared-slice-read-t22
 shared-slice-read-t22 c = search needs
 
 returns : tie.Need-returns
-returns c = sym (five-at (c .before .before .before .before .before .args .table .now) (5 * c .before .before .before .before .before .args .i) (c .before .before .before .before .before .pre))
+returns c = sym (five-at (c .before .before .before .before .before .args .table .now) (5 * c .before .before .before .before .before .args .i) (omega (arith, c .before .before .before .before .before .pre)))
 
 pub record-spec : {M : Type 1} → statement M
 record-spec =

@@ -1,9 +1,6 @@
 use Rattle.tables.proofs.Shapes.{shape-one, shape-two, shape-zero, shape-past, fits-as}
-use Prim.Native.Nat.{_≤_, _<_}
 use mathlib.Core.Bool.{true, false}
-use mathlib.Core.Path.{_≡_, refl, sym, ap, _∙_}
-use native.Mathlib.Omega.{arith}
-use borrow.Author.Tests.{ne-eqb, le-leb, lt-leb}
+use mathlib.Core.Path.{refl, sym, ap, _∙_}
 use Rattle.tables.specs.Lines.{isBitvec, isArray, isConst, isInput, isState, isOutput, isOne, isTwo, isIte, isRead, isWrite, isJunk, isGive, isMark, isCmp, shapeOf, kindIn}
 use Rattle.tables.proofs.Laws.{and-true, past, within}
 use Rattle.tables.proofs.Shapes.{shape-one, shape-two, fits-as}

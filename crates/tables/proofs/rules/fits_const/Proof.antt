@@ -3,7 +3,7 @@ use lib.Pow.{pow-pos, pow-mono}
 use borrow.Author.Tests.{lt-ltb}
 use Rattle.tables.proofs.Laws.{shifted-out}
 use mathlib.Core.Path.{sym}
-use borrow.Author.Tests.{lt-ltb, eq-eqb}
+use borrow.Author.Tests.{lt-ltb}
 use borrow.Author.Needs.{needs}
 use Rattle.tables.proofs.rules.fits_const.Statement.{statement}
 use Rattle.tables.proofs.rules.fits_const.Tie as tie

@@ -1,5 +1,4 @@
 use borrow.Author.Tests.{eq-eqb, ne-eqb, le-leb, lt-leb}
-use Rattle.tables.proofs.Laws.{and-true}
 use borrow.Author.Needs.{needs}
 use Rattle.tables.proofs.rules.fits_two.Statement.{statement}
 use Rattle.tables.proofs.rules.fits_two.Tie as tie

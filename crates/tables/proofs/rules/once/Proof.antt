@@ -4,9 +4,9 @@ use mathlib.Core.Bool.{true, false, not}
 use mathlib.Core.List.{List}
 use lib.Dec.{eqb}
 use lib.ListN.{getD}
-use mathlib.Core.Path.{_≡_, refl, sym, ap, _∙_}
+use mathlib.Core.Path.{sym, ap, _∙_}
 use borrow.Author.Tests.{eq-eqb, ne-eqb, lt-ltb, le-ltb}
-use Rattle.tables.specs.Lines.{isGive, shapeOf, kindIn}
+use Rattle.tables.specs.Lines.{isGive, shapeOf}
 use Rattle.tables.specs.Notes.{givenIn}
 use Rattle.tables.proofs.Laws.{and-true}
 use borrow.Author.Needs.{needs}

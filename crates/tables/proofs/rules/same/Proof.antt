@@ -1,5 +1,4 @@
 use borrow.Author.Tests.{eq-eqb, ne-eqb}
-use Rattle.tables.proofs.Laws.{and-true}
 use Rattle.tables.proofs.rules.same.Statement.{statement}
 use Rattle.tables.proofs.rules.same.Tie as tie
 use Rattle.tables.proofs.rules.same.Reads as reads

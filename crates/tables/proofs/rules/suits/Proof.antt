@@ -1,4 +1,4 @@
-use borrow.Author.Tests.{eq-eqb, ne-eqb}
+use borrow.Author.Tests.{ne-eqb}
 use mathlib.Core.Path.{sym, _∙_, ap}
 use Rattle.tables.specs.Rules.{suits}
 use borrow.Author.Needs.{needs}

@@ -1,4 +1,4 @@
-use mathlib.Core.Path.{refl, sym, ap, _∙_}
+use mathlib.Core.Path.{refl, ap}
 use native.Mathlib.Omega.{arith}
 use Rattle.tables.specs.Lines.{isBitvec, isArray, isConst, isInput, isState, isJunk, shapeOf, kindIn}
 use Rattle.tables.proofs.Laws.{past}

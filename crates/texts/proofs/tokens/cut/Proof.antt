@@ -4,7 +4,6 @@ use native.Mathlib.Omega.{arith}
 use mathlib.Core.Path.{_≡_, ap, _∙_}
 use mathlib.Core.List.{List}
 use lib.ListN.{length, take, drop}
-use Rattle.texts.specs.Split.{tokens}
 use lib.Seq.{length-take-le}
 use lib.ListN.{length-drop}
 use Rattle.texts.proofs.Places.{cut-at}
