@@ -12,39 +12,39 @@ use Rattle.tables.proofs.Shapes.{KindOf, kind-of, line-as}
 use Rattle.circuits.specs.Model.{FitL, workIn, sigsIn}
 
 module _ (r : List ℕ) (S : Shape) (e : shapeOf (kindIn r) ≡ S) where
-  pub fit-line : (p : Bool) (off wid num pos : List ℕ) (all : ℕ) (ι w g : List ℕ) (n : ℕ) → FitL p off wid num pos all (length ι) (length g) w n (lineOf r)
-      → FitL p off wid num pos all (length ι) (length g) w n (build S (kindIn r) (sortIn r) (firstIn r) (secondIn r) (thirdIn r))
-  fit-line p off wid num pos all ι w g n h = subst (λ (l : Line). FitL p off wid num pos all (length ι) (length g) w n l) (line-as r S e) h
+  pub fit-line : (p : Bool) (P : List (List ℕ)) (all : ℕ) (ι w g : List ℕ) (n : ℕ) → FitL p P all (length ι) (length g) w n (lineOf r)
+      → FitL p P all (length ι) (length g) w n (build S (kindIn r) (sortIn r) (firstIn r) (secondIn r) (thirdIn r))
+  fit-line p P all ι w g n h = subst (λ (l : Line). FitL p P all (length ι) (length g) w n l) (line-as r S e) h
 
-  pub does-line : (p f : Bool) (off wid num pos : List ℕ) (all : ℕ) (ι w g : List ℕ) (n : ℕ) {x y : List ℕ}
-      → x ≡ workIn p f off wid num pos all ι w n (build S (kindIn r) (sortIn r) (firstIn r) (secondIn r) (thirdIn r))
-      → y ≡ sigsIn f off pos g w n (build S (kindIn r) (sortIn r) (firstIn r) (secondIn r) (thirdIn r))
-      → (x ≡ workIn p f off wid num pos all ι w n (lineOf r)) × (y ≡ sigsIn f off pos g w n (lineOf r))
-  does-line p f off wid num pos all ι w g n hx hy =
-      (hx ∙ ap (workIn p f off wid num pos all ι w n) (sym (line-as r S e)), hy ∙ ap (sigsIn f off pos g w n) (sym (line-as r S e)))
+  pub does-line : (p f : Bool) (P : List (List ℕ)) (all : ℕ) (ι w g : List ℕ) (n : ℕ) {x y : List ℕ}
+      → x ≡ workIn p f P all ι w n (build S (kindIn r) (sortIn r) (firstIn r) (secondIn r) (thirdIn r))
+      → y ≡ sigsIn f P g w n (build S (kindIn r) (sortIn r) (firstIn r) (secondIn r) (thirdIn r))
+      → (x ≡ workIn p f P all ι w n (lineOf r)) × (y ≡ sigsIn f P g w n (lineOf r))
+  does-line p f P all ι w g n hx hy =
+      (hx ∙ ap (workIn p f P all ι w n) (sym (line-as r S e)), hy ∙ ap (sigsIn f P g w n) (sym (line-as r S e)))
 
 -- every other kind leaves all as it is
-pub idle-line : (r : List ℕ) (p f : Bool) (off wid num pos : List ℕ) (all : ℕ) (ι w g : List ℕ) (n : ℕ)
+pub idle-line : (r : List ℕ) (p f : Bool) (P : List (List ℕ)) (all : ℕ) (ι w g : List ℕ) (n : ℕ)
     → (kindIn r ≡ 3 → ⊥) → (kindIn r ≡ 4 → ⊥) → (kindIn r ≡ 5 → ⊥) → (kindIn r ≡ 6 → ⊥) → (kindIn r ≡ 7 → ⊥) → (kindIn r ≡ 8 → ⊥) → (kindIn r ≡ 9 → ⊥)
     → (11 ≤ kindIn r → kindIn r ≤ 20 → ⊥) → (kindIn r ≡ 21 → ⊥) → (kindIn r ≡ 22 → ⊥) → (23 ≤ kindIn r → kindIn r ≤ 52 → ⊥)
     → (kindIn r ≡ 53 → ⊥) → (kindIn r ≡ 54 → ⊥) → (kindIn r ≡ 55 → ⊥) → (kindIn r ≡ 56 → ⊥)
-    → (w ≡ workIn p f off wid num pos all ι w n (lineOf r)) × (g ≡ sigsIn f off pos g w n (lineOf r))
-idle-line r p f off wid num pos all ι w g n n₃ n₄ n₅ n₆ n₇ n₈ n₉ none n₂₁ n₂₂ ntwo n₅₃ n₅₄ n₅₅ n₅₆ = go (shapeOf (kindIn r)) refl (kind-of (kindIn r))
+    → (w ≡ workIn p f P all ι w n (lineOf r)) × (g ≡ sigsIn f P g w n (lineOf r))
+idle-line r p f P all ι w g n n₃ n₄ n₅ n₆ n₇ n₈ n₉ none n₂₁ n₂₂ ntwo n₅₃ n₅₄ n₅₅ n₅₆ = go (shapeOf (kindIn r)) refl (kind-of (kindIn r))
   where
-    go : (S : Shape) → shapeOf (kindIn r) ≡ S → KindOf S (kindIn r) → (w ≡ workIn p f off wid num pos all ι w n (lineOf r)) × (g ≡ sigsIn f off pos g w n (lineOf r))
-    go isBitvec e k = does-line r isBitvec e p f off wid num pos all ι w g n refl refl
-    go isArray e k = does-line r isArray e p f off wid num pos all ι w g n refl refl
+    go : (S : Shape) → shapeOf (kindIn r) ≡ S → KindOf S (kindIn r) → (w ≡ workIn p f P all ι w n (lineOf r)) × (g ≡ sigsIn f P g w n (lineOf r))
+    go isBitvec e k = does-line r isBitvec e p f P all ι w g n refl refl
+    go isArray e k = does-line r isArray e p f P all ι w g n refl refl
     go isConst e k = absurd (n₃ k)
     go isInput e k = absurd (n₄ k)
     go isState e k = absurd (n₅ k)
-    go isOutput e k = does-line r isOutput e p f off wid num pos all ι w g n refl refl
+    go isOutput e k = does-line r isOutput e p f P all ι w g n refl refl
     go isOne e (inl k) = absurd (none (k .0) (k .1))
     go isOne e (inr k) = absurd (n₅₆ k)
     go isTwo e k = absurd (ntwo (k .0) (k .1))
     go isIte e k = absurd (n₅₃ k)
     go isRead e k = absurd (n₅₄ k)
     go isWrite e k = absurd (n₅₅ k)
-    go isJunk e k = does-line r isJunk e p f off wid num pos all ι w g n refl refl
+    go isJunk e k = does-line r isJunk e p f P all ι w g n refl refl
     go (isGive true) e k = absurd (n₆ k)
     go (isGive false) e k = absurd (n₇ k)
     go (isMark true) e k = absurd (n₈ k)

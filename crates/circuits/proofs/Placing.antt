@@ -12,12 +12,13 @@ use lib.ListN.{length, take, getD, set, length-set, length-append}
 use lib.Seq.{getD-set-same, getD-set-other, take-suc-set, take-suc, take-length, length-take-le}
 use Rattle.tables.specs.declared.Ty.{Ty}
 use Rattle.tables.specs.Lines.{Line, Shape, isBitvec, isArray, isConst, isInput, isState, isOutput, isOne, isTwo, isIte, isRead, isWrite, isJunk, isGive, isMark, isCmp, shapeOf, build, lineOf, kindIn, sortIn, firstIn, secondIn, thirdIn, recordAt}
-use Rattle.tables.specs.Types.{tyAt, Ctx, growAll, noCtx, context}
+use Rattle.tables.specs.Types.{tyAt, Ctx, growAll, context}
+use Rattle.tables.specs.Notes.{lookIn}
 use Rattle.tables.proofs.Shapes.{KindOf, kind-of, line-as, no-junk}
 use Rattle.tables.proofs.Showing.{by-place}
 use Rattle.circuits.specs.Layout.{Place, Counts, Layout, place, noPlace, counting, typeAt, placeAt, size, typeOf, placeOf, countOf, noLayout, lay, layAll, layout}
 use Rattle.circuits.specs.Answers.{linesOf}
-use Rattle.circuits.specs.Model.{countsOf, totalsOf, placeBy, Small, AllPlaced, Sized, Ready, Typed, markOf, marks}
+use Rattle.circuits.specs.Model.{laidAs, laidIn, Shows, countsOf, totalsOf, placeBy, Small, Noted, Ready, markOf, marks}
 use Rattle.tables.specs.declared.Checked.the-variants.{Accepted}
 use Rattle.tables.specs.Tables.{checked}
 use Rattle.tables.proofs.Encoding.{fits-table}
@@ -132,112 +133,122 @@ module _ (r : List ℕ) (c : Counts) (m : ℕ) where
 pub shift-one : (x : ℕ) → x ≤ 8 → 1 * 2 ^ x % 18446744073709551616 ≡ 2 ^ x
 shift-one x h = ap (λ (n : ℕ). n % 18446744073709551616) (one-mul (2 ^ x)) ∙ mod-eq-of-lt (pow-lt {i = x} {j = 64} (omega arith))
 
--- ---- lists that hold the places so far
+-- ---- the list that holds what is known of the lines so far
 
-pub placed-none : (off num pos : List ℕ) → getD off 0 0 ≡ 0 → getD num 0 0 ≡ 1 → getD pos 0 0 ≡ 0 → AllPlaced off num pos noLayout
-placed-none off num pos eo em ep zero h = record { isOff = eo; isNum = em; isPos = ep }
-placed-none off num pos eo em ep (suc a) h = absurd (omega arith)
+pub lay-ctx : (p : Bool) (Y : Layout) (C : List Line) → layAll p Y C .ctx ≡ growAll p (Y .ctx) C
+lay-ctx p Y [] = refl
+lay-ctx p Y (l ∷ C) = lay-ctx p (lay p Y l) C
 
-placed-more : (p : Bool) (Y : Layout) (l : Line) (off num pos : List ℕ) (n o m at : ℕ) → Sound Y → length (Y .ctx .tys) ≡ n → n < length off → n < length num → n < length pos
-    → o ≡ placeOf Y l .off → m ≡ size (typeOf p Y l) → at ≡ placeOf Y l .at → AllPlaced off num pos Y → AllPlaced (set off n o) (set num n m) (set pos n at) (lay p Y l)
-placed-more p Y l off num pos n o m at S en h₁ h₂ h₃ eo em ep pl a h =
+-- the types that the notes hold are those of the layout
+pub noted-types : (p : Bool) (t : List ℕ) (n : ℕ) {xs : List (List ℕ)} → Noted p t n xs → (a : ℕ) → lookIn xs a ≡ typeAt (layout p (linesOf t n)) a
+unfolding context layout
+noted-types p t n k a = k .shows .types a ∙ ap (λ (c : Ctx). tyAt c a) (sym (lay-ctx p noLayout (linesOf t n)))
+
+shows-none : (P : List (List ℕ)) → 0 < length P → Shows (set P 0 (laidAs 0 1 0 0)) noLayout
+shows-none P h zero q =
+    let e : laidIn (set P 0 (laidAs 0 1 0 0)) 0 ≡ laidAs 0 1 0 0 = getD-set-same P 0 (laidAs 0 1 0 0) [] h in
+    record {
+      known = omega arith;
+      isOff = ap (λ (r : List ℕ). getD r 0 0) e;
+      isWid = ap (λ (r : List ℕ). getD r 3 0) e;
+      isNum = ap (λ (r : List ℕ). getD r 1 0) e;
+      isPos = ap (λ (r : List ℕ). getD r 2 0) e;
+    }
+shows-none P h (suc a) q = absurd (omega arith)
+
+shows-more : (p : Bool) (Y : Layout) (l : Line) (P : List (List ℕ)) (n o m at w : ℕ) → Sound Y → length (Y .ctx .tys) ≡ n → n ≤ 16384 → n < length P → o ≡ placeOf Y l .off → m ≡ size (typeOf p Y l)
+    → at ≡ placeOf Y l .at → w ≡ typeOf p Y l .w → Shows P Y → Shows (set P n (laidAs o m at w)) (lay p Y l)
+shows-more p Y l P n o m at w S en few h eo em ep ew pl a q =
+    let R = laidAs o m at w in
     by-place a (length (Y .ctx .tys))
     (λ e.
     let ea : a ≡ n = e ∙ en in
     let et : typeAt (lay p Y l) a ≡ typeOf p Y l = ap (typeAt (lay p Y l)) e ∙ type-new p Y l (S .long) in
     let eq : placeAt (lay p Y l) a ≡ placeOf Y l = ap (placeAt (lay p Y l)) e ∙ place-new p Y l (S .long) in
+    let er : laidIn (set P n (laidAs o m at w)) a ≡ laidAs o m at w = ap (laidIn (set P n (laidAs o m at w))) ea ∙ getD-set-same P n (laidAs o m at w) [] h in
     record {
-      isOff = ap (λ (i : ℕ). getD (set off n o) i 0) ea ∙ getD-set-same off n o 0 h₁ ∙ eo ∙ sym (ap (λ (q : Place). q .off) eq);
-      isNum = ap (λ (i : ℕ). getD (set num n m) i 0) ea ∙ getD-set-same num n m 0 h₂ ∙ em ∙ sym (ap size et);
-      isPos = ap (λ (i : ℕ). getD (set pos n at) i 0) ea ∙ getD-set-same pos n at 0 h₃ ∙ ep ∙ sym (ap (λ (q : Place). q .at) eq);
+      known = omega arith;
+      isOff = ap (λ (r : List ℕ). getD r 0 0) er ∙ eo ∙ sym (ap (λ (x : Place). x .off) eq);
+      isWid = ap (λ (r : List ℕ). getD r 3 0) er ∙ ew ∙ sym (ap (λ (x : Ty). x .w) et);
+      isNum = ap (λ (r : List ℕ). getD r 1 0) er ∙ em ∙ sym (ap size et);
+      isPos = ap (λ (r : List ℕ). getD r 2 0) er ∙ ep ∙ sym (ap (λ (x : Place). x .at) eq);
     })
     (λ e.
-    let ne : a ≡ n → ⊥ = λ q. e (q ∙ sym en) in
+    let ne : a ≡ n → ⊥ = λ x. e (x ∙ sym en) in
     let et = type-old p Y l (S .long) a e in
     let eq = place-old p Y l (S .long) a e in
     let k = pl a (omega (arith, more-places p Y l, S .long, e)) in
+    let er : laidIn (set P n (laidAs o m at w)) a ≡ laidIn P a = getD-set-other P n a (laidAs o m at w) [] ne in
     record {
-      isOff = getD-set-other off n a o 0 ne ∙ k .isOff ∙ sym (ap (λ (q : Place). q .off) eq);
-      isNum = getD-set-other num n a m 0 ne ∙ k .isNum ∙ sym (ap size et);
-      isPos = getD-set-other pos n a at 0 ne ∙ k .isPos ∙ sym (ap (λ (q : Place). q .at) eq);
+      known = k .known;
+      isOff = ap (λ (r : List ℕ). getD r 0 0) er ∙ k .isOff ∙ sym (ap (λ (x : Place). x .off) eq);
+      isWid = ap (λ (r : List ℕ). getD r 3 0) er ∙ k .isWid ∙ sym (ap (λ (x : Ty). x .w) et);
+      isNum = ap (λ (r : List ℕ). getD r 1 0) er ∙ k .isNum ∙ sym (ap size et);
+      isPos = ap (λ (r : List ℕ). getD r 2 0) er ∙ k .isPos ∙ sym (ap (λ (x : Place). x .at) eq);
     })
 
--- Y is the layout so far, l the line at hand
-pub record Sofar (p : Bool) (t : List ℕ) (n i : ℕ) (tot : Totals) (off num pos : List ℕ) : Type 0 where
+pub record Sofar (p : Bool) (t : List ℕ) (n i : ℕ) (tot : Totals) (P : List (List ℕ)) : Type 0 where
   pub most : i ≤ n
-  pub lengths : (length off ≡ 16385) × ((length num ≡ 16385) × (length pos ≡ 16385))
+  pub long : length P ≡ 16385
   pub counts : tot ≡ totalsOf (layAll p noLayout (take i (linesOf t n)) .counts)
-  pub placed : AllPlaced off num pos (layAll p noLayout (take i (linesOf t n)))
+  pub shows : Shows P (layAll p noLayout (take i (linesOf t n)))
 
-module _ (p : Bool) (t : List ℕ) (n : ℕ) (idx : List ℕ) (sz : Sized p t n idx) where
-  pub begun : (off num pos : List ℕ) {off′ num′ pos′ : List ℕ} → length off ≡ 16385 → length num ≡ 16385 → length pos ≡ 16385 → off′ ≡ set off 0 0 → num′ ≡ set num 0 1 → pos′ ≡ set pos 0 0
-      → Sofar p t n 0 (record { cells = 0; states = 0; inputs = 0; signals = 0 }) off′ num′ pos′
-  begun off num pos lo lm lp e₁ e₂ e₃ =
-      rw (e₁, e₂, e₃)
-      (record {
-        most = omega arith;
-        lengths = (length-set off 0 0 ∙ lo, (length-set num 0 1 ∙ lm, length-set pos 0 0 ∙ lp));
-        counts = refl;
-        placed = placed-none (set off 0 0) (set num 0 1) (set pos 0 0) (getD-set-same off 0 0 0 (omega arith)) (getD-set-same num 0 1 0 (omega arith)) (getD-set-same pos 0 0 0 (omega arith));
-      })
+module _ (p : Bool) (t : List ℕ) (n : ℕ) (xs : List (List ℕ)) (k : Noted p t n xs) where
+  pub begun : (P : List (List ℕ)) {P′ : List (List ℕ)} → length P ≡ 16385 → P′ ≡ set P 0 (laidAs 0 1 0 0) → Sofar p t n 0 (record { cells = 0; states = 0; inputs = 0; signals = 0 }) P′
+  begun P lp e = rw e (record { most = omega arith; long = length-set P 0 (laidAs 0 1 0 0) ∙ lp; counts = refl; shows = shows-none P (omega arith) })
 
   module _ (i : ℕ) (h : i < n) where
-    Y : Layout
-    Y = layAll p noLayout (take i (linesOf t n))
-
-    index-here : getD idx (i + 1) 0 ≡ typeOf p (layAll p noLayout (take i (linesOf t n))) (getD (linesOf t n) i Line.junk) .iw
-    index-here =
-        let r = later-at p t n (sz .accepted) i h in
-        let S = sound-at p t n (sz .accepted) i in
-        let e = number-at p t n (sz .accepted) i (omega arith) in
+    -- the note of the line at hand has its type
+    type-here : lookIn xs (i + 1) ≡ typeOf p (layAll p noLayout (take i (linesOf t n))) (getD (linesOf t n) i Line.junk)
+    type-here =
+        let r = later-at p t n (k .accepted) i h in
+        let S = sound-at p t n (k .accepted) i in
+        let e = number-at p t n (k .accepted) i (omega arith) in
         let lm = more-types p (layAll p noLayout (take i (linesOf t n))) (getD (linesOf t n) i Line.junk) in
-        sz .index (i + 1) ∙ ap (λ (x : Ty). x .iw) (r .type (i + 1) (omega arith) ∙ ap (typeAt (lay p (layAll p noLayout (take i (linesOf t n))) (getD (linesOf t n) i Line.junk))) (sym e) ∙ type-new p (layAll p noLayout (take i (linesOf t n))) (getD (linesOf t n) i Line.junk) (S .long))
+        noted-types p t n k (i + 1) ∙ r .type (i + 1) (omega arith) ∙ ap (typeAt (lay p (layAll p noLayout (take i (linesOf t n))) (getD (linesOf t n) i Line.junk))) (sym e) ∙ type-new p (layAll p noLayout (take i (linesOf t n))) (getD (linesOf t n) i Line.junk) (S .long)
 
-    pub deep-here : getD idx (i + 1) 0 ≤ 8
-    deep-here = omega (arith, index-here, line-deep p (layAll p noLayout (take i (linesOf t n))) (getD (linesOf t n) i Line.junk) (sound-at p t n (sz .accepted) i .wide) (ok-here p t n (sz .accepted) i h))
+    pub deep-here : lookIn xs (i + 1) .iw ≤ 8
+    deep-here = omega (arith, ap (λ (x : Ty). x .iw) type-here, line-deep p (layAll p noLayout (take i (linesOf t n))) (getD (linesOf t n) i Line.junk) (sound-at p t n (k .accepted) i .wide) (ok-here p t n (k .accepted) i h))
 
-    size-here : 2 ^ getD idx (i + 1) 0 ≡ size (typeOf p (layAll p noLayout (take i (linesOf t n))) (getD (linesOf t n) i Line.junk))
-    size-here = ap (λ (x : ℕ). 2 ^ x) index-here
-
-    pub small-here : {m : ℕ} {tot : Totals} {off num pos : List ℕ} → Sofar p t n i tot off num pos → m ≡ 2 ^ getD idx (i + 1) 0 → Small (countsOf tot) m × (m ≤ 256)
+    pub small-here : {m : ℕ} {tot : Totals} {P : List (List ℕ)} → Sofar p t n i tot P → m ≡ size (lookIn xs (i + 1)) → Small (countsOf tot) m × (m ≤ 256)
     small-here {m} {tot} s em =
-        let S = sound-at p t n (sz .accepted) i in
-        let e = number-at p t n (sz .accepted) i (omega arith) in
+        let S = sound-at p t n (k .accepted) i in
+        let e = number-at p t n (k .accepted) i (omega arith) in
         let hm : m ≤ 256 = subst (λ (x : ℕ). x ≤ 256) (sym em) (pow-mono deep-here) in
-        let f = fits-table p t n (sz .accepted) in
+        let f = fits-table p t n (k .accepted) in
         let q : Small (layAll p noLayout (take i (linesOf t n)) .counts) m =
         record { cells = omega (arith, S .few-cells); states = omega (arith, S .few-states); inputs = omega (arith, S .few-inputs); signals = omega (arith, S .few-signals) } in
         (subst (λ (x : Totals). Small (countsOf x) m) (sym (s .counts)) q, hm)
 
-    -- one line more: r is the record at hand
-    pub further : {r : List ℕ} {m o at : ℕ} {tot tot′ : Totals} (off num pos : List ℕ) {off′ num′ pos′ : List ℕ} → Sofar p t n i tot off num pos → r ≡ recordAt t i → m ≡ 2 ^ getD idx (i + 1) 0
-        → o ≡ placeBy (countsOf tot) (lineOf r) .off → at ≡ placeBy (countsOf tot) (lineOf r) .at → tot′ ≡ totalsOf (countOf (countsOf tot) m (lineOf r))
-        → off′ ≡ set off (i + 1) o → num′ ≡ set num (i + 1) m → pos′ ≡ set pos (i + 1) at → Sofar p t n (i + 1) tot′ off′ num′ pos′
-    further {r} {m} {o} {at} {tot} {tot′} off num pos {off′} {num′} {pos′} s er em eo ep et e₁ e₂ e₃ =
+    -- one line more: r is the record at hand, y its type
+    pub further : {r : List ℕ} {y : Ty} {m o at : ℕ} {tot tot′ : Totals} (P : List (List ℕ)) {P′ : List (List ℕ)} → Sofar p t n i tot P → r ≡ recordAt t i → y ≡ lookIn xs (i + 1) → m ≡ size y
+        → o ≡ placeBy (countsOf tot) (lineOf r) .off → at ≡ placeBy (countsOf tot) (lineOf r) .at → tot′ ≡ totalsOf (countOf (countsOf tot) m (lineOf r)) → P′ ≡ set P (i + 1) (laidAs o m at (y .w))
+        → Sofar p t n (i + 1) tot′ P′
+    further {r} {y} {m} {o} {at} {tot} {tot′} P {P′} s er ey em eo ep et e =
         let Y = layAll p noLayout (take i (linesOf t n)) in
         let l = getD (linesOf t n) i Line.junk in
-        let S = sound-at p t n (sz .accepted) i in
-        let el : lineOf r ≡ l = ap lineOf er ∙ sym (line-here p t n (sz .accepted) i h) in
+        let S = sound-at p t n (k .accepted) i in
+        let el : lineOf r ≡ l = ap lineOf er ∙ sym (line-here p t n (k .accepted) i h) in
         let ec : countsOf tot ≡ Y .counts = ap countsOf (s .counts) in
         let eq : placeBy (countsOf tot) (lineOf r) ≡ placeOf Y l = ap₂ placeBy ec el ∙ place-by Y l in
-        let sm : m ≡ size (typeOf p Y l) = em ∙ size-here in
-        let next : layAll p noLayout (take (i + 1) (linesOf t n)) ≡ lay p Y l = ap (λ (j : ℕ). layAll p noLayout (take j (linesOf t n))) (add-one i) ∙ lay-next p t n (sz .accepted) i h in
-        let f = fits-table p t n (sz .accepted) in
-        let hl = s .lengths in
+        let ty : y ≡ typeOf p Y l = ey ∙ type-here in
+        let sm : m ≡ size (typeOf p Y l) = em ∙ ap size ty in
+        let next : layAll p noLayout (take (i + 1) (linesOf t n)) ≡ lay p Y l = ap (λ (j : ℕ). layAll p noLayout (take j (linesOf t n))) (add-one i) ∙ lay-next p t n (k .accepted) i h in
+        let f = fits-table p t n (k .accepted) in
+        let hl = s .long in
         record {
           most = omega arith;
-          lengths = (ap length e₁ ∙ length-set off (i + 1) o ∙ hl .0, (ap length e₂ ∙ length-set num (i + 1) m ∙ hl .1 .0, ap length e₃ ∙ length-set pos (i + 1) at ∙ hl .1 .1));
+          long = ap length e ∙ length-set P (i + 1) (laidAs o m at (y .w)) ∙ hl;
           counts = et ∙ ap totalsOf (ap₂ (λ (c : Counts) (x : Line). countOf c m x) ec el ∙ ap (λ (x : ℕ). countOf (Y .counts) x l) sm) ∙ ap (λ (Z : Layout). totalsOf (Z .counts)) (sym next);
-          placed = subst (λ (Z : Layout). AllPlaced off′ num′ pos′ Z) (sym next)
-              (rw (e₁, e₂, e₃) (placed-more p Y l off num pos (i + 1) o m at S (number-at p t n (sz .accepted) i (omega arith)) (omega (arith, hl .0)) (omega (arith, hl .1 .0)) (omega (arith, hl .1 .1)) (eo ∙ ap (λ (q : Place). q .off) eq) sm (ep ∙ ap (λ (q : Place). q .at) eq) (s .placed)));
+          shows = subst (λ (Z : Layout). Shows P′ Z) (sym next)
+              (rw e (shows-more p Y l P (i + 1) o m at (y .w) S (number-at p t n (k .accepted) i (omega arith)) (omega arith) (omega arith) (eo ∙ ap (λ (x : Place). x .off) eq) sm (ep ∙ ap (λ (x : Place). x .at) eq) (ap (λ (x : Ty). x .w) ty) (s .shows)));
         }
 
-  pub laid : {i : ℕ} {tot : Totals} {off num pos : List ℕ} → n ≤ i → Sofar p t n i tot off num pos
-      → AllPlaced off num pos (layout p (linesOf t n)) × (tot ≡ totalsOf (layout p (linesOf t n) .counts))
-  laid {i} {tot} {off} {num} {pos} h s =
+  pub laid : {i : ℕ} {tot : Totals} {P : List (List ℕ)} → n ≤ i → Sofar p t n i tot P → Shows P (layout p (linesOf t n)) × (tot ≡ totalsOf (layout p (linesOf t n) .counts))
+  laid {i} {tot} {P} h s =
       let e : i ≡ n = omega (arith, s .most) in
-      let q : layAll p noLayout (take i (linesOf t n)) ≡ layout p (linesOf t n) = ap (λ (j : ℕ). layAll p noLayout (take j (linesOf t n))) e ∙ lay-done p t n (sz .accepted) in
-      (subst (λ (Z : Layout). AllPlaced off num pos Z) q (s .placed), s .counts ∙ ap (λ (Z : Layout). totalsOf (Z .counts)) q)
+      let q : layAll p noLayout (take i (linesOf t n)) ≡ layout p (linesOf t n) = ap (λ (j : ℕ). layAll p noLayout (take j (linesOf t n))) e ∙ lay-done p t n (k .accepted) in
+      (subst (λ (Z : Layout). Shows P Z) q (s .shows), s .counts ∙ ap (λ (Z : Layout). totalsOf (Z .counts)) q)
 
 pub place-small : (c : Counts) (m : ℕ) (l : Line) → Small c m → (placeBy c l .off < 4294967296) × (placeBy c l .at < 4294967296)
 place-small c m (Line.bitvec w) s = (omega arith, omega arith)
@@ -367,15 +378,11 @@ module _ (p : Bool) (t : List ℕ) (n : ℕ) (acc : checked p t n ≡ Accepted) 
 
   -- ---- what the pass leaves is what the steps ask for
 
-  pub ready-laid : {idx wid off num pos : List ℕ} {tot : Totals} → Typed p t n idx wid → AllPlaced off num pos (layout p (linesOf t n)) → tot ≡ totalsOf (layout p (linesOf t n) .counts)
-      → Ready p t n off wid num pos (tot .cells) (tot .states) (tot .inputs) (tot .signals)
-  ready-laid {idx} {wid} {off} {num} {pos} {tot} ty pl e =
-      let S = all-sound in
-      let le = lines-here in
-      let h = few-here in
+  pub ready-laid : {P : List (List ℕ)} {tot : Totals} → Shows P (layout p (linesOf t n)) → tot ≡ totalsOf (layout p (linesOf t n) .counts) → Ready p t n P (tot .cells) (tot .states) (tot .inputs) (tot .signals)
+  ready-laid sh e =
       record {
         accepted = acc;
-        shows = λ a q. let k = pl a q in record { known = omega (arith, S .long); isOff = k .isOff; isWid = ty .width a; isNum = k .isNum; isPos = k .isPos };
+        shows = sh;
         cells = ap (λ (x : Totals). x .cells) (sym e);
         states = ap (λ (x : Totals). x .states) (sym e);
         inputs = ap (λ (x : Totals). x .inputs) (sym e);
@@ -386,18 +393,3 @@ module _ (p : Bool) (t : List ℕ) (n : ℕ) (acc : checked p t n ≡ Accepted) 
   lent-small {tot} e =
       subst (λ (x : Totals). (x .cells + x .states < 4294967296) × ((x .inputs < 4294967296) × (x .signals < 4294967296))) (sym e)
       (omega (arith, words-few), (omega (arith, inputs-few), omega (arith, signals-few)))
-
--- lists of the widths of all lines
-pub lay-ctx : (p : Bool) (Y : Layout) (C : List Line) → layAll p Y C .ctx ≡ growAll p (Y .ctx) C
-lay-ctx p Y [] = refl
-lay-ctx p Y (l ∷ C) = lay-ctx p (lay p Y l) C
-
-pub typed : (p : Bool) (t : List ℕ) (n : ℕ) {idx wid : List ℕ} → checked p t n ≡ Accepted → ((a : ℕ) → getD idx a 0 ≡ tyAt (context p (linesOf t n)) a .iw)
-    → ((a : ℕ) → getD wid a 0 ≡ tyAt (context p (linesOf t n)) a .w) → Typed p t n idx wid
-unfolding context layout
-typed p t n acc hi hw =
-    let e : layAll p noLayout (linesOf t n) .ctx ≡ growAll p noCtx (linesOf t n) = lay-ctx p noLayout (linesOf t n) in
-    record {
-      sized = record { accepted = acc; index = λ a. hi a ∙ ap (λ (c : Ctx). tyAt c a .iw) (sym e) };
-      width = λ a. hw a ∙ ap (λ (c : Ctx). tyAt c a .w) (sym e);
-    }

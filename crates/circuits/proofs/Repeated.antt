@@ -27,8 +27,8 @@ row-fits k i n r m h l = omega (arith, fewer k i n h)
 pub bytes-fit : (k i n g m : ℕ) → i < k → m ≡ g + (k - i) * n → g + n ≤ m
 bytes-fit k i n g m h e = omega (arith, fewer k i n h)
 
-pub ready-as : {p : Bool} {t off wid num pos : List ℕ} {n all words words′ ins ins′ sigs sigs′ : ℕ} → words ≡ words′ → ins ≡ ins′ → sigs ≡ sigs′
-    → Ready p t n off wid num pos all words ins sigs → Ready p t n off wid num pos all words′ ins′ sigs′
+pub ready-as : {p : Bool} {P : List (List ℕ)} {t : List ℕ} {n all words words′ ins ins′ sigs sigs′ : ℕ} → words ≡ words′ → ins ≡ ins′ → sigs ≡ sigs′
+    → Ready p t n P all words ins sigs → Ready p t n P all words′ ins′ sigs′
 ready-as e₁ e₂ e₃ r =
     record {
       accepted = r .accepted;

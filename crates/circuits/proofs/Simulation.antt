@@ -24,7 +24,7 @@ use Rattle.tables.proofs.Facts.{IsWord, OkOne, OkTwo, OkExpr, OkValue, OkGive, 
 use Rattle.circuits.specs.Cells.{choose, say, same, lows, part, put}
 use Rattle.circuits.specs.Layout.{Layout, typeAt, placeAt, size, typeOf, placeOf, lay}
 use Rattle.circuits.specs.Meaning.{opWord, cellsE, inputWord, stateWords, Acc, cellsAt, wordAt, widthAt, givenWords, cellsOf, stsOf, evalLine}
-use Rattle.circuits.specs.Model.{wordIn, runIn, exprIn, stateIn, givenIn, workIn, Word, Run, FitWord, FitE, Own, FitG, FitL, Shown, Shows}
+use Rattle.circuits.specs.Model.{offIn, numIn, posIn, widIn, wordIn, runIn, exprIn, stateIn, givenIn, workIn, Word, Run, FitWord, FitE, Own, FitG, FitL, Shown, Shows}
 use Rattle.circuits.proofs.Puts as laws
 use Rattle.circuits.proofs.Fitting.{fit-one, fit-two, least-one, plain-one, fit-as}
 use Rattle.circuits.proofs.Laid.{Sound, sound-more, type-new, place-new, type-old, place-old, more-places}
@@ -85,33 +85,33 @@ record Vals (p : Bool) (xs ys : List ℕ) (t : Ty) : Type 0 where
 
 -- ---- a line after those that the work area holds
 
-module _ {p : Bool} {all : ℕ} {σ w : List ℕ} {A : Acc} (H : Held p all σ w A) (room : A .lay .counts .cells ≤ all) (l : Line) (off wid num pos : List ℕ)
-    (sh : Shows off wid num pos (lay p (A .lay) l)) where
+module _ {p : Bool} {all : ℕ} {σ w : List ℕ} {A : Acc} (H : Held p all σ w A) (room : A .lay .counts .cells ≤ all) (l : Line) (P : List (List ℕ))
+    (sh : Shows P (lay p (A .lay) l)) where
   abbrev Y : Layout
   Y = A .lay
 
   there : (a : ℕ) → 1 ≤ typeAt (A .lay) a .cls → a < length (A .lay .ctx .tys)
   there a q = earlier (A .lay .ctx .tys) a q
 
-  shown : (a : ℕ) → 1 ≤ typeAt (A .lay) a .cls → Shown off wid num pos a (typeAt (A .lay) a) (placeAt (A .lay) a)
+  shown : (a : ℕ) → 1 ≤ typeAt (A .lay) a .cls → Shown P a (typeAt (A .lay) a) (placeAt (A .lay) a)
   shown a q =
       let h = there a q in
       let ne : a ≡ length (A .lay .ctx .tys) → ⊥ = λ e. omega arith in
       let s = sh a (omega (arith, more-places p (A .lay) l, H .sound .long)) in
       rw (type-old p (A .lay) l (H .sound .long) a ne, place-old p (A .lay) l (H .sound .long) a ne) at s
 
-  pub mine : Shown off wid num pos (length (A .lay .ctx .tys)) (typeOf p (A .lay) l) (placeOf (A .lay) l)
+  pub mine : Shown P (length (A .lay .ctx .tys)) (typeOf p (A .lay) l) (placeOf (A .lay) l)
   mine =
       let s = sh (length (A .lay .ctx .tys)) (omega (arith, more-places p (A .lay) l, H .sound .long)) in
       rw (type-new p (A .lay) l (H .sound .long), place-new p (A .lay) l (H .sound .long)) at s
 
-  run-of : (a : ℕ) → 2 ≤ typeAt (A .lay) a .cls → runIn off num w a ≡ cellsAt A a
+  run-of : (a : ℕ) → 2 ≤ typeAt (A .lay) a .cls → runIn P w a ≡ cellsAt A a
   run-of a q = ap₂ (part w) (shown a (omega arith) .isOff) (shown a (omega arith) .isNum) ∙ cells-at (H .sound) (H .holds) a q
 
-  pub word-of : (a : ℕ) → IsWord (typeAt (A .lay) a) → wordIn off w a ≡ wordAt A a
+  pub word-of : (a : ℕ) → IsWord (typeAt (A .lay) a) → wordIn P w a ≡ wordAt A a
   word-of a q = ap (λ (n : ℕ). getD w n 0) (shown a (omega (arith, q .is)) .isOff) ∙ word-at (H .sound) (H .holds) a q
 
-  wid-of : (a : ℕ) → 2 ≤ typeAt (A .lay) a .cls → getD wid a 0 ≡ widthAt A a
+  wid-of : (a : ℕ) → 2 ≤ typeAt (A .lay) a .cls → widIn P a ≡ widthAt A a
   wid-of a q = shown a (omega arith) .isWid
 
   inside : (a : ℕ) → 2 ≤ typeAt (A .lay) a .cls → placeAt (A .lay) a .off + size (typeAt (A .lay) a) ≤ length w
@@ -158,13 +158,13 @@ module _ {p : Bool} {all : ℕ} {σ w : List ℕ} {A : Acc} (H : Held p all σ w
   one-vals : (x y : ℕ) (t : Ty) → t .iw ≡ 0 → x ≡ y → (p ≡ false → y < 2 ^ (t .w)) → Vals p (x ∷ []) (y ∷ []) t
   one-vals x y t e q h = record { is = ap (λ (v : ℕ). v ∷ []) q; len = ap (λ (n : ℕ). 2 ^ n) (sym e); small = λ f j. one-small y (t .w) j (h f) }
 
-  vals : (t : Ty) → t .w ≤ 64 → (e : Expr) → OkExpr p (tyAt (A .lay .ctx)) t e → Vals p (exprIn p off wid num w e) (cellsE p (widthAt A) (wordAt A) (cellsAt A) e) t
+  vals : (t : Ty) → t .w ≤ 64 → (e : Expr) → OkExpr p (tyAt (A .lay .ctx)) t e → Vals p (exprIn p P w e) (cellsE p (widthAt A) (wordAt A) (cellsAt A) e) t
   vals t h (Expr.const v) ok = one-vals v v t (ok .sort .flat) refl (λ f. ok .fits)
   vals t h (Expr.one k a x y) ok =
       one-vals _ _ t (ok .sort .flat) (ap₂ (λ (u b : ℕ). opWord p k u 64 b x y) (wid-of a (ok .arg .is)) (word-of a (ok .arg))) (λ f. op-small p k (t .w) (widthAt A a) 64 (wordAt A a) x y f (word-one t k a x y h ok))
   vals t h (Expr.two k a b) ok =
       one-vals _ _ t (ok .sort .flat)
-      (ap₂ (λ (u v : ℕ). opWord p k u v (wordIn off w a) (wordIn off w b) 0) (wid-of a (ok .left .is)) (wid-of b (ok .right .is))
+      (ap₂ (λ (u v : ℕ). opWord p k u v (wordIn P w a) (wordIn P w b) 0) (wid-of a (ok .left .is)) (wid-of b (ok .right .is))
       ∙ ap₂ (λ (x y : ℕ). opWord p k (widthAt A a) (widthAt A b) x y 0) (word-of a (ok .left)) (word-of b (ok .right)))
       (λ f. op-small p k (t .w) (widthAt A a) (widthAt A b) (wordAt A a) (wordAt A b) 0 f (word-two t k a b h ok))
   vals t h (Expr.cmp e a b) ok =
@@ -172,7 +172,7 @@ module _ {p : Bool} {all : ℕ} {σ w : List ℕ} {A : Acc} (H : Held p all σ w
       (λ f. bit-small (say e (same (cellsAt A a) (cellsAt A b))) (t .w) (omega (arith, ok .bit)))
   vals t h (Expr.ite d a b) ok =
       record {
-        is = ap (λ (n : ℕ). choose n (runIn off num w a) (runIn off num w b)) (word-of d (ok .cond)) ∙ ap₂ (choose (wordAt A d)) (run-of a (ok .left .is)) (run-of b (ok .right .is));
+        is = ap (λ (n : ℕ). choose n (runIn P w a) (runIn P w b)) (word-of d (ok .cond)) ∙ ap₂ (choose (wordAt A d)) (run-of a (ok .left .is)) (run-of b (ok .right .is));
         len = choose-has (λ (x : List ℕ). length x ≡ size t) (wordAt A d) (cellsAt A a) (cellsAt A b)
             (len-of a (ok .left .is) ∙ ap (λ (n : ℕ). 2 ^ n) (ok .sameA .iw)) (len-of b (ok .right .is) ∙ ap (λ (n : ℕ). 2 ^ n) (ok .sameB .iw));
         small = λ f. choose-has (λ (x : List ℕ). (j : ℕ) → getD x j 0 < 2 ^ (t .w)) (wordAt A d) (cellsAt A a) (cellsAt A b)
@@ -184,7 +184,7 @@ module _ {p : Bool} {all : ℕ} {σ w : List ℕ} {A : Acc} (H : Held p all σ w
       (λ f. subst (λ (n : ℕ). getD (cellsAt A a) (wordAt A i) 0 < 2 ^ n) (ok .wide) (small-of f a (ok .arr .is) (wordAt A i)))
   vals t h (Expr.write a i v) ok =
       record {
-        is = ap₂ (λ (x : List ℕ) (n : ℕ). set x n (wordIn off w v)) (run-of a (ok .arr .is)) (word-of i (ok .index)) ∙ ap (set (cellsAt A a) (wordAt A i)) (word-of v (ok .value));
+        is = ap₂ (λ (x : List ℕ) (n : ℕ). set x n (wordIn P w v)) (run-of a (ok .arr .is)) (word-of i (ok .index)) ∙ ap (set (cellsAt A a) (wordAt A i)) (word-of v (ok .value));
         len = length-set (cellsAt A a) (wordAt A i) (wordAt A v) ∙ len-of a (ok .arr .is) ∙ ap (λ (n : ℕ). 2 ^ n) (ok .same .iw);
         small = λ f. set-small (cellsAt A a) (wordAt A i) (wordAt A v) (2 ^ (t .w)) (pow-pos (t .w))
             (λ j. subst (λ (n : ℕ). getD (cellsAt A a) j 0 < 2 ^ n) (ok .same .w) (small-of f a (ok .arr .is) j))
@@ -193,30 +193,30 @@ module _ {p : Bool} {all : ℕ} {σ w : List ℕ} {A : Acc} (H : Held p all σ w
 
   -- ---- what a line asks of the work area
 
-  below : (a : ℕ) → 2 ≤ typeAt (A .lay) a .cls → getD off a 0 + getD num a 0 ≤ A .lay .counts .cells
+  below : (a : ℕ) → 2 ≤ typeAt (A .lay) a .cls → offIn P a + numIn P a ≤ A .lay .counts .cells
   below a q = let h = H .sound .low a q in omega (arith, shown a (omega arith) .isOff, shown a (omega arith) .isNum)
 
-  run-fit : (m a : ℕ) → A .lay .counts .cells ≤ m → 2 ≤ typeAt (A .lay) a .cls → Run off num m a
+  run-fit : (m a : ℕ) → A .lay .counts .cells ≤ m → 2 ≤ typeAt (A .lay) a .cls → Run P m a
   run-fit m a h q = record { known = shown a (omega arith) .known; ends = omega (arith, below a q) }
 
-  word-fit : (m a : ℕ) → A .lay .counts .cells ≤ m → 2 ≤ typeAt (A .lay) a .cls → Word off m a
+  word-fit : (m a : ℕ) → A .lay .counts .cells ≤ m → 2 ≤ typeAt (A .lay) a .cls → Word P m a
   word-fit m a h q = record { known = shown a (omega arith) .known; below = omega (arith, below a q, shown a (omega arith) .isNum, pow-pos (typeAt (A .lay) a .iw)) }
 
-  index-fit : p ≡ false → (i a : ℕ) → IsWord (typeAt (A .lay) i) → 2 ≤ typeAt (A .lay) a .cls → typeAt (A .lay) i .w ≡ typeAt (A .lay) a .iw → wordIn off w i < getD num a 0
+  index-fit : p ≡ false → (i a : ℕ) → IsWord (typeAt (A .lay) i) → 2 ≤ typeAt (A .lay) a .cls → typeAt (A .lay) i .w ≡ typeAt (A .lay) a .iw → wordIn P w i < numIn P a
   index-fit f i a q r e =
-      subst (λ (n : ℕ). wordIn off w i < n) (ap (λ (n : ℕ). 2 ^ n) e ∙ sym (shown a (omega arith) .isNum)) (subst (λ (x : ℕ). x < 2 ^ widthAt A i) (sym (word-of i q)) (small-of f i (q .is) 0))
+      subst (λ (n : ℕ). wordIn P w i < n) (ap (λ (n : ℕ). 2 ^ n) e ∙ sym (shown a (omega arith) .isNum)) (subst (λ (x : ℕ). x < 2 ^ widthAt A i) (sym (word-of i q)) (small-of f i (q .is) 0))
 
   module _ (at-end : placeOf (A .lay) l .off ≡ A .lay .counts .cells) (t : Ty) (same-iw : typeOf p (A .lay) l .iw ≡ t .iw) (same-w : typeOf p (A .lay) l .w ≡ t .w) where
-    here : A .lay .counts .cells ≤ getD off (length (A .lay .ctx .tys)) 0
+    here : A .lay .counts .cells ≤ offIn P (length (A .lay .ctx .tys))
     here = omega (arith, mine .isOff)
 
-    wid-here : getD wid (length (A .lay .ctx .tys)) 0 ≡ t .w
+    wid-here : widIn P (length (A .lay .ctx .tys)) ≡ t .w
     wid-here = mine .isWid ∙ same-w
 
-    num-here : (a : ℕ) → 2 ≤ typeAt (A .lay) a .cls → typeAt (A .lay) a .iw ≡ t .iw → getD num a 0 ≡ getD num (length (A .lay .ctx .tys)) 0
+    num-here : (a : ℕ) → 2 ≤ typeAt (A .lay) a .cls → typeAt (A .lay) a .iw ≡ t .iw → numIn P a ≡ numIn P (length (A .lay .ctx .tys))
     num-here a q e = shown a (omega arith) .isNum ∙ ap (λ (n : ℕ). 2 ^ n) (e ∙ sym same-iw) ∙ sym (mine .isNum)
 
-    fit-expr : t .w ≤ 64 → (e : Expr) → OkExpr p (tyAt (A .lay .ctx)) t e → FitE p off wid num w (length (A .lay .ctx .tys)) e
+    fit-expr : t .w ≤ 64 → (e : Expr) → OkExpr p (tyAt (A .lay .ctx)) t e → FitE p P w (length (A .lay .ctx .tys)) e
     fit-expr h (Expr.const v) ok = tt
     fit-expr h (Expr.one k a x y) ok =
         record { la = word-fit _ a here (ok .arg .is); op = fit-as wid-here (wid-of a (ok .arg .is)) refl (word-of a (ok .arg)) refl (word-one t k a x y h ok) }
@@ -251,7 +251,7 @@ module _ {p : Bool} {all : ℕ} {σ w : List ℕ} {A : Acc} (H : Held p all σ w
           inside = index-fit (ok .form) i a (ok .index) (ok .arr .is) (ok .iw ∙ sym (ok .same .iw));
         }
 
-  fit-own : placeOf (A .lay) l .off ≡ A .lay .counts .cells → A .lay .counts .cells + size (typeOf p (A .lay) l) ≤ all → Wide (typeOf p (A .lay) l) → Own off wid num (length w) (length (A .lay .ctx .tys))
+  fit-own : placeOf (A .lay) l .off ≡ A .lay .counts .cells → A .lay .counts .cells + size (typeOf p (A .lay) l) ≤ all → Wide (typeOf p (A .lay) l) → Own P (length w) (length (A .lay .ctx .tys))
   fit-own e h k =
       record {
         word = record { known = mine .known; below = omega (arith, mine .isOff, H .kept .len, pow-pos (typeOf p (A .lay) l .iw)) };
@@ -269,7 +269,7 @@ module _ {p : Bool} {all : ℕ} {σ w : List ℕ} {A : Acc} (H : Held p all σ w
   give-value false q v b ok = ok .is
 
   fit-give : (m : Bool) (s q v : ℕ) → OkGive m (given (A .lay .ctx)) (sortAt p (tyAt (A .lay .ctx)) s) (typeAt (A .lay) q) (typeAt (A .lay) v) q v → A .lay .counts .states ≤ length σ
-      → FitG m off num pos all (length w) q v
+      → FitG m P all (length w) q v
   fit-give true s q v ok h =
       let r = shown q (omega (arith, ok .state)) in
       record {
@@ -287,7 +287,7 @@ module _ {p : Bool} {all : ℕ} {σ w : List ℕ} {A : Acc} (H : Held p all σ w
       }
 
   gives : (m : Bool) (s q v : ℕ) → OkGive m (given (A .lay .ctx)) (sortAt p (tyAt (A .lay .ctx)) s) (typeAt (A .lay) q) (typeAt (A .lay) v) q v
-      → givenIn off num w m q v ≡ givenWords A m (size (typeAt (A .lay) q)) v
+      → givenIn P w m q v ≡ givenWords A m (size (typeAt (A .lay) q)) v
   gives true s q v ok = ap₂ (λ (n x : ℕ). replicate n x) (shown q (omega (arith, ok .state)) .isNum) (word-of v (ok .value .word))
   gives false s q v ok = run-of v (ok .value .is)
 
@@ -296,7 +296,7 @@ module _ {p : Bool} {all : ℕ} {σ w : List ℕ} {A : Acc} (H : Held p all σ w
   gives-len true s q v ok = length-replicate (size (typeAt (A .lay) q)) (wordAt A v)
   gives-len false s q v ok = len-of v (ok .value .is) ∙ ap (λ (n : ℕ). 2 ^ n) (ok .iw ∙ sym (ok .same .iw))
 
-  place-of : (q : ℕ) → typeAt (A .lay) q .cls ≡ 4 → getD pos q 0 ≡ placeAt (A .lay) q .at
+  place-of : (q : ℕ) → typeAt (A .lay) q .cls ≡ 4 → posIn P q ≡ placeAt (A .lay) q .at
   place-of q e = shown q (omega arith) .isPos
 
 -- ---- one line
@@ -310,7 +310,7 @@ is-sort p L t (Expr.ite c a b) ok = ok .sort .is
 is-sort p L t (Expr.read a i) ok = ok .sort .is
 is-sort p L t (Expr.write a i v) ok = ok .sort .is
 
-module _ (p f : Bool) (off wid num pos : List ℕ) (all : ℕ) (σ ι w : List ℕ) (A : Acc) (H : Held p all σ w A) where
+module _ (p f : Bool) (P : List (List ℕ)) (all : ℕ) (σ ι w : List ℕ) (A : Acc) (H : Held p all σ w A) where
   -- a line that has no value and stores nothing
   quiet : (l : Line) → Sound (lay p (A .lay) l) → typeOf p (A .lay) l .cls < 2 → lay p (A .lay) l .counts .states ≡ A .lay .counts .states
       → cellsOf p f σ ι A l ≡ [] → stsOf p f σ A l ≡ A .sts → Held p all σ w (evalLine p f σ ι A l)
@@ -338,35 +338,35 @@ module _ (p f : Bool) (off wid num pos : List ℕ) (all : ℕ) (σ ι w : List �
   sort-ok : (s : ℕ) (e : Expr) → OkExpr p (tyAt (A .lay .ctx)) (sortAt p (tyAt (A .lay .ctx)) s) e → sortAt p (tyAt (A .lay .ctx)) s .w ≤ 64
   sort-ok s e ok = sort-wide p (tyAt (A .lay .ctx)) s (H .sound .wide) (is-sort p (tyAt (A .lay .ctx)) (sortAt p (tyAt (A .lay .ctx)) s) e ok) .most
 
-  pub sim : (l : Line) → Ok p (tyAt (A .lay .ctx)) (given (A .lay .ctx)) l → Shows off wid num pos (lay p (A .lay) l) → lay p (A .lay) l .counts .cells ≤ all
-      → lay p (A .lay) l .counts .states ≤ length σ → Held p all σ (workIn p f off wid num pos all ι w (length (A .lay .ctx .tys)) l) (evalLine p f σ ι A l)
+  pub sim : (l : Line) → Ok p (tyAt (A .lay .ctx)) (given (A .lay .ctx)) l → Shows P (lay p (A .lay) l) → lay p (A .lay) l .counts .cells ≤ all
+      → lay p (A .lay) l .counts .states ≤ length σ → Held p all σ (workIn p f P all ι w (length (A .lay .ctx .tys)) l) (evalLine p f σ ι A l)
   sim (Line.bitvec x) ok sh hv hs = quiet (Line.bitvec x) (sound-more p (A .lay) (Line.bitvec x) (H .sound) ok) (omega arith) refl refl refl
   sim (Line.array i e) ok sh hv hs = quiet (Line.array i e) (sound-more p (A .lay) (Line.array i e) (H .sound) ok) (omega arith) refl refl refl
   sim (Line.input s) ok sh hv hs =
       let l = Line.input s in
       let t = typeOf p (A .lay) l in
-      let me = mine H (omega arith) l off wid num pos sh in
+      let me = mine H (omega arith) l P sh in
       let v = inputWord p (t .w) (getD ι (A .lay .counts .inputs) 0) in
       subst (λ (x : List ℕ). Held p all σ x (evalLine p f σ ι A l))
-      (sym (ap (λ (o : ℕ). put w o (inputWord p (getD wid (length (A .lay .ctx .tys)) 0) (getD ι (getD pos (length (A .lay .ctx .tys)) 0) 0) ∷ [])) (me .isOff)
+      (sym (ap (λ (o : ℕ). put w o (inputWord p (widIn P (length (A .lay .ctx .tys))) (getD ι (posIn P (length (A .lay .ctx .tys))) 0) ∷ [])) (me .isOff)
       ∙ ap₂ (λ (n d : ℕ). put w (A .lay .counts .cells) (inputWord p d (getD ι n 0) ∷ [])) (me .isPos) (me .isWid)))
       (valued l (v ∷ []) (sound-more p (A .lay) l (H .sound) ok) (omega arith) refl (ap (λ (n : ℕ). 2 ^ n) (sym (ok .flat)))
       (λ e j. one-small v (t .w) j (input-small p (t .w) (getD ι (A .lay .counts .inputs) 0) e)) hv refl refl refl)
   sim (Line.state s) ok sh hv hs =
       let l = Line.state s in
       let t = typeOf p (A .lay) l in
-      let me = mine H (omega arith) l off wid num pos sh in
+      let me = mine H (omega arith) l P sh in
       let n = A .lay .counts .states in
       let vs = stateWords p f (t .w) (part σ n (size t)) in
       let lv : length vs ≡ size t = state-length p f (t .w) (part σ n (size t)) ∙ laws.length-part σ n (size t) hs in
-      let e₀ : all + getD pos (length (A .lay .ctx .tys)) 0 ≡ all + n = ap (λ (m : ℕ). all + m) (me .isPos) in
-      let ev : stateIn p f wid num pos all w (length (A .lay .ctx .tys)) ≡ vs = ap₂ (stateWords p f) (me .isWid) (ap₂ (part w) e₀ (me .isNum) ∙ state-words (H .kept) (size t)) in
+      let e₀ : all + posIn P (length (A .lay .ctx .tys)) ≡ all + n = ap (λ (m : ℕ). all + m) (me .isPos) in
+      let ev : stateIn p f P all w (length (A .lay .ctx .tys)) ≡ vs = ap₂ (stateWords p f) (me .isWid) (ap₂ (part w) e₀ (me .isNum) ∙ state-words (H .kept) (size t)) in
       let k = kept-state (H .kept) vs (size t) lv hs in
       let lw = H .kept .len in
       let hold = holds-alike (H .sound) (H .holds) (put w (all + n) vs) all (omega arith) (laws.length-put w (all + n) vs (omega arith)) (omega arith) (λ i q. laws.put-lo w (all + n) vs (omega arith) i (omega arith)) in
       let small : p ≡ false → (j : ℕ) → getD vs j 0 < 2 ^ (t .w) = λ e j. state-small p f (t .w) (part σ n (size t)) e j in
       subst (λ (x : List ℕ). Held p all σ x (evalLine p f σ ι A l))
-      (sym (ap₂ (λ (m : ℕ) (x : List ℕ). put (put w m x) (getD off (length (A .lay .ctx .tys)) 0) x) e₀ ev ∙ ap (λ (o : ℕ). put (put w (all + n) vs) o vs) (me .isOff)))
+      (sym (ap₂ (λ (m : ℕ) (x : List ℕ). put (put w m x) (offIn P (length (A .lay .ctx .tys))) x) e₀ ev ∙ ap (λ (o : ℕ). put (put w (all + n) vs) o vs) (me .isOff)))
       (record {
         sound = sound-more p (A .lay) l (H .sound) ok;
         holds = holds-value (H .sound) hold l vs (omega arith) refl lv small (omega (arith, laws.length-put w (all + n) vs (omega arith)));
@@ -375,8 +375,8 @@ module _ (p f : Bool) (off wid num pos : List ℕ) (all : ℕ) (σ ι w : List �
   sim (Line.val s e) ok sh hv hs =
       let l = Line.val s e in
       let L = tyAt (A .lay .ctx) in
-      let me = mine H (omega arith) l off wid num pos sh in
-      let v = vals H (omega arith) l off wid num pos sh (sortAt p L s) (sort-ok s e ok) e ok in
+      let me = mine H (omega arith) l P sh in
+      let v = vals H (omega arith) l P sh (sortAt p L s) (sort-ok s e ok) e ok in
       subst (λ (x : List ℕ). Held p all σ x (evalLine p f σ ι A l)) (sym (ap₂ (put w) (me .isOff) (v .is)))
       (valued l (cellsE p (widthAt A) (wordAt A) (cellsAt A) e) (sound-more p (A .lay) l (H .sound) ok) (val-value p L s e) refl
       (v .len ∙ ap (λ (n : ℕ). 2 ^ n) (sym (val-iw p L s e))) (λ q j. subst (λ (n : ℕ). getD (cellsE p (widthAt A) (wordAt A) (cellsAt A) e) j 0 < 2 ^ n) (sym (val-w p L s e)) (v .small q j)) hv refl refl refl)
@@ -384,11 +384,11 @@ module _ (p f : Bool) (off wid num pos : List ℕ) (all : ℕ) (σ ι w : List �
       let l = Line.give m s q v in
       let o = placeAt (A .lay) q .at in
       let vs = givenWords A m (size (typeAt (A .lay) q)) v in
-      let lv = gives-len H (omega arith) l off wid num pos sh m s q v ok in
+      let lv = gives-len H (omega arith) l P sh m s q v ok in
       let h : o + length vs ≤ A .lay .counts .states = omega (arith, H .sound .room q (ok .state)) in
       let lw = H .kept .len in
-      let eq : put w (all + getD pos q 0) (givenIn off num w m q v) ≡ put w (all + o) vs =
-      ap₂ (λ (n : ℕ) (x : List ℕ). put w (all + n) x) (place-of H (omega arith) l off wid num pos sh q (ok .state)) (gives H (omega arith) l off wid num pos sh m s q v ok) in
+      let eq : put w (all + posIn P q) (givenIn P w m q v) ≡ put w (all + o) vs =
+      ap₂ (λ (n : ℕ) (x : List ℕ). put w (all + n) x) (place-of H (omega arith) l P sh q (ok .state)) (gives H (omega arith) l P sh m s q v ok) in
       let S = sound-more p (A .lay) l (H .sound) ok in
       let fits : all + o + length vs ≤ length w = omega arith in
       let hold : Holds p (put w (all + o) vs) (A .lay) (A .env) =
@@ -408,17 +408,17 @@ module _ (p f : Bool) (off wid num pos : List ℕ) (all : ℕ) (σ ι w : List �
   own : (l : Line) → Ok p (tyAt (A .lay .ctx)) (given (A .lay .ctx)) l → 2 ≤ typeOf p (A .lay) l .cls → Wide (typeOf p (A .lay) l)
   own l ok q = line-wide p (tyAt (A .lay .ctx)) (given (A .lay .ctx)) (H .sound .wide) l ok (omega arith)
 
-  pub fit : (ins sigs : ℕ) (l : Line) → Ok p (tyAt (A .lay .ctx)) (given (A .lay .ctx)) l → Shows off wid num pos (lay p (A .lay) l) → lay p (A .lay) l .counts .cells ≤ all
+  pub fit : (ins sigs : ℕ) (l : Line) → Ok p (tyAt (A .lay .ctx)) (given (A .lay .ctx)) l → Shows P (lay p (A .lay) l) → lay p (A .lay) l .counts .cells ≤ all
       → lay p (A .lay) l .counts .states ≤ length σ → lay p (A .lay) l .counts .inputs ≤ ins → lay p (A .lay) l .counts .signals ≤ sigs
-      → FitL p off wid num pos all ins sigs w (length (A .lay .ctx .tys)) l
+      → FitL p P all ins sigs w (length (A .lay .ctx .tys)) l
   fit ins sigs (Line.bitvec x) ok sh hv hs hi hg = tt
   fit ins sigs (Line.array i e) ok sh hv hs hi hg = tt
   fit ins sigs (Line.input s) ok sh hv hs hi hg =
       let l = Line.input s in
-      record { own = fit-own H (omega arith) l off wid num pos sh refl hv (own l ok (omega arith)); input = omega (arith, mine H (omega arith) l off wid num pos sh .isPos) }
+      record { own = fit-own H (omega arith) l P sh refl hv (own l ok (omega arith)); input = omega (arith, mine H (omega arith) l P sh .isPos) }
   fit ins sigs (Line.state s) ok sh hv hs hi hg =
       let l = Line.state s in
-      let me = mine H (omega arith) l off wid num pos sh in
+      let me = mine H (omega arith) l P sh in
       let k = own l ok (omega arith) in
       record {
         known = me .known;
@@ -430,15 +430,15 @@ module _ (p f : Bool) (off wid num pos : List ℕ) (all : ℕ) (σ ι w : List �
       let l = Line.val s e in
       let L = tyAt (A .lay .ctx) in
       record {
-        own = fit-own H (omega arith) l off wid num pos sh refl hv (own l ok (val-value p L s e));
-        expr = fit-expr H (omega arith) l off wid num pos sh refl (sortAt p L s) (val-iw p L s e) (val-w p L s e) (sort-ok s e ok) e ok;
+        own = fit-own H (omega arith) l P sh refl hv (own l ok (val-value p L s e));
+        expr = fit-expr H (omega arith) l P sh refl (sortAt p L s) (val-iw p L s e) (val-w p L s e) (sort-ok s e ok) e ok;
       }
-  fit ins sigs (Line.give m s q v) ok sh hv hs hi hg = fit-give H hv (Line.give m s q v) off wid num pos sh m s q v ok hs
+  fit ins sigs (Line.give m s q v) ok sh hv hs hi hg = fit-give H hv (Line.give m s q v) P sh m s q v ok hs
   fit ins sigs (Line.mark m a) ok sh hv hs hi hg =
-      let me = mine H hv (Line.mark m a) off wid num pos sh in
+      let me = mine H hv (Line.mark m a) P sh in
       record {
         known = me .known;
-        word = word-fit H hv (Line.mark m a) off wid num pos sh (length w) a (omega (arith, H .kept .len)) (ok .word .is);
+        word = word-fit H hv (Line.mark m a) P sh (length w) a (omega (arith, H .kept .len)) (ok .word .is);
         signal = omega (arith, me .isPos);
       }
   fit ins sigs (Line.output a) ok sh hv hs hi hg = tt

@@ -88,22 +88,22 @@ module _ (p : Bool) (t : List ℕ) (n : ℕ) (acc : checked p t n ≡ Accepted) 
 
 -- ---- what is known at the line i
 
-pub record Facts (p : Bool) (off wid num pos : List ℕ) (Y : Layout) (l : Line) (all words ins sigs : ℕ) : Type 0 where
+pub record Facts (p : Bool) (P : List (List ℕ)) (Y : Layout) (l : Line) (all words ins sigs : ℕ) : Type 0 where
   pub ok : Ok p (tyAt (Y .ctx)) (given (Y .ctx)) l
-  pub shows : Shows off wid num pos (lay p Y l)
+  pub shows : Shows P (lay p Y l)
   pub cells : lay p Y l .counts .cells ≤ all
   pub states : lay p Y l .counts .states ≤ words
   pub inputs : lay p Y l .counts .inputs ≤ ins
   pub signals : lay p Y l .counts .signals ≤ sigs
 
 -- what the lists show of all lines they show of the first ones
-pub shows-first : {off wid num pos : List ℕ} {Y Z : Layout} → Sound Y → Later Y Z → Shows off wid num pos Z → Shows off wid num pos Y
-shows-first {off} {wid} {num} {pos} {Y} {Z} S r sh a h =
+pub shows-first : {P : List (List ℕ)} {Y Z : Layout} → Sound Y → Later Y Z → Shows P Z → Shows P Y
+shows-first {P} {Y} {Z} S r sh a h =
     let s = sh a (omega (arith, r .longer)) in
     rw (r .type a (omega (arith, S .long)), r .place a h) at s
 
-module _ {p : Bool} {t : List ℕ} {n : ℕ} {off wid num pos : List ℕ} {all words ins sigs : ℕ} (rd : Ready p t n off wid num pos all words ins sigs) where
-  pub facts-at : (i : ℕ) → i < n → Facts p off wid num pos (layAll p noLayout (take i (linesOf t n))) (getD (linesOf t n) i Line.junk) all words ins sigs
+module _ {p : Bool} {t : List ℕ} {n : ℕ} {P : List (List ℕ)} {all words ins sigs : ℕ} (rd : Ready p t n P all words ins sigs) where
+  pub facts-at : (i : ℕ) → i < n → Facts p P (layAll p noLayout (take i (linesOf t n))) (getD (linesOf t n) i Line.junk) all words ins sigs
   facts-at i h =
       let S : Sound (lay p (layAll p noLayout (take i (linesOf t n))) (getD (linesOf t n) i Line.junk)) = subst Sound (lay-next p t n (rd .accepted) i h) (sound-at p t n (rd .accepted) (suc i)) in
       let r = later-at p t n (rd .accepted) i h in
@@ -122,25 +122,25 @@ bytes-snoc : (g : List Sig) (m : Bool) (v : ℕ) → bytesOf (g ++ (sig m v ∷ 
 bytes-snoc [] m v = refl
 bytes-snoc (sig b x ∷ g) m v = ap (λ (l : List ℕ). x ∷ l) (bytes-snoc g m v)
 
-sig-step : (p : Bool) (off wid num pos : List ℕ) (all words ins sigs : ℕ) (σ w g : List ℕ) (A : Acc) (l : Line) → Held p all σ w A → Facts p off wid num pos (A .lay) l all words ins sigs
+sig-step : (p : Bool) (P : List (List ℕ)) (all words ins sigs : ℕ) (σ w g : List ℕ) (A : Acc) (l : Line) → Held p all σ w A → Facts p P (A .lay) l all words ins sigs
     → length g ≡ sigs → take (A .lay .counts .signals) g ≡ bytesOf (A .sigs)
-    → take (lay p (A .lay) l .counts .signals) (sigsIn false off pos g w (length (A .lay .ctx .tys)) l) ≡ bytesOf (sigsOf A l)
-sig-step p off wid num pos all words ins sigs σ w g A (Line.bitvec x) H F lg e = e
-sig-step p off wid num pos all words ins sigs σ w g A (Line.array i x) H F lg e = e
-sig-step p off wid num pos all words ins sigs σ w g A (Line.input s) H F lg e = e
-sig-step p off wid num pos all words ins sigs σ w g A (Line.state s) H F lg e = e
-sig-step p off wid num pos all words ins sigs σ w g A (Line.val s x) H F lg e = e
-sig-step p off wid num pos all words ins sigs σ w g A (Line.give m s q v) H F lg e = e
-sig-step p off wid num pos all words ins sigs σ w g A (Line.mark m a) H F lg e =
+    → take (lay p (A .lay) l .counts .signals) (sigsIn false P g w (length (A .lay .ctx .tys)) l) ≡ bytesOf (sigsOf A l)
+sig-step p P all words ins sigs σ w g A (Line.bitvec x) H F lg e = e
+sig-step p P all words ins sigs σ w g A (Line.array i x) H F lg e = e
+sig-step p P all words ins sigs σ w g A (Line.input s) H F lg e = e
+sig-step p P all words ins sigs σ w g A (Line.state s) H F lg e = e
+sig-step p P all words ins sigs σ w g A (Line.val s x) H F lg e = e
+sig-step p P all words ins sigs σ w g A (Line.give m s q v) H F lg e = e
+sig-step p P all words ins sigs σ w g A (Line.mark m a) H F lg e =
     let l = Line.mark m a in
-    let me = mine H (F .cells) l off wid num pos (F .shows) in
+    let me = mine H (F .cells) l P (F .shows) in
     let v : ℕ = choose (wordAt A a) 1 0 in
     let n = A .lay .counts .signals in
     let h : suc n ≤ sigs = F .signals in
-    ap₂ (λ (q x : ℕ). take (suc n) (set g q (choose {A = ℕ} x 1 0))) (me .isPos) (word-of H (F .cells) l off wid num pos (F .shows) a (F .ok .word))
+    ap₂ (λ (q x : ℕ). take (suc n) (set g q (choose {A = ℕ} x 1 0))) (me .isPos) (word-of H (F .cells) l P (F .shows) a (F .ok .word))
     ∙ take-suc-set g n v (omega arith) ∙ ap (λ (x : List ℕ). x ++ (v ∷ [])) e ∙ sym (bytes-snoc (A .sigs) m v)
-sig-step p off wid num pos all words ins sigs σ w g A (Line.output a) H F lg e = e
-sig-step p off wid num pos all words ins sigs σ w g A Line.junk H F lg e = absurd (F .ok)
+sig-step p P all words ins sigs σ w g A (Line.output a) H F lg e = e
+sig-step p P all words ins sigs σ w g A Line.junk H F lg e = absurd (F .ok)
 
 -- ---- the walk
 
@@ -165,7 +165,7 @@ seen-nothing p w = record { lines = refl; cells = cells; small = λ e a q. absur
     cells zero = refl
     cells (suc a) = refl
 
-module _ (p f : Bool) (t : List ℕ) (n : ℕ) (off wid num pos : List ℕ) (all : ℕ) (ι σ : List ℕ) (ins sigs : ℕ) (rd : Ready p t n off wid num pos all (length σ) ins sigs) where
+module _ (p f : Bool) (t : List ℕ) (n : ℕ) (P : List (List ℕ)) (all : ℕ) (ι σ : List ℕ) (ins sigs : ℕ) (rd : Ready p t n P all (length σ) ins sigs) where
   pub walk-start : (w g : List ℕ) → σ ≡ drop all w → length w ≡ all + length σ → length g ≡ sigs → Walked p f (linesOf t n) all ι σ sigs w g 0
   walk-start w g e l lg =
       record { held = record { sound = sound-none; holds = seen-nothing p w; kept = record { words = sym e; many = refl; len = l } }; sig = λ q. refl; len = lg }
@@ -180,33 +180,33 @@ module _ (p f : Bool) (t : List ℕ) (n : ℕ) (off wid num pos : List ℕ) (all
     line-is : getD (linesOf t n) i Line.junk ≡ lineOf (recordAt t i)
     line-is = line-here p t n (rd .accepted) i h
 
-    known : Facts p off wid num pos (accAt p f σ ι (linesOf t n) i .lay) (getD (linesOf t n) i Line.junk) all (length σ) ins sigs
-    known = subst (λ (Y : Layout). Facts p off wid num pos Y (getD (linesOf t n) i Line.junk) all (length σ) ins sigs) (sym (same-lay i)) (facts-at rd i h)
+    known : Facts p P (accAt p f σ ι (linesOf t n) i .lay) (getD (linesOf t n) i Line.junk) all (length σ) ins sigs
+    known = subst (λ (Y : Layout). Facts p P Y (getD (linesOf t n) i Line.junk) all (length σ) ins sigs) (sym (same-lay i)) (facts-at rd i h)
 
     -- r is the record at hand
-    pub walk-fit : {r : List ℕ} (w g : List ℕ) → r ≡ recordAt t i → Walked p f (linesOf t n) all ι σ sigs w g i → FitL p off wid num pos all ins (length g) w (i + 1) (lineOf r)
+    pub walk-fit : {r : List ℕ} (w g : List ℕ) → r ≡ recordAt t i → Walked p f (linesOf t n) all ι σ sigs w g i → FitL p P all ins (length g) w (i + 1) (lineOf r)
     walk-fit {r} w g er k =
-        subst (λ (x : List ℕ). FitL p off wid num pos all ins (length g) w (i + 1) (lineOf x)) (sym er)
-        (subst (λ (l : Line). FitL p off wid num pos all ins (length g) w (i + 1) l) line-is
-        (subst (λ (m : ℕ). FitL p off wid num pos all ins (length g) w m (getD (linesOf t n) i Line.junk)) here
-        (subst (λ (m : ℕ). FitL p off wid num pos all ins m w (length (accAt p f σ ι (linesOf t n) i .lay .ctx .tys)) (getD (linesOf t n) i Line.junk)) (sym (k .len))
-        (fit p f off wid num pos all σ ι w (accAt p f σ ι (linesOf t n) i) (k .held) ins sigs (getD (linesOf t n) i Line.junk) (known .ok) (known .shows) (known .cells) (known .states) (known .inputs) (known .signals)))))
+        subst (λ (x : List ℕ). FitL p P all ins (length g) w (i + 1) (lineOf x)) (sym er)
+        (subst (λ (l : Line). FitL p P all ins (length g) w (i + 1) l) line-is
+        (subst (λ (m : ℕ). FitL p P all ins (length g) w m (getD (linesOf t n) i Line.junk)) here
+        (subst (λ (m : ℕ). FitL p P all ins m w (length (accAt p f σ ι (linesOf t n) i .lay .ctx .tys)) (getD (linesOf t n) i Line.junk)) (sym (k .len))
+        (fit p f P all σ ι w (accAt p f σ ι (linesOf t n) i) (k .held) ins sigs (getD (linesOf t n) i Line.junk) (known .ok) (known .shows) (known .cells) (known .states) (known .inputs) (known .signals)))))
 
     pub walk-step : {r : List ℕ} (w g w′ g′ : List ℕ) → r ≡ recordAt t i → Walked p f (linesOf t n) all ι σ sigs w g i → length g′ ≡ length g
-        → w′ ≡ workIn p f off wid num pos all ι w (i + 1) (lineOf r) → g′ ≡ sigsIn f off pos g w (i + 1) (lineOf r) → Walked p f (linesOf t n) all ι σ sigs w′ g′ (i + 1)
+        → w′ ≡ workIn p f P all ι w (i + 1) (lineOf r) → g′ ≡ sigsIn f P g w (i + 1) (lineOf r) → Walked p f (linesOf t n) all ι σ sigs w′ g′ (i + 1)
     walk-step {r} w g w′ g′ er k lg ew eg =
         let A = accAt p f σ ι (linesOf t n) i in
         let l = getD (linesOf t n) i Line.junk in
         let m = length (A .lay .ctx .tys) in
         let el : lineOf r ≡ l = ap lineOf er ∙ sym line-is in
-        let ew′ : w′ ≡ workIn p f off wid num pos all ι w m l = ew ∙ ap₂ (workIn p f off wid num pos all ι w) (sym here) el in
-        let eg′ : g′ ≡ sigsIn f off pos g w m l = eg ∙ ap₂ (sigsIn f off pos g w) (sym here) el in
+        let ew′ : w′ ≡ workIn p f P all ι w m l = ew ∙ ap₂ (workIn p f P all ι w) (sym here) el in
+        let eg′ : g′ ≡ sigsIn f P g w m l = eg ∙ ap₂ (sigsIn f P g w) (sym here) el in
         let next : accAt p f σ ι (linesOf t n) (i + 1) ≡ evalLine p f σ ι A l = ap (accAt p f σ ι (linesOf t n)) (add-one i) ∙ acc-suc p f σ ι (linesOf t n) i (omega (arith, lines-many p t n (rd .accepted))) in
         record {
-          held = subst (λ (B : Acc). Held p all σ w′ B) (sym next) (subst (λ (x : List ℕ). Held p all σ x (evalLine p f σ ι A l)) (sym ew′) (sim p f off wid num pos all σ ι w A (k .held) l (known .ok) (known .shows) (known .cells) (known .states)));
+          held = subst (λ (B : Acc). Held p all σ w′ B) (sym next) (subst (λ (x : List ℕ). Held p all σ x (evalLine p f σ ι A l)) (sym ew′) (sim p f P all σ ι w A (k .held) l (known .ok) (known .shows) (known .cells) (known .states)));
           sig = λ q.
-              ap (λ (B : Acc). take (B .lay .counts .signals) g′) next ∙ ap (take (lay p (A .lay) l .counts .signals)) (eg′ ∙ ap (λ (b : Bool). sigsIn b off pos g w m l) q)
-              ∙ sig-step p off wid num pos all (length σ) ins sigs σ w g A l (k .held) known (k .len) (k .sig q) ∙ ap (λ (B : Acc). bytesOf (B .sigs)) (sym next);
+              ap (λ (B : Acc). take (B .lay .counts .signals) g′) next ∙ ap (take (lay p (A .lay) l .counts .signals)) (eg′ ∙ ap (λ (b : Bool). sigsIn b P g w m l) q)
+              ∙ sig-step p P all (length σ) ins sigs σ w g A l (k .held) known (k .len) (k .sig q) ∙ ap (λ (B : Acc). bytesOf (B .sigs)) (sym next);
           len = lg ∙ k .len;
         }
 

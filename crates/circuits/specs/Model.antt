@@ -1,6 +1,5 @@
--- A step's lines as the code computes them, in a work area: the cells of all value lines in line order, then the state words. The lists `off`, `wid`, `num` and
--- `pos` hold for each line its first word in the work area, its width, its cells, and its place (of a state's first word, an input or a signal); the state words
--- begin at `all`. Assumes nothing.
+-- A step's lines as the code computes them, in a work area: the cells of all value lines in line order, then the state words, which begin at `all`. The list P holds
+-- for each line four numbers: its first word in the work area, its cells, its place (of a state's first word, an input or a signal) and its width. Assumes nothing.
 use Prim.Native.Nat.{ℕ, zero, suc, _+_, _^_, _≤_, _<_}
 use mathlib.Core.Path.{_≡_}
 use mathlib.Core.Logic.{_⊎_}
@@ -31,63 +30,83 @@ use Rattle.circuits.specs.Answers.{linesOf, lent, answerOf, leftOf}
 abbrev pub Apart : ℕ → ℕ → ℕ → Type 0
 Apart x y n = (x + n ≤ y) ⊎ (y + n ≤ x)
 
+-- ---- what is known of a line
+
+abbrev pub laidAs : (o m q w : ℕ) → List ℕ
+laidAs o m q w = o ∷ m ∷ q ∷ w ∷ []
+
+abbrev pub laidIn : List (List ℕ) → ℕ → List ℕ
+laidIn P a = getD P a []
+
+abbrev pub offIn : List (List ℕ) → ℕ → ℕ
+offIn P a = getD (laidIn P a) 0 0
+
+abbrev pub numIn : List (List ℕ) → ℕ → ℕ
+numIn P a = getD (laidIn P a) 1 0
+
+abbrev pub posIn : List (List ℕ) → ℕ → ℕ
+posIn P a = getD (laidIn P a) 2 0
+
+abbrev pub widIn : List (List ℕ) → ℕ → ℕ
+widIn P a = getD (laidIn P a) 3 0
+
 -- ---- what a line finds in the work area
 
 -- the word of the line a, and its cells
-abbrev pub wordIn : List ℕ → List ℕ → ℕ → ℕ
-wordIn off w a = getD w (getD off a 0) 0
+abbrev pub wordIn : List (List ℕ) → List ℕ → ℕ → ℕ
+wordIn P w a = getD w (offIn P a) 0
 
-abbrev pub runIn : List ℕ → List ℕ → List ℕ → ℕ → List ℕ
-runIn off num w a = part w (getD off a 0) (getD num a 0)
+abbrev pub runIn : List (List ℕ) → List ℕ → ℕ → List ℕ
+runIn P w a = part w (offIn P a) (numIn P a)
 
 -- the cells of an expression
-abbrev pub exprIn : Bool → (off wid num w : List ℕ) → Expr → List ℕ
-exprIn p off wid num w e = cellsE p (λ a. getD wid a 0) (wordIn off w) (runIn off num w) e
+abbrev pub exprIn : Bool → (P : List (List ℕ)) (w : List ℕ) → Expr → List ℕ
+exprIn p P w e = cellsE p (widIn P) (wordIn P w) (runIn P w) e
 
 -- the words of the state on the line n, and those that an init or a next line gives the state q
-abbrev pub stateIn : Bool → Bool → (wid num pos : List ℕ) → ℕ → List ℕ → ℕ → List ℕ
-stateIn p f wid num pos all w n = stateWords p f (getD wid n 0) (part w (all + getD pos n 0) (getD num n 0))
+abbrev pub stateIn : Bool → Bool → (P : List (List ℕ)) → ℕ → List ℕ → ℕ → List ℕ
+stateIn p f P all w n = stateWords p f (widIn P n) (part w (all + posIn P n) (numIn P n))
 
-abbrev pub givenIn : (off num w : List ℕ) → Bool → (q v : ℕ) → List ℕ
-givenIn off num w true q v = replicate (getD num q 0) (wordIn off w v)
-givenIn off num w false q v = runIn off num w v
+abbrev pub givenIn : (P : List (List ℕ)) (w : List ℕ) → Bool → (q v : ℕ) → List ℕ
+givenIn P w true q v = replicate (numIn P q) (wordIn P w v)
+givenIn P w false q v = runIn P w v
 
 -- ---- what a line leaves
 
 -- the work area after the line n; f is true as the run starts
-abbrev pub workIn : Bool → Bool → (off wid num pos : List ℕ) (all : ℕ) (ι w : List ℕ) → ℕ → Line → List ℕ
-workIn p f off wid num pos all ι w n (Line.bitvec x) = w
-workIn p f off wid num pos all ι w n (Line.array i e) = w
-workIn p f off wid num pos all ι w n (Line.input s) = put w (getD off n 0) (inputWord p (getD wid n 0) (getD ι (getD pos n 0) 0) ∷ [])
-workIn p f off wid num pos all ι w n (Line.state s) = put (put w (all + getD pos n 0) (stateIn p f wid num pos all w n)) (getD off n 0) (stateIn p f wid num pos all w n)
-workIn p f off wid num pos all ι w n (Line.val s e) = put w (getD off n 0) (exprIn p off wid num w e)
-workIn p f off wid num pos all ι w n (Line.give m s q v) = pick (alike f m) (put w (all + getD pos q 0) (givenIn off num w m q v)) w
-workIn p f off wid num pos all ι w n (Line.mark m a) = w
-workIn p f off wid num pos all ι w n (Line.output a) = w
-workIn p f off wid num pos all ι w n Line.junk = w
+abbrev pub workIn : Bool → Bool → (P : List (List ℕ)) (all : ℕ) (ι w : List ℕ) → ℕ → Line → List ℕ
+workIn p f P all ι w n (Line.bitvec x) = w
+workIn p f P all ι w n (Line.array i e) = w
+workIn p f P all ι w n (Line.input s) = put w (offIn P n) (inputWord p (widIn P n) (getD ι (posIn P n) 0) ∷ [])
+workIn p f P all ι w n (Line.state s) = put (put w (all + posIn P n) (stateIn p f P all w n)) (offIn P n) (stateIn p f P all w n)
+workIn p f P all ι w n (Line.val s e) = put w (offIn P n) (exprIn p P w e)
+workIn p f P all ι w n (Line.give m s q v) = pick (alike f m) (put w (all + posIn P q) (givenIn P w m q v)) w
+workIn p f P all ι w n (Line.mark m a) = w
+workIn p f P all ι w n (Line.output a) = w
+workIn p f P all ι w n Line.junk = w
 
 -- the signal bytes after the line n
-abbrev pub sigsIn : Bool → (off pos g w : List ℕ) → ℕ → Line → List ℕ
-sigsIn f off pos g w n (Line.bitvec x) = g
-sigsIn f off pos g w n (Line.array i e) = g
-sigsIn f off pos g w n (Line.input s) = g
-sigsIn f off pos g w n (Line.state s) = g
-sigsIn f off pos g w n (Line.val s e) = g
-sigsIn f off pos g w n (Line.give m s q v) = g
-sigsIn f off pos g w n (Line.mark m a) = pick f g (set g (getD pos n 0) (choose (wordIn off w a) 1 0))
-sigsIn f off pos g w n (Line.output a) = g
-sigsIn f off pos g w n Line.junk = g
+abbrev pub sigsIn : Bool → (P : List (List ℕ)) (g w : List ℕ) → ℕ → Line → List ℕ
+sigsIn f P g w n (Line.bitvec x) = g
+sigsIn f P g w n (Line.array i e) = g
+sigsIn f P g w n (Line.input s) = g
+sigsIn f P g w n (Line.state s) = g
+sigsIn f P g w n (Line.val s e) = g
+sigsIn f P g w n (Line.give m s q v) = g
+sigsIn f P g w n (Line.mark m a) = pick f g (set g (posIn P n) (choose (wordIn P w a) 1 0))
+sigsIn f P g w n (Line.output a) = g
+sigsIn f P g w n Line.junk = g
 
--- ---- what a line asks of the lists and of the work area
+-- ---- what a line asks of the list and of the work area
 
 -- the word of the line a, or its run, lies below m
-pub record Word (off : List ℕ) (m a : ℕ) : Type 0 where
+pub record Word (P : List (List ℕ)) (m a : ℕ) : Type 0 where
   pub known : a ≤ 16384
-  pub below : getD off a 0 < m
+  pub below : offIn P a < m
 
-pub record Run (off num : List ℕ) (m a : ℕ) : Type 0 where
+pub record Run (P : List (List ℕ)) (m a : ℕ) : Type 0 where
   pub known : a ≤ 16384
-  pub ends : getD off a 0 + getD num a 0 ≤ m
+  pub ends : offIn P a + numIn P a ≤ m
 
 -- a word operator of the kind k, on words of the widths u and v, for a line of the width w
 pub record Below (k w u v a b c : ℕ) : Type 0 where
@@ -103,117 +122,117 @@ pub record FitWord (p : Bool) (k w u v a b c : ℕ) : Type 0 where
   -- words of a circuit are below 2 to their width
   pub below : p ≡ false → Below k w u v a b c
 
-pub record FitOne (p : Bool) (off wid w : List ℕ) (n k a x y : ℕ) : Type 0 where
-  pub la : Word off (getD off n 0) a
-  pub op : FitWord p k (getD wid n 0) (getD wid a 0) 64 (wordIn off w a) x y
+pub record FitOne (p : Bool) (P : List (List ℕ)) (w : List ℕ) (n k a x y : ℕ) : Type 0 where
+  pub la : Word P (offIn P n) a
+  pub op : FitWord p k (widIn P n) (widIn P a) 64 (wordIn P w a) x y
 
-pub record FitTwo (p : Bool) (off wid w : List ℕ) (n k a b : ℕ) : Type 0 where
-  pub la : Word off (getD off n 0) a
-  pub lb : Word off (getD off n 0) b
-  pub op : FitWord p k (getD wid n 0) (getD wid a 0) (getD wid b 0) (wordIn off w a) (wordIn off w b) 0
+pub record FitTwo (p : Bool) (P : List (List ℕ)) (w : List ℕ) (n k a b : ℕ) : Type 0 where
+  pub la : Word P (offIn P n) a
+  pub lb : Word P (offIn P n) b
+  pub op : FitWord p k (widIn P n) (widIn P a) (widIn P b) (wordIn P w a) (wordIn P w b) 0
 
-pub record FitCmp (off num : List ℕ) (n a b : ℕ) : Type 0 where
-  pub la : Run off num (getD off n 0) a
-  pub lb : Run off num (getD off n 0) b
-  pub size : getD num b 0 ≡ getD num a 0
+pub record FitCmp (P : List (List ℕ)) (n a b : ℕ) : Type 0 where
+  pub la : Run P (offIn P n) a
+  pub lb : Run P (offIn P n) b
+  pub size : numIn P b ≡ numIn P a
 
-pub record FitIte (off num : List ℕ) (n c a b : ℕ) : Type 0 where
-  pub lc : Word off (getD off n 0) c
-  pub la : Run off num (getD off n 0) a
-  pub lb : Run off num (getD off n 0) b
-  pub sizeA : getD num a 0 ≡ getD num n 0
-  pub sizeB : getD num b 0 ≡ getD num n 0
+pub record FitIte (P : List (List ℕ)) (n c a b : ℕ) : Type 0 where
+  pub lc : Word P (offIn P n) c
+  pub la : Run P (offIn P n) a
+  pub lb : Run P (offIn P n) b
+  pub sizeA : numIn P a ≡ numIn P n
+  pub sizeB : numIn P b ≡ numIn P n
 
-pub record FitRead (off num w : List ℕ) (n a i : ℕ) : Type 0 where
-  pub la : Run off num (getD off n 0) a
-  pub li : Word off (getD off n 0) i
-  pub inside : wordIn off w i < getD num a 0
+pub record FitRead (P : List (List ℕ)) (w : List ℕ) (n a i : ℕ) : Type 0 where
+  pub la : Run P (offIn P n) a
+  pub li : Word P (offIn P n) i
+  pub inside : wordIn P w i < numIn P a
 
-pub record FitWrite (off num w : List ℕ) (n a i v : ℕ) : Type 0 where
-  pub la : Run off num (getD off n 0) a
-  pub li : Word off (getD off n 0) i
-  pub lv : Word off (getD off n 0) v
-  pub size : getD num a 0 ≡ getD num n 0
-  pub inside : wordIn off w i < getD num a 0
+pub record FitWrite (P : List (List ℕ)) (w : List ℕ) (n a i v : ℕ) : Type 0 where
+  pub la : Run P (offIn P n) a
+  pub li : Word P (offIn P n) i
+  pub lv : Word P (offIn P n) v
+  pub size : numIn P a ≡ numIn P n
+  pub inside : wordIn P w i < numIn P a
 
-abbrev pub FitE : Bool → (off wid num w : List ℕ) → ℕ → Expr → Type 0
-FitE p off wid num w n (Expr.const v) = Unit {0}
-FitE p off wid num w n (Expr.one k a x y) = FitOne p off wid w n k a x y
-FitE p off wid num w n (Expr.two k a b) = FitTwo p off wid w n k a b
-FitE p off wid num w n (Expr.cmp e a b) = FitCmp off num n a b
-FitE p off wid num w n (Expr.ite c a b) = FitIte off num n c a b
-FitE p off wid num w n (Expr.read a i) = FitRead off num w n a i
-FitE p off wid num w n (Expr.write a i v) = FitWrite off num w n a i v
+abbrev pub FitE : Bool → (P : List (List ℕ)) (w : List ℕ) → ℕ → Expr → Type 0
+FitE p P w n (Expr.const v) = Unit {0}
+FitE p P w n (Expr.one k a x y) = FitOne p P w n k a x y
+FitE p P w n (Expr.two k a b) = FitTwo p P w n k a b
+FitE p P w n (Expr.cmp e a b) = FitCmp P n a b
+FitE p P w n (Expr.ite c a b) = FitIte P n c a b
+FitE p P w n (Expr.read a i) = FitRead P w n a i
+FitE p P w n (Expr.write a i v) = FitWrite P w n a i v
 
 -- a line that has a value: its own run is in the work area
-pub record Own (off wid num : List ℕ) (len n : ℕ) : Type 0 where
-  pub word : Word off len n
-  pub wide : Width (getD wid n 0)
-  pub run : Run off num len n
+pub record Own (P : List (List ℕ)) (len n : ℕ) : Type 0 where
+  pub word : Word P len n
+  pub wide : Width (widIn P n)
+  pub run : Run P len n
 
-pub record FitInput (off wid num pos : List ℕ) (len ins n : ℕ) : Type 0 where
-  pub own : Own off wid num len n
-  pub input : getD pos n 0 < ins
+pub record FitInput (P : List (List ℕ)) (len ins n : ℕ) : Type 0 where
+  pub own : Own P len n
+  pub input : posIn P n < ins
 
-pub record FitVal (p : Bool) (off wid num w : List ℕ) (n : ℕ) (e : Expr) : Type 0 where
-  pub own : Own off wid num (length w) n
-  pub expr : FitE p off wid num w n e
+pub record FitVal (p : Bool) (P : List (List ℕ)) (w : List ℕ) (n : ℕ) (e : Expr) : Type 0 where
+  pub own : Own P (length w) n
+  pub expr : FitE p P w n e
 
 -- a state: its cells lie below the state words
-pub record FitState (off wid num pos : List ℕ) (all len n : ℕ) : Type 0 where
+pub record FitState (P : List (List ℕ)) (all len n : ℕ) : Type 0 where
   pub known : n ≤ 16384
-  pub wide : Width (getD wid n 0)
-  pub cells : getD off n 0 + getD num n 0 ≤ all
-  pub words : all + getD pos n 0 + getD num n 0 ≤ len
+  pub wide : Width (widIn P n)
+  pub cells : offIn P n + numIn P n ≤ all
+  pub words : all + posIn P n + numIn P n ≤ len
 
-pub record FitInit (off num pos : List ℕ) (all len q v : ℕ) : Type 0 where
+pub record FitInit (P : List (List ℕ)) (all len q v : ℕ) : Type 0 where
   pub known : q ≤ 16384
-  pub value : Word off len v
-  pub words : all + getD pos q 0 + getD num q 0 ≤ len
+  pub value : Word P len v
+  pub words : all + posIn P q + numIn P q ≤ len
 
-pub record FitNext (off num pos : List ℕ) (all len q v : ℕ) : Type 0 where
+pub record FitNext (P : List (List ℕ)) (all len q v : ℕ) : Type 0 where
   pub known : q ≤ 16384
-  pub value : Run off num all v
-  pub size : getD num v 0 ≡ getD num q 0
-  pub words : all + getD pos q 0 + getD num q 0 ≤ len
+  pub value : Run P all v
+  pub size : numIn P v ≡ numIn P q
+  pub words : all + posIn P q + numIn P q ≤ len
 
-pub record FitMark (off pos : List ℕ) (len sigs n a : ℕ) : Type 0 where
+pub record FitMark (P : List (List ℕ)) (len sigs n a : ℕ) : Type 0 where
   pub known : n ≤ 16384
-  pub word : Word off len a
-  pub signal : getD pos n 0 < sigs
+  pub word : Word P len a
+  pub signal : posIn P n < sigs
 
-abbrev pub FitG : Bool → (off num pos : List ℕ) → (all len q v : ℕ) → Type 0
-FitG true off num pos all len q v = FitInit off num pos all len q v
-FitG false off num pos all len q v = FitNext off num pos all len q v
+abbrev pub FitG : Bool → (P : List (List ℕ)) → (all len q v : ℕ) → Type 0
+FitG true P all len q v = FitInit P all len q v
+FitG false P all len q v = FitNext P all len q v
 
-abbrev pub FitL : Bool → (off wid num pos : List ℕ) → (all ins sigs : ℕ) → List ℕ → ℕ → Line → Type 0
-FitL p off wid num pos all ins sigs w n (Line.bitvec x) = Unit {0}
-FitL p off wid num pos all ins sigs w n (Line.array i e) = Unit {0}
-FitL p off wid num pos all ins sigs w n (Line.input s) = FitInput off wid num pos (length w) ins n
-FitL p off wid num pos all ins sigs w n (Line.state s) = FitState off wid num pos all (length w) n
-FitL p off wid num pos all ins sigs w n (Line.val s e) = FitVal p off wid num w n e
-FitL p off wid num pos all ins sigs w n (Line.give m s q v) = FitG m off num pos all (length w) q v
-FitL p off wid num pos all ins sigs w n (Line.mark m a) = FitMark off pos (length w) sigs n a
-FitL p off wid num pos all ins sigs w n (Line.output a) = Unit {0}
-FitL p off wid num pos all ins sigs w n Line.junk = Unit {0}
+abbrev pub FitL : Bool → (P : List (List ℕ)) → (all ins sigs : ℕ) → List ℕ → ℕ → Line → Type 0
+FitL p P all ins sigs w n (Line.bitvec x) = Unit {0}
+FitL p P all ins sigs w n (Line.array i e) = Unit {0}
+FitL p P all ins sigs w n (Line.input s) = FitInput P (length w) ins n
+FitL p P all ins sigs w n (Line.state s) = FitState P all (length w) n
+FitL p P all ins sigs w n (Line.val s e) = FitVal p P w n e
+FitL p P all ins sigs w n (Line.give m s q v) = FitG m P all (length w) q v
+FitL p P all ins sigs w n (Line.mark m a) = FitMark P (length w) sigs n a
+FitL p P all ins sigs w n (Line.output a) = Unit {0}
+FitL p P all ins sigs w n Line.junk = Unit {0}
 
 -- ---- all lines
 
--- the lists hold what is known of the line a, and of all lines of a layout
-pub record Shown (off wid num pos : List ℕ) (a : ℕ) (t : Ty) (q : Place) : Type 0 where
+-- the list holds what is known of the line a, and of all lines of a layout
+pub record Shown (P : List (List ℕ)) (a : ℕ) (t : Ty) (q : Place) : Type 0 where
   pub known : a ≤ 16384
-  pub isOff : getD off a 0 ≡ q .off
-  pub isWid : getD wid a 0 ≡ t .w
-  pub isNum : getD num a 0 ≡ size t
-  pub isPos : getD pos a 0 ≡ q .at
+  pub isOff : offIn P a ≡ q .off
+  pub isWid : widIn P a ≡ t .w
+  pub isNum : numIn P a ≡ size t
+  pub isPos : posIn P a ≡ q .at
 
-abbrev pub Shows : (off wid num pos : List ℕ) → Layout → Type 0
-Shows off wid num pos Y = (a : ℕ) → a < length (Y .places) → Shown off wid num pos a (typeAt Y a) (placeAt Y a)
+abbrev pub Shows : (P : List (List ℕ)) → Layout → Type 0
+Shows P Y = (a : ℕ) → a < length (Y .places) → Shown P a (typeAt Y a) (placeAt Y a)
 
--- an accepted table, and lists that hold what is known of its lines
-pub record Ready (p : Bool) (t : List ℕ) (n : ℕ) (off wid num pos : List ℕ) (all words ins sigs : ℕ) : Type 0 where
+-- an accepted table, and a list that holds what is known of its lines
+pub record Ready (p : Bool) (t : List ℕ) (n : ℕ) (P : List (List ℕ)) (all words ins sigs : ℕ) : Type 0 where
   pub accepted : checked p t n ≡ Accepted
-  pub shows : Shows off wid num pos (layout p (linesOf t n))
+  pub shows : Shows P (layout p (linesOf t n))
   pub cells : layout p (linesOf t n) .counts .cells ≡ all
   pub states : layout p (linesOf t n) .counts .states ≡ words
   pub inputs : layout p (linesOf t n) .counts .inputs ≡ ins
@@ -240,26 +259,12 @@ placeBy c (Line.mark m a) = place 0 (c .signals)
 placeBy c (Line.output a) = noPlace
 placeBy c Line.junk = noPlace
 
--- the counts are small: m cells more fit a word of the lists
+-- the counts are small: m cells more fit a word of the list
 pub record Small (c : Counts) (m : ℕ) : Type 0 where
   pub cells : c .cells + m < 4294967296
   pub states : c .states + m < 4294967296
   pub inputs : c .inputs + 1 < 4294967296
   pub signals : c .signals + 1 < 4294967296
-
--- the lists hold the place and the size of the line a, and of all lines of a layout
-pub record Placed (off num pos : List ℕ) (a : ℕ) (t : Ty) (q : Place) : Type 0 where
-  pub isOff : getD off a 0 ≡ q .off
-  pub isNum : getD num a 0 ≡ size t
-  pub isPos : getD pos a 0 ≡ q .at
-
-abbrev pub AllPlaced : (off num pos : List ℕ) → Layout → Type 0
-AllPlaced off num pos Y = (a : ℕ) → a < length (Y .places) → Placed off num pos a (typeAt Y a) (placeAt Y a)
-
--- the list holds the index widths of an accepted table's lines
-pub record Sized (p : Bool) (t : List ℕ) (n : ℕ) (idx : List ℕ) : Type 0 where
-  pub accepted : checked p t n ≡ Accepted
-  pub index : (a : ℕ) → getD idx a 0 ≡ typeAt (layout p (linesOf t n)) a .iw
 
 -- the signals' classes: 1 for a bad line, 0 for a constraint
 abbrev pub markOf : Line → List ℕ
@@ -296,11 +301,6 @@ sigRows bs (suc k) g = zipSig bs g ∷ sigRows bs k (drop (length bs) g)
 pub record Noted (p : Bool) (t : List ℕ) (n : ℕ) (xs : List (List ℕ)) : Type 0 where
   pub accepted : checked p t n ≡ Accepted
   pub shows : Listed xs (context p (linesOf t n))
-
--- the lists hold the index widths and the widths of an accepted table's lines
-pub record Typed (p : Bool) (t : List ℕ) (n : ℕ) (idx wid : List ℕ) : Type 0 where
-  pub sized : Sized p t n idx
-  pub width : (a : ℕ) → getD wid a 0 ≡ typeAt (layout p (linesOf t n)) a .w
 
 abbrev pub lentAnswer : Bool → (t : List ℕ) (n k : ℕ) (S I : List ℕ) (g w : ℕ) → Ran
 lentAnswer p t n k S I g w = answerOf (lent (layout p (linesOf t n) .counts) k (length S) (length I) g w) (firstBad 0 (run p (linesOf t n) k S I))

@@ -1,13 +1,13 @@
-// Runs of neighbouring words: the work area holds the cells of a line as one run. The lists have an entry for each line.
+// Runs of neighbouring words: the work area holds the cells of a line as one run, and `laid` says of each line where.
 use words::low;
 ghost use mathlib.Core.Path.{_≡_};
 ghost use mathlib.Core.Bool.{true, false};
 ghost use Prim.Native.Nat.{_+_, _≤_, _<_};
-ghost use lib.ListN.{length, drop, getD, set, replicate};
+ghost use lib.ListN.{length, drop, set, replicate};
 ghost use Rattle.words.specs.Word.{Width};
 ghost use Rattle.tables.specs.Pick.{pick};
 ghost use Rattle.circuits.specs.Cells.{part, put, lows, same};
-ghost use Rattle.circuits.specs.Model.{Apart};
+ghost use Rattle.circuits.specs.Model.{Apart, offIn, numIn, posIn, widIn};
 
 fn wide(x: u32) -> usize
     ensures { λ r. ⌜ r ≡ x ⌝ }
@@ -15,26 +15,45 @@ fn wide(x: u32) -> usize
     x as usize
 }
 
-fn wide_byte(x: u8) -> u64
+fn wider(x: u32) -> u64
     ensures { λ r. ⌜ r ≡ x ⌝ }
 {
     x as u64
 }
 
-// The entry of the line i.
-pub fn at(xs: &[u32; 16385], i: usize) -> usize
+// The numbers laid out for a line: its first word in the work area, its cells, its place (of a state's first word, an input or a signal) and its width.
+pub const LAID: usize = 4;
+
+// The first word of the line i.
+pub fn off(laid: &[[u32; LAID]; 16385], i: usize) -> usize
     requires { ⌜ i ≤ 16384 ⌝ }
-    ensures { λ r. ⌜ r ≡ getD (now (xs .entry)) i 0 ⌝ }
+    ensures { λ r. ⌜ r ≡ offIn (now (laid .entry)) i ⌝ }
 {
-    wide(xs[i])
+    wide(laid[i][0])
+}
+
+// The cells of the line i.
+pub fn cells(laid: &[[u32; LAID]; 16385], i: usize) -> usize
+    requires { ⌜ i ≤ 16384 ⌝ }
+    ensures { λ r. ⌜ r ≡ numIn (now (laid .entry)) i ⌝ }
+{
+    wide(laid[i][1])
+}
+
+// The place of the line i.
+pub fn place(laid: &[[u32; LAID]; 16385], i: usize) -> usize
+    requires { ⌜ i ≤ 16384 ⌝ }
+    ensures { λ r. ⌜ r ≡ posIn (now (laid .entry)) i ⌝ }
+{
+    wide(laid[i][2])
 }
 
 // The width of the line i.
-pub fn width(xs: &[u8; 16385], i: usize) -> u64
+pub fn width(laid: &[[u32; LAID]; 16385], i: usize) -> u64
     requires { ⌜ i ≤ 16384 ⌝ }
-    ensures { λ r. ⌜ r ≡ getD (now (xs .entry)) i 0 ⌝ }
+    ensures { λ r. ⌜ r ≡ widIn (now (laid .entry)) i ⌝ }
 {
-    wide_byte(xs[i])
+    wider(laid[i][3])
 }
 
 // Copies words[x..x + n] to words[y..y + n].

@@ -1,26 +1,29 @@
 // The pass over the lines before a run: where each line has its cells and its place, and the classes of the signals.
 use crate::Spot;
 use crate::Totals;
+use crate::area::LAID;
 use tables::Checked;
+use tables::Ty;
+use tables::notes;
+use tables::notes::BYTES;
 use tables::records;
 use tables::records::WORDS;
 ghost use mathlib.Core.Path.{_≡_};
 ghost use mathlib.Core.List.{_++_};
-ghost use Prim.Native.Nat.{_+_, _^_, _≤_, _<_};
-ghost use lib.ListN.{length, take, getD, set};
+ghost use Prim.Native.Nat.{_+_, _≤_, _<_};
+ghost use lib.ListN.{length, take, set};
 ghost use Rattle.tables.specs.Lines.{lineOf};
 ghost use Rattle.tables.specs.Tables.{checked};
-ghost use Rattle.circuits.specs.Layout.{layout, countOf};
+ghost use Rattle.circuits.specs.Layout.{layout, countOf, size};
 ghost use Rattle.circuits.specs.Answers.{linesOf};
-ghost use Rattle.circuits.specs.Model.{countsOf, totalsOf, placeBy, Small, AllPlaced, Sized, markOf, marks};
+ghost use Rattle.circuits.specs.Model.{countsOf, totalsOf, placeBy, Small, markOf, marks, laidAs, Shows, Noted};
 
-// The cells of the line n.
-pub fn cells_of(idx: &[u8; 16385], n: usize) -> usize
-    requires { ⌜ (n ≤ 16384) × (getD (now idx) n 0 ≤ 8) ⌝ }
-    ensures { λ r. ⌜ r ≡ 2 ^ getD (now (idx .entry)) n 0 ⌝ }
+// The cells of a line of the type y.
+pub fn cells_of(y: Ty) -> usize
+    requires { ⌜ y .iw ≤ 8 ⌝ }
+    ensures { λ r. ⌜ r ≡ size y ⌝ }
 {
-    let x = idx[n];
-    1 << x
+    1 << y.iw
 }
 
 // The counts after a line of m cells.
@@ -96,31 +99,27 @@ fn find_spot(rec: [u64; WORDS], t: Totals) -> Spot
     }
 }
 
-// The place and the cells of the line n go to the lists.
-fn put_place(off: &mut [u32], num: &mut [u32], pos: &mut [u32], n: usize, s: Spot, m: usize)
-    requires { ⌜ (n < length (now off)) × ((n < length (now num)) × ((n < length (now pos)) × ((s .off < 4294967296) × ((s .at < 4294967296) × (m < 4294967296))))) ⌝ }
-    ensures { λ _. ⌜ (now (off .exit) ≡ set (now (off .entry)) n (s .off)) × ((now (num .exit) ≡ set (now (num .entry)) n m) × (now (pos .exit) ≡ set (now (pos .entry)) n (s .at))) ⌝ }
+// What is known of the line n goes to the list: its spot, its m cells and its width.
+fn put_line(laid: &mut [[u32; LAID]], n: usize, s: Spot, m: usize, w: u8)
+    requires { ⌜ (n < length (now laid)) × ((s .off < 4294967296) × ((s .at < 4294967296) × (m < 4294967296))) ⌝ }
+    ensures { λ _. ⌜ now (laid .exit) ≡ set (now (laid .entry)) n (laidAs (s .off) m (s .at) w) ⌝ }
 {
-    off[n] = s.off as u32;
-    num[n] = m as u32;
-    pos[n] = s.at as u32;
+    laid[n] = [s.off as u32, m as u32, s.at as u32, w as u32];
 }
 
-// The places of all lines go to the lists, by the index widths that the check has found.
+// What is known of all lines goes to the list, by the notes of the check.
 pub fn lay_out(
     program: bool,
     table: &[u64],
     count: usize,
-    idx: &[u8; 16385],
-    off: &mut [u32],
-    num: &mut [u32],
-    pos: &mut [u32],
+    notes: &[[u8; BYTES]],
+    laid: &mut [[u32; LAID]],
 ) -> Totals
-    requires { ⌜ Sized program (now table) count (now idx) × ((length (now off) ≡ 16385) × ((length (now num) ≡ 16385) × (length (now pos) ≡ 16385))) ⌝ }
-    ensures { λ r. ⌜ AllPlaced (now (off .exit)) (now (num .exit)) (now (pos .exit)) (layout program (linesOf (now (table .entry)) count)) × (r ≡ totalsOf (layout program (linesOf (now (table .entry)) count) .counts)) ⌝ }
+    requires { ⌜ Noted program (now table) count (now notes) × (length (now laid) ≡ 16385) ⌝ }
+    ensures { λ r. ⌜ Shows (now (laid .exit)) (layout program (linesOf (now (table .entry)) count)) × (r ≡ totalsOf (layout program (linesOf (now (table .entry)) count) .counts)) ⌝ }
 {
     let none = Spot { off: 0, at: 0 };
-    put_place(off, num, pos, 0, none, 1);
+    put_line(laid, 0, none, 1, 0);
     let mut t = Totals {
         cells: 0,
         states: 0,
@@ -130,9 +129,10 @@ pub fn lay_out(
     let mut i: usize = 0;
     while i < count {
         let rec = records::record(table, i);
-        let m = cells_of(idx, i + 1);
+        let y = notes::look(notes, (i + 1) as u64);
+        let m = cells_of(y);
         let s = find_spot(rec, t);
-        put_place(off, num, pos, i + 1, s, m);
+        put_line(laid, i + 1, s, m, y.w);
         t = count_line(rec, m, t);
         i += 1;
     }

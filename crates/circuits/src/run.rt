@@ -1,13 +1,13 @@
 // Runs: the checks in their order, the places, the steps, the first counted bad. The work area is zero after any call, and the signals after a refusal.
 use crate::Ran;
 use crate::Totals;
+use crate::area::LAID;
 use crate::bad;
 use crate::places;
 use crate::steps;
 use tables::Checked;
 use tables::Refusal;
 use tables::check;
-use tables::notes;
 use tables::notes::BYTES;
 use tables::records;
 ghost use mathlib.Core.Path.{_≡_};
@@ -16,7 +16,7 @@ ghost use Prim.Native.Nat.{_+_, _*_, _<_};
 ghost use lib.ListN.{length, replicate};
 ghost use Rattle.circuits.specs.Run.{bytes, firstBad, run};
 ghost use Rattle.circuits.specs.Answers.{linesOf, lent as lentOf, ran, signalsLeft};
-ghost use Rattle.circuits.specs.Model.{countsOf, Ready, Typed, Noted, lentAnswer, lentSignals};
+ghost use Rattle.circuits.specs.Model.{countsOf, Ready, Noted, lentAnswer, lentSignals};
 
 // 13 to 17: s start words, i input words, g signal bytes and w words of work area are lent for k steps.
 fn lent(t: Totals, k: usize, s: usize, i: usize, g: usize, w: usize) -> Checked
@@ -47,17 +47,14 @@ fn run_lent(
     table: &[u64],
     count: usize,
     t: Totals,
-    off: &[u32; 16385],
-    wid: &[u8; 16385],
-    num: &[u32; 16385],
-    pos: &[u32; 16385],
+    laid: &[[u32; LAID]; 16385],
     k: usize,
     starts: &[u64],
     inputs: &[u64],
     signals: &mut [u8],
     work: &mut [u64],
 ) -> Ran
-    requires { ⌜ Ready program (now table) count (now off) (now wid) (now num) (now pos) (t .cells) (t .states) (t .inputs) (t .signals) × ((lentOf (countsOf t) k (length (now starts)) (length (now inputs)) (length (now signals)) (length (now work)) ≡ Checked.Accepted) × (now work ≡ replicate (length (now work)) 0)) ⌝ }
+    requires { ⌜ Ready program (now table) count (now laid) (t .cells) (t .states) (t .inputs) (t .signals) × ((lentOf (countsOf t) k (length (now starts)) (length (now inputs)) (length (now signals)) (length (now work)) ≡ Checked.Accepted) × (now work ≡ replicate (length (now work)) 0)) ⌝ }
     ensures { λ r. ⌜ (r ≡ firstBad 0 (run program (linesOf (now (table .entry)) count) k (now (starts .entry)) (now (inputs .entry)))) × ((now (signals .exit) ≡ bytes (run program (linesOf (now (table .entry)) count) k (now (starts .entry)) (now (inputs .entry)))) × (now (work .exit) ≡ replicate (length (now (work .entry))) 0)) ⌝ }
 {
     if k == 0 {
@@ -68,10 +65,7 @@ fn run_lent(
         program,
         table,
         count,
-        off,
-        wid,
-        num,
-        pos,
+        laid,
         t.cells,
         t.inputs,
         t.signals,
@@ -87,51 +81,8 @@ fn run_lent(
     bad::first_bad(k, signals, &marks[..n])
 }
 
-// A run of an accepted table, with the index widths and the widths of its lines; signals and work area are zero.
-fn run_checked(
-    program: bool,
-    table: &[u64],
-    count: usize,
-    idx: &[u8; 16385],
-    wid: &[u8; 16385],
-    k: usize,
-    starts: &[u64],
-    inputs: &[u64],
-    signals: &mut [u8],
-    work: &mut [u64],
-) -> Ran
-    requires { ⌜ Typed program (now table) count (now idx) (now wid) × ((now signals ≡ replicate (length (now signals)) 0) × (now work ≡ replicate (length (now work)) 0)) ⌝ }
-    ensures { λ r. ⌜ (r ≡ lentAnswer program (now (table .entry)) count k (now (starts .entry)) (now (inputs .entry)) (length (now (signals .entry))) (length (now (work .entry)))) × ((now (signals .exit) ≡ lentSignals program (now (table .entry)) count k (now (starts .entry)) (now (inputs .entry)) (length (now (signals .entry))) (length (now (work .entry)))) × (now (work .exit) ≡ replicate (length (now (work .entry))) 0)) ⌝ }
-{
-    let mut off = [0u32; 16385];
-    let mut num = [0u32; 16385];
-    let mut pos = [0u32; 16385];
-    let t = places::lay_out(program, table, count, idx, &mut off, &mut num, &mut pos);
-    match lent(t, k, starts.len(), inputs.len(), signals.len(), work.len()) {
-        Checked::Refused(r) => {
-            return Ran::Refused(r);
-        }
-        Checked::Accepted => {}
-    }
-    run_lent(
-        program,
-        table,
-        count,
-        t,
-        &off,
-        wid,
-        &num,
-        &pos,
-        k,
-        starts,
-        inputs,
-        signals,
-        work,
-    )
-}
-
 // A run of an accepted table, with the notes of its check; signals and work area are zero.
-fn run_noted(
+fn run_checked(
     program: bool,
     table: &[u64],
     count: usize,
@@ -145,15 +96,20 @@ fn run_noted(
     requires { ⌜ Noted program (now table) count (now notes) × ((now signals ≡ replicate (length (now signals)) 0) × (now work ≡ replicate (length (now work)) 0)) ⌝ }
     ensures { λ r. ⌜ (r ≡ lentAnswer program (now (table .entry)) count k (now (starts .entry)) (now (inputs .entry)) (length (now (signals .entry))) (length (now (work .entry)))) × ((now (signals .exit) ≡ lentSignals program (now (table .entry)) count k (now (starts .entry)) (now (inputs .entry)) (length (now (signals .entry))) (length (now (work .entry)))) × (now (work .exit) ≡ replicate (length (now (work .entry))) 0)) ⌝ }
 {
-    let mut idx = [0u8; 16385];
-    let mut wid = [0u8; 16385];
-    notes::widths(notes, count, &mut idx, &mut wid);
-    run_checked(
+    let mut laid = [[0u32; LAID]; 16385];
+    let t = places::lay_out(program, table, count, notes, &mut laid);
+    match lent(t, k, starts.len(), inputs.len(), signals.len(), work.len()) {
+        Checked::Refused(r) => {
+            return Ran::Refused(r);
+        }
+        Checked::Accepted => {}
+    }
+    run_lent(
         program,
         table,
         count,
-        &idx,
-        &wid,
+        t,
+        &laid,
         k,
         starts,
         inputs,
@@ -184,7 +140,7 @@ pub fn run_table(
         }
         Checked::Accepted => {}
     }
-    run_noted(
+    run_checked(
         program,
         table,
         count,

@@ -1,5 +1,6 @@
 // All lines of a step, and the steps of a run. The words of the work area before `all` are the lines' cells, those from it on the state words.
 use crate::area;
+use crate::area::LAID;
 use crate::eval;
 use tables::records;
 ghost use mathlib.Core.Path.{_≡_};
@@ -17,35 +18,19 @@ pub fn walk(
     first: bool,
     table: &[u64],
     count: usize,
-    off: &[u32; 16385],
-    wid: &[u8; 16385],
-    num: &[u32; 16385],
-    pos: &[u32; 16385],
+    laid: &[[u32; LAID]; 16385],
     all: usize,
     row: &[u64],
     sig: &mut [u8],
     work: &mut [u64],
 )
-    requires { ⌜ (all ≤ length (now work)) × Ready program (now table) count (now off) (now wid) (now num) (now pos) all (length (drop all (now work))) (length (now row)) (length (now sig)) ⌝ }
+    requires { ⌜ (all ≤ length (now work)) × Ready program (now table) count (now laid) all (length (drop all (now work))) (length (now row)) (length (now sig)) ⌝ }
     ensures { λ _. ⌜ (drop all (now (work .exit)) ≡ step program first (linesOf (now (table .entry)) count) (drop all (now (work .entry))) (now (row .entry)) .sts) × (first ≡ false → now (sig .exit) ≡ bytesOf (step program first (linesOf (now (table .entry)) count) (drop all (now (work .entry))) (now (row .entry)) .sigs)) ⌝ }
 {
     let mut i: usize = 0;
     while i < count {
         let rec = records::record(table, i);
-        eval::line(
-            program,
-            first,
-            rec,
-            i + 1,
-            off,
-            wid,
-            num,
-            pos,
-            all,
-            row,
-            sig,
-            work,
-        );
+        eval::line(program, first, rec, i + 1, laid, all, row, sig, work);
         i += 1;
     }
 }
@@ -55,10 +40,7 @@ pub fn steps(
     program: bool,
     table: &[u64],
     count: usize,
-    off: &[u32; 16385],
-    wid: &[u8; 16385],
-    num: &[u32; 16385],
-    pos: &[u32; 16385],
+    laid: &[[u32; LAID]; 16385],
     all: usize,
     ins: usize,
     sigs: usize,
@@ -67,7 +49,7 @@ pub fn steps(
     signals: &mut [u8],
     work: &mut [u64],
 )
-    requires { ⌜ (all ≤ length (now work)) × (Ready program (now table) count (now off) (now wid) (now num) (now pos) all (length (drop all (now work))) ins sigs × ((k * ins ≤ length (now inputs)) × (length (now signals) ≡ k * sigs))) ⌝ }
+    requires { ⌜ (all ≤ length (now work)) × (Ready program (now table) count (now laid) all (length (drop all (now work))) ins sigs × ((k * ins ≤ length (now inputs)) × (length (now signals) ≡ k * sigs))) ⌝ }
     ensures { λ _. ⌜ now (signals .exit) ≡ bytes (stepsOf program (linesOf (now (table .entry)) count) k (drop all (now (work .entry))) (now (inputs .entry))) ⌝ }
 {
     let mut i: usize = 0;
@@ -81,10 +63,7 @@ pub fn steps(
             false,
             table,
             count,
-            off,
-            wid,
-            num,
-            pos,
+            laid,
             all,
             &inputs[r..e],
             &mut signals[g..h],
@@ -101,34 +80,18 @@ pub fn begin(
     program: bool,
     table: &[u64],
     count: usize,
-    off: &[u32; 16385],
-    wid: &[u8; 16385],
-    num: &[u32; 16385],
-    pos: &[u32; 16385],
+    laid: &[[u32; LAID]; 16385],
     all: usize,
     starts: &[u64],
     row: &[u64],
     sig: &mut [u8],
     work: &mut [u64],
 )
-    requires { ⌜ (length (now work) ≡ all + length (now starts)) × Ready program (now table) count (now off) (now wid) (now num) (now pos) all (length (now starts)) (length (now row)) (length (now sig)) ⌝ }
+    requires { ⌜ (length (now work) ≡ all + length (now starts)) × Ready program (now table) count (now laid) all (length (now starts)) (length (now row)) (length (now sig)) ⌝ }
     ensures { λ _. ⌜ drop all (now (work .exit)) ≡ step program true (linesOf (now (table .entry)) count) (now (starts .entry)) (now (row .entry)) .sts ⌝ }
 {
     area::load_at(work, all, starts);
-    walk(
-        program,
-        true,
-        table,
-        count,
-        off,
-        wid,
-        num,
-        pos,
-        all,
-        row,
-        sig,
-        work,
-    );
+    walk(program, true, table, count, laid, all, row, sig, work);
 }
 
 // A run of at least one step, with what is known of each line at hand. The work area is zero after it.
@@ -136,10 +99,7 @@ pub fn run_laid(
     program: bool,
     table: &[u64],
     count: usize,
-    off: &[u32; 16385],
-    wid: &[u8; 16385],
-    num: &[u32; 16385],
-    pos: &[u32; 16385],
+    laid: &[[u32; LAID]; 16385],
     all: usize,
     ins: usize,
     sigs: usize,
@@ -149,17 +109,14 @@ pub fn run_laid(
     signals: &mut [u8],
     work: &mut [u64],
 )
-    requires { ⌜ (length (now work) ≡ all + length (now starts)) × (Ready program (now table) count (now off) (now wid) (now num) (now pos) all (length (now starts)) ins sigs × ((k * ins ≤ length (now inputs)) × ((length (now signals) ≡ k * sigs) × (0 < k)))) ⌝ }
+    requires { ⌜ (length (now work) ≡ all + length (now starts)) × (Ready program (now table) count (now laid) all (length (now starts)) ins sigs × ((k * ins ≤ length (now inputs)) × ((length (now signals) ≡ k * sigs) × (0 < k)))) ⌝ }
     ensures { λ _. ⌜ (now (signals .exit) ≡ bytes (run program (linesOf (now (table .entry)) count) k (now (starts .entry)) (now (inputs .entry)))) × (now (work .exit) ≡ replicate (length (now (work .entry))) 0) ⌝ }
 {
     begin(
         program,
         table,
         count,
-        off,
-        wid,
-        num,
-        pos,
+        laid,
         all,
         starts,
         &inputs[..ins],
@@ -170,10 +127,7 @@ pub fn run_laid(
         program,
         table,
         count,
-        off,
-        wid,
-        num,
-        pos,
+        laid,
         all,
         ins,
         sigs,

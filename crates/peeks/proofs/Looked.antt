@@ -4,7 +4,7 @@ use mathlib.Core.Path.{_≡_, refl, sym, ap, ap₂, _∙_, subst}
 use mathlib.Core.Bool.{Bool, true, false}
 use mathlib.Core.List.{List, [], _∷_}
 use native.Mathlib.Omega.{arith}
-use native.Mathlib.Nat.{mod-eq-of-lt, mod-mod}
+use native.Mathlib.Nat.{mod-eq-of-lt, mod-mod, pow-suc}
 use lib.Pow.{pow-pos}
 use lib.ListN.{length, take, getD, set, getD-replicate}
 use lib.Seq.{take-all, getD-set-same, getD-set-other}
@@ -24,15 +24,15 @@ use Rattle.circuits.specs.Meaning.{opWord, cellsE, Acc, cellsAt, wordAt, widthA
 use Rattle.circuits.specs.Run.{rowOf, start}
 use Rattle.circuits.specs.Answers.{linesOf}
 use Rattle.peeks.specs.Peek.{stepZero}
-use Rattle.circuits.specs.Model.{FitWord}
-use Rattle.peeks.specs.Looks.{initOf, Looks}
+use Rattle.circuits.specs.Model.{posIn, widIn, FitWord, Shown}
+use Rattle.peeks.specs.Looks.{initOf, Laid, Looks}
 use Rattle.circuits.proofs.Fitting.{fit-as}
 use Rattle.circuits.proofs.Laid.{Later, later, grew, type-new, place-new, type-old, more-types, more-places}
 use Rattle.circuits.proofs.Simulation.{word-one, word-two, is-sort}
 use Rattle.circuits.proofs.Walked.{accAt, lines-many, line-here, number-at, later-at, Facts}
 use Rattle.circuits.proofs.Placing.{all-sound, lines-here}
 use Rattle.circuits.proofs.Earlier.{cells-first, cells-here, fixed-alike}
-use Rattle.peeks.proofs.Whole.{offs, ats, wids, nums, HeldBy, lay-is, facts-of, held-at, held-whole, lay-whole, cells-many, cells-small}
+use Rattle.peeks.proofs.Whole.{laidOf, HeldBy, lay-is, facts-of, held-at, held-whole, lay-whole, cells-many, cells-small}
 use Rattle.peeks.proofs.Begun.{startOf, Begun, begun}
 use Rattle.circuits.proofs.Puts as laws
 
@@ -47,7 +47,7 @@ pub record Operand (Z : Layout) (n a : ℕ) : Type 0 where
   pub value : 2 ≤ typeAt Z a .cls
   pub below : a < n
 
-module _ (A : Acc) (Z : Layout) (wid pos ini S R : List ℕ) (n c : ℕ) where
+module _ (A : Acc) (Z : Layout) (P : List (List ℕ)) (ini S R : List ℕ) (n c : ℕ) where
   pub record FactConst (v : ℕ) : Type 0 where
     pub flat : typeAt Z n .iw ≡ 0
     pub is : v ≡ wordAt A n
@@ -56,15 +56,15 @@ module _ (A : Acc) (Z : Layout) (wid pos ini S R : List ℕ) (n c : ℕ) where
     pub most : k ≤ 20
     pub flat : typeAt Z n .iw ≡ 0
     pub arg : Arg Z n a
-    pub op : FitWord false k (getD wid n 0) (getD wid a 0) 64 (wordAt A a) x y
-    pub is : opWord false k (getD wid a 0) 64 (wordAt A a) x y ≡ wordAt A n
+    pub op : FitWord false k (widIn P n) (widIn P a) 64 (wordAt A a) x y
+    pub is : opWord false k (widIn P a) 64 (wordAt A a) x y ≡ wordAt A n
 
   pub record FactTwo (k a b : ℕ) : Type 0 where
     pub flat : typeAt Z n .iw ≡ 0
     pub left : Arg Z n a
     pub right : Arg Z n b
-    pub op : FitWord false k (getD wid n 0) (getD wid a 0) (getD wid b 0) (wordAt A a) (wordAt A b) 0
-    pub is : opWord false k (getD wid a 0) (getD wid b 0) (wordAt A a) (wordAt A b) 0 ≡ wordAt A n
+    pub op : FitWord false k (widIn P n) (widIn P a) (widIn P b) (wordAt A a) (wordAt A b) 0
+    pub is : opWord false k (widIn P a) (widIn P b) (wordAt A a) (wordAt A b) 0 ≡ wordAt A n
 
   pub record FactCmp (e : Bool) (a b : ℕ) : Type 0 where
     pub flat : typeAt Z n .iw ≡ 0
@@ -101,9 +101,9 @@ module _ (A : Acc) (Z : Layout) (wid pos ini S R : List ℕ) (n c : ℕ) where
 
   pub record FactInput : Type 0 where
     pub flat : typeAt Z n .iw ≡ 0
-    pub inside : getD pos n 0 < length R
-    pub wide : Width (getD wid n 0)
-    pub is : getD R (getD pos n 0) 0 % 2 ^ getD wid n 0 ≡ wordAt A n
+    pub inside : posIn P n < length R
+    pub wide : Width (widIn P n)
+    pub is : getD R (posIn P n) 0 % 2 ^ widIn P n ≡ wordAt A n
 
   -- a state whose init's value is on the line d, and one that has no init
   pub record FactInit (d : ℕ) : Type 0 where
@@ -111,9 +111,9 @@ module _ (A : Acc) (Z : Layout) (wid pos ini S R : List ℕ) (n c : ℕ) where
     pub is : wordAt A d ≡ getD (cellsAt A n) c 0
 
   pub record FactStart : Type 0 where
-    pub inside : getD pos n 0 + c < length S
-    pub wide : Width (getD wid n 0)
-    pub is : getD S (getD pos n 0 + c) 0 % 2 ^ getD wid n 0 ≡ getD (cellsAt A n) c 0
+    pub inside : posIn P n + c < length S
+    pub wide : Width (widIn P n)
+    pub is : getD S (posIn P n + c) 0 % 2 ^ widIn P n ≡ getD (cellsAt A n) c 0
 
   pub record FactState : Type 0 where
     pub init : (getD ini n 0 ≡ 0 → ⊥) → FactInit (getD ini n 0)
@@ -153,9 +153,22 @@ getD-lows w [] c = sym (mod-eq-of-lt (pow-pos w))
 getD-lows w (x ∷ xs) zero = refl
 getD-lows w (x ∷ xs) (suc c) = getD-lows w xs c
 
+-- one cell is a word, more are an array
+pub one-cell : (x : ℕ) → 2 ^ x ≡ 1 → x ≡ 0
+one-cell zero e = refl
+one-cell (suc x) e = absurd (omega (arith, pow-pos x, pow-suc 2 x))
+
+pub more-cells : (x : ℕ) → (2 ^ x ≡ 1 → ⊥) → 0 < x
+more-cells zero z = absurd (z refl)
+more-cells (suc x) z = omega arith
+
+-- what is known of a line by its number
+pub shown : {t : List ℕ} {n : ℕ} {P : List (List ℕ)} {S R : List ℕ} → Laid t n P S R → (a : ℕ) → a ≤ n → Shown P a (typeAt (layout false (linesOf t n)) a) (placeAt (layout false (linesOf t n)) a)
+shown {t} {n} l a h = let long = all-sound false t n (l .accepted) .long in let many = lines-here false t n (l .accepted) in l .shows a (omega arith)
+
 -- ---- step 0 of an accepted circuit
 
-module _ {t : List ℕ} {n : ℕ} {idx wid pos ini S R : List ℕ} (lk : Looks t n idx wid pos ini S R) where
+module _ {t : List ℕ} {n : ℕ} {P : List (List ℕ)} {ini S R : List ℕ} (lk : Looks t n P ini S R) where
   abbrev C : List Line
   C = linesOf t n
 
@@ -172,7 +185,7 @@ module _ {t : List ℕ} {n : ℕ} {idx wid pos ini S R : List ℕ} (lk : Looks t
   A = step false false (linesOf t n) σ ι
 
   accepted : checked false t n ≡ Accepted
-  accepted = lk .laid .typed .sized .accepted
+  accepted = lk .laid .accepted
 
   zero-is : stepZero (linesOf t n) S R ≡ A
   unfolding stepZero start
@@ -203,12 +216,6 @@ module _ {t : List ℕ} {n : ℕ} {idx wid pos ini S R : List ℕ} (lk : Looks t
   small : (a : ℕ) → 2 ≤ typeAt Z a .cls → (j : ℕ) → getD (cellsAt A a) j 0 < 2 ^ (typeAt Z a .w)
   small a q j = subst (λ (y : Ty). getD (cellsAt A a) j 0 < 2 ^ (y .w)) (type-A a) (cells-small H room a (subst (λ (y : Ty). 2 ≤ y .cls) (sym (type-A a)) q) j)
 
-  width-of : (a : ℕ) → 2 ≤ typeAt Z a .cls → Width (getD wid a 0)
-  width-of a q =
-      let k = all-sound false t n accepted .wide a (omega arith) in
-      let e = lk .laid .typed .width a in
-      record { least = omega (arith, k .least); most = omega (arith, k .most) }
-
   no-line : typeAt (layout false (linesOf t n)) 0 .cls ≡ 0
   unfolding layout
   no-line = ap (λ (y : Ty). y .cls) (later false noLayout (linesOf t n) .type 0 (omega arith))
@@ -221,6 +228,12 @@ module _ {t : List ℕ} {n : ℕ} {idx wid pos ini S R : List ℕ} (lk : Looks t
   pub number-of : (a : ℕ) → 1 ≤ typeAt Z a .cls → (1 ≤ a) × (a ≤ n)
   number-of a q = (from-one a q, omega (arith, earlier (Z .ctx .tys) a q, lines-here false t n accepted))
 
+  width-of : (a : ℕ) → 2 ≤ typeAt Z a .cls → Width (widIn P a)
+  width-of a q =
+      let k = all-sound false t n accepted .wide a (omega arith) in
+      let e = shown (lk .laid) a (number-of a (omega arith) .1) .isWid in
+      record { least = omega (arith, k .least); most = omega (arith, k .most) }
+
   -- ---- the line at the place i
 
   module _ (i : ℕ) (h : i < n) where
@@ -230,7 +243,7 @@ module _ {t : List ℕ} {n : ℕ} {idx wid pos ini S R : List ℕ} (lk : Looks t
     abbrev l : Line
     l = getD (linesOf t n) i Line.junk
 
-    known : Facts false (offs Z) (wids Z) (nums Z) (ats Z) (B .lay) l (Z .counts .cells) (length σ) (Z .counts .inputs) (Z .counts .signals)
+    known : Facts false (laidOf Z) (B .lay) l (Z .counts .cells) (length σ) (Z .counts .inputs) (Z .counts .signals)
     known = facts-of t n accepted σ many false ι i h
 
     held : HeldBy (Z .counts .cells) σ B
@@ -256,8 +269,8 @@ module _ {t : List ℕ} {n : ℕ} {idx wid pos ini S R : List ℕ} (lk : Looks t
     arg-word : (a : ℕ) → 1 ≤ typeAt (B .lay) a .cls → wordAt A a ≡ wordAt B a
     arg-word a q = ap (λ (x : List ℕ). getD x 0 0) (arg-cells a q)
 
-    arg-width : (a : ℕ) → 1 ≤ typeAt (B .lay) a .cls → getD wid a 0 ≡ widthAt B a
-    arg-width a q = lk .laid .typed .width a ∙ ap (λ (y : Ty). y .w) (arg-type a q)
+    arg-width : (a : ℕ) → 1 ≤ typeAt (B .lay) a .cls → widIn P a ≡ widthAt B a
+    arg-width a q = shown (lk .laid) a (omega (arith, arg-below a q)) .isWid ∙ ap (λ (y : Ty). y .w) (arg-type a q)
 
     arg-of : (a : ℕ) → IsWord (typeAt (B .lay) a) → Arg Z (suc i) a
     arg-of a q = record { word = subst IsWord (sym (arg-type a (omega (arith, q .is)))) q; below = arg-below a (omega (arith, q .is)) }
@@ -289,8 +302,8 @@ module _ {t : List ℕ} {n : ℕ} {idx wid pos ini S R : List ℕ} (lk : Looks t
       abbrev sort : Ty
       sort = sortAt false (tyAt (B .lay .ctx)) s
 
-      expr-w : getD wid (suc i) 0 ≡ sort .w
-      expr-w = lk .laid .typed .width (suc i) ∙ ap (λ (y : Ty). y .w) (own-type ∙ ap (typeOf false (B .lay)) el) ∙ val-w false (tyAt (B .lay .ctx)) s e
+      expr-w : widIn P (suc i) ≡ sort .w
+      expr-w = shown (lk .laid) (suc i) (omega arith) .isWid ∙ ap (λ (y : Ty). y .w) (own-type ∙ ap (typeOf false (B .lay)) el) ∙ val-w false (tyAt (B .lay .ctx)) s e
 
       expr-iw : typeAt Z (suc i) .iw ≡ sort .iw
       expr-iw = ap (λ (y : Ty). y .iw) (own-type ∙ ap (typeOf false (B .lay)) el) ∙ val-iw false (tyAt (B .lay .ctx)) s e
@@ -304,7 +317,7 @@ module _ {t : List ℕ} {n : ℕ} {idx wid pos ini S R : List ℕ} (lk : Looks t
       expr-wide : OkExpr false (tyAt (B .lay .ctx)) sort e → sort .w ≤ 64
       expr-wide ok = sort-wide false (tyAt (B .lay .ctx)) s (held .held .sound .wide) (is-sort false (tyAt (B .lay .ctx)) sort e ok) .most
 
-    fact-expr : (s : ℕ) (e : Expr) → l ≡ Line.val s e → OkExpr false (tyAt (B .lay .ctx)) (sortAt false (tyAt (B .lay .ctx)) s) e → (c : ℕ) → c < size (typeAt Z (suc i)) → FactE A Z wid pos ini S R (suc i) c e
+    fact-expr : (s : ℕ) (e : Expr) → l ≡ Line.val s e → OkExpr false (tyAt (B .lay .ctx)) (sortAt false (tyAt (B .lay .ctx)) s) e → (c : ℕ) → c < size (typeAt Z (suc i)) → FactE A Z P ini S R (suc i) c e
     fact-expr s (Expr.const v) el ok c hc = record { flat = expr-iw s (Expr.const v) el ∙ ok .sort .flat; is = sym (expr-word s (Expr.const v) el) }
     fact-expr s (Expr.one k a x y) el ok c hc =
         let e = Expr.one k a x y in
@@ -314,7 +327,7 @@ module _ {t : List ℕ} {n : ℕ} {idx wid pos ini S R : List ℕ} (lk : Looks t
           flat = expr-iw s e el ∙ ok .sort .flat;
           arg = arg-of a (ok .arg);
           op = fit-as (expr-w s e el) (arg-width a q) refl (arg-word a q) refl
-              (word-one (held .held) cells-room l (offs Z) (wids Z) (nums Z) (ats Z) (known .shows) (sortAt false (tyAt (B .lay .ctx)) s) k a x y (expr-wide s e el ok) ok);
+              (word-one (held .held) cells-room l (laidOf Z) (known .shows) (sortAt false (tyAt (B .lay .ctx)) s) k a x y (expr-wide s e el ok) ok);
           is = ap₂ (λ (u v : ℕ). opWord false k u 64 v x y) (arg-width a q) (arg-word a q) ∙ sym (expr-word s e el);
         }
     fact-expr s (Expr.two k a b) el ok c hc =
@@ -326,7 +339,7 @@ module _ {t : List ℕ} {n : ℕ} {idx wid pos ini S R : List ℕ} (lk : Looks t
           left = arg-of a (ok .left);
           right = arg-of b (ok .right);
           op = fit-as (expr-w s e el) (arg-width a qa) (arg-width b qb) (arg-word a qa) (arg-word b qb)
-              (word-two (held .held) cells-room l (offs Z) (wids Z) (nums Z) (ats Z) (known .shows) (sortAt false (tyAt (B .lay .ctx)) s) k a b (expr-wide s e el ok) ok);
+              (word-two (held .held) cells-room l (laidOf Z) (known .shows) (sortAt false (tyAt (B .lay .ctx)) s) k a b (expr-wide s e el ok) ok);
           is = ap₂ (λ (u v : ℕ). opWord false k u v (wordAt A a) (wordAt A b) 0) (arg-width a qa) (arg-width b qb)
               ∙ ap₂ (λ (u v : ℕ). opWord false k (widthAt B a) (widthAt B b) u v 0) (arg-word a qa) (arg-word b qb) ∙ sym (expr-word s e el);
         }
@@ -391,18 +404,18 @@ module _ {t : List ℕ} {n : ℕ} {idx wid pos ini S R : List ℕ} (lk : Looks t
 
     -- ---- inputs and states
 
-    fact-input : (s : ℕ) → l ≡ Line.input s → typeAt (B .lay) s .iw ≡ 0 → (c : ℕ) → FactInput A Z wid pos ini S R (suc i) c
+    fact-input : (s : ℕ) → l ≡ Line.input s → typeAt (B .lay) s .iw ≡ 0 → (c : ℕ) → FactInput A Z P ini S R (suc i) c
     fact-input s el flat c =
         let ty : typeAt Z (suc i) ≡ typeOf false (B .lay) (Line.input s) = own-type ∙ ap (typeOf false (B .lay)) el in
         let pl : placeAt Z (suc i) ≡ placeOf (B .lay) (Line.input s) = own-place ∙ ap (placeOf (B .lay)) el in
-        let ep : getD pos (suc i) 0 ≡ B .lay .counts .inputs = lk .laid .placed (suc i) (omega arith) ∙ ap (λ (q : Place). q .at) pl in
-        let ew : getD wid (suc i) 0 ≡ typeOf false (B .lay) (Line.input s) .w = lk .laid .typed .width (suc i) ∙ ap (λ (y : Ty). y .w) ty in
+        let ep : posIn P (suc i) ≡ B .lay .counts .inputs = shown (lk .laid) (suc i) (omega arith) .isPos ∙ ap (λ (q : Place). q .at) pl in
+        let ew : widIn P (suc i) ≡ typeOf false (B .lay) (Line.input s) .w = shown (lk .laid) (suc i) (omega arith) .isWid ∙ ap (λ (y : Ty). y .w) ty in
         let hi : suc (B .lay .counts .inputs) ≤ Z .counts .inputs = subst (λ (x : Line). lay false (B .lay) x .counts .inputs ≤ Z .counts .inputs) el (known .inputs) in
         record {
           flat = ap (λ (y : Ty). y .iw) ty ∙ flat;
           inside = omega (arith, lk .laid .row);
           wide = width-of (suc i) (subst (λ (y : Ty). 2 ≤ y .cls) (sym ty) (omega arith));
-          is = ap₂ (λ (x : List ℕ) (m : ℕ). getD x (getD pos (suc i) 0) 0 % 2 ^ m) (sym row-is) ew ∙ ap (λ (m : ℕ). getD ι m 0 % 2 ^ (typeOf false (B .lay) (Line.input s) .w)) ep
+          is = ap₂ (λ (x : List ℕ) (m : ℕ). getD x (posIn P (suc i)) 0 % 2 ^ m) (sym row-is) ew ∙ ap (λ (m : ℕ). getD ι m 0 % 2 ^ (typeOf false (B .lay) (Line.input s) .w)) ep
               ∙ sym (ap (λ (x : List ℕ). getD x 0 0) (own-cells ∙ ap (cellsOf false false σ ι B) el));
         }
 
@@ -422,11 +435,11 @@ module _ {t : List ℕ} {n : ℕ} {idx wid pos ini S R : List ℕ} (lk : Looks t
       state-type : typeAt Z (suc i) ≡ own
       state-type = own-type ∙ ap (typeOf false (B .lay)) el ∙ ap (λ (Y : Layout). typeOf false Y (Line.state s)) same-lay
 
-      state-place : getD pos (suc i) 0 ≡ E .counts .states
-      state-place = lk .laid .placed (suc i) (omega arith) ∙ ap (λ (q : Place). q .at) (own-place ∙ ap (placeOf (B .lay)) el) ∙ ap (λ (Y : Layout). Y .counts .states) same-lay
+      state-place : posIn P (suc i) ≡ E .counts .states
+      state-place = shown (lk .laid) (suc i) (omega arith) .isPos ∙ ap (λ (q : Place). q .at) (own-place ∙ ap (placeOf (B .lay)) el) ∙ ap (λ (Y : Layout). Y .counts .states) same-lay
 
-      state-wid : getD wid (suc i) 0 ≡ own .w
-      state-wid = lk .laid .typed .width (suc i) ∙ ap (λ (y : Ty). y .w) state-type
+      state-wid : widIn P (suc i) ≡ own .w
+      state-wid = shown (lk .laid) (suc i) (omega arith) .isWid ∙ ap (λ (y : Ty). y .w) state-type
 
       hm : c < size own
       hm = subst (λ (y : Ty). c < size y) state-type hc
@@ -439,7 +452,7 @@ module _ {t : List ℕ} {n : ℕ} {idx wid pos ini S R : List ℕ} (lk : Looks t
       state-at : getD (cellsAt A (suc i)) c 0 ≡ getD (startOf S (E .counts .states) (size own) (own .w) (initOf (suc i) (linesOf t n)) (wordAt (step false true (linesOf t n) S ι) (initOf (suc i) (linesOf t n)))) c 0 % 2 ^ (own .w)
       state-at = ap (λ (y : List ℕ). getD y c 0) state-cells ∙ getD-lows (own .w) (startOf S (E .counts .states) (size own) (own .w) (initOf (suc i) (linesOf t n)) (wordAt (step false true (linesOf t n) S ι) (initOf (suc i) (linesOf t n)))) c
 
-      some : (initOf (suc i) (linesOf t n) ≡ 0 → ⊥) → FactInit A Z wid pos ini S R (suc i) c (initOf (suc i) (linesOf t n))
+      some : (initOf (suc i) (linesOf t n) ≡ 0 → ⊥) → FactInit A Z P ini S R (suc i) c (initOf (suc i) (linesOf t n))
       some z =
           let k = begins .settled in
           let lz = lay-whole t n accepted S (lk .laid .starts) true ι in
@@ -454,7 +467,7 @@ module _ {t : List ℕ} {n : ℕ} {idx wid pos ini S R : List ℕ} (lk : Looks t
                 ∙ mod-eq-of-lt (subst (λ (m : ℕ). wordAt A d < 2 ^ m) wd (small d (omega arith) 0)));
           }
 
-      none : initOf (suc i) (linesOf t n) ≡ 0 → FactStart A Z wid pos ini S R (suc i) c
+      none : initOf (suc i) (linesOf t n) ≡ 0 → FactStart A Z P ini S R (suc i) c
       none z =
           let k = begins .settled in
           let lz = lay-whole t n accepted S (lk .laid .starts) true ι in
@@ -468,17 +481,17 @@ module _ {t : List ℕ} {n : ℕ} {idx wid pos ini S R : List ℕ} (lk : Looks t
                 ∙ mod-mod (getD (part S (E .counts .states) (size own)) c 0) (2 ^ w) ∙ ap (λ (m : ℕ). m % 2 ^ w) (laws.part-getD S (E .counts .states) (size own) c hm));
           }
 
-      fact-state : FactState A Z wid pos ini S R (suc i) c
+      fact-state : FactState A Z P ini S R (suc i) c
       fact-state =
           let e : getD ini (suc i) 0 ≡ initOf (suc i) (linesOf t n) = lk .inits (suc i) (omega arith) in
           record {
-            init = λ z. subst (FactInit A Z wid pos ini S R (suc i) c) (sym e) (some (λ y. z (e ∙ y)));
+            init = λ z. subst (FactInit A Z P ini S R (suc i) c) (sym e) (some (λ y. z (e ∙ y)));
             none = λ z. none (sym e ∙ z);
           }
 
     -- ---- the line
 
-    fact-line : (x : Line) → l ≡ x → Ok false (tyAt (B .lay .ctx)) (given (B .lay .ctx)) x → 2 ≤ typeOf false (B .lay) x .cls → (c : ℕ) → c < size (typeAt Z (suc i)) → Fact A Z wid pos ini S R (suc i) c x
+    fact-line : (x : Line) → l ≡ x → Ok false (tyAt (B .lay .ctx)) (given (B .lay .ctx)) x → 2 ≤ typeOf false (B .lay) x .cls → (c : ℕ) → c < size (typeAt Z (suc i)) → Fact A Z P ini S R (suc i) c x
     fact-line (Line.bitvec w) el ok q c hc = omega arith
     fact-line (Line.array a b) el ok q c hc = omega arith
     fact-line (Line.input s) el ok q c hc = fact-input s el (ok .flat) c
@@ -489,19 +502,19 @@ module _ {t : List ℕ} {n : ℕ} {idx wid pos ini S R : List ℕ} (lk : Looks t
     fact-line (Line.output a) el ok q c hc = omega arith
     fact-line Line.junk el ok q c hc = omega arith
 
-    fact-here : (c : ℕ) → 2 ≤ typeAt Z (suc i) .cls → c < size (typeAt Z (suc i)) → Fact A Z wid pos ini S R (suc i) c (lineOf (recordAt t i))
+    fact-here : (c : ℕ) → 2 ≤ typeAt Z (suc i) .cls → c < size (typeAt Z (suc i)) → Fact A Z P ini S R (suc i) c (lineOf (recordAt t i))
     fact-here c q hc =
-        subst (Fact A Z wid pos ini S R (suc i) c) (line-here false t n accepted i h)
+        subst (Fact A Z P ini S R (suc i) c) (line-here false t n accepted i h)
         (fact-line l refl (known .ok) (subst (λ (y : Ty). 2 ≤ y .cls) own-type q) c hc)
 
   -- what the record of the line m says of its cell c
-  pub facts : (m c : ℕ) → 2 ≤ typeAt Z m .cls → c < size (typeAt Z m) → Fact (stepZero (linesOf t n) S R) Z wid pos ini S R m c (lineOf (recordAt t (m - 1)))
+  pub facts : (m c : ℕ) → 2 ≤ typeAt Z m .cls → c < size (typeAt Z m) → Fact (stepZero (linesOf t n) S R) Z P ini S R m c (lineOf (recordAt t (m - 1)))
   facts m c q hc =
       let b = number-of m (omega arith) in
       let i : ℕ = m - 1 in
       let e : suc i ≡ m = omega arith in
-      subst (λ (X : Acc). Fact X Z wid pos ini S R m c (lineOf (recordAt t (m - 1)))) (sym zero-is)
-      (subst (λ (k : ℕ). Fact A Z wid pos ini S R k c (lineOf (recordAt t (m - 1)))) e
+      subst (λ (X : Acc). Fact X Z P ini S R m c (lineOf (recordAt t (m - 1)))) (sym zero-is)
+      (subst (λ (k : ℕ). Fact A Z P ini S R k c (lineOf (recordAt t (m - 1)))) e
       (fact-here (m - 1) (omega arith) c (subst (λ (k : ℕ). 2 ≤ typeAt Z k .cls) (sym e) q) (subst (λ (k : ℕ). c < size (typeAt Z k)) (sym e) hc)))
 
   -- the number of cells of a value

@@ -20,10 +20,10 @@ use Rattle.circuits.specs.Cells.{choose, same}
 use Rattle.circuits.specs.Layout.{Layout, typeAt, size, layout}
 use Rattle.circuits.specs.Meaning.{Acc, cellsAt, wordAt}
 use Rattle.circuits.specs.Answers.{linesOf}
+use Rattle.circuits.specs.Model.{numIn, posIn, widIn}
 use Rattle.peeks.specs.Peek.{stepZero}
 use Rattle.peeks.specs.Looks.{Looks, Found, WordLine, CellLine, StateLine, Pair}
-use Rattle.circuits.proofs.Placing.{all-sound}
-use Rattle.peeks.proofs.Looked.{Arg, FactCmp, FactRead, FactIte, Fact, number-of, facts, cells-of}
+use Rattle.peeks.proofs.Looked.{Arg, FactCmp, FactRead, FactIte, Fact, one-cell, more-cells, shown, number-of, facts, cells-of}
 use Rattle.circuits.proofs.Puts as laws
 
 -- ---- the words found so far
@@ -66,7 +66,7 @@ pub record Number (t : List ℕ) (n m : ℕ) : Type 0 where
   pub most : m ≤ 64
   pub here : span (m - 1 + 1) ≤ length t
 
-module _ {t : List ℕ} {n : ℕ} {idx wid pos ini S R : List ℕ} (lk : Looks t n idx wid pos ini S R) where
+module _ {t : List ℕ} {n : ℕ} {P : List (List ℕ)} {ini S R : List ℕ} (lk : Looks t n P ini S R) where
   abbrev A : Acc
   A = stepZero (linesOf t n) S R
 
@@ -74,7 +74,7 @@ module _ {t : List ℕ} {n : ℕ} {idx wid pos ini S R : List ℕ} (lk : Looks t
   Z = layout false (linesOf t n)
 
   accepted : checked false t n ≡ Accepted
-  accepted = lk .laid .typed .sized .accepted
+  accepted = lk .laid .accepted
 
   pub number : (m : ℕ) → 2 ≤ typeAt Z m .cls → Number t n m
   number m q =
@@ -94,18 +94,18 @@ module _ {t : List ℕ} {n : ℕ} {idx wid pos ini S R : List ℕ} (lk : Looks t
   cell-same {m} {a} {c} w q e =
       record { array = record { value = q; deep = subst (λ (x : ℕ). 0 < x) (sym e) (w .array .deep) }; inside = subst (λ (x : ℕ). c < 2 ^ x) (sym e) (w .inside) }
 
-  pub cell-read : {m a x i : ℕ} → FactRead A Z wid pos ini S R m 0 a x → i ≡ wordAt A x → CellLine t n a i
+  pub cell-read : {m a x i : ℕ} → FactRead A Z P ini S R m 0 a x → i ≡ wordAt A x → CellLine t n a i
   cell-read {m} {a} {x} {i} k e =
       record { array = record { value = k .arr .is; deep = k .arr .deep }; inside = subst (λ (y : ℕ). y < size (typeAt Z a)) (sym e) (k .inside) }
 
-  pub pair : {m a b : ℕ} {f : Bool} → FactCmp A Z wid pos ini S R m 0 f a b → Pair t n a b
+  pub pair : {m a b : ℕ} {f : Bool} → FactCmp A Z P ini S R m 0 f a b → Pair t n a b
   pair k = record { left = k .left .value; right = k .right .value; sorts = k .sorts }
 
   -- ---- what a record says of its line, by its shape
 
   module _ {r : List ℕ} (m c : ℕ) (q : 2 ≤ typeAt Z m .cls) (hc : c < size (typeAt Z m)) (er : r ≡ recordAt t (m - 1)) where
-    pub fact : (X : Shape) → shapeOf (kindIn r) ≡ X → Fact A Z wid pos ini S R m c (build X (kindIn r) (sortIn r) (firstIn r) (secondIn r) (thirdIn r))
-    fact X e = subst (Fact A Z wid pos ini S R m c) (ap lineOf (sym er) ∙ line-as r X e) (facts lk m c q hc)
+    pub fact : (X : Shape) → shapeOf (kindIn r) ≡ X → Fact A Z P ini S R m c (build X (kindIn r) (sortIn r) (firstIn r) (secondIn r) (thirdIn r))
+    fact X e = subst (Fact A Z P ini S R m c) (ap lineOf (sym er) ∙ line-as r X e) (facts lk m c q hc)
 
     -- an array's line that is no state and no ite is a write
     pub is-write : 0 < typeAt Z m .iw → (kindIn r ≡ 5 → ⊥) → (kindIn r ≡ 53 → ⊥) → shapeOf (kindIn r) ≡ isWrite
@@ -129,10 +129,10 @@ module _ {t : List ℕ} {n : ℕ} {idx wid pos ini S R : List ℕ} (lk : Looks t
         go (isCmp b) e k = absurd (omega (arith, fact (isCmp b) e .flat))
 
     -- a word's line of a kind below 5 is a constant or an input
-    pub given-asks : kindIn r < 5 → (kindIn r ≡ 3 → ⊥) → (m ≤ 16384) × ((getD pos m 0 < length R) × Width (getD wid m 0))
+    pub given-asks : kindIn r < 5 → (kindIn r ≡ 3 → ⊥) → (m ≤ 16384) × ((posIn P m < length R) × Width (widIn P m))
     given-asks h n₃ = go (shapeOf (kindIn r)) refl (kind-of (kindIn r))
       where
-        go : (X : Shape) → shapeOf (kindIn r) ≡ X → KindOf X (kindIn r) → (m ≤ 16384) × ((getD pos m 0 < length R) × Width (getD wid m 0))
+        go : (X : Shape) → shapeOf (kindIn r) ≡ X → KindOf X (kindIn r) → (m ≤ 16384) × ((posIn P m < length R) × Width (widIn P m))
         go isBitvec e k = absurd (fact isBitvec e)
         go isArray e k = absurd (fact isArray e)
         go isConst e k = absurd (n₃ k)
@@ -151,7 +151,7 @@ module _ {t : List ℕ} {n : ℕ} {idx wid pos ini S R : List ℕ} (lk : Looks t
         go (isCmp true) e k = absurd (omega arith)
         go (isCmp false) e k = absurd (omega arith)
 
-    pub given-is : {v : ℕ} → kindIn r < 5 → (kindIn r ≡ 3 → v ≡ firstIn r) × ((kindIn r ≡ 3 → ⊥) → v ≡ getD R (getD pos m 0) 0 % 2 ^ getD wid m 0) → v ≡ wordAt A m
+    pub given-is : {v : ℕ} → kindIn r < 5 → (kindIn r ≡ 3 → v ≡ firstIn r) × ((kindIn r ≡ 3 → ⊥) → v ≡ getD R (posIn P m) 0 % 2 ^ widIn P m) → v ≡ wordAt A m
     given-is {v} h w = go (shapeOf (kindIn r)) refl (kind-of (kindIn r))
       where
         go : (X : Shape) → shapeOf (kindIn r) ≡ X → KindOf X (kindIn r) → v ≡ wordAt A m
@@ -220,11 +220,11 @@ module _ {t : List ℕ} {n : ℕ} {idx wid pos ini S R : List ℕ} (lk : Looks t
   pub first-cell : (m : ℕ) → 0 < size (typeAt Z m)
   first-cell m = pow-pos (typeAt Z m .iw)
 
-  pub state-fact : {m c : ℕ} → StateLine t n m c → Fact A Z wid pos ini S R m c (build isState (kindIn (recordAt t (m - 1))) (sortIn (recordAt t (m - 1))) (firstIn (recordAt t (m - 1))) (secondIn (recordAt t (m - 1))) (thirdIn (recordAt t (m - 1))))
+  pub state-fact : {m c : ℕ} → StateLine t n m c → Fact A Z P ini S R m c (build isState (kindIn (recordAt t (m - 1))) (sortIn (recordAt t (m - 1))) (firstIn (recordAt t (m - 1))) (secondIn (recordAt t (m - 1))) (thirdIn (recordAt t (m - 1))))
   state-fact {m} {c} k = fact m c (k .value) (k .inside) refl isState (ap shapeOf (k .state))
 
   -- the line that an ite takes
-  pub chosen : {m c d a b x e : ℕ} → FactIte A Z wid pos ini S R m c d a b → x ≡ wordAt A d → e ≡ choose x a b → Chosen A Z m c e
+  pub chosen : {m c d a b x e : ℕ} → FactIte A Z P ini S R m c d a b → x ≡ wordAt A d → e ≡ choose x a b → Chosen A Z m c e
   chosen {m} {c} {d} {a} {b} {x} {e} f ex ee = go x refl
     where
       go : (y : ℕ) → x ≡ y → Chosen A Z m c e
@@ -235,30 +235,24 @@ module _ {t : List ℕ} {n : ℕ} {idx wid pos ini S R : List ℕ} (lk : Looks t
   -- ---- two values of one sort
 
   module _ (a b : ℕ) (k : Pair t n a b) where
-    pub deep : getD idx a 0 ≤ 8
-    deep = omega (arith, lk .laid .typed .sized .index a, all-sound false t n accepted .wide a (omega (arith, k .left)) .deep)
+    -- its cells
+    pub cells : numIn P a ≡ size (typeAt Z a)
+    cells = shown (lk .laid) a (number-of lk a (omega (arith, k .left)) .1) .isNum
 
-    pub sized : {m : ℕ} → m ≡ 2 ^ getD idx a 0 → m ≡ size (typeAt Z a)
-    sized e = e ∙ ap (λ (x : ℕ). 2 ^ x) (lk .laid .typed .sized .index a)
+    pub left-word : numIn P a ≡ 1 → WordLine t n a
+    left-word e = record { value = k .left; flat = one-cell (typeAt Z a .iw) (sym cells ∙ e) }
 
-    pub left-word : getD idx a 0 ≡ 0 → WordLine t n a
-    left-word e = record { value = k .left; flat = sym (lk .laid .typed .sized .index a) ∙ e }
+    pub right-word : numIn P a ≡ 1 → WordLine t n b
+    right-word e = record { value = k .right; flat = k .sorts ∙ one-cell (typeAt Z a .iw) (sym cells ∙ e) }
 
-    pub right-word : getD idx a 0 ≡ 0 → WordLine t n b
-    right-word e = record { value = k .right; flat = k .sorts ∙ sym (lk .laid .typed .sized .index a) ∙ e }
-
-    not-zero : (x : ℕ) → (x ≡ 0 → ⊥) → 0 < x
-    not-zero zero z = absurd (z refl)
-    not-zero (suc x) z = omega arith
-
-    pub left-cell : {m c : ℕ} → (getD idx a 0 ≡ 0 → ⊥) → m ≡ 2 ^ getD idx a 0 → c < m → CellLine t n a c
+    pub left-cell : {m c : ℕ} → (numIn P a ≡ 1 → ⊥) → m ≡ numIn P a → c < m → CellLine t n a c
     left-cell {m} {c} z e h =
         record {
-          array = record { value = k .left; deep = not-zero (typeAt Z a .iw) (λ x. z (lk .laid .typed .sized .index a ∙ x)) };
-          inside = subst (λ (x : ℕ). c < x) (sized e) h;
+          array = record { value = k .left; deep = more-cells (typeAt Z a .iw) (λ x. z (cells ∙ x)) };
+          inside = subst (λ (x : ℕ). c < x) (e ∙ cells) h;
         }
 
-    pub right-cell : {m c : ℕ} → (getD idx a 0 ≡ 0 → ⊥) → m ≡ 2 ^ getD idx a 0 → c < m → CellLine t n b c
+    pub right-cell : {m c : ℕ} → (numIn P a ≡ 1 → ⊥) → m ≡ numIn P a → c < m → CellLine t n b c
     right-cell z e h = cell-same (left-cell z e h) (k .right) (k .sorts)
 
     long-left : length (cellsAt A a) ≡ size (typeAt Z a)
@@ -277,31 +271,31 @@ module _ {t : List ℕ} {n : ℕ} {idx wid pos ini S R : List ℕ} (lk : Looks t
         and-true false = refl
     same-one (x ∷ z ∷ xs) ys e f = absurd (omega arith)
 
-    pub same-words : {x y : ℕ} → getD idx a 0 ≡ 0 → x ≡ wordAt A a → y ≡ wordAt A b → eqb x y ≡ same (cellsAt A a) (cellsAt A b)
+    pub same-words : {x y : ℕ} → numIn P a ≡ 1 → x ≡ wordAt A a → y ≡ wordAt A b → eqb x y ≡ same (cellsAt A a) (cellsAt A b)
     same-words z ex ey =
-        let one : size (typeAt Z a) ≡ 1 = ap (λ (x : ℕ). 2 ^ x) (sym (lk .laid .typed .sized .index a) ∙ z) in
+        let one : size (typeAt Z a) ≡ 1 = sym cells ∙ z in
         ap₂ eqb ex ey ∙ same-one (cellsAt A a) (cellsAt A b) (long-left ∙ one) (long-right ∙ one)
 
     pub alike-none : {vals known : List ℕ} (m : ℕ) → Found A vals known → Alike A a b vals known m 0
     alike-none m f = record { most = omega arith; found = f; rest = refl }
 
-    pub alike-more : {vals known vals′ known′ : List ℕ} {m c x y : ℕ} → m ≡ 2 ^ getD idx a 0 → c < m → Alike A a b vals known m c → Found A vals′ known′
+    pub alike-more : {vals known vals′ known′ : List ℕ} {m c x y : ℕ} → m ≡ numIn P a → c < m → Alike A a b vals known m c → Found A vals′ known′
         → x ≡ getD (cellsAt A a) c 0 → y ≡ getD (cellsAt A b) c 0 → x ≡ y → Alike A a b vals′ known′ m (c + 1)
     alike-more {vals} {known} {vals′} {known′} {m} {c} e h s f ex ey exy =
-        let q = sized e in
+        let q = e ∙ cells in
         record {
           most = omega arith;
           found = f;
           rest = s .rest ∙ laws.same-more (cellsAt A a) (cellsAt A b) c (omega (arith, long-left)) (omega (arith, long-right)) (sym ex ∙ exy ∙ ey);
         }
 
-    pub alike-not : {vals known : List ℕ} {m c x y : ℕ} → m ≡ 2 ^ getD idx a 0 → c < m → Alike A a b vals known m c → x ≡ getD (cellsAt A a) c 0 → y ≡ getD (cellsAt A b) c 0 → (x ≡ y → ⊥)
+    pub alike-not : {vals known : List ℕ} {m c x y : ℕ} → m ≡ numIn P a → c < m → Alike A a b vals known m c → x ≡ getD (cellsAt A a) c 0 → y ≡ getD (cellsAt A b) c 0 → (x ≡ y → ⊥)
         → false ≡ same (cellsAt A a) (cellsAt A b)
     alike-not {vals} {known} {m} {c} e h s ex ey ne =
-        let q = sized e in
+        let q = e ∙ cells in
         sym (s .rest ∙ laws.same-not (cellsAt A a) (cellsAt A b) c (omega (arith, long-left)) (omega (arith, long-right)) (λ z. ne (ex ∙ z ∙ sym ey)))
 
-    pub alike-all : {vals known : List ℕ} {m c : ℕ} → m ≡ 2 ^ getD idx a 0 → m ≤ c → Alike A a b vals known m c → true ≡ same (cellsAt A a) (cellsAt A b)
+    pub alike-all : {vals known : List ℕ} {m c : ℕ} → m ≡ numIn P a → m ≤ c → Alike A a b vals known m c → true ≡ same (cellsAt A a) (cellsAt A b)
     alike-all {vals} {known} {m} {c} e h s =
-        let q = sized e in
+        let q = e ∙ cells in
         sym (s .rest ∙ ap (λ (x : List ℕ). same x (drop c (cellsAt A b))) (drop-of-length-le (cellsAt A a) {i = c} (omega (arith, long-left))))

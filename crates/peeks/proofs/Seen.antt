@@ -1,5 +1,5 @@
 -- The answers of a peek, test by test, and the value where none holds. Assumes nothing.
-use Prim.Native.Nat.{ℕ, zero, suc, _+_, _^_, _≤_, _<_}
+use Prim.Native.Nat.{ℕ, _≤_, _<_}
 use mathlib.Core.Path.{_≡_, refl, sym, ap, ap₂, _∙_, subst}
 use mathlib.Core.Bool.{Bool, true, false}
 use mathlib.Core.List.{List}
@@ -13,22 +13,22 @@ use Rattle.tables.specs.declared.Refusal.the-variants.{StartWords, InputWords, 
 use Rattle.tables.specs.declared.Checked.{Checked}
 use Rattle.tables.specs.declared.Checked.the-variants.{Accepted, Refused}
 use Rattle.tables.specs.Pick.{pick}
-use Rattle.tables.specs.Notes.{lookIn, Spread}
-use Rattle.tables.specs.Types.{isValue, context, tyAt, Ctx}
+use Rattle.tables.specs.Notes.{lookIn}
+use Rattle.tables.specs.Types.{isValue}
 use Rattle.tables.specs.Tables.{checked}
 use Rattle.tables.proofs.Checking.{not-accepted, zeros-at}
-use Rattle.tables.proofs.Spreading.{index-widths, word-widths}
 use Rattle.tables.proofs.Kept.{both}
 use Rattle.tables.proofs.Showing.{earlier}
 use Rattle.circuits.specs.declared.Totals.{Totals}
 use Rattle.peeks.specs.declared.Peeked.the-variants.{Value, Refused as RefusedPeek}
-use Rattle.circuits.specs.Layout.{Counts, typeAt, size, noLayout, layout}
+use Rattle.circuits.specs.Layout.{Counts, typeAt, size, layout}
 use Rattle.circuits.specs.Meaning.{Acc, cellsAt, wordAt}
 use Rattle.circuits.specs.Answers.{linesOf}
 use Rattle.peeks.specs.Peek.{stepZero, peekAt, hasCell, mayPeek, seenAs, peeked}
-use Rattle.circuits.specs.Model.{countsOf, totalsOf, AllPlaced, Noted}
-use Rattle.peeks.specs.Looks.{initOf, Laid, Looks, Found, WordLine, CellLine, HasCell, Types, lentPeek}
-use Rattle.circuits.proofs.Placing.{all-sound, lines-here, lay-ctx, typed}
+use Rattle.circuits.specs.Model.{numIn, countsOf, totalsOf, Shows, Noted}
+use Rattle.peeks.specs.Looks.{initOf, Laid, Looks, Found, WordLine, CellLine, HasCell, lentPeek}
+use Rattle.circuits.proofs.Placing.{all-sound, lines-here, noted-types}
+use Rattle.peeks.proofs.Looked.{shown, one-cell, more-cells}
 
 -- ---- 14, 15 and 18
 
@@ -81,51 +81,53 @@ may-on c z n k s i et ey ed ex = sym (ed ∙ ap₂ (λ (t : Totals) (y : Ty). ma
 pub found-none : (A : Acc) → Found A (replicate 65 0) (replicate 65 0)
 found-none A = record { long = length-replicate {A = ℕ} 65 0; marks = length-replicate {A = ℕ} 65 0; are = λ a e. absurd (omega (arith, zeros-at 65 a)) }
 
-pub looks-all : {t : List ℕ} {n : ℕ} {idx wid pos ini S R : List ℕ} → Laid t n idx wid pos S R → length ini ≡ length {A = ℕ} (replicate 65 0)
-    → ((q : ℕ) → q < 65 → getD ini q 0 ≡ initOf q (linesOf t n)) → Looks t n idx wid pos ini S R
+pub looks-all : {t : List ℕ} {n : ℕ} {P : List (List ℕ)} {ini S R : List ℕ} → Laid t n P S R → length ini ≡ length {A = ℕ} (replicate 65 0)
+    → ((q : ℕ) → q < 65 → getD ini q 0 ≡ initOf q (linesOf t n)) → Looks t n P ini S R
 looks-all l e f = record { laid = l; many = e ∙ length-replicate {A = ℕ} 65 0; inits = λ q h. f q (omega (arith, l .few)) }
 
-module _ {t : List ℕ} {n : ℕ} {idx wid pos S R : List ℕ} (l : Laid t n idx wid pos S R) (m k : ℕ) (h : HasCell t n m k) where
-  pub word-here : getD idx m 0 ≡ 0 → WordLine t n m
-  word-here e = record { value = h .value; flat = sym (l .typed .sized .index m) ∙ e }
+module _ {t : List ℕ} {n : ℕ} {P : List (List ℕ)} {S R : List ℕ} (l : Laid t n P S R) (m k : ℕ) (h : HasCell t n m k) where
+  few-enough : m ≤ n
+  few-enough = omega (arith, earlier (layout false (linesOf t n) .ctx .tys) m (omega (arith, h .value)), lines-here false t n (l .accepted))
 
-  pub word-seen : {r : ℕ} → getD idx m 0 ≡ 0 → r ≡ wordAt (stepZero (linesOf t n) S R) m → r ≡ peekAt (linesOf t n) S R m k
+  cells : numIn P m ≡ size (typeAt (layout false (linesOf t n)) m)
+  cells = shown l m few-enough .isNum
+
+  pub word-here : numIn P m ≡ 1 → WordLine t n m
+  word-here e = record { value = h .value; flat = one-cell (typeAt (layout false (linesOf t n)) m .iw) (sym cells ∙ e) }
+
+  pub word-seen : {r : ℕ} → numIn P m ≡ 1 → r ≡ wordAt (stepZero (linesOf t n) S R) m → r ≡ peekAt (linesOf t n) S R m k
   unfolding peekAt
   word-seen e er =
-      let one : size (typeAt (layout false (linesOf t n)) m) ≡ 1 = ap (λ (x : ℕ). 2 ^ x) (sym (l .typed .sized .index m) ∙ e) in
+      let one : size (typeAt (layout false (linesOf t n)) m) ≡ 1 = sym cells ∙ e in
       let z : 0 ≡ k = omega (arith, h .inside) in
       er ∙ ap (λ (c : ℕ). getD (cellsAt (stepZero (linesOf t n) S R) m) c 0) z
 
-  not-zero : (x : ℕ) → (x ≡ 0 → ⊥) → 0 < x
-  not-zero zero z = absurd (z refl)
-  not-zero (suc x) z = omega arith
-
-  pub cell-here : (getD idx m 0 ≡ 0 → ⊥) → CellLine t n m k
+  pub cell-here : (numIn P m ≡ 1 → ⊥) → CellLine t n m k
   cell-here z =
-      record { array = record { value = h .value; deep = not-zero (typeAt (layout false (linesOf t n)) m .iw) (λ e. z (l .typed .sized .index m ∙ e)) }; inside = h .inside }
+      record { array = record { value = h .value; deep = more-cells (typeAt (layout false (linesOf t n)) m .iw) (λ e. z (cells ∙ e)) }; inside = h .inside }
 
   pub cell-seen : {r : ℕ} → r ≡ getD (cellsAt (stepZero (linesOf t n) S R) m) k 0 → r ≡ peekAt (linesOf t n) S R m k
   unfolding peekAt
   cell-seen er = er
 
   pub line-few : m ≤ 16384
-  line-few = omega (arith, earlier (layout false (linesOf t n) .ctx .tys) m (omega (arith, h .value)), lines-here false t n (l .typed .sized .accepted), l .few)
+  line-few = omega (arith, few-enough, l .few)
 
 -- ---- an accepted table
 
-module _ {t : List ℕ} {n : ℕ} {idx wid : List ℕ} {m : ℕ} {y : Ty} (z : Types t n idx wid m y) where
-  pub type-deep : 2 ≤ y .cls → y .iw ≤ 8
-  type-deep q =
-      let e = z .type in
-      omega (arith, ap (λ (u : Ty). u .iw) e, all-sound false t n (z .typed .sized .accepted) .wide m (omega (arith, ap (λ (u : Ty). u .cls) e)) .deep)
+module _ {t : List ℕ} {n : ℕ} {xs : List (List ℕ)} (z : Noted false t n xs) (m : ℕ) where
+  -- the note of the line peeked at has its type
+  pub type-is : {y : Ty} → y ≡ lookIn xs m → y ≡ typeAt (layout false (linesOf t n)) m
+  type-is e = e ∙ noted-types false t n z m
 
-  pub peek-laid : {off num pos S R : List ℕ} (k : ℕ) → AllPlaced off num pos (layout false (linesOf t n))
-      → mayPeek (layout false (linesOf t n) .counts) (typeAt (layout false (linesOf t n)) m) n k (length S) (length R) ≡ Accepted → Laid t n idx wid pos S R × HasCell t n m k
-  peek-laid {off} {num} {pos} {S} {R} k pl e =
-      let f = may-facts (layout false (linesOf t n) .counts) (typeAt (layout false (linesOf t n)) m) n k (length S) (length R) e in
-      let long = all-sound false t n (z .typed .sized .accepted) .long in
-      let many = lines-here false t n (z .typed .sized .accepted) in (
-        record { typed = z .typed; few = f .few; placed = λ a h. pl a (omega arith) .isPos; starts = f .starts; row = f .row },
+  pub type-deep : {y : Ty} → y ≡ lookIn xs m → 2 ≤ y .cls → y .iw ≤ 8
+  type-deep e q = let f = type-is e in omega (arith, ap (λ (u : Ty). u .iw) f, all-sound false t n (z .accepted) .wide m (omega (arith, ap (λ (u : Ty). u .cls) f)) .deep)
+
+  pub peek-laid : {P : List (List ℕ)} {S R : List ℕ} (k : ℕ) → Shows P (layout false (linesOf t n))
+      → mayPeek (layout false (linesOf t n) .counts) (typeAt (layout false (linesOf t n)) m) n k (length S) (length R) ≡ Accepted → Laid t n P S R × HasCell t n m k
+  peek-laid {P} {S} {R} k sh e =
+      let f = may-facts (layout false (linesOf t n) .counts) (typeAt (layout false (linesOf t n)) m) n k (length S) (length R) e in (
+        record { accepted = z .accepted; few = f .few; shows = sh; starts = f .starts; row = f .row },
         record { value = f .value; inside = f .inside },
       )
 
@@ -144,14 +146,3 @@ module _ (t : List ℕ) (n m k : ℕ) (S R : List ℕ) where
   pub peek-lent : checked false t n ≡ Accepted → lentPeek t n m k S R ≡ peeked t n m k S R
   unfolding peeked
   peek-lent e = rw e
-
-pub types-of : {t : List ℕ} {n : ℕ} {xs : List (List ℕ)} {idx wid : List ℕ} (m : ℕ) {y : Ty} → Noted false t n xs → Spread xs (n + 1) (replicate 16385 0) (replicate 16385 0) idx wid
-    → y ≡ lookIn xs m → Types t n idx wid m y
-unfolding context layout
-types-of {t} {n} m h sp e =
-    let acc = h .accepted in
-    let z = zeros-at 16385 in
-    record {
-      typed = typed false t n acc (index-widths false t n acc (h .shows) sp z z) (word-widths false t n acc (h .shows) sp z z);
-      type = e ∙ h .shows .types m ∙ ap (λ (c : Ctx). tyAt c m) (sym (lay-ctx false noLayout (linesOf t n)));
-    }

@@ -3,7 +3,7 @@ use Prim.Native.Nat.{ℕ, zero, suc, _+_, _^_, _≤_, _<_}
 use mathlib.Core.Path.{_≡_, refl, sym, ap, _∙_, subst}
 use mathlib.Core.Logic.{⊎-elim}
 use mathlib.Core.Bool.{Bool, false}
-use mathlib.Core.List.{List, [], _∷_, _++_, map}
+use mathlib.Core.List.{List, [], _∷_, _++_}
 use native.Mathlib.Omega.{arith}
 use lib.Pow.{pow-pos}
 use lib.ListN.{length, take, getD, replicate, length-append, length-replicate, List·getD-eq-default}
@@ -16,29 +16,28 @@ use Rattle.tables.specs.Tables.{checked}
 use Rattle.circuits.specs.Layout.{Place, Layout, noPlace, typeAt, placeAt, size, layAll, noLayout, layout}
 use Rattle.circuits.specs.Meaning.{Acc, cellsAt, evalAll, noAcc, step}
 use Rattle.circuits.specs.Answers.{linesOf}
-use Rattle.circuits.specs.Model.{workIn, Ready}
+use Rattle.circuits.specs.Model.{laidAs, laidIn, workIn, Ready}
 use Rattle.circuits.proofs.Puts as laws
 use Rattle.circuits.proofs.Held.{Held, cells-at}
 use Rattle.circuits.proofs.Simulation.{sim}
 use Rattle.circuits.proofs.Walked.{accAt, acc-suc, acc-lay, lines-many, facts-at, Facts, walk-start}
 use Rattle.circuits.proofs.Placing.{all-sound, lines-here, few-here}
 
-getD-in : {A B : Type 0} (f : A → B) (xs : List A) (a : ℕ) (d : A) (e : B) → a < length xs → getD (map f xs) a e ≡ f (getD xs a d)
-getD-in f [] a d e h = absurd (omega arith)
-getD-in f (x ∷ xs) zero d e h = refl
-getD-in f (x ∷ xs) (suc a) d e h = getD-in f xs a d e (omega arith)
+-- the list that holds what a layout knows of its lines
+abbrev rows : List Place → List Ty → List (List ℕ)
+rows [] ys = []
+rows (q ∷ qs) [] = []
+rows (q ∷ qs) (y ∷ ys) = laidAs (q .off) (size y) (q .at) (y .w) ∷ rows qs ys
 
-abbrev pub offs : Layout → List ℕ
-offs Y = map (λ (q : Place). q .off) (Y .places)
+abbrev pub laidOf : Layout → List (List ℕ)
+laidOf Y = rows (Y .places) (Y .ctx .tys)
 
-abbrev pub ats : Layout → List ℕ
-ats Y = map (λ (q : Place). q .at) (Y .places)
-
-abbrev pub wids : Layout → List ℕ
-wids Y = map (λ (t : Ty). t .w) (Y .ctx .tys)
-
-abbrev pub nums : Layout → List ℕ
-nums Y = map (λ (t : Ty). size t) (Y .ctx .tys)
+rows-at : (qs : List Place) (ys : List Ty) (a : ℕ) → length qs ≡ length ys → a < length qs
+    → laidIn (rows qs ys) a ≡ laidAs (getD qs a noPlace .off) (size (getD ys a noTy)) (getD qs a noPlace .at) (getD ys a noTy .w)
+rows-at [] ys a e h = absurd (omega arith)
+rows-at (q ∷ qs) [] a e h = absurd (omega arith)
+rows-at (q ∷ qs) (y ∷ ys) zero e h = refl
+rows-at (q ∷ qs) (y ∷ ys) (suc a) e h = rows-at qs ys a (omega arith) (omega arith)
 
 -- some work area holds the lines so far
 pub record HeldBy (all : ℕ) (σ : List ℕ) (A : Acc) : Type 0 where
@@ -50,7 +49,7 @@ module _ (t : List ℕ) (n : ℕ) (acc : checked false t n ≡ Accepted) where
   whole = layout false (linesOf t n)
 
   module _ (σ : List ℕ) (many : length σ ≡ layout false (linesOf t n) .counts .states) where
-    pub ready-whole : Ready false t n (offs whole) (wids whole) (nums whole) (ats whole) (whole .counts .cells) (length σ) (whole .counts .inputs) (whole .counts .signals)
+    pub ready-whole : Ready false t n (laidOf whole) (whole .counts .cells) (length σ) (whole .counts .inputs) (whole .counts .signals)
     ready-whole =
         let long = all-sound false t n acc .long in
         let count = lines-here false t n acc in
@@ -58,12 +57,13 @@ module _ (t : List ℕ) (n : ℕ) (acc : checked false t n ≡ Accepted) where
         record {
           accepted = acc;
           shows = λ a h.
+              let e = rows-at (whole .places) (whole .ctx .tys) a (omega arith) h in
               record {
                 known = omega arith;
-                isOff = getD-in (λ (q : Place). q .off) (whole .places) a noPlace 0 h;
-                isWid = getD-in (λ (y : Ty). y .w) (whole .ctx .tys) a noTy 0 (omega arith);
-                isNum = getD-in (λ (y : Ty). size y) (whole .ctx .tys) a noTy 0 (omega arith);
-                isPos = getD-in (λ (q : Place). q .at) (whole .places) a noPlace 0 h;
+                isOff = ap (λ (r : List ℕ). getD r 0 0) e;
+                isWid = ap (λ (r : List ℕ). getD r 3 0) e;
+                isNum = ap (λ (r : List ℕ). getD r 1 0) e;
+                isPos = ap (λ (r : List ℕ). getD r 2 0) e;
               };
           cells = refl;
           states = sym many;
@@ -76,9 +76,9 @@ module _ (t : List ℕ) (n : ℕ) (acc : checked false t n ≡ Accepted) where
       lay-is i = acc-lay false f σ ι noAcc (take i (linesOf t n))
 
       pub facts-of : (i : ℕ) → i < n
-          → Facts false (offs whole) (wids whole) (nums whole) (ats whole) (accAt false f σ ι (linesOf t n) i .lay) (getD (linesOf t n) i Line.junk) (whole .counts .cells) (length σ) (whole .counts .inputs) (whole .counts .signals)
+          → Facts false (laidOf whole) (accAt false f σ ι (linesOf t n) i .lay) (getD (linesOf t n) i Line.junk) (whole .counts .cells) (length σ) (whole .counts .inputs) (whole .counts .signals)
       facts-of i h =
-          subst (λ (Y : Layout). Facts false (offs whole) (wids whole) (nums whole) (ats whole) Y (getD (linesOf t n) i Line.junk) (whole .counts .cells) (length σ) (whole .counts .inputs) (whole .counts .signals))
+          subst (λ (Y : Layout). Facts false (laidOf whole) Y (getD (linesOf t n) i Line.junk) (whole .counts .cells) (length σ) (whole .counts .inputs) (whole .counts .signals))
           (sym (lay-is i)) (facts-at ready-whole i h)
 
       pub held-at : (i : ℕ) → i ≤ n → HeldBy (whole .counts .cells) σ (accAt false f σ ι (linesOf t n) i)
@@ -87,7 +87,7 @@ module _ (t : List ℕ) (n : ℕ) (acc : checked false t n ≡ Accepted) where
           let lz : length zeros ≡ whole .counts .cells = length-replicate (whole .counts .cells) 0 in
           record {
             work = zeros ++ σ;
-            held = walk-start false f t n (offs whole) (wids whole) (nums whole) (ats whole) (whole .counts .cells) ι σ (whole .counts .inputs) (whole .counts .signals) ready-whole (zeros ++ σ)
+            held = walk-start false f t n (laidOf whole) (whole .counts .cells) ι σ (whole .counts .inputs) (whole .counts .signals) ready-whole (zeros ++ σ)
                 (replicate (whole .counts .signals) 0) (sym (drop-at zeros σ (whole .counts .cells) lz)) (length-append zeros σ ∙ ap (λ (m : ℕ). m + length σ) lz) (length-replicate (whole .counts .signals) 0) .held;
           }
       held-at (suc i) h =
@@ -95,11 +95,11 @@ module _ (t : List ℕ) (n : ℕ) (acc : checked false t n ≡ Accepted) where
           let l = getD (linesOf t n) i Line.junk in
           let H = held-at i (omega arith) in
           let k = facts-of i h in
-          let w : List ℕ = workIn false f (offs whole) (wids whole) (nums whole) (ats whole) (whole .counts .cells) ι (H .work) (length (A .lay .ctx .tys)) l in
+          let w : List ℕ = workIn false f (laidOf whole) (whole .counts .cells) ι (H .work) (length (A .lay .ctx .tys)) l in
           record {
             work = w;
             held = subst (λ (B : Acc). Held false (whole .counts .cells) σ w B) (sym (acc-suc false f σ ι (linesOf t n) i (omega (arith, lines-many false t n acc))))
-                (sim false f (offs whole) (wids whole) (nums whole) (ats whole) (whole .counts .cells) σ ι (H .work) A (H .held) l (k .ok) (k .shows) (k .cells) (k .states));
+                (sim false f (laidOf whole) (whole .counts .cells) σ ι (H .work) A (H .held) l (k .ok) (k .shows) (k .cells) (k .states));
           }
 
       -- ---- all lines

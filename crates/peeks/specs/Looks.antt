@@ -1,4 +1,4 @@
--- What peek keeps while it looks for a value: the value lines of the states' inits, the lists that say what is known of each line, and the words found so far.
+-- What peek keeps while it looks for a value: the value lines of the states' inits, the list that says what is known of each line, and the words found so far.
 -- Assumes nothing.
 use Prim.Native.Nat.{ℕ, _-_, _≤_, _<_}
 use mathlib.Core.Path.{_≡_}
@@ -6,15 +6,16 @@ use mathlib.Core.Bool.{true, false}
 use mathlib.Core.List.{List, [], _∷_}
 use lib.Dec.{eqb}
 use lib.ListN.{length, getD}
-use Rattle.tables.specs.declared.Ty.{Ty}
 use Rattle.tables.specs.Pick.{pick}
 use Rattle.tables.specs.Lines.{Line, kindIn, recordAt}
 use Rattle.peeks.specs.declared.Peeked.{Peeked}
-use Rattle.circuits.specs.Layout.{typeAt, placeAt, size, layout}
+use Rattle.circuits.specs.Layout.{typeAt, size, layout}
 use Rattle.circuits.specs.Meaning.{Acc, wordAt}
 use Rattle.circuits.specs.Answers.{linesOf}
 use Rattle.peeks.specs.Peek.{seenAs, mayPeek, peekAt}
-use Rattle.circuits.specs.Model.{Typed}
+use Rattle.circuits.specs.Model.{Shows}
+use Rattle.tables.specs.declared.Checked.the-variants.{Accepted}
+use Rattle.tables.specs.Tables.{checked}
 
 -- the line of the value that an init gives the state q, where the lines before have d
 abbrev pub noteInit : ℕ → ℕ → Line → ℕ
@@ -38,16 +39,16 @@ abbrev pub initOf : ℕ → List Line → ℕ
 initOf q C = initAfter q 0 C
 
 -- an accepted table of at most 64 records, what is known of its lines, and start words and a row of the right length
-pub record Laid (t : List ℕ) (n : ℕ) (idx wid pos S R : List ℕ) : Type 0 where
-  pub typed : Typed false t n idx wid
+pub record Laid (t : List ℕ) (n : ℕ) (P : List (List ℕ)) (S R : List ℕ) : Type 0 where
+  pub accepted : checked false t n ≡ Accepted
   pub few : n ≤ 64
-  pub placed : (a : ℕ) → a ≤ n → getD pos a 0 ≡ placeAt (layout false (linesOf t n)) a .at
+  pub shows : Shows P (layout false (linesOf t n))
   pub starts : length S ≡ layout false (linesOf t n) .counts .states
   pub row : length R ≡ layout false (linesOf t n) .counts .inputs
 
 -- the same with the states' inits
-pub record Looks (t : List ℕ) (n : ℕ) (idx wid pos ini S R : List ℕ) : Type 0 where
-  pub laid : Laid t n idx wid pos S R
+pub record Looks (t : List ℕ) (n : ℕ) (P : List (List ℕ)) (ini S R : List ℕ) : Type 0 where
+  pub laid : Laid t n P S R
   pub many : length ini ≡ 65
   pub inits : (q : ℕ) → q ≤ n → getD ini q 0 ≡ initOf q (linesOf t n)
 
@@ -88,11 +89,6 @@ pub record Pair (t : List ℕ) (n a b : ℕ) : Type 0 where
   pub sorts : typeAt (layout false (linesOf t n)) b .iw ≡ typeAt (layout false (linesOf t n)) a .iw
 
 -- ---- a peek at an accepted table
-
--- the lists hold the index widths and the widths of its lines, and y is the type of the line m
-pub record Types (t : List ℕ) (n : ℕ) (idx wid : List ℕ) (m : ℕ) (y : Ty) : Type 0 where
-  pub typed : Typed false t n idx wid
-  pub type : y ≡ typeAt (layout false (linesOf t n)) m
 
 abbrev pub lentPeek : (t : List ℕ) (n line cell : ℕ) (S R : List ℕ) → Peeked
 lentPeek t n line cell S R =

@@ -2,6 +2,7 @@
 use crate::Peeked;
 use circuits::Totals;
 use circuits::area;
+use circuits::area::LAID;
 use circuits::eval;
 use circuits::places;
 use tables::Checked;
@@ -23,8 +24,8 @@ ghost use Rattle.circuits.specs.Cells.{choose, same};
 ghost use Rattle.circuits.specs.Meaning.{opWord, cellsAt, wordAt};
 ghost use Rattle.circuits.specs.Answers.{linesOf};
 ghost use Rattle.peeks.specs.Peek.{stepZero, peekAt, mayPeek, peeked};
-ghost use Rattle.circuits.specs.Model.{FitWord, Noted, countsOf};
-ghost use Rattle.peeks.specs.Looks.{noteInit, initOf, Laid, Looks, Found, WordLine, CellLine, StateLine, HasCell, Pair, Types, lentPeek};
+ghost use Rattle.circuits.specs.Model.{posIn, widIn, FitWord, Noted, countsOf};
+ghost use Rattle.peeks.specs.Looks.{noteInit, initOf, Laid, Looks, Found, WordLine, CellLine, StateLine, HasCell, Pair, lentPeek};
 
 // An init's record notes the line of its value at its state.
 fn note_init(rec: [u64; WORDS], ini: &mut [u64])
@@ -64,55 +65,55 @@ fn keep(vals: &mut [u64], has: &mut [u8], n: usize, v: u64) -> u64
 }
 
 // The word of the input on the line n.
-fn input_word(n: usize, wid: &[u8; 16385], pos: &[u32; 16385], row: &[u64]) -> u64
-    requires { ⌜ (n ≤ 16384) × ((getD (now pos) n 0 < length (now row)) × Width (getD (now wid) n 0)) ⌝ }
-    ensures { λ r. ⌜ r ≡ getD (now (row .entry)) (getD (now (pos .entry)) n 0) 0 % 2 ^ getD (now (wid .entry)) n 0 ⌝ }
+fn input_word(n: usize, laid: &[[u32; LAID]; 16385], row: &[u64]) -> u64
+    requires { ⌜ (n ≤ 16384) × ((posIn (now laid) n < length (now row)) × Width (widIn (now laid) n)) ⌝ }
+    ensures { λ r. ⌜ r ≡ getD (now (row .entry)) (posIn (now (laid .entry)) n) 0 % 2 ^ widIn (now (laid .entry)) n ⌝ }
 {
-    let p = area::at(pos, n);
+    let p = area::place(laid, n);
     let v = row[p];
-    words::low(area::width(wid, n), v)
+    words::low(area::width(laid, n), v)
 }
 
 // The start word of the cell k of the state on the line n.
-fn start_word(n: usize, k: usize, wid: &[u8; 16385], pos: &[u32; 16385], starts: &[u64]) -> u64
-    requires { ⌜ (n ≤ 16384) × ((getD (now pos) n 0 + k < length (now starts)) × Width (getD (now wid) n 0)) ⌝ }
-    ensures { λ r. ⌜ r ≡ getD (now (starts .entry)) (getD (now (pos .entry)) n 0 + k) 0 % 2 ^ getD (now (wid .entry)) n 0 ⌝ }
+fn start_word(n: usize, k: usize, laid: &[[u32; LAID]; 16385], starts: &[u64]) -> u64
+    requires { ⌜ (n ≤ 16384) × ((posIn (now laid) n + k < length (now starts)) × Width (widIn (now laid) n)) ⌝ }
+    ensures { λ r. ⌜ r ≡ getD (now (starts .entry)) (posIn (now (laid .entry)) n + k) 0 % 2 ^ widIn (now (laid .entry)) n ⌝ }
 {
-    let p = area::at(pos, n) + k;
+    let p = area::place(laid, n) + k;
     let v = starts[p];
-    words::low(area::width(wid, n), v)
+    words::low(area::width(laid, n), v)
 }
 
 // An operator of one word, v, on the line n.
-fn one(rec: [u64; WORDS], n: usize, wid: &[u8; 16385], v: u64) -> u64
-    requires { ⌜ (n ≤ 16384) × ((firstIn rec ≤ 16384) × FitWord false (kindIn rec) (getD (now wid) n 0) (getD (now wid) (firstIn rec) 0) 64 v (secondIn rec) (thirdIn rec)) ⌝ }
-    ensures { λ r. ⌜ r ≡ opWord false (kindIn rec) (getD (now (wid .entry)) (firstIn rec) 0) 64 v (secondIn rec) (thirdIn rec) ⌝ }
+fn one(rec: [u64; WORDS], n: usize, laid: &[[u32; LAID]; 16385], v: u64) -> u64
+    requires { ⌜ (n ≤ 16384) × ((firstIn rec ≤ 16384) × FitWord false (kindIn rec) (widIn (now laid) n) (widIn (now laid) (firstIn rec)) 64 v (secondIn rec) (thirdIn rec)) ⌝ }
+    ensures { λ r. ⌜ r ≡ opWord false (kindIn rec) (widIn (now (laid .entry)) (firstIn rec)) 64 v (secondIn rec) (thirdIn rec) ⌝ }
 {
-    let w = area::width(wid, n);
-    let u = area::width(wid, rec[2] as usize);
+    let w = area::width(laid, n);
+    let u = area::width(laid, rec[2] as usize);
     eval::word(false, rec[0], w, u, 64, v, rec[3], rec[4])
 }
 
 // An operator of two words, x and y, on the line n.
-fn two(rec: [u64; WORDS], n: usize, wid: &[u8; 16385], x: u64, y: u64) -> u64
-    requires { ⌜ (n ≤ 16384) × ((firstIn rec ≤ 16384) × ((secondIn rec ≤ 16384) × FitWord false (kindIn rec) (getD (now wid) n 0) (getD (now wid) (firstIn rec) 0) (getD (now wid) (secondIn rec) 0) x y 0)) ⌝ }
-    ensures { λ r. ⌜ r ≡ opWord false (kindIn rec) (getD (now (wid .entry)) (firstIn rec) 0) (getD (now (wid .entry)) (secondIn rec) 0) x y 0 ⌝ }
+fn two(rec: [u64; WORDS], n: usize, laid: &[[u32; LAID]; 16385], x: u64, y: u64) -> u64
+    requires { ⌜ (n ≤ 16384) × ((firstIn rec ≤ 16384) × ((secondIn rec ≤ 16384) × FitWord false (kindIn rec) (widIn (now laid) n) (widIn (now laid) (firstIn rec)) (widIn (now laid) (secondIn rec)) x y 0)) ⌝ }
+    ensures { λ r. ⌜ r ≡ opWord false (kindIn rec) (widIn (now (laid .entry)) (firstIn rec)) (widIn (now (laid .entry)) (secondIn rec)) x y 0 ⌝ }
 {
-    let w = area::width(wid, n);
-    let u = area::width(wid, rec[2] as usize);
-    let v = area::width(wid, rec[3] as usize);
+    let w = area::width(laid, n);
+    let u = area::width(laid, rec[2] as usize);
+    let v = area::width(laid, rec[3] as usize);
     eval::word(false, rec[0], w, u, v, x, y, 0)
 }
 
 // The word of the constant or of the input on the line n.
-fn given(rec: [u64; WORDS], n: usize, wid: &[u8; 16385], pos: &[u32; 16385], row: &[u64]) -> u64
-    requires { ⌜ ((kindIn rec ≡ 3 → ⊥) → (n ≤ 16384) × ((getD (now pos) n 0 < length (now row)) × Width (getD (now wid) n 0))) ⌝ }
-    ensures { λ r. ⌜ ((kindIn rec ≡ 3 → r ≡ firstIn rec) × ((kindIn rec ≡ 3 → ⊥) → r ≡ getD (now (row .entry)) (getD (now (pos .entry)) n 0) 0 % 2 ^ getD (now (wid .entry)) n 0)) ⌝ }
+fn given(rec: [u64; WORDS], n: usize, laid: &[[u32; LAID]; 16385], row: &[u64]) -> u64
+    requires { ⌜ ((kindIn rec ≡ 3 → ⊥) → (n ≤ 16384) × ((posIn (now laid) n < length (now row)) × Width (widIn (now laid) n))) ⌝ }
+    ensures { λ r. ⌜ ((kindIn rec ≡ 3 → r ≡ firstIn rec) × ((kindIn rec ≡ 3 → ⊥) → r ≡ getD (now (row .entry)) (posIn (now (laid .entry)) n) 0 % 2 ^ widIn (now (laid .entry)) n)) ⌝ }
 {
     if rec[0] == 3 {
         return rec[2];
     }
-    input_word(n, wid, pos, row)
+    input_word(n, laid, row)
 }
 
 // The line that an ite takes where its condition is d.
@@ -129,9 +130,7 @@ fn chosen(d: u64, b: u64, c: u64) -> usize
 fn word(
     table: &[u64],
     count: usize,
-    idx: &[u8; 16385],
-    wid: &[u8; 16385],
-    pos: &[u32; 16385],
+    laid: &[[u32; LAID]; 16385],
     ini: &[u64],
     from: &[u64],
     row: &[u64],
@@ -139,13 +138,13 @@ fn word(
     has: &mut [u8],
     n: usize,
 ) -> u64
-    requires { ⌜ Looks (now table) count (now idx) (now wid) (now pos) (now ini) (now from) (now row) × (WordLine (now table) count n × Found (stepZero (linesOf (now table) count) (now from) (now row)) (now vals) (now has)) ⌝ }
+    requires { ⌜ Looks (now table) count (now laid) (now ini) (now from) (now row) × (WordLine (now table) count n × Found (stepZero (linesOf (now table) count) (now from) (now row)) (now vals) (now has)) ⌝ }
     ensures { λ r. ⌜ (r ≡ wordAt (stepZero (linesOf (now (table .entry)) count) (now (from .entry)) (now (row .entry))) n) × Found (stepZero (linesOf (now (table .entry)) count) (now (from .entry)) (now (row .entry))) (now (vals .exit)) (now (has .exit)) ⌝ }
 {
     if has[n] == 1 {
         return vals[n];
     }
-    let v = value(table, count, idx, wid, pos, ini, from, row, vals, has, n);
+    let v = value(table, count, laid, ini, from, row, vals, has, n);
     keep(vals, has, n, v)
 }
 
@@ -153,9 +152,7 @@ fn word(
 fn value(
     table: &[u64],
     count: usize,
-    idx: &[u8; 16385],
-    wid: &[u8; 16385],
-    pos: &[u32; 16385],
+    laid: &[[u32; LAID]; 16385],
     ini: &[u64],
     from: &[u64],
     row: &[u64],
@@ -163,7 +160,7 @@ fn value(
     has: &mut [u8],
     n: usize,
 ) -> u64
-    requires { ⌜ Looks (now table) count (now idx) (now wid) (now pos) (now ini) (now from) (now row) × (WordLine (now table) count n × Found (stepZero (linesOf (now table) count) (now from) (now row)) (now vals) (now has)) ⌝ }
+    requires { ⌜ Looks (now table) count (now laid) (now ini) (now from) (now row) × (WordLine (now table) count n × Found (stepZero (linesOf (now table) count) (now from) (now row)) (now vals) (now has)) ⌝ }
     ensures { λ r. ⌜ (r ≡ wordAt (stepZero (linesOf (now (table .entry)) count) (now (from .entry)) (now (row .entry))) n) × Found (stepZero (linesOf (now (table .entry)) count) (now (from .entry)) (now (row .entry))) (now (vals .exit)) (now (has .exit)) ⌝ }
 {
     let rec = records::record(table, n - 1);
@@ -172,29 +169,29 @@ fn value(
     let b = rec[3] as usize;
     // no line of the kinds 0 to 2 and 6 to 10 has a word
     match k {
-        0..=4 => given(rec, n, wid, pos, row),
-        5 => state(table, count, idx, wid, pos, ini, from, row, vals, has, n, 0),
+        0..=4 => given(rec, n, laid, row),
+        5 => state(table, count, laid, ini, from, row, vals, has, n, 0),
         6..=20 => {
-            let x = word(table, count, idx, wid, pos, ini, from, row, vals, has, a);
-            one(rec, n, wid, x)
+            let x = word(table, count, laid, ini, from, row, vals, has, a);
+            one(rec, n, laid, x)
         }
         21..=22 => {
-            let s = alike(table, count, idx, wid, pos, ini, from, row, vals, has, a, b);
+            let s = alike(table, count, laid, ini, from, row, vals, has, a, b);
             eval::says(k == 21, s)
         }
         53 => {
-            let d = word(table, count, idx, wid, pos, ini, from, row, vals, has, a);
+            let d = word(table, count, laid, ini, from, row, vals, has, a);
             let e = chosen(d, rec[3], rec[4]);
-            word(table, count, idx, wid, pos, ini, from, row, vals, has, e)
+            word(table, count, laid, ini, from, row, vals, has, e)
         }
         54 => {
-            let i = word(table, count, idx, wid, pos, ini, from, row, vals, has, b) as usize;
-            cell(table, count, idx, wid, pos, ini, from, row, vals, has, a, i)
+            let i = word(table, count, laid, ini, from, row, vals, has, b) as usize;
+            cell(table, count, laid, ini, from, row, vals, has, a, i)
         }
         _ => {
-            let x = word(table, count, idx, wid, pos, ini, from, row, vals, has, a);
-            let y = word(table, count, idx, wid, pos, ini, from, row, vals, has, b);
-            two(rec, n, wid, x, y)
+            let x = word(table, count, laid, ini, from, row, vals, has, a);
+            let y = word(table, count, laid, ini, from, row, vals, has, b);
+            two(rec, n, laid, x, y)
         }
     }
 }
@@ -203,9 +200,7 @@ fn value(
 fn state(
     table: &[u64],
     count: usize,
-    idx: &[u8; 16385],
-    wid: &[u8; 16385],
-    pos: &[u32; 16385],
+    laid: &[[u32; LAID]; 16385],
     ini: &[u64],
     from: &[u64],
     row: &[u64],
@@ -214,23 +209,21 @@ fn state(
     n: usize,
     k: usize,
 ) -> u64
-    requires { ⌜ Looks (now table) count (now idx) (now wid) (now pos) (now ini) (now from) (now row) × (StateLine (now table) count n k × Found (stepZero (linesOf (now table) count) (now from) (now row)) (now vals) (now has)) ⌝ }
+    requires { ⌜ Looks (now table) count (now laid) (now ini) (now from) (now row) × (StateLine (now table) count n k × Found (stepZero (linesOf (now table) count) (now from) (now row)) (now vals) (now has)) ⌝ }
     ensures { λ r. ⌜ (r ≡ getD (cellsAt (stepZero (linesOf (now (table .entry)) count) (now (from .entry)) (now (row .entry))) n) k 0) × Found (stepZero (linesOf (now (table .entry)) count) (now (from .entry)) (now (row .entry))) (now (vals .exit)) (now (has .exit)) ⌝ }
 {
     let d = ini[n] as usize;
     if d == 0 {
-        return start_word(n, k, wid, pos, from);
+        return start_word(n, k, laid, from);
     }
-    word(table, count, idx, wid, pos, ini, from, row, vals, has, d)
+    word(table, count, laid, ini, from, row, vals, has, d)
 }
 
 // The cell k of the array on the line n: a state's, an ite's, or else a write's.
 fn cell(
     table: &[u64],
     count: usize,
-    idx: &[u8; 16385],
-    wid: &[u8; 16385],
-    pos: &[u32; 16385],
+    laid: &[[u32; LAID]; 16385],
     ini: &[u64],
     from: &[u64],
     row: &[u64],
@@ -239,35 +232,33 @@ fn cell(
     n: usize,
     k: usize,
 ) -> u64
-    requires { ⌜ Looks (now table) count (now idx) (now wid) (now pos) (now ini) (now from) (now row) × (CellLine (now table) count n k × Found (stepZero (linesOf (now table) count) (now from) (now row)) (now vals) (now has)) ⌝ }
+    requires { ⌜ Looks (now table) count (now laid) (now ini) (now from) (now row) × (CellLine (now table) count n k × Found (stepZero (linesOf (now table) count) (now from) (now row)) (now vals) (now has)) ⌝ }
     ensures { λ r. ⌜ (r ≡ getD (cellsAt (stepZero (linesOf (now (table .entry)) count) (now (from .entry)) (now (row .entry))) n) k 0) × Found (stepZero (linesOf (now (table .entry)) count) (now (from .entry)) (now (row .entry))) (now (vals .exit)) (now (has .exit)) ⌝ }
 {
     let rec = records::record(table, n - 1);
     let a = rec[2] as usize;
     let b = rec[3] as usize;
     if rec[0] == 5 {
-        return state(table, count, idx, wid, pos, ini, from, row, vals, has, n, k);
+        return state(table, count, laid, ini, from, row, vals, has, n, k);
     }
     if rec[0] == 53 {
-        let d = word(table, count, idx, wid, pos, ini, from, row, vals, has, a);
+        let d = word(table, count, laid, ini, from, row, vals, has, a);
         let e = chosen(d, rec[3], rec[4]);
-        return cell(table, count, idx, wid, pos, ini, from, row, vals, has, e, k);
+        return cell(table, count, laid, ini, from, row, vals, has, e, k);
     }
-    let i = word(table, count, idx, wid, pos, ini, from, row, vals, has, b) as usize;
+    let i = word(table, count, laid, ini, from, row, vals, has, b) as usize;
     if i == k {
         let c = rec[4] as usize;
-        return word(table, count, idx, wid, pos, ini, from, row, vals, has, c);
+        return word(table, count, laid, ini, from, row, vals, has, c);
     }
-    cell(table, count, idx, wid, pos, ini, from, row, vals, has, a, k)
+    cell(table, count, laid, ini, from, row, vals, has, a, k)
 }
 
 // The values of the lines a and b are the same, cell by cell.
 fn alike(
     table: &[u64],
     count: usize,
-    idx: &[u8; 16385],
-    wid: &[u8; 16385],
-    pos: &[u32; 16385],
+    laid: &[[u32; LAID]; 16385],
     ini: &[u64],
     from: &[u64],
     row: &[u64],
@@ -276,19 +267,19 @@ fn alike(
     a: usize,
     b: usize,
 ) -> bool
-    requires { ⌜ Looks (now table) count (now idx) (now wid) (now pos) (now ini) (now from) (now row) × (Pair (now table) count a b × Found (stepZero (linesOf (now table) count) (now from) (now row)) (now vals) (now has)) ⌝ }
+    requires { ⌜ Looks (now table) count (now laid) (now ini) (now from) (now row) × (Pair (now table) count a b × Found (stepZero (linesOf (now table) count) (now from) (now row)) (now vals) (now has)) ⌝ }
     ensures { λ r. ⌜ (r ≡ same (cellsAt (stepZero (linesOf (now (table .entry)) count) (now (from .entry)) (now (row .entry))) a) (cellsAt (stepZero (linesOf (now (table .entry)) count) (now (from .entry)) (now (row .entry))) b)) × Found (stepZero (linesOf (now (table .entry)) count) (now (from .entry)) (now (row .entry))) (now (vals .exit)) (now (has .exit)) ⌝ }
 {
-    if idx[a] == 0 {
-        let x = word(table, count, idx, wid, pos, ini, from, row, vals, has, a);
-        let y = word(table, count, idx, wid, pos, ini, from, row, vals, has, b);
+    let m = area::cells(laid, a);
+    if m == 1 {
+        let x = word(table, count, laid, ini, from, row, vals, has, a);
+        let y = word(table, count, laid, ini, from, row, vals, has, b);
         return x == y;
     }
-    let m = places::cells_of(idx, a);
     let mut k: usize = 0;
     while k < m {
-        let x = cell(table, count, idx, wid, pos, ini, from, row, vals, has, a, k);
-        let y = cell(table, count, idx, wid, pos, ini, from, row, vals, has, b, k);
+        let x = cell(table, count, laid, ini, from, row, vals, has, a, k);
+        let y = cell(table, count, laid, ini, from, row, vals, has, b, k);
         if x != y {
             return false;
         }
@@ -301,28 +292,24 @@ fn alike(
 fn find(
     table: &[u64],
     count: usize,
-    idx: &[u8; 16385],
-    wid: &[u8; 16385],
-    pos: &[u32; 16385],
+    laid: &[[u32; LAID]; 16385],
     starts: &[u64],
     row: &[u64],
     n: usize,
     k: usize,
 ) -> u64
-    requires { ⌜ Laid (now table) count (now idx) (now wid) (now pos) (now starts) (now row) × HasCell (now table) count n k ⌝ }
+    requires { ⌜ Laid (now table) count (now laid) (now starts) (now row) × HasCell (now table) count n k ⌝ }
     ensures { λ r. ⌜ r ≡ peekAt (linesOf (now (table .entry)) count) (now (starts .entry)) (now (row .entry)) n k ⌝ }
 {
     let mut ini = [0u64; 65];
     find_inits(table, count, &mut ini);
     let mut vals = [0u64; 65];
     let mut has = [0u8; 65];
-    if idx[n] == 0 {
+    if area::cells(laid, n) == 1 {
         return word(
             table,
             count,
-            idx,
-            wid,
-            pos,
+            laid,
             &ini,
             starts,
             row,
@@ -334,9 +321,7 @@ fn find(
     cell(
         table,
         count,
-        idx,
-        wid,
-        pos,
+        laid,
         &ini,
         starts,
         row,
@@ -372,36 +357,8 @@ fn may_peek(t: Totals, y: Ty, count: usize, k: usize, s: usize, i: usize) -> Che
     Checked::Accepted
 }
 
-// A peek at an accepted table, with the index widths and the widths of its lines, and the type y of the line that is peeked at.
-fn peek_checked(
-    table: &[u64],
-    count: usize,
-    y: Ty,
-    idx: &[u8; 16385],
-    wid: &[u8; 16385],
-    line: usize,
-    k: usize,
-    starts: &[u64],
-    row: &[u64],
-) -> Peeked
-    requires { ⌜ Types (now table) count (now idx) (now wid) line y ⌝ }
-    ensures { λ r. ⌜ r ≡ lentPeek (now (table .entry)) count line k (now (starts .entry)) (now (row .entry)) ⌝ }
-{
-    let mut off = [0u32; 16385];
-    let mut num = [0u32; 16385];
-    let mut pos = [0u32; 16385];
-    let t = places::lay_out(false, table, count, idx, &mut off, &mut num, &mut pos);
-    match may_peek(t, y, count, k, starts.len(), row.len()) {
-        Checked::Refused(r) => {
-            return Peeked::Refused(r);
-        }
-        Checked::Accepted => {}
-    }
-    Peeked::Value(find(table, count, idx, wid, &pos, starts, row, line, k))
-}
-
 // A peek at an accepted table, with the notes of its check.
-fn peek_noted(
+fn peek_checked(
     table: &[u64],
     count: usize,
     notes: &[[u8; BYTES]],
@@ -413,11 +370,16 @@ fn peek_noted(
     requires { ⌜ Noted false (now table) count (now notes) ⌝ }
     ensures { λ r. ⌜ r ≡ lentPeek (now (table .entry)) count line k (now (starts .entry)) (now (row .entry)) ⌝ }
 {
-    let mut idx = [0u8; 16385];
-    let mut wid = [0u8; 16385];
-    notes::widths(notes, count, &mut idx, &mut wid);
+    let mut laid = [[0u32; LAID]; 16385];
+    let t = places::lay_out(false, table, count, notes, &mut laid);
     let y = notes::look(notes, line as u64);
-    peek_checked(table, count, y, &idx, &wid, line, k, starts, row)
+    match may_peek(t, y, count, k, starts.len(), row.len()) {
+        Checked::Refused(r) => {
+            return Peeked::Refused(r);
+        }
+        Checked::Accepted => {}
+    }
+    Peeked::Value(find(table, count, &laid, starts, row, line, k))
 }
 
 // The value of a line's cell at step 0, from the start words and one row: 1, 11, 14, 15, 18; else the value.
@@ -438,5 +400,5 @@ pub fn peek(
         }
         Checked::Accepted => {}
     }
-    peek_noted(table, count, &notes, line, cell, starts, row)
+    peek_checked(table, count, &notes, line, cell, starts, row)
 }

@@ -9,7 +9,6 @@ pub mod Showing
 pub mod Counted
 pub mod Sofar
 pub mod Checking
-pub mod Spreading
 pub mod Facts
 pub mod Sound
 pub mod Complete

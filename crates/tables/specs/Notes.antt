@@ -56,10 +56,3 @@ markedBy m r xs = pick (eqb (kindIn r) (giveKind m)) (set xs (firstIn r) (marked
 -- the notes after a record, the line n
 unfoldable pub noted : Bool → List ℕ → ℕ → List (List ℕ) → List (List ℕ)
 noted p r n xs = markedBy false r (markedBy true r (set xs n (typed (recordType p (lookIn xs) r (lineOf r)) (noteAt xs n))))
-
--- the index widths and the widths of the lines below i stand in lists of their own, whose other entries stay
-pub record Spread (xs : List (List ℕ)) (i : ℕ) (idx wid idx₁ wid₁ : List ℕ) : Type 0 where
-  pub index : (a : ℕ) → a < i → getD idx₁ a 0 ≡ lookIn xs a .iw
-  pub width : (a : ℕ) → a < i → getD wid₁ a 0 ≡ lookIn xs a .w
-  pub index-past : (a : ℕ) → i ≤ a → getD idx₁ a 0 ≡ getD idx a 0
-  pub width-past : (a : ℕ) → i ≤ a → getD wid₁ a 0 ≡ getD wid a 0

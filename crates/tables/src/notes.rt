@@ -3,10 +3,10 @@
 use crate::Ty;
 use crate::records::WORDS;
 ghost use mathlib.Core.Path.{_≡_};
-ghost use Prim.Native.Nat.{_+_, _<_};
-ghost use lib.ListN.{length, set};
+ghost use Prim.Native.Nat.{_<_};
+ghost use lib.ListN.{set};
 ghost use Rattle.tables.specs.Lines.{giveKind};
-ghost use Rattle.tables.specs.Notes.{noteAt, lookIn, typed as typedOf, marked as markedOf, markedBy, Spread};
+ghost use Rattle.tables.specs.Notes.{noteAt, lookIn, typed as typedOf, marked as markedOf, markedBy};
 
 // The bytes of a note.
 pub const BYTES: usize = 5;
@@ -70,19 +70,5 @@ pub fn mark(init: bool, k: u64, rec: [u64; WORDS], notes: &mut [[u8; BYTES]])
     if rec[0] == k {
         let r = at(notes, rec[2]);
         put(notes, rec[2], marked(init, r));
-    }
-}
-
-// The index widths and the widths of the lines up to count go to lists of their own.
-pub fn widths(notes: &[[u8; BYTES]], count: usize, idx: &mut [u8], wid: &mut [u8])
-    requires { ⌜ (count < length (now idx)) × (count < length (now wid)) ⌝ }
-    ensures { λ _. ⌜ Spread (now (notes .entry)) (count + 1) (now (idx .entry)) (now (wid .entry)) (now (idx .exit)) (now (wid .exit)) ⌝ }
-{
-    let mut i: usize = 0;
-    while i <= count {
-        let r = at(notes, i as u64);
-        idx[i] = r[1];
-        wid[i] = r[2];
-        i += 1;
     }
 }

@@ -5,8 +5,8 @@ use borrow.Author.Needs.{needs}
 use Rattle.circuits.proofs.eval.line_const.Statement.{statement}
 use Rattle.circuits.proofs.eval.line_const.Tie as tie
 
-at-requires : tie.Need-at-requires
-at-requires c κs = search needs
+off-requires : tie.Need-off-requires
+off-requires c κs = search needs
 
 mul-work : tie.Need-mul-work
 mul-work c = search needs
@@ -18,7 +18,7 @@ same-length : tie.Need-same-length
 same-length c = search needs
 
 returns : tie.Need-returns
-returns c = laws.stored (c .before .before .args .work .now) (c .at .ensures) refl (search needs)
+returns c = laws.stored (c .before .before .args .work .now) (c .off .ensures) refl (search needs)
 
 pub line-const-spec : {M : Type 1} → statement M
-line-const-spec = tie.close (tie.spec at-requires mul-work slice-write-work same-length returns)
+line-const-spec = tie.close (tie.spec off-requires mul-work slice-write-work same-length returns)

@@ -12,23 +12,23 @@ use Rattle.circuits.proofs.eval.line_init.Tie as tie
 returns : tie.Need-returns
 returns c = rw (not-true (c .before .before .args .first) (c .if1 .taken)) refl
 
-at-requires : tie.Need-at-requires
-at-requires c κs = c .before .before .pre .value .known
+off-requires : tie.Need-off-requires
+off-requires c κs = c .before .before .pre .value .known
 
 mul-y : tie.Need-mul-y
 mul-y c = search needs
 
 slice-read-y : tie.Need-slice-read-y
-slice-read-y c = laws.below-as (c .before .at .ensures) (c .before .before .before .before .pre .value .below)
+slice-read-y c = laws.below-as (c .before .off .ensures) (c .before .before .before .before .pre .value .below)
 
-at-requires-2 : tie.Need-at-requires-2
-at-requires-2 c κs = c .before .before .before .before .pre .known
+place-requires : tie.Need-place-requires
+place-requires c κs = c .before .before .before .before .pre .known
 
 add-s : tie.Need-add-s
 add-s c = search needs
 
-at-requires-3 : tie.Need-at-requires-3
-at-requires-3 c κs = c .before .before .before .before .before .before .pre .known
+cells-requires : tie.Need-cells-requires
+cells-requires c κs = c .before .before .before .before .before .before .pre .known
 
 fill-run-requires : tie.Need-fill-run-requires
 fill-run-requires c κs = search needs
@@ -38,19 +38,19 @@ same-length c = c .before .before .fill-run .kept .0
 
 returns-2 : tie.Need-returns-2
 returns-2 c = let a = c .before .before .before .before .before .before .before .before .before .before .args in let w = a .work .now in
-    rw (not-false (a .first) (c .before .before .before .before .before .before .before .before .if1 .left)) (c .before .before .fill-run .ensures ∙ ap₂ (put w) (ap (λ (n : ℕ). a .all + n) (c .before .before .before .before .before .at2 .ensures)) (ap₂ (replicate {A = ℕ}) (c .before .before .before .at3 .ensures) (laws.word-as w (c .before .before .before .before .before .before .before .at .ensures))))
+    rw (not-false (a .first) (c .before .before .before .before .before .before .before .before .if1 .left)) (c .before .before .fill-run .ensures ∙ ap₂ (put w) (ap (λ (n : ℕ). a .all + n) (c .before .before .before .before .before .place .ensures)) (ap₂ (replicate {A = ℕ}) (c .before .before .before .cells .ensures) (laws.word-as w (c .before .before .before .before .before .before .before .off .ensures))))
 
 pub line-init-spec : {M : Type 1} → statement M
 line-init-spec =
     tie.close
     (tie.spec
     returns
-    at-requires
+    off-requires
     mul-y
     slice-read-y
-    at-requires-2
+    place-requires
     add-s
-    at-requires-3
+    cells-requires
     fill-run-requires
     same-length
     returns-2)

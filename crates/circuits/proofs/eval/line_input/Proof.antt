@@ -9,17 +9,17 @@ use borrow.Author.Needs.{needs}
 use Rattle.circuits.proofs.eval.line_input.Statement.{statement}
 use Rattle.circuits.proofs.eval.line_input.Tie as tie
 
-at-requires : tie.Need-at-requires
-at-requires c κs = c .before .before .pre .own .word .known
+off-requires : tie.Need-off-requires
+off-requires c κs = c .before .before .pre .own .word .known
 
-at-requires-2 : tie.Need-at-requires-2
-at-requires-2 c κs = c .before .before .before .pre .own .word .known
+place-requires : tie.Need-place-requires
+place-requires c κs = c .before .before .before .pre .own .word .known
 
 mul-v : tie.Need-mul-v
 mul-v c = search needs
 
 shared-slice-read-v : tie.Need-shared-slice-read-v
-shared-slice-read-v c = laws.below-as (c .before .at2 .ensures) (c .before .before .before .before .before .pre .input)
+shared-slice-read-v c = laws.below-as (c .before .place .ensures) (c .before .before .before .before .before .pre .input)
 
 width-requires : tie.Need-width-requires
 width-requires c κs = c .before .before .before .before .before .pre .own .word .known
@@ -31,21 +31,21 @@ mul-work : tie.Need-mul-work
 mul-work c = search needs
 
 slice-write-work : tie.Need-slice-write-work
-slice-write-work c = laws.below-as (c .before .before .before .before .at .ensures) (c .before .before .before .before .before .before .before .pre .own .word .below)
+slice-write-work c = laws.below-as (c .before .before .before .before .off .ensures) (c .before .before .before .before .before .before .before .pre .own .word .below)
 
 same-length : tie.Need-same-length
-same-length c = length-set (c .before .before .before .before .before .before .before .args .work .now) (c .before .before .before .before .at .result) (c .input-word .result)
+same-length c = length-set (c .before .before .before .before .before .before .before .args .work .now) (c .before .before .before .before .off .result) (c .input-word .result)
 
 returns : tie.Need-returns
 returns c = let a = c .before .before .before .before .before .before .before .args in
-    laws.stored (a .work .now) (c .before .before .before .before .at .ensures) (c .input-word .ensures ∙ ap₂ (λ (u p : ℕ). inputWord (a .program) u (getD (a .row .now) p 0)) (c .before .width .ensures) (c .before .before .before .at2 .ensures)) (laws.below-as (c .before .before .before .before .at .ensures) (c .before .before .before .before .before .before .before .pre .own .word .below))
+    laws.stored (a .work .now) (c .before .before .before .before .off .ensures) (c .input-word .ensures ∙ ap₂ (λ (u p : ℕ). inputWord (a .program) u (getD (a .row .now) p 0)) (c .before .width .ensures) (c .before .before .before .place .ensures)) (laws.below-as (c .before .before .before .before .off .ensures) (c .before .before .before .before .before .before .before .pre .own .word .below))
 
 pub line-input-spec : {M : Type 1} → statement M
 line-input-spec =
     tie.close
     (tie.spec
-    at-requires
-    at-requires-2
+    off-requires
+    place-requires
     mul-v
     shared-slice-read-v
     width-requires

@@ -10,11 +10,11 @@ use Rattle.circuits.proofs.eval.line_mark.Tie as tie
 returns : tie.Need-returns
 returns c = search needs
 
-at-requires : tie.Need-at-requires
-at-requires c κs = c .before .before .before .pre .word .known
+off-requires : tie.Need-off-requires
+off-requires c κs = c .before .before .before .pre .word .known
 
-at-requires-2 : tie.Need-at-requires-2
-at-requires-2 c κs = c .before .before .before .before .pre .known
+place-requires : tie.Need-place-requires
+place-requires c κs = c .before .before .before .before .pre .known
 
 mul-if2 : tie.Need-mul-if2
 mul-if2 c = search needs
@@ -32,21 +32,21 @@ same-length : tie.Need-same-length
 same-length c = search needs
 
 returns-2 : tie.Need-returns-2
-returns-2 c = rw (c .before .before .before .before .if1 .left) (ap₂ (λ (p x : ℕ). set (c .before .before .before .before .before .before .before .args .sig .now) p x) (c .before .before .at2 .ensures) (sym (laws.picked-yes (c .before .before .before .before .before .before .before .args .work .now) 1 0 (c .before .before .before .at .ensures) (c .if2 .taken))))
+returns-2 c = rw (c .before .before .before .before .if1 .left) (ap₂ (λ (p x : ℕ). set (c .before .before .before .before .before .before .before .args .sig .now) p x) (c .before .before .place .ensures) (sym (laws.picked-yes (c .before .before .before .before .before .before .before .args .work .now) 1 0 (c .before .before .before .off .ensures) (c .if2 .taken))))
 
 same-length-2 : tie.Need-same-length-2
 same-length-2 c = search needs
 
 returns-3 : tie.Need-returns-3
-returns-3 c = rw (c .before .before .before .before .if1 .left) (ap₂ (λ (p x : ℕ). set (c .before .before .before .before .before .before .before .args .sig .now) p x) (c .before .before .at2 .ensures) (sym (laws.picked-no (c .before .before .before .before .before .before .before .args .work .now) 1 0 (c .before .before .before .at .ensures) (c .if2 .left))))
+returns-3 c = rw (c .before .before .before .before .if1 .left) (ap₂ (λ (p x : ℕ). set (c .before .before .before .before .before .before .before .args .sig .now) p x) (c .before .before .place .ensures) (sym (laws.picked-no (c .before .before .before .before .before .before .before .args .work .now) 1 0 (c .before .before .before .off .ensures) (c .if2 .left))))
 
 pub line-mark-spec : {M : Type 1} → statement M
 line-mark-spec =
     tie.close
     (tie.spec
     returns
-    at-requires
-    at-requires-2
+    off-requires
+    place-requires
     mul-if2
     shared-slice-read-if2
     slice-write-sig

@@ -9,14 +9,14 @@ use Rattle.circuits.proofs.eval.line_next.Tie as tie
 returns : tie.Need-returns
 returns c = search needs
 
-at-requires : tie.Need-at-requires
-at-requires c κs = c .before .before .pre .value .known
+off-requires : tie.Need-off-requires
+off-requires c κs = c .before .before .pre .value .known
 
-at-requires-2 : tie.Need-at-requires-2
-at-requires-2 c κs = c .before .before .before .pre .known
+place-requires : tie.Need-place-requires
+place-requires c κs = c .before .before .before .pre .known
 
-at-requires-3 : tie.Need-at-requires-3
-at-requires-3 c κs = c .before .before .before .before .pre .value .known
+cells-requires : tie.Need-cells-requires
+cells-requires c κs = c .before .before .before .before .pre .value .known
 
 add-raise : tie.Need-add-raise
 add-raise c = search needs
@@ -29,16 +29,16 @@ same-length c = c .before .before .raise .kept .0
 
 returns-2 : tie.Need-returns-2
 returns-2 c = let a = c .before .before .before .before .before .before .before .before .before .args in let w = a .work .now in
-    rw (c .before .before .before .before .before .before .before .if1 .left) (c .before .before .raise .ensures ∙ ap₂ (put w) (ap (λ (n : ℕ). a .all + n) (c .before .before .before .before .before .at2 .ensures)) (ap₂ (part w) (c .before .before .before .before .before .before .at .ensures) (c .before .before .before .before .at3 .ensures)))
+    rw (c .before .before .before .before .before .before .before .if1 .left) (c .before .before .raise .ensures ∙ ap₂ (put w) (ap (λ (n : ℕ). a .all + n) (c .before .before .before .before .before .place .ensures)) (ap₂ (part w) (c .before .before .before .before .before .before .off .ensures) (c .before .before .before .before .cells .ensures)))
 
 pub line-next-spec : {M : Type 1} → statement M
 line-next-spec =
     tie.close
     (tie.spec
     returns
-    at-requires
-    at-requires-2
-    at-requires-3
+    off-requires
+    place-requires
+    cells-requires
     add-raise
     raise-requires
     same-length

@@ -7,11 +7,11 @@ use borrow.Author.Needs.{needs}
 use Rattle.circuits.proofs.eval.line_one.Statement.{statement}
 use Rattle.circuits.proofs.eval.line_one.Tie as tie
 
-at-requires : tie.Need-at-requires
-at-requires c κs = c .before .pre .0 .known
+off-requires : tie.Need-off-requires
+off-requires c κs = c .before .pre .0 .known
 
-at-requires-2 : tie.Need-at-requires-2
-at-requires-2 c κs = c .before .before .pre .1 .la .known
+off-requires-2 : tie.Need-off-requires-2
+off-requires-2 c κs = c .before .before .pre .1 .la .known
 
 mul-v : tie.Need-mul-v
 mul-v c = search needs
@@ -26,26 +26,26 @@ width-requires-2 : tie.Need-width-requires-2
 width-requires-2 c κs = c .before .before .before .before .before .pre .1 .la .known
 
 word-requires : tie.Need-word-requires
-word-requires c κs = fit-as (c .before .width .ensures) (c .width2 .ensures) refl (laws.word-as (c .before .before .before .before .before .before .args .work .now) (c .before .before .before .at2 .ensures)) refl (c .before .before .before .before .before .before .pre .1 .op)
+word-requires c κs = fit-as (c .before .width .ensures) (c .width2 .ensures) refl (laws.word-as (c .before .before .before .before .before .before .args .work .now) (c .before .before .before .off2 .ensures)) refl (c .before .before .before .before .before .before .pre .1 .op)
 
 mul-work : tie.Need-mul-work
 mul-work c = search needs
 
 slice-write-work : tie.Need-slice-write-work
-slice-write-work c = laws.below-as (c .before .before .before .before .before .at .ensures) (c .before .before .before .before .before .before .before .pre .0 .below)
+slice-write-work c = laws.below-as (c .before .before .before .before .before .off .ensures) (c .before .before .before .before .before .before .before .pre .0 .below)
 
 same-length : tie.Need-same-length
-same-length c = length-set (c .before .before .before .before .before .before .before .args .work .now) (c .before .before .before .before .before .at .result) (c .word .result)
+same-length c = length-set (c .before .before .before .before .before .before .before .args .work .now) (c .before .before .before .before .before .off .result) (c .word .result)
 
 returns : tie.Need-returns
-returns c = laws.stored (c .before .before .before .before .before .before .before .args .work .now) (c .before .before .before .before .before .at .ensures) (op-as (c .before .before .before .before .before .before .before .args .program) (c .before .before .before .before .before .before .before .args .k) (c .before .before .before .before .before .before .before .args .y) (c .word .ensures) (c .before .width2 .ensures) refl (laws.word-as (c .before .before .before .before .before .before .before .args .work .now) (c .before .before .before .before .at2 .ensures)) refl) (search needs)
+returns c = laws.stored (c .before .before .before .before .before .before .before .args .work .now) (c .before .before .before .before .before .off .ensures) (op-as (c .before .before .before .before .before .before .before .args .program) (c .before .before .before .before .before .before .before .args .k) (c .before .before .before .before .before .before .before .args .y) (c .word .ensures) (c .before .width2 .ensures) refl (laws.word-as (c .before .before .before .before .before .before .before .args .work .now) (c .before .before .before .before .off2 .ensures)) refl) (search needs)
 
 pub line-one-spec : {M : Type 1} → statement M
 line-one-spec =
     tie.close
     (tie.spec
-    at-requires
-    at-requires-2
+    off-requires
+    off-requires-2
     mul-v
     slice-read-v
     width-requires

@@ -4,15 +4,16 @@ use mathlib.Core.Path.{_≡_, ap}
 use Prim.Native.Nat.{ℕ}
 use native.Mathlib.Omega.{arith}
 use lib.ListN.{getD}
+use Rattle.circuits.specs.Model.{offIn, numIn}
 use Rattle.circuits.proofs.Puts as laws
 use Rattle.circuits.proofs.eval.line_read.Statement.{statement}
 use Rattle.circuits.proofs.eval.line_read.Tie as tie
 
-at-requires : tie.Need-at-requires
-at-requires c κs = c .before .pre .0 .known
+off-requires : tie.Need-off-requires
+off-requires c κs = c .before .pre .0 .known
 
-at-requires-2 : tie.Need-at-requires-2
-at-requires-2 c κs = c .before .before .pre .1 .li .known
+off-requires-2 : tie.Need-off-requires-2
+off-requires-2 c κs = c .before .before .pre .1 .li .known
 
 mul-v : tie.Need-mul-v
 mul-v c = search needs
@@ -20,35 +21,35 @@ mul-v c = search needs
 slice-read-v : tie.Need-slice-read-v
 slice-read-v c = search needs
 
-at-requires-3 : tie.Need-at-requires-3
-at-requires-3 c κs = c .before .before .before .before .pre .1 .la .known
+off-requires-3 : tie.Need-off-requires-3
+off-requires-3 c κs = c .before .before .before .before .pre .1 .la .known
 
 add-y : tie.Need-add-y
 add-y c =
     let s = c .before .before .before .before .before in
     let w = s .args .work .now in
-    let e : getD w (c .before .before .at2 .result) 0 ≡ getD w (getD (s .args .off .now) (s .args .i) 0) 0 = ap (λ (p : ℕ). getD w p 0) (c .before .before .at2 .ensures) in
+    let e : getD w (c .before .before .off2 .result) 0 ≡ getD w (offIn (s .args .laid .now) (s .args .i)) 0 = ap (λ (p : ℕ). getD w p 0) (c .before .before .off2 .ensures) in
     omega arith
 
 mul-y : tie.Need-mul-y
 mul-y c =
     let s = c .before .before .before .before .before in
     let w = s .args .work .now in
-    let e : getD w (c .before .before .at2 .result) 0 ≡ getD w (getD (s .args .off .now) (s .args .i) 0) 0 = ap (λ (p : ℕ). getD w p 0) (c .before .before .at2 .ensures) in
+    let e : getD w (c .before .before .off2 .result) 0 ≡ getD w (offIn (s .args .laid .now) (s .args .i)) 0 = ap (λ (p : ℕ). getD w p 0) (c .before .before .off2 .ensures) in
     omega arith
 
 slice-read-y : tie.Need-slice-read-y
 slice-read-y c =
     let s = c .before .before .before .before .before .before in
     let w = s .args .work .now in
-    let e : getD w (c .before .before .before .at2 .result) 0 ≡ getD w (getD (s .args .off .now) (s .args .i) 0) 0 = ap (λ (p : ℕ). getD w p 0) (c .before .before .before .at2 .ensures) in
+    let e : getD w (c .before .before .before .off2 .result) 0 ≡ getD w (offIn (s .args .laid .now) (s .args .i)) 0 = ap (λ (p : ℕ). getD w p 0) (c .before .before .before .off2 .ensures) in
     omega arith
 
 mul-work : tie.Need-mul-work
 mul-work c = search needs
 
 slice-write-work : tie.Need-slice-write-work
-slice-write-work c = laws.below-as (c .before .before .before .before .at .ensures) (c .before .before .before .before .before .before .pre .0 .below)
+slice-write-work c = laws.below-as (c .before .before .before .before .off .ensures) (c .before .before .before .before .before .before .pre .0 .below)
 
 same-length : tie.Need-same-length
 same-length c = search needs
@@ -56,17 +57,17 @@ same-length c = search needs
 returns : tie.Need-returns
 returns c =
     let s = c .before .before .before .before .before .before in
-    laws.stored (s .args .work .now) (c .before .before .before .before .at .ensures) (laws.read-at (s .args .work .now) (getD (s .args .num .now) (s .args .a) 0) (c .before .at3 .ensures) (c .before .before .before .at2 .ensures) (s .pre .1 .inside)) (search needs)
+    laws.stored (s .args .work .now) (c .before .before .before .before .off .ensures) (laws.read-at (s .args .work .now) (numIn (s .args .laid .now) (s .args .a)) (c .before .off3 .ensures) (c .before .before .before .off2 .ensures) (s .pre .1 .inside)) (search needs)
 
 pub line-read-spec : {M : Type 1} → statement M
 line-read-spec =
     tie.close
     (tie.spec
-    at-requires
-    at-requires-2
+    off-requires
+    off-requires-2
     mul-v
     slice-read-v
-    at-requires-3
+    off-requires-3
     add-y
     mul-y
     slice-read-y

@@ -8,14 +8,14 @@ use borrow.Author.Needs.{needs}
 use Rattle.circuits.proofs.eval.line_state.Statement.{statement}
 use Rattle.circuits.proofs.eval.line_state.Tie as tie
 
-at-requires : tie.Need-at-requires
-at-requires c κs = c .before .pre .known
+off-requires : tie.Need-off-requires
+off-requires c κs = c .before .pre .known
 
-at-requires-2 : tie.Need-at-requires-2
-at-requires-2 c κs = c .before .before .pre .known
+cells-requires : tie.Need-cells-requires
+cells-requires c κs = c .before .before .pre .known
 
-at-requires-3 : tie.Need-at-requires-3
-at-requires-3 c κs = c .before .before .before .pre .known
+place-requires : tie.Need-place-requires
+place-requires c κs = c .before .before .before .pre .known
 
 add-s : tie.Need-add-s
 add-s c = search needs
@@ -36,15 +36,15 @@ same-length : tie.Need-same-length
 same-length c = c .before .before .copy .kept .0 ∙ c .before .before .before .before .before .before .settle .kept .1 .0
 
 returns : tie.Need-returns
-returns c = laws.loaded-as (c .before .before .before .before .before .before .before .before .before .before .before .before .before .before .args .work .now) (c .before .before .before .before .before .before .settle .ensures) (c .before .before .copy .ensures) (ap (λ (n : ℕ). c .before .before .before .before .before .before .before .before .before .before .before .before .before .before .args .all + n) (c .before .before .before .before .before .before .before .before .before .before .at3 .ensures)) (c .before .before .before .before .before .before .before .before .before .before .before .before .at .ensures) (c .before .before .before .before .before .before .before .before .before .before .before .at2 .ensures) (c .before .before .before .before .before .before .before .width .ensures) (c .before .before .before .before .before .before .before .before .before .masks .ensures) (omega (arith, c .before .before .before .before .before .before .before .before .before .before .at3 .ensures, c .before .before .before .before .before .before .before .before .before .before .before .at2 .ensures, c .before .before .before .before .before .before .before .before .before .before .before .before .before .before .pre .words))
+returns c = laws.loaded-as (c .before .before .before .before .before .before .before .before .before .before .before .before .before .before .args .work .now) (c .before .before .before .before .before .before .settle .ensures) (c .before .before .copy .ensures) (ap (λ (n : ℕ). c .before .before .before .before .before .before .before .before .before .before .before .before .before .before .args .all + n) (c .before .before .before .before .before .before .before .before .before .before .place .ensures)) (c .before .before .before .before .before .before .before .before .before .before .before .before .off .ensures) (c .before .before .before .before .before .before .before .before .before .before .before .cells .ensures) (c .before .before .before .before .before .before .before .width .ensures) (c .before .before .before .before .before .before .before .before .before .masks .ensures) (omega (arith, c .before .before .before .before .before .before .before .before .before .before .place .ensures, c .before .before .before .before .before .before .before .before .before .before .before .cells .ensures, c .before .before .before .before .before .before .before .before .before .before .before .before .before .before .pre .words))
 
 pub line-state-spec : {M : Type 1} → statement M
 line-state-spec =
     tie.close
     (tie.spec
-    at-requires
-    at-requires-2
-    at-requires-3
+    off-requires
+    cells-requires
+    place-requires
     add-s
     masks-requires
     width-requires

@@ -7,11 +7,11 @@ use borrow.Author.Needs.{needs}
 use Rattle.circuits.proofs.eval.line_two.Statement.{statement}
 use Rattle.circuits.proofs.eval.line_two.Tie as tie
 
-at-requires : tie.Need-at-requires
-at-requires c κs = c .before .pre .0 .known
+off-requires : tie.Need-off-requires
+off-requires c κs = c .before .pre .0 .known
 
-at-requires-2 : tie.Need-at-requires-2
-at-requires-2 c κs = c .before .before .pre .1 .la .known
+off-requires-2 : tie.Need-off-requires-2
+off-requires-2 c κs = c .before .before .pre .1 .la .known
 
 mul-v : tie.Need-mul-v
 mul-v c = search needs
@@ -19,8 +19,8 @@ mul-v c = search needs
 slice-read-v : tie.Need-slice-read-v
 slice-read-v c = search needs
 
-at-requires-3 : tie.Need-at-requires-3
-at-requires-3 c κs = c .before .before .before .before .pre .1 .lb .known
+off-requires-3 : tie.Need-off-requires-3
+off-requires-3 c κs = c .before .before .before .before .pre .1 .lb .known
 
 mul-y : tie.Need-mul-y
 mul-y c = search needs
@@ -38,29 +38,29 @@ width-requires-3 : tie.Need-width-requires-3
 width-requires-3 c κs = c .before .before .before .before .before .before .before .before .pre .1 .lb .known
 
 word-requires : tie.Need-word-requires
-word-requires c κs = fit-as (c .before .before .width .ensures) (c .before .width2 .ensures) (c .width3 .ensures) (laws.word-as (c .before .before .before .before .before .before .before .before .before .args .work .now) (c .before .before .before .before .before .before .at2 .ensures)) (laws.word-as (c .before .before .before .before .before .before .before .before .before .args .work .now) (c .before .before .before .before .at3 .ensures)) (c .before .before .before .before .before .before .before .before .before .pre .1 .op)
+word-requires c κs = fit-as (c .before .before .width .ensures) (c .before .width2 .ensures) (c .width3 .ensures) (laws.word-as (c .before .before .before .before .before .before .before .before .before .args .work .now) (c .before .before .before .before .before .before .off2 .ensures)) (laws.word-as (c .before .before .before .before .before .before .before .before .before .args .work .now) (c .before .before .before .before .off3 .ensures)) (c .before .before .before .before .before .before .before .before .before .pre .1 .op)
 
 mul-work : tie.Need-mul-work
 mul-work c = search needs
 
 slice-write-work : tie.Need-slice-write-work
-slice-write-work c = laws.below-as (c .before .before .before .before .before .before .before .before .at .ensures) (c .before .before .before .before .before .before .before .before .before .before .pre .0 .below)
+slice-write-work c = laws.below-as (c .before .before .before .before .before .before .before .before .off .ensures) (c .before .before .before .before .before .before .before .before .before .before .pre .0 .below)
 
 same-length : tie.Need-same-length
-same-length c = length-set (c .before .before .before .before .before .before .before .before .before .before .args .work .now) (c .before .before .before .before .before .before .before .before .at .result) (c .word .result)
+same-length c = length-set (c .before .before .before .before .before .before .before .before .before .before .args .work .now) (c .before .before .before .before .before .before .before .before .off .result) (c .word .result)
 
 returns : tie.Need-returns
-returns c = let z : ℕ = 0 in laws.stored (c .before .before .before .before .before .before .before .before .before .before .args .work .now) (c .before .before .before .before .before .before .before .before .at .ensures) (op-as (c .before .before .before .before .before .before .before .before .before .before .args .program) (c .before .before .before .before .before .before .before .before .before .before .args .k) z (c .word .ensures) (c .before .before .width2 .ensures) (c .before .width3 .ensures) (laws.word-as (c .before .before .before .before .before .before .before .before .before .before .args .work .now) (c .before .before .before .before .before .before .before .at2 .ensures)) (laws.word-as (c .before .before .before .before .before .before .before .before .before .before .args .work .now) (c .before .before .before .before .before .at3 .ensures))) (search needs)
+returns c = let z : ℕ = 0 in laws.stored (c .before .before .before .before .before .before .before .before .before .before .args .work .now) (c .before .before .before .before .before .before .before .before .off .ensures) (op-as (c .before .before .before .before .before .before .before .before .before .before .args .program) (c .before .before .before .before .before .before .before .before .before .before .args .k) z (c .word .ensures) (c .before .before .width2 .ensures) (c .before .width3 .ensures) (laws.word-as (c .before .before .before .before .before .before .before .before .before .before .args .work .now) (c .before .before .before .before .before .before .before .off2 .ensures)) (laws.word-as (c .before .before .before .before .before .before .before .before .before .before .args .work .now) (c .before .before .before .before .before .off3 .ensures))) (search needs)
 
 pub line-two-spec : {M : Type 1} → statement M
 line-two-spec =
     tie.close
     (tie.spec
-    at-requires
-    at-requires-2
+    off-requires
+    off-requires-2
     mul-v
     slice-read-v
-    at-requires-3
+    off-requires-3
     mul-y
     slice-read-y
     width-requires

@@ -63,10 +63,10 @@ first-bad-requires c κs = let a = c .before .before .before .before .before .be
     let lm : length (c .before .before .before .classes .last .1 .1 .1 .0) ≡ 16385 = c .before .before .before .classes .kept .1 .1 .1 .0 ∙ length-replicate {A = ℕ} 16385 0 in
     let few : a .t .signals ≤ 16384 = omega (arith, signals-few (a .program) (a .table .now) (a .count) (c .before .before .before .before .before .before .before .before .before .before .before .before .before .before .before .before .before .before .before .pre .0 .accepted), c .before .before .before .before .before .before .before .before .before .before .before .before .before .before .before .before .before .before .before .pre .0 .signals) in
     let l : length (take (a .t .signals) (c .before .before .before .classes .last .1 .1 .1 .0)) ≡ a .t .signals = length-take-le (a .t .signals) (c .before .before .before .classes .last .1 .1 .1 .0) (omega arith) in
-    (f .steps, (omega arith, omega (arith, ap (λ (n : ℕ). a .k * n) l, c .before .before .before .before .before .before .before .before .before .run-laid .kept .1 .1 .1 .1 .1 .1 .1 .1 .1 .1 .1 .1 .1 .0, f .signals)))
+    (f .steps, (omega arith, omega (arith, ap (λ (n : ℕ). a .k * n) l, c .before .before .before .before .before .before .before .before .before .run-laid .kept .1 .1 .1 .1 .1 .1 .1 .1 .1 .1 .0, f .signals)))
 
 same-length : tie.Need-same-length
-same-length c = c .before .before .before .before .before .before .before .before .before .before .run-laid .kept .1 .1 .1 .1 .1 .1 .1 .1 .1 .1 .1 .1 .1 .0
+same-length c = c .before .before .before .before .before .before .before .before .before .before .run-laid .kept .1 .1 .1 .1 .1 .1 .1 .1 .1 .1 .0
 
 same-length-2 : tie.Need-same-length-2
 same-length-2 c = search needs
@@ -77,7 +77,7 @@ returns-2 c = let a = c .before .before .before .before .before .before .before 
     let lm : length (c .before .before .before .before .classes .last .1 .1 .1 .0) ≡ 16385 = c .before .before .before .before .classes .kept .1 .1 .1 .0 ∙ length-replicate {A = ℕ} 16385 0 in
     let few : a .t .signals ≤ 16384 = omega (arith, signals-few (a .program) (a .table .now) (a .count) (c .before .before .before .before .before .before .before .before .before .before .before .before .before .before .before .before .before .before .before .before .pre .0 .accepted), c .before .before .before .before .before .before .before .before .before .before .before .before .before .before .before .before .before .before .before .before .pre .0 .signals) in
     let eq : a .t .signals ≡ length (marks (linesOf (a .table .now) (a .count))) = sym (c .before .before .before .before .before .before .before .before .before .before .before .before .before .before .before .before .before .before .before .before .pre .0 .signals) ∙ signals-many (a .program) (linesOf (a .table .now) (a .count)) in
-    (c .first-bad .ensures ∙ bad-found (a .program) (linesOf (a .table .now) (a .count)) (a .k) (a .starts .now) (a .inputs .now) (ap (λ (n : ℕ). take n (c .before .before .before .before .classes .last .1 .1 .1 .0)) eq ∙ c .before .before .before .before .classes .ensures) (c .before .before .before .before .before .before .before .before .before .before .run-laid .ensures .0), (c .before .before .before .before .before .before .before .before .before .before .run-laid .ensures .0, zero-front (a .work .now) (c .before .before .before .before .before .before .before .before .before .before .run-laid .last .1 .1 .1 .1 .1 .1 .1 .1 .1 .1 .1 .1 .1 .1 .0) (a .t .cells + a .t .states) (c .before .before .before .before .before .before .before .before .before .before .before .before .before .before .before .before .before .before .before .before .pre .1 .1) (f .work) (c .before .before .before .before .before .before .before .before .before .before .run-laid .ensures .1 ∙ ap (λ (n : ℕ). replicate n 0) (length-take-le (a .t .cells + a .t .states) (a .work .now) (f .work)))))
+    (c .first-bad .ensures ∙ bad-found (a .program) (linesOf (a .table .now) (a .count)) (a .k) (a .starts .now) (a .inputs .now) (ap (λ (n : ℕ). take n (c .before .before .before .before .classes .last .1 .1 .1 .0)) eq ∙ c .before .before .before .before .classes .ensures) (c .before .before .before .before .before .before .before .before .before .before .run-laid .ensures .0), (c .before .before .before .before .before .before .before .before .before .before .run-laid .ensures .0, zero-front (a .work .now) (c .before .before .before .before .before .before .before .before .before .before .run-laid .last .1 .1 .1 .1 .1 .1 .1 .1 .1 .1 .1 .0) (a .t .cells + a .t .states) (c .before .before .before .before .before .before .before .before .before .before .before .before .before .before .before .before .before .before .before .before .pre .1 .1) (f .work) (c .before .before .before .before .before .before .before .before .before .before .run-laid .ensures .1 ∙ ap (λ (n : ℕ). replicate n 0) (length-take-le (a .t .cells + a .t .states) (a .work .now) (f .work)))))
 
 pub run-lent-spec : {M : Type 1} → statement M
 run-lent-spec =

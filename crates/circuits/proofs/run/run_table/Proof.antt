@@ -39,25 +39,25 @@ returns c = let a = c .before .before .before .before .before .before .before .b
 enum-told : tie.Need-enum-told
 enum-told c = search needs
 
-slice-aggregate-run-noted : tie.Need-slice-aggregate-run-noted
-slice-aggregate-run-noted c = search needs
+slice-aggregate-run-checked : tie.Need-slice-aggregate-run-checked
+slice-aggregate-run-checked c = search needs
 
-run-noted-requires : tie.Need-run-noted-requires
-run-noted-requires c κs = let e = c .before .before .before .enum-told .given .1 in
+run-checked-requires : tie.Need-run-checked-requires
+run-checked-requires c κs = let e = c .before .before .before .enum-told .given .1 in
     (record { accepted = sym (c .before .before .before .before .before .before .check .ensures .0) ∙ e; shows = c .before .before .before .before .before .before .check .ensures .1 e }, (c .before .before .before .before .before .before .before .before .before .before .before .before .before .before .clear .ensures ∙ ap (λ (n : ℕ). replicate n 0) (sym (c .before .before .before .before .before .before .before .before .before .before .before .before .before .before .clear .kept .0)), c .before .before .before .before .before .before .before .before .before .before .clear2 .ensures ∙ ap (λ (n : ℕ). replicate n 0) (sym (c .before .before .before .before .before .before .before .before .before .before .clear2 .kept .0))))
 
 same-length-3 : tie.Need-same-length-3
-same-length-3 c = c .before .before .before .before .run-noted .kept .1 .1 .1 .1 .1 .1 .1 .0 ∙ c .before .before .before .before .before .before .before .before .before .before .before .before .before .before .before .before .before .before .before .clear .kept .0
+same-length-3 c = c .before .before .before .before .run-checked .kept .1 .1 .1 .1 .1 .1 .1 .0 ∙ c .before .before .before .before .before .before .before .before .before .before .before .before .before .before .before .before .before .before .before .clear .kept .0
 
 same-length-4 : tie.Need-same-length-4
-same-length-4 c = c .before .before .before .before .run-noted .kept .1 .1 .1 .1 .1 .1 .1 .1 .0 ∙ c .before .before .before .before .before .before .before .before .before .before .before .before .before .before .before .clear2 .kept .0
+same-length-4 c = c .before .before .before .before .run-checked .kept .1 .1 .1 .1 .1 .1 .1 .1 .0 ∙ c .before .before .before .before .before .before .before .before .before .before .before .before .before .before .before .clear2 .kept .0
 
 returns-2 : tie.Need-returns-2
 returns-2 c = let a = c .before .before .before .before .before .before .before .before .before .before .before .before .before .before .before .before .before .before .before .before .before .before .before .before .before .before .args in
     let e = ran-lent (a .program) (a .table .now) (a .count) (a .k) (a .starts .now) (a .inputs .now) (length (a .signals .now)) (length (a .work .now)) (sym (c .before .before .before .before .before .before .before .before .before .before .before .check .ensures .0) ∙ c .before .before .before .before .before .before .before .before .enum-told .given .1) in
     let g = c .before .before .before .before .before .before .before .before .before .before .before .before .before .before .before .before .before .before .before .clear .kept .0 in
     let w = c .before .before .before .before .before .before .before .before .before .before .before .before .before .before .before .clear2 .kept .0 in
-    (c .before .before .before .before .run-noted .ensures .0 ∙ ap₂ (λ (x y : ℕ). lentAnswer (a .program) (a .table .now) (a .count) (a .k) (a .starts .now) (a .inputs .now) x y) g w ∙ e .0, (c .before .before .before .before .run-noted .ensures .1 .0 ∙ ap₂ (λ (x y : ℕ). lentSignals (a .program) (a .table .now) (a .count) (a .k) (a .starts .now) (a .inputs .now) x y) g w ∙ e .1, c .before .before .before .before .run-noted .ensures .1 .1 ∙ ap (λ (n : ℕ). replicate n 0) w))
+    (c .before .before .before .before .run-checked .ensures .0 ∙ ap₂ (λ (x y : ℕ). lentAnswer (a .program) (a .table .now) (a .count) (a .k) (a .starts .now) (a .inputs .now) x y) g w ∙ e .0, (c .before .before .before .before .run-checked .ensures .1 .0 ∙ ap₂ (λ (x y : ℕ). lentSignals (a .program) (a .table .now) (a .count) (a .k) (a .starts .now) (a .inputs .now) x y) g w ∙ e .1, c .before .before .before .before .run-checked .ensures .1 .1 ∙ ap (λ (n : ℕ). replicate n 0) w))
 
 pub run-table-spec : {M : Type 1} → statement M
 run-table-spec =
@@ -72,8 +72,8 @@ run-table-spec =
     same-length-2
     returns
     enum-told
-    slice-aggregate-run-noted
-    run-noted-requires
+    slice-aggregate-run-checked
+    run-checked-requires
     same-length-3
     same-length-4
     returns-2)

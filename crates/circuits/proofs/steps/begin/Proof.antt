@@ -19,10 +19,10 @@ walk-requires : tie.Need-walk-requires
 walk-requires c κs = let d = c .before .before .before .before .load-at in (omega (arith, d .kept .0, c .before .before .before .before .before .before .before .before .before .before .before .pre .0), ready-as (ap length (sym (d .ensures))) refl refl (c .before .before .before .before .before .before .before .before .before .before .before .pre .1))
 
 same-length : tie.Need-same-length
-same-length c = c .before .before .before .before .walk .kept .1 .1 .1 .1 .1 .1 .1 .1 .1 .1 .0
+same-length c = c .before .before .before .before .walk .kept .1 .1 .1 .1 .1 .1 .1 .0
 
 same-length-2 : tie.Need-same-length-2
-same-length-2 c = c .before .before .before .before .walk .kept .1 .1 .1 .1 .1 .1 .1 .1 .1 .1 .1 .0 ∙ c .before .before .before .before .before .before .before .before .before .load-at .kept .0
+same-length-2 c = c .before .before .before .before .walk .kept .1 .1 .1 .1 .1 .1 .1 .1 .0 ∙ c .before .before .before .before .before .before .before .before .before .load-at .kept .0
 
 returns : tie.Need-returns
 returns c = let a = c .before .before .before .before .before .before .before .before .before .before .before .before .before .before .before .before .args in c .before .before .before .before .walk .ensures .0 ∙ ap (λ (x : List ℕ). step (a .program) true (linesOf (a .table .now) (a .count)) x (a .row .now) .sts) (c .before .before .before .before .before .before .before .before .before .load-at .ensures)

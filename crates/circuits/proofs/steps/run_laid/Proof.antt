@@ -39,8 +39,8 @@ steps-requires c κs = let a = c .before .before .before .before .before .before
     let h₁ : a .ins ≤ length (a .inputs .now) = omega (arith, once (a .k) (a .ins) (c .before .before .before .before .before .before .before .before .before .before .before .before .before .before .before .pre .1 .1 .1 .1), c .before .before .before .before .before .before .before .before .before .before .before .before .before .before .before .pre .1 .1 .0) in
     let h₂ : a .sigs ≤ length (a .signals .now) = omega (arith, once (a .k) (a .sigs) (c .before .before .before .before .before .before .before .before .before .before .before .before .before .before .before .pre .1 .1 .1 .1), c .before .before .before .before .before .before .before .before .before .before .before .before .before .before .before .pre .1 .1 .1 .0) in
     let g = c .before .before .before .before .before .before .begin in
-    let lw : length (g .last .1 .1 .1 .1 .1 .1 .1 .1 .1 .1 .1 .0) ≡ length (a .work .now) = g .kept .1 .1 .1 .1 .1 .1 .1 .1 .1 .1 .1 .0 in
-    (omega (arith, lw, c .before .before .before .before .before .before .before .before .before .before .before .before .before .before .before .pre .0), (ready-as (sym (length-drop (a .all) (g .last .1 .1 .1 .1 .1 .1 .1 .1 .1 .1 .1 .0) ∙ omega (arith, lw, c .before .before .before .before .before .before .before .before .before .before .before .before .before .before .before .pre .0))) refl refl (c .before .before .before .before .before .before .before .before .before .before .before .before .before .before .before .pre .1 .0), (c .before .before .before .before .before .before .before .before .before .before .before .before .before .before .before .pre .1 .1 .0, length-front (a .signals .now) (g .last .1 .1 .1 .1 .1 .1 .1 .1 .1 .1 .0) (a .sigs) (g .kept .1 .1 .1 .1 .1 .1 .1 .1 .1 .1 .0) ∙ c .before .before .before .before .before .before .before .before .before .before .before .before .before .before .before .pre .1 .1 .1 .0)))
+    let lw : length (g .last .1 .1 .1 .1 .1 .1 .1 .1 .0) ≡ length (a .work .now) = g .kept .1 .1 .1 .1 .1 .1 .1 .1 .0 in
+    (omega (arith, lw, c .before .before .before .before .before .before .before .before .before .before .before .before .before .before .before .pre .0), (ready-as (sym (length-drop (a .all) (g .last .1 .1 .1 .1 .1 .1 .1 .1 .0) ∙ omega (arith, lw, c .before .before .before .before .before .before .before .before .before .before .before .before .before .before .before .pre .0))) refl refl (c .before .before .before .before .before .before .before .before .before .before .before .before .before .before .before .pre .1 .0), (c .before .before .before .before .before .before .before .before .before .before .before .before .before .before .before .pre .1 .1 .0, length-front (a .signals .now) (g .last .1 .1 .1 .1 .1 .1 .1 .0) (a .sigs) (g .kept .1 .1 .1 .1 .1 .1 .1 .0) ∙ c .before .before .before .before .before .before .before .before .before .before .before .before .before .before .before .pre .1 .1 .1 .0)))
 
 fill-requires : tie.Need-fill-requires
 fill-requires c κs = tt
@@ -55,7 +55,7 @@ returns : tie.Need-returns
 returns c = let a = c .before .before .before .before .before .before .before .before .before .before .before .before .before .before .before .before .before .before .before .before .before .before .before .before .args in
     let g = c .before .before .before .before .before .before .before .before .before .before .before .before .before .before .before .begin in
     let t = c .before .before .before .before .before .before .before .before .steps in
-    (t .ensures ∙ run-as (a .program) (linesOf (a .table .now) (a .count)) (a .k) (a .starts .now) (a .inputs .now) _ (g .ensures ∙ start-as (a .program) (linesOf (a .table .now) (a .count)) (a .ins) (c .before .before .before .before .before .before .before .before .before .before .before .before .before .before .before .before .before .before .before .before .before .before .before .before .pre .1 .0 .inputs) (a .starts .now) (a .inputs .now) _ refl), c .before .before .fill .ensures ∙ ap (λ (n : ℕ). replicate n 0) (t .kept .1 .1 .1 .1 .1 .1 .1 .1 .1 .1 .1 .1 .1 .0 ∙ g .kept .1 .1 .1 .1 .1 .1 .1 .1 .1 .1 .1 .0))
+    (t .ensures ∙ run-as (a .program) (linesOf (a .table .now) (a .count)) (a .k) (a .starts .now) (a .inputs .now) _ (g .ensures ∙ start-as (a .program) (linesOf (a .table .now) (a .count)) (a .ins) (c .before .before .before .before .before .before .before .before .before .before .before .before .before .before .before .before .before .before .before .before .before .before .before .before .pre .1 .0 .inputs) (a .starts .now) (a .inputs .now) _ refl), c .before .before .fill .ensures ∙ ap (λ (n : ℕ). replicate n 0) (t .kept .1 .1 .1 .1 .1 .1 .1 .1 .1 .1 .0 ∙ g .kept .1 .1 .1 .1 .1 .1 .1 .1 .0))
 
 pub run-laid-spec : {M : Type 1} → statement M
 run-laid-spec =

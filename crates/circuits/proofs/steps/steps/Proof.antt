@@ -13,11 +13,11 @@ use Rattle.circuits.proofs.steps.steps.Statement.{statement}
 use Rattle.circuits.proofs.steps.steps.Tie as tie
 
 abbrev Inv-loop : tie.InvT-loop
-Inv-loop program table count off wid num pos all ins sigs k inputs signals₀ work₀ i₀ r₀ g₀ signals work i r g =
+Inv-loop program table count laid all ins sigs k inputs signals₀ work₀ i₀ r₀ g₀ signals work i r g =
     (i ≤ k) × ((r + (k - i) * ins ≤ length inputs) × ((length signals ≡ g + (k - i) * sigs) × ((length work ≡ length work₀) × ((length signals ≡ length signals₀) × (bytes (steps program (linesOf table count) k (drop all work₀) inputs) ≡ take g signals ++ bytes (steps program (linesOf table count) (k - i) (drop all work) (drop r inputs)))))))
 
 abbrev μ-loop : tie.MeasureT-loop
-μ-loop program table count off wid num pos all ins sigs k inputs signals₀ work₀ i₀ r₀ g₀ signals work i r g =
+μ-loop program table count laid all ins sigs k inputs signals₀ work₀ i₀ r₀ g₀ signals work i r g =
     k - i
 
 loop-holds : tie.Need-loop-holds Inv-loop μ-loop
@@ -28,19 +28,19 @@ add-e : tie.Need-add-e Inv-loop μ-loop
 add-e c = let s = c .before .before .before .before .before .before .args in let l = c .before .loop in
     let h₁ : l .r + s .ins ≤ length (s .inputs .now) = row-fits (s .k) (l .i) (s .ins) (l .r) (length (s .inputs .now)) (c .loop-test .taken) (l .inv .1 .0) in
     let h₂ : l .g + s .sigs ≤ length (l .signals) = bytes-fit (s .k) (l .i) (s .sigs) (l .g) (length (l .signals)) (c .loop-test .taken) (l .inv .1 .1 .0) in
-    omega (arith, c .before .before .before .before .before .before .good .1 .1 .1 .1 .1 .1 .1 .1 .1 .1 .1 .0 .0, c .before .before .before .before .before .before .good .1 .1 .1 .1 .1 .1 .1 .1 .1 .1 .1 .0 .1, c .before .before .before .before .before .before .good .1 .1 .1 .1 .1 .1 .1 .1 .1 .1 .1 .1 .0 .0, l .inv .1 .1 .1 .1 .0)
+    omega (arith, c .before .before .before .before .before .before .good .1 .1 .1 .1 .1 .1 .1 .1 .0 .0, c .before .before .before .before .before .before .good .1 .1 .1 .1 .1 .1 .1 .1 .0 .1, c .before .before .before .before .before .before .good .1 .1 .1 .1 .1 .1 .1 .1 .1 .0 .0, l .inv .1 .1 .1 .1 .0)
 
 add-h : tie.Need-add-h Inv-loop μ-loop
 add-h c = let s = c .before .before .before .before .before .before .args in let l = c .before .loop in
     let h₁ : l .r + s .ins ≤ length (s .inputs .now) = row-fits (s .k) (l .i) (s .ins) (l .r) (length (s .inputs .now)) (c .loop-test .taken) (l .inv .1 .0) in
     let h₂ : l .g + s .sigs ≤ length (l .signals) = bytes-fit (s .k) (l .i) (s .sigs) (l .g) (length (l .signals)) (c .loop-test .taken) (l .inv .1 .1 .0) in
-    omega (arith, c .before .before .before .before .before .before .good .1 .1 .1 .1 .1 .1 .1 .1 .1 .1 .1 .0 .0, c .before .before .before .before .before .before .good .1 .1 .1 .1 .1 .1 .1 .1 .1 .1 .1 .0 .1, c .before .before .before .before .before .before .good .1 .1 .1 .1 .1 .1 .1 .1 .1 .1 .1 .1 .0 .0, l .inv .1 .1 .1 .1 .0)
+    omega (arith, c .before .before .before .before .before .before .good .1 .1 .1 .1 .1 .1 .1 .1 .0 .0, c .before .before .before .before .before .before .good .1 .1 .1 .1 .1 .1 .1 .1 .0 .1, c .before .before .before .before .before .before .good .1 .1 .1 .1 .1 .1 .1 .1 .1 .0 .0, l .inv .1 .1 .1 .1 .0)
 
 mul-walk : tie.Need-mul-walk Inv-loop μ-loop
 mul-walk c = let s = c .before .before .before .before .before .before .args in let l = c .before .loop in
     let h₁ : l .r + s .ins ≤ length (s .inputs .now) = row-fits (s .k) (l .i) (s .ins) (l .r) (length (s .inputs .now)) (c .loop-test .taken) (l .inv .1 .0) in
     let h₂ : l .g + s .sigs ≤ length (l .signals) = bytes-fit (s .k) (l .i) (s .sigs) (l .g) (length (l .signals)) (c .loop-test .taken) (l .inv .1 .1 .0) in
-    omega (arith, c .before .before .before .before .before .before .good .1 .1 .1 .1 .1 .1 .1 .1 .1 .1 .1 .0 .0, c .before .before .before .before .before .before .good .1 .1 .1 .1 .1 .1 .1 .1 .1 .1 .1 .0 .1, c .before .before .before .before .before .before .good .1 .1 .1 .1 .1 .1 .1 .1 .1 .1 .1 .1 .0 .0, l .inv .1 .1 .1 .1 .0)
+    omega (arith, c .before .before .before .before .before .before .good .1 .1 .1 .1 .1 .1 .1 .1 .0 .0, c .before .before .before .before .before .before .good .1 .1 .1 .1 .1 .1 .1 .1 .0 .1, c .before .before .before .before .before .before .good .1 .1 .1 .1 .1 .1 .1 .1 .1 .0 .0, l .inv .1 .1 .1 .1 .0)
 
 sub-walk : tie.Need-sub-walk Inv-loop μ-loop
 sub-walk c = let s = c .before .before .before .before .before .before .args in let l = c .before .loop in
@@ -102,10 +102,10 @@ loop-again c = let s = c .before .before .before .before .before .before .before
     let more : l .i < s .k = c .before .before .before .before .before .before .before .before .loop-test .taken in
     let e₁ : l .r + s .ins - l .r ≡ s .ins = omega arith in
     let e₂ : l .g + s .sigs - l .g ≡ s .sigs = omega arith in
-    let q : List ℕ = w .last .1 .1 .1 .1 .1 .1 .1 .1 .1 .1 .0 in
-    let lq : length q ≡ l .g + s .sigs - l .g = w .kept .1 .1 .1 .1 .1 .1 .1 .1 .1 .1 .0 ∙ laws.length-part (l .signals) (l .g) (l .g + s .sigs - l .g) (omega arith) in
+    let q : List ℕ = w .last .1 .1 .1 .1 .1 .1 .1 .0 in
+    let lq : length q ≡ l .g + s .sigs - l .g = w .kept .1 .1 .1 .1 .1 .1 .1 .0 ∙ laws.length-part (l .signals) (l .g) (l .g + s .sigs - l .g) (omega arith) in
     let lp : length (take (l .g) (l .signals) ++ (q ++ drop (l .g + s .sigs - l .g) (drop (l .g) (l .signals)))) ≡ length (l .signals) = laws.mid-length (l .signals) q (l .g) (l .g + s .sigs - l .g) lq (omega arith) in
-    (omega (arith, more), (omega (arith, l .inv .1 .0), (lp ∙ omega (arith, l .inv .1 .1 .0), (w .kept .1 .1 .1 .1 .1 .1 .1 .1 .1 .1 .1 .0 ∙ l .inv .1 .1 .1 .0, (lp ∙ l .inv .1 .1 .1 .1 .0, run-more (s .program) (linesOf (s .table .now) (s .count)) (s .ins) (c .before .before .before .before .before .before .before .before .before .before .before .before .before .before .pre .1 .0 .inputs) (s .sigs) (s .k) (l .i) (drop (s .all) (l .work)) _ (s .inputs .now) _ (l .signals) q _ (l .r) (l .g) more h₂ (lq ∙ e₂) (l .inv .1 .1 .1 .1 .1) (ap (λ (n : ℕ). take n (drop (l .r) (s .inputs .now))) e₁) (w .ensures .1 refl) (w .ensures .0))))))
+    (omega (arith, more), (omega (arith, l .inv .1 .0), (lp ∙ omega (arith, l .inv .1 .1 .0), (w .kept .1 .1 .1 .1 .1 .1 .1 .1 .0 ∙ l .inv .1 .1 .1 .0, (lp ∙ l .inv .1 .1 .1 .1 .0, run-more (s .program) (linesOf (s .table .now) (s .count)) (s .ins) (c .before .before .before .before .before .before .before .before .before .before .before .before .before .before .pre .1 .0 .inputs) (s .sigs) (s .k) (l .i) (drop (s .all) (l .work)) _ (s .inputs .now) _ (l .signals) q _ (l .r) (l .g) more h₂ (lq ∙ e₂) (l .inv .1 .1 .1 .1 .1) (ap (λ (n : ℕ). take n (drop (l .r) (s .inputs .now))) e₁) (w .ensures .1 refl) (w .ensures .0))))))
 
 same-length : tie.Need-same-length Inv-loop μ-loop
 same-length c = search needs

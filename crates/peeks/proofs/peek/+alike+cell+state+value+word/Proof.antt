@@ -15,7 +15,7 @@ use Rattle.circuits.specs.Answers.{linesOf}
 use Rattle.circuits.proofs.Fitting.{fit-as, op-as}
 use Rattle.peeks.specs.Peek.{stepZero}
 use Rattle.tables.proofs.Shapes.{shape-cmp}
-use Rattle.peeks.proofs.Peeking.{kept, number, word-arg, word-same, cell-same, cell-read, pair, fact, state-fact, chosen, given-asks, given-is, is-write, is-one, is-two, first-cell, Alike, deep, left-word, right-word, left-cell, right-cell, same-words, alike-none, alike-more, alike-not, alike-all}
+use Rattle.peeks.proofs.Peeking.{kept, number, word-arg, word-same, cell-same, cell-read, pair, fact, state-fact, chosen, given-asks, given-is, is-write, is-one, is-two, first-cell, Alike, left-word, right-word, left-cell, right-cell, same-words, alike-none, alike-more, alike-not, alike-all}
 use borrow.Author.Needs.{needs}
 use borrow.Fn.Kinds.{In}
 use borrow.Fn.PlainCycle.{Measures, is, falls, and}
@@ -35,7 +35,7 @@ use Rattle.peeks.proofs.peek.word.Reads as word
 use Rattle.peeks.proofs.peek.word.Kinds as word-kinds
 use Rattle.peeks.proofs.peek.+alike+cell+state+value+word.Lts-word as word-lts
 use Rattle.circuits.proofs.eval.says.Reads as says-reads
-use Rattle.circuits.proofs.places.cells_of.Reads as cells-of-reads
+use Rattle.circuits.proofs.area.cells.Reads as cells-reads
 use Rattle.peeks.proofs.peek.chosen.Reads as chosen-reads
 use Rattle.peeks.proofs.peek.given.Reads as given-reads
 use Rattle.peeks.proofs.peek.keep.Reads as keep-reads
@@ -46,53 +46,53 @@ use Rattle.tables.proofs.records.record.Reads as record-reads
 use Rattle.peeks.proofs.peek.+alike+cell+state+value+word.{statement}
 use Rattle.peeks.proofs.peek.+alike+cell+state+value+word.Tie.{close}
 
-abbrev μ-alike : Measures 9 alike-kinds.ps ℕ
-μ-alike κs a = 4 * (a .1 .1 .1 .1 .1 .1 .1 .1 .1 .1 .0 + (a .1 .1 .1 .1 .1 .1 .1 .1 .1 .1 .1 .0 - a .1 .1 .1 .1 .1 .1 .1 .1 .1 .1 .0)) + 3
+abbrev μ-alike : Measures 7 alike-kinds.ps ℕ
+μ-alike κs a = 4 * (a .1 .1 .1 .1 .1 .1 .1 .1 .0 + (a .1 .1 .1 .1 .1 .1 .1 .1 .1 .0 - a .1 .1 .1 .1 .1 .1 .1 .1 .0)) + 3
 
-abbrev μ-cell : Measures 9 cell-kinds.ps ℕ
-μ-cell κs a = 4 * a .1 .1 .1 .1 .1 .1 .1 .1 .1 .1 .0 + 1
+abbrev μ-cell : Measures 7 cell-kinds.ps ℕ
+μ-cell κs a = 4 * a .1 .1 .1 .1 .1 .1 .1 .1 .0 + 1
 
-abbrev μ-state : Measures 9 state-kinds.ps ℕ
-μ-state κs a = 4 * a .1 .1 .1 .1 .1 .1 .1 .1 .1 .1 .0
+abbrev μ-state : Measures 7 state-kinds.ps ℕ
+μ-state κs a = 4 * a .1 .1 .1 .1 .1 .1 .1 .1 .0
 
-abbrev μ-value : Measures 9 value-kinds.ps ℕ
-μ-value κs a = 4 * a .1 .1 .1 .1 .1 .1 .1 .1 .1 .1 .0 + 1
+abbrev μ-value : Measures 7 value-kinds.ps ℕ
+μ-value κs a = 4 * a .1 .1 .1 .1 .1 .1 .1 .1 .0 + 1
 
-abbrev μ-word : Measures 9 word-kinds.ps ℕ
-μ-word κs a = 4 * a .1 .1 .1 .1 .1 .1 .1 .1 .1 .1 .0 + 2
+abbrev μ-word : Measures 7 word-kinds.ps ℕ
+μ-word κs a = 4 * a .1 .1 .1 .1 .1 .1 .1 .1 .0 + 2
 
-abbrev alike-at : ℕ → In 9 alike-kinds.ps
-alike-at t = and 9 alike-kinds.ps (is 9 alike-kinds.ps μ-alike t) alike.Pre
+abbrev alike-at : ℕ → In 7 alike-kinds.ps
+alike-at t = and 7 alike-kinds.ps (is 7 alike-kinds.ps μ-alike t) alike.Pre
 
-abbrev alike-below : ℕ → In 9 alike-kinds.ps
-alike-below t = and 9 alike-kinds.ps (falls 9 alike-kinds.ps _<_ μ-alike t) alike.Pre
+abbrev alike-below : ℕ → In 7 alike-kinds.ps
+alike-below t = and 7 alike-kinds.ps (falls 7 alike-kinds.ps _<_ μ-alike t) alike.Pre
 
-abbrev cell-at : ℕ → In 9 cell-kinds.ps
-cell-at t = and 9 cell-kinds.ps (is 9 cell-kinds.ps μ-cell t) cell.Pre
+abbrev cell-at : ℕ → In 7 cell-kinds.ps
+cell-at t = and 7 cell-kinds.ps (is 7 cell-kinds.ps μ-cell t) cell.Pre
 
-abbrev cell-below : ℕ → In 9 cell-kinds.ps
-cell-below t = and 9 cell-kinds.ps (falls 9 cell-kinds.ps _<_ μ-cell t) cell.Pre
+abbrev cell-below : ℕ → In 7 cell-kinds.ps
+cell-below t = and 7 cell-kinds.ps (falls 7 cell-kinds.ps _<_ μ-cell t) cell.Pre
 
-abbrev state-at : ℕ → In 9 state-kinds.ps
-state-at t = and 9 state-kinds.ps (is 9 state-kinds.ps μ-state t) state.Pre
+abbrev state-at : ℕ → In 7 state-kinds.ps
+state-at t = and 7 state-kinds.ps (is 7 state-kinds.ps μ-state t) state.Pre
 
-abbrev state-below : ℕ → In 9 state-kinds.ps
-state-below t = and 9 state-kinds.ps (falls 9 state-kinds.ps _<_ μ-state t) state.Pre
+abbrev state-below : ℕ → In 7 state-kinds.ps
+state-below t = and 7 state-kinds.ps (falls 7 state-kinds.ps _<_ μ-state t) state.Pre
 
-abbrev value-at : ℕ → In 9 value-kinds.ps
-value-at t = and 9 value-kinds.ps (is 9 value-kinds.ps μ-value t) value.Pre
+abbrev value-at : ℕ → In 7 value-kinds.ps
+value-at t = and 7 value-kinds.ps (is 7 value-kinds.ps μ-value t) value.Pre
 
-abbrev value-below : ℕ → In 9 value-kinds.ps
-value-below t = and 9 value-kinds.ps (falls 9 value-kinds.ps _<_ μ-value t) value.Pre
+abbrev value-below : ℕ → In 7 value-kinds.ps
+value-below t = and 7 value-kinds.ps (falls 7 value-kinds.ps _<_ μ-value t) value.Pre
 
-abbrev word-at : ℕ → In 9 word-kinds.ps
-word-at t = and 9 word-kinds.ps (is 9 word-kinds.ps μ-word t) word.Pre
+abbrev word-at : ℕ → In 7 word-kinds.ps
+word-at t = and 7 word-kinds.ps (is 7 word-kinds.ps μ-word t) word.Pre
 
-abbrev word-below : ℕ → In 9 word-kinds.ps
-word-below t = and 9 word-kinds.ps (falls 9 word-kinds.ps _<_ μ-word t) word.Pre
+abbrev word-below : ℕ → In 7 word-kinds.ps
+word-below t = and 7 word-kinds.ps (falls 7 word-kinds.ps _<_ μ-word t) word.Pre
 
 abbrev alike-uses : ℕ → alike-lts.Claims
-alike-uses t = (word-below t, word.Post, cells-of-reads.Asked, cells-of-reads.Learnt, cell-below t, cell.Post)
+alike-uses t = (cells-reads.Asked, cells-reads.Learnt, word-below t, word.Post, cell-below t, cell.Post)
 
 abbrev cell-uses : ℕ → cell-lts.Claims
 cell-uses t = (record-reads.Asked, record-reads.Learnt, state-below t, state.Post, word-below t, word.Post, chosen-reads.Asked, chosen-reads.Learnt, cell-below t, cell.Post)
@@ -107,19 +107,19 @@ abbrev word-uses : ℕ → word-lts.Claims
 word-uses t = (value-below t, value.Post, keep-reads.Asked, keep-reads.Learnt)
 
 abbrev alike-Inv-loop : alike-lts.InvT-loop
-alike-Inv-loop table count idx wid pos ini from row vals₀ has₀ a b m k₀ vals has k = Alike (stepZero (linesOf table count) from row) a b vals has m k
+alike-Inv-loop table count laid ini from row vals₀ has₀ a b m k₀ vals has k = Alike (stepZero (linesOf table count) from row) a b vals has m k
 
 abbrev alike-μ-loop : alike-lts.MeasureT-loop
-alike-μ-loop table count idx wid pos ini from row vals₀ has₀ a b m k₀ vals has k = m - k
+alike-μ-loop table count laid ini from row vals₀ has₀ a b m k₀ vals has k = m - k
 
-alike-element-copy-out-if1 : (t : ℕ) → alike-lts.Need-element-copy-out-if1 (alike-uses t) (alike-at t) alike.Post alike-Inv-loop alike-μ-loop
-alike-element-copy-out-if1 t c = let a = c .before .before .before .before .before .before .args in let p = c .before .before .before .before .before .before .pre in let lk = p .1 .0 in let ln = p .1 .1 .0 in omega (arith, number lk (a .a) (ln .left) .most)
+alike-cells-requires : (t : ℕ) → alike-lts.Need-cells-requires (alike-uses t) (alike-at t) alike.Post alike-Inv-loop alike-μ-loop
+alike-cells-requires t c κs = let a = c .before .before .before .before .before .before .args in let p = c .before .before .before .before .before .before .pre in let lk = p .1 .0 in let ln = p .1 .1 .0 in omega (arith, number lk (a .a) (ln .left) .most)
 
 alike-word-requires : (t : ℕ) → alike-lts.Need-word-requires (alike-uses t) (alike-at t) alike.Post alike-Inv-loop alike-μ-loop
-alike-word-requires t c κs = let a = c .before .before .before .before .before .before .before .before .before .before .args in let p = c .before .before .before .before .before .before .before .before .before .before .pre in let lk = p .1 .0 in let ln = p .1 .1 .0 in (omega (arith, p .0), (lk, (left-word lk (a .a) (a .b) ln (c .before .before .if1 .taken), p .1 .1 .1)))
+alike-word-requires t c κs = let a = c .before .before .before .before .before .before .before .before .before .before .args in let p = c .before .before .before .before .before .before .before .before .before .before .pre in let lk = p .1 .0 in let ln = p .1 .1 .0 in (omega (arith, p .0), (lk, (left-word lk (a .a) (a .b) ln (sym (c .before .before .before .cells .ensures) ∙ c .before .before .if1 .taken), p .1 .1 .1)))
 
 alike-word-requires-2 : (t : ℕ) → alike-lts.Need-word-requires-2 (alike-uses t) (alike-at t) alike.Post alike-Inv-loop alike-μ-loop
-alike-word-requires-2 t c κs = let a = c .before .before .before .before .before .before .before .before .before .before .before .before .before .before .before .before .before .args in let p = c .before .before .before .before .before .before .before .before .before .before .before .before .before .before .before .before .before .pre in let lk = p .1 .0 in let ln = p .1 .1 .0 in (omega (arith, p .0), (lk, (right-word lk (a .a) (a .b) ln (c .before .before .before .before .before .before .before .before .before .if1 .taken), c .before .before .before .before .before .before .word .ensures .1)))
+alike-word-requires-2 t c κs = let a = c .before .before .before .before .before .before .before .before .before .before .before .before .before .before .before .before .before .args in let p = c .before .before .before .before .before .before .before .before .before .before .before .before .before .before .before .before .before .pre in let lk = p .1 .0 in let ln = p .1 .1 .0 in (omega (arith, p .0), (lk, (right-word lk (a .a) (a .b) ln (sym (c .before .before .before .before .before .before .before .before .before .before .cells .ensures) ∙ c .before .before .before .before .before .before .before .before .before .if1 .taken), c .before .before .before .before .before .before .word .ensures .1)))
 
 alike-same-length : (t : ℕ) → alike-lts.Need-same-length (alike-uses t) (alike-at t) alike.Post alike-Inv-loop alike-μ-loop
 alike-same-length t c = c .before .before .before .before .word2 .ensures .1 .long ∙ sym (c .before .before .before .before .before .before .before .before .before .before .before .before .before .before .before .before .before .before .before .before .before .before .pre .1 .1 .1 .long)
@@ -128,28 +128,25 @@ alike-same-length-2 : (t : ℕ) → alike-lts.Need-same-length-2 (alike-uses t) 
 alike-same-length-2 t c = c .before .before .before .before .word2 .ensures .1 .marks ∙ sym (c .before .before .before .before .before .before .before .before .before .before .before .before .before .before .before .before .before .before .before .before .before .before .pre .1 .1 .1 .marks)
 
 alike-returns : (t : ℕ) → alike-lts.Need-returns (alike-uses t) (alike-at t) alike.Post alike-Inv-loop alike-μ-loop
-alike-returns t c = let a = c .before .before .before .before .before .before .before .before .before .before .before .before .before .before .before .before .before .before .before .before .before .before .args in let p = c .before .before .before .before .before .before .before .before .before .before .before .before .before .before .before .before .before .before .before .before .before .before .pre in let lk = p .1 .0 in let ln = p .1 .1 .0 in (same-words lk (a .a) (a .b) ln (c .before .before .before .before .before .before .before .before .before .before .before .before .before .before .if1 .taken) (c .before .before .before .before .before .before .before .before .before .before .before .word .ensures .0) (c .before .before .before .before .word2 .ensures .0), c .before .before .before .before .word2 .ensures .1)
-
-alike-cells-of-requires : (t : ℕ) → alike-lts.Need-cells-of-requires (alike-uses t) (alike-at t) alike.Post alike-Inv-loop alike-μ-loop
-alike-cells-of-requires t c κs = let a = c .before .before .before .before .before .before .before .before .args in let p = c .before .before .before .before .before .before .before .before .pre in let lk = p .1 .0 in let ln = p .1 .1 .0 in (omega (arith, number lk (a .a) (ln .left) .most), deep lk (a .a) (a .b) ln)
+alike-returns t c = let a = c .before .before .before .before .before .before .before .before .before .before .before .before .before .before .before .before .before .before .before .before .before .before .args in let p = c .before .before .before .before .before .before .before .before .before .before .before .before .before .before .before .before .before .before .before .before .before .before .pre in let lk = p .1 .0 in let ln = p .1 .1 .0 in (same-words lk (a .a) (a .b) ln (sym (c .before .before .before .before .before .before .before .before .before .before .before .before .before .before .before .cells .ensures) ∙ c .before .before .before .before .before .before .before .before .before .before .before .before .before .before .if1 .taken) (c .before .before .before .before .before .before .before .before .before .before .before .word .ensures .0) (c .before .before .before .before .word2 .ensures .0), c .before .before .before .before .word2 .ensures .1)
 
 alike-loop-holds : (t : ℕ) → alike-lts.Need-loop-holds (alike-uses t) (alike-at t) alike.Post alike-Inv-loop alike-μ-loop
-alike-loop-holds t c = let a = c .before .before .before .before .before .before .before .before .before .args in let p = c .before .before .before .before .before .before .before .before .before .pre in let lk = p .1 .0 in let ln = p .1 .1 .0 in alike-none lk (a .a) (a .b) ln _ (p .1 .1 .1)
+alike-loop-holds t c = let a = c .before .before .before .before .before .before .before .before .args in let p = c .before .before .before .before .before .before .before .before .pre in let lk = p .1 .0 in let ln = p .1 .1 .0 in alike-none lk (a .a) (a .b) ln _ (p .1 .1 .1)
 
 alike-cell-requires : (t : ℕ) → alike-lts.Need-cell-requires (alike-uses t) (alike-at t) alike.Post alike-Inv-loop alike-μ-loop
-alike-cell-requires t c κs = let a = c .before .before .before .before .before .before .before .before .before .before .before .before .before .args in let p = c .before .before .before .before .before .before .before .before .before .before .before .before .before .pre in let lk = p .1 .0 in let ln = p .1 .1 .0 in (omega (arith, p .0), (lk, (left-cell lk (a .a) (a .b) ln (c .before .before .before .before .before .if1 .left) (c .before .before .before .before .cells-of .ensures) (c .before .before .loop-test .taken), c .before .before .before .loop .inv .found)))
+alike-cell-requires t c κs = let a = c .before .before .before .before .before .before .before .before .before .before .before .before .args in let p = c .before .before .before .before .before .before .before .before .before .before .before .before .pre in let lk = p .1 .0 in let ln = p .1 .1 .0 in (omega (arith, p .0), (lk, (left-cell lk (a .a) (a .b) ln (λ e. c .before .before .before .before .if1 .left (c .before .before .before .before .before .cells .ensures ∙ e)) (c .before .before .before .before .before .cells .ensures) (c .before .before .loop-test .taken), c .before .before .before .loop .inv .found)))
 
 alike-cell-requires-2 : (t : ℕ) → alike-lts.Need-cell-requires-2 (alike-uses t) (alike-at t) alike.Post alike-Inv-loop alike-μ-loop
-alike-cell-requires-2 t c κs = let a = c .before .before .before .before .before .before .before .before .before .before .before .before .before .before .before .before .before .before .before .before .args in let p = c .before .before .before .before .before .before .before .before .before .before .before .before .before .before .before .before .before .before .before .before .pre in let lk = p .1 .0 in let ln = p .1 .1 .0 in (omega (arith, p .0), (lk, (right-cell lk (a .a) (a .b) ln (c .before .before .before .before .before .before .before .before .before .before .before .before .if1 .left) (c .before .before .before .before .before .before .before .before .before .before .before .cells-of .ensures) (c .before .before .before .before .before .before .before .before .before .loop-test .taken), c .before .before .before .before .before .before .cell .ensures .1)))
+alike-cell-requires-2 t c κs = let a = c .before .before .before .before .before .before .before .before .before .before .before .before .before .before .before .before .before .before .before .args in let p = c .before .before .before .before .before .before .before .before .before .before .before .before .before .before .before .before .before .before .before .pre in let lk = p .1 .0 in let ln = p .1 .1 .0 in (omega (arith, p .0), (lk, (right-cell lk (a .a) (a .b) ln (λ e. c .before .before .before .before .before .before .before .before .before .before .before .if1 .left (c .before .before .before .before .before .before .before .before .before .before .before .before .cells .ensures ∙ e)) (c .before .before .before .before .before .before .before .before .before .before .before .before .cells .ensures) (c .before .before .before .before .before .before .before .before .before .loop-test .taken), c .before .before .before .before .before .before .cell .ensures .1)))
 
 alike-same-length-3 : (t : ℕ) → alike-lts.Need-same-length-3 (alike-uses t) (alike-at t) alike.Post alike-Inv-loop alike-μ-loop
-alike-same-length-3 t c = c .before .before .before .before .before .cell2 .ensures .1 .long ∙ sym (c .before .before .before .before .before .before .before .before .before .before .before .before .before .before .before .before .before .before .before .before .before .before .before .before .before .before .pre .1 .1 .1 .long)
+alike-same-length-3 t c = c .before .before .before .before .before .cell2 .ensures .1 .long ∙ sym (c .before .before .before .before .before .before .before .before .before .before .before .before .before .before .before .before .before .before .before .before .before .before .before .before .before .pre .1 .1 .1 .long)
 
 alike-same-length-4 : (t : ℕ) → alike-lts.Need-same-length-4 (alike-uses t) (alike-at t) alike.Post alike-Inv-loop alike-μ-loop
-alike-same-length-4 t c = c .before .before .before .before .before .cell2 .ensures .1 .marks ∙ sym (c .before .before .before .before .before .before .before .before .before .before .before .before .before .before .before .before .before .before .before .before .before .before .before .before .before .before .pre .1 .1 .1 .marks)
+alike-same-length-4 t c = c .before .before .before .before .before .cell2 .ensures .1 .marks ∙ sym (c .before .before .before .before .before .before .before .before .before .before .before .before .before .before .before .before .before .before .before .before .before .before .before .before .before .pre .1 .1 .1 .marks)
 
 alike-returns-2 : (t : ℕ) → alike-lts.Need-returns-2 (alike-uses t) (alike-at t) alike.Post alike-Inv-loop alike-μ-loop
-alike-returns-2 t c = let a = c .before .before .before .before .before .before .before .before .before .before .before .before .before .before .before .before .before .before .before .before .before .before .before .before .before .before .args in let p = c .before .before .before .before .before .before .before .before .before .before .before .before .before .before .before .before .before .before .before .before .before .before .before .before .before .before .pre in let lk = p .1 .0 in let ln = p .1 .1 .0 in (alike-not lk (a .a) (a .b) ln (c .before .before .before .before .before .before .before .before .before .before .before .before .before .before .before .before .before .cells-of .ensures) (c .before .before .before .before .before .before .before .before .before .before .before .before .before .before .before .loop-test .taken) (c .before .before .before .before .before .before .before .before .before .before .before .before .before .before .before .before .loop .inv) (c .before .before .before .before .before .before .before .before .before .before .before .before .cell .ensures .0) (c .before .before .before .before .before .cell2 .ensures .0) (c .if2 .taken), c .before .before .before .before .before .cell2 .ensures .1)
+alike-returns-2 t c = let a = c .before .before .before .before .before .before .before .before .before .before .before .before .before .before .before .before .before .before .before .before .before .before .before .before .before .args in let p = c .before .before .before .before .before .before .before .before .before .before .before .before .before .before .before .before .before .before .before .before .before .before .before .before .before .pre in let lk = p .1 .0 in let ln = p .1 .1 .0 in (alike-not lk (a .a) (a .b) ln (c .before .before .before .before .before .before .before .before .before .before .before .before .before .before .before .before .before .before .cells .ensures) (c .before .before .before .before .before .before .before .before .before .before .before .before .before .before .before .loop-test .taken) (c .before .before .before .before .before .before .before .before .before .before .before .before .before .before .before .before .loop .inv) (c .before .before .before .before .before .before .before .before .before .before .before .before .cell .ensures .0) (c .before .before .before .before .before .cell2 .ensures .0) (c .if2 .taken), c .before .before .before .before .before .cell2 .ensures .1)
 
 alike-add-k : (t : ℕ) → alike-lts.Need-add-k (alike-uses t) (alike-at t) alike.Post alike-Inv-loop alike-μ-loop
 alike-add-k t c = let h = c .before .before .before .before .before .before .before .before .before .before .before .before .before .before .before .loop-test .taken in search needs
@@ -158,16 +155,16 @@ alike-loop-less : (t : ℕ) → alike-lts.Need-loop-less (alike-uses t) (alike-a
 alike-loop-less t c = let h = c .before .before .before .before .before .before .before .before .before .before .before .before .before .before .before .loop-test .taken in omega arith
 
 alike-loop-again : (t : ℕ) → alike-lts.Need-loop-again (alike-uses t) (alike-at t) alike.Post alike-Inv-loop alike-μ-loop
-alike-loop-again t c = let a = c .before .before .before .before .before .before .before .before .before .before .before .before .before .before .before .before .before .before .before .before .before .before .before .before .before .before .args in let p = c .before .before .before .before .before .before .before .before .before .before .before .before .before .before .before .before .before .before .before .before .before .before .before .before .before .before .pre in let lk = p .1 .0 in let ln = p .1 .1 .0 in alike-more lk (a .a) (a .b) ln (c .before .before .before .before .before .before .before .before .before .before .before .before .before .before .before .before .before .cells-of .ensures) (c .before .before .before .before .before .before .before .before .before .before .before .before .before .before .before .loop-test .taken) (c .before .before .before .before .before .before .before .before .before .before .before .before .before .before .before .before .loop .inv) (c .before .before .before .before .before .cell2 .ensures .1) (c .before .before .before .before .before .before .before .before .before .before .before .before .cell .ensures .0) (c .before .before .before .before .before .cell2 .ensures .0) (c .if2 .left)
+alike-loop-again t c = let a = c .before .before .before .before .before .before .before .before .before .before .before .before .before .before .before .before .before .before .before .before .before .before .before .before .before .args in let p = c .before .before .before .before .before .before .before .before .before .before .before .before .before .before .before .before .before .before .before .before .before .before .before .before .before .pre in let lk = p .1 .0 in let ln = p .1 .1 .0 in alike-more lk (a .a) (a .b) ln (c .before .before .before .before .before .before .before .before .before .before .before .before .before .before .before .before .before .before .cells .ensures) (c .before .before .before .before .before .before .before .before .before .before .before .before .before .before .before .loop-test .taken) (c .before .before .before .before .before .before .before .before .before .before .before .before .before .before .before .before .loop .inv) (c .before .before .before .before .before .cell2 .ensures .1) (c .before .before .before .before .before .before .before .before .before .before .before .before .cell .ensures .0) (c .before .before .before .before .before .cell2 .ensures .0) (c .if2 .left)
 
 alike-same-length-5 : (t : ℕ) → alike-lts.Need-same-length-5 (alike-uses t) (alike-at t) alike.Post alike-Inv-loop alike-μ-loop
-alike-same-length-5 t c = c .before .loop .inv .found .long ∙ sym (c .before .before .before .before .before .before .before .before .before .before .before .pre .1 .1 .1 .long)
+alike-same-length-5 t c = c .before .loop .inv .found .long ∙ sym (c .before .before .before .before .before .before .before .before .before .before .pre .1 .1 .1 .long)
 
 alike-same-length-6 : (t : ℕ) → alike-lts.Need-same-length-6 (alike-uses t) (alike-at t) alike.Post alike-Inv-loop alike-μ-loop
-alike-same-length-6 t c = c .before .loop .inv .found .marks ∙ sym (c .before .before .before .before .before .before .before .before .before .before .before .pre .1 .1 .1 .marks)
+alike-same-length-6 t c = c .before .loop .inv .found .marks ∙ sym (c .before .before .before .before .before .before .before .before .before .before .pre .1 .1 .1 .marks)
 
 alike-returns-3 : (t : ℕ) → alike-lts.Need-returns-3 (alike-uses t) (alike-at t) alike.Post alike-Inv-loop alike-μ-loop
-alike-returns-3 t c = let a = c .before .before .before .before .before .before .before .before .before .before .before .args in let p = c .before .before .before .before .before .before .before .before .before .before .before .pre in let lk = p .1 .0 in let ln = p .1 .1 .0 in (alike-all lk (a .a) (a .b) ln (c .before .before .cells-of .ensures) (c .loop-test .left) (c .before .loop .inv), c .before .loop .inv .found)
+alike-returns-3 t c = let a = c .before .before .before .before .before .before .before .before .before .before .args in let p = c .before .before .before .before .before .before .before .before .before .before .pre in let lk = p .1 .0 in let ln = p .1 .1 .0 in (alike-all lk (a .a) (a .b) ln (c .before .before .before .cells .ensures) (c .loop-test .left) (c .before .loop .inv), c .before .loop .inv .found)
 
 cell-sub-record : (t : ℕ) → cell-lts.Need-sub-record (cell-uses t) (cell-at t) cell.Post
 cell-sub-record t c = let a = c .before .before .before .before .before .before .args in let p = c .before .before .before .before .before .before .pre in let lk = p .1 .0 in let ln = p .1 .1 .0 in omega (arith, number lk (a .n) (ln .array .value) .least)
@@ -431,13 +428,12 @@ pub +alike+cell+state+value+word-spec : {M : Type 1} → statement M
     alike.Post
     alike-Inv-loop
     alike-μ-loop
-    (alike-element-copy-out-if1 t)
+    (alike-cells-requires t)
     (alike-word-requires t)
     (alike-word-requires-2 t)
     (alike-same-length t)
     (alike-same-length-2 t)
     (alike-returns t)
-    (alike-cells-of-requires t)
     (alike-loop-holds t)
     (alike-cell-requires t)
     (alike-cell-requires-2 t)

@@ -1,5 +1,5 @@
 -- `peek::find` meets its contract. Assumes nothing.
-use mathlib.Core.Path.{refl}
+use mathlib.Core.Path.{refl, sym, _∙_}
 use native.Mathlib.Omega.{arith}
 use Rattle.peeks.proofs.Seen.{looks-all, line-few, word-here, word-seen, cell-here, cell-seen, found-none}
 use borrow.Author.Needs.{needs}
@@ -10,10 +10,10 @@ slice-aggregate-find-inits : tie.Need-slice-aggregate-find-inits
 slice-aggregate-find-inits c = search needs
 
 find-inits-requires : tie.Need-find-inits-requires
-find-inits-requires c κs = (c .before .before .before .before .pre .0 .typed .sized .accepted, refl)
+find-inits-requires c κs = (c .before .before .before .before .pre .0 .accepted, refl)
 
-element-copy-out-if1 : tie.Need-element-copy-out-if1
-element-copy-out-if1 c = let a = c .before .before .before .before .before .before .args in omega (arith, line-few (c .before .before .before .before .before .before .pre .0) (a .n) (a .k) (c .before .before .before .before .before .before .pre .1))
+cells-requires : tie.Need-cells-requires
+cells-requires c κs = let a = c .before .before .before .before .before .before .args in omega (arith, line-few (c .before .before .before .before .before .before .pre .0) (a .n) (a .k) (c .before .before .before .before .before .before .pre .1))
 
 slice-aggregate-word : tie.Need-slice-aggregate-word
 slice-aggregate-word c = search needs
@@ -25,10 +25,10 @@ slice-aggregate-word-3 : tie.Need-slice-aggregate-word-3
 slice-aggregate-word-3 c = search needs
 
 word-requires : tie.Need-word-requires
-word-requires c κs = let a = c .before .before .before .before .before .before .before .before .before .before .before .args in (looks-all (c .before .before .before .before .before .before .before .before .before .before .before .pre .0) (c .before .before .before .before .before .before .find-inits .kept .1 .1 .0) (c .before .before .before .before .before .before .find-inits .ensures), (word-here (c .before .before .before .before .before .before .before .before .before .before .before .pre .0) (a .n) (a .k) (c .before .before .before .before .before .before .before .before .before .before .before .pre .1) (c .before .before .before .if1 .taken), found-none _))
+word-requires c κs = let a = c .before .before .before .before .before .before .before .before .before .before .before .args in (looks-all (c .before .before .before .before .before .before .before .before .before .before .before .pre .0) (c .before .before .before .before .before .before .find-inits .kept .1 .1 .0) (c .before .before .before .before .before .before .find-inits .ensures), (word-here (c .before .before .before .before .before .before .before .before .before .before .before .pre .0) (a .n) (a .k) (c .before .before .before .before .before .before .before .before .before .before .before .pre .1) (sym (c .before .before .before .before .cells .ensures) ∙ c .before .before .before .if1 .taken), found-none _))
 
 returns : tie.Need-returns
-returns c = let a = c .before .before .before .before .before .before .before .before .before .before .before .before .before .before .args in word-seen (c .before .before .before .before .before .before .before .before .before .before .before .before .before .before .pre .0) (a .n) (a .k) (c .before .before .before .before .before .before .before .before .before .before .before .before .before .before .pre .1) (c .before .before .before .before .before .before .if1 .taken) (c .before .before .word .ensures .0)
+returns c = let a = c .before .before .before .before .before .before .before .before .before .before .before .before .before .before .args in word-seen (c .before .before .before .before .before .before .before .before .before .before .before .before .before .before .pre .0) (a .n) (a .k) (c .before .before .before .before .before .before .before .before .before .before .before .before .before .before .pre .1) (sym (c .before .before .before .before .before .before .before .cells .ensures) ∙ c .before .before .before .before .before .before .if1 .taken) (c .before .before .word .ensures .0)
 
 slice-aggregate-cell : tie.Need-slice-aggregate-cell
 slice-aggregate-cell c = search needs
@@ -40,7 +40,7 @@ slice-aggregate-cell-3 : tie.Need-slice-aggregate-cell-3
 slice-aggregate-cell-3 c = search needs
 
 cell-requires : tie.Need-cell-requires
-cell-requires c κs = let a = c .before .before .before .before .before .before .before .before .before .before .before .args in (looks-all (c .before .before .before .before .before .before .before .before .before .before .before .pre .0) (c .before .before .before .before .before .before .find-inits .kept .1 .1 .0) (c .before .before .before .before .before .before .find-inits .ensures), (cell-here (c .before .before .before .before .before .before .before .before .before .before .before .pre .0) (a .n) (a .k) (c .before .before .before .before .before .before .before .before .before .before .before .pre .1) (c .before .before .before .if1 .left), found-none _))
+cell-requires c κs = let a = c .before .before .before .before .before .before .before .before .before .before .before .args in (looks-all (c .before .before .before .before .before .before .before .before .before .before .before .pre .0) (c .before .before .before .before .before .before .find-inits .kept .1 .1 .0) (c .before .before .before .before .before .before .find-inits .ensures), (cell-here (c .before .before .before .before .before .before .before .before .before .before .before .pre .0) (a .n) (a .k) (c .before .before .before .before .before .before .before .before .before .before .before .pre .1) (λ e. c .before .before .before .if1 .left (c .before .before .before .before .cells .ensures ∙ e)), found-none _))
 
 returns-2 : tie.Need-returns-2
 returns-2 c = let a = c .before .before .before .before .before .before .before .before .before .before .before .before .before .before .args in cell-seen (c .before .before .before .before .before .before .before .before .before .before .before .before .before .before .pre .0) (a .n) (a .k) (c .before .before .before .before .before .before .before .before .before .before .before .before .before .before .pre .1) (c .before .before .cell .ensures .0)
@@ -51,7 +51,7 @@ find-spec =
     (tie.spec
     slice-aggregate-find-inits
     find-inits-requires
-    element-copy-out-if1
+    cells-requires
     slice-aggregate-word
     slice-aggregate-word-2
     slice-aggregate-word-3

@@ -6,8 +6,8 @@ use borrow.Author.Needs.{needs}
 use Rattle.peeks.proofs.peek.input_word.Statement.{statement}
 use Rattle.peeks.proofs.peek.input_word.Tie as tie
 
-at-requires : tie.Need-at-requires
-at-requires c κs = search needs
+place-requires : tie.Need-place-requires
+place-requires c κs = search needs
 
 mul-v : tie.Need-mul-v
 mul-v c = search needs
@@ -22,8 +22,8 @@ low-requires : tie.Need-low-requires
 low-requires c κs = search needs
 
 returns : tie.Need-returns
-returns c = let d = c .before .before .before .before .before in c .low .ensures .0 ∙ ap₂ (λ (p w : ℕ). getD (d .args .row .now) p 0 % 2 ^ w) (c .before .before .before .at .ensures) (c .before .width .ensures)
+returns c = let d = c .before .before .before .before .before in c .low .ensures .0 ∙ ap₂ (λ (p w : ℕ). getD (d .args .row .now) p 0 % 2 ^ w) (c .before .before .before .place .ensures) (c .before .width .ensures)
 
 pub input-word-spec : {M : Type 1} → statement M
 input-word-spec =
-    tie.close (tie.spec at-requires mul-v shared-slice-read-v width-requires low-requires returns)
+    tie.close (tie.spec place-requires mul-v shared-slice-read-v width-requires low-requires returns)

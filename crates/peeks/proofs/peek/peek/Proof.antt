@@ -23,15 +23,15 @@ returns c = let a = c .before .before .before .before .before .before .before .b
 enum-told : tie.Need-enum-told
 enum-told c = search needs
 
-slice-aggregate-peek-noted : tie.Need-slice-aggregate-peek-noted
-slice-aggregate-peek-noted c = search needs
+slice-aggregate-peek-checked : tie.Need-slice-aggregate-peek-checked
+slice-aggregate-peek-checked c = search needs
 
-peek-noted-requires : tie.Need-peek-noted-requires
-peek-noted-requires c κs = let e = c .before .enum-told .given .1 in record { accepted = sym (c .before .before .before .before .check .ensures .0) ∙ e; shows = c .before .before .before .before .check .ensures .1 e }
+peek-checked-requires : tie.Need-peek-checked-requires
+peek-checked-requires c κs = let e = c .before .enum-told .given .1 in record { accepted = sym (c .before .before .before .before .check .ensures .0) ∙ e; shows = c .before .before .before .before .check .ensures .1 e }
 
 returns-2 : tie.Need-returns-2
 returns-2 c = let a = c .before .before .before .before .before .before .before .before .before .before .args in
-    c .peek-noted .ensures ∙ peek-lent (a .table .now) (a .count) (a .line) (a .cell) (a .starts .now) (a .row .now) (sym (c .before .before .before .before .before .check .ensures .0) ∙ c .before .before .enum-told .given .1)
+    c .peek-checked .ensures ∙ peek-lent (a .table .now) (a .count) (a .line) (a .cell) (a .starts .now) (a .row .now) (sym (c .before .before .before .before .before .check .ensures .0) ∙ c .before .before .enum-told .given .1)
 
 pub peek-spec : {M : Type 1} → statement M
 peek-spec =
@@ -42,6 +42,6 @@ peek-spec =
     enum-known-r
     returns
     enum-told
-    slice-aggregate-peek-noted
-    peek-noted-requires
+    slice-aggregate-peek-checked
+    peek-checked-requires
     returns-2)

@@ -6,8 +6,8 @@ use borrow.Author.Needs.{needs}
 use Rattle.peeks.proofs.peek.start_word.Statement.{statement}
 use Rattle.peeks.proofs.peek.start_word.Tie as tie
 
-at-requires : tie.Need-at-requires
-at-requires c κs = search needs
+place-requires : tie.Need-place-requires
+place-requires c κs = search needs
 
 add-p : tie.Need-add-p
 add-p c = search needs
@@ -25,9 +25,9 @@ low-requires : tie.Need-low-requires
 low-requires c κs = search needs
 
 returns : tie.Need-returns
-returns c = let d = c .before .before .before .before .before in c .low .ensures .0 ∙ ap₂ (λ (p w : ℕ). getD (d .args .starts .now) (p + d .args .k) 0 % 2 ^ w) (c .before .before .before .at .ensures) (c .before .width .ensures)
+returns c = let d = c .before .before .before .before .before in c .low .ensures .0 ∙ ap₂ (λ (p w : ℕ). getD (d .args .starts .now) (p + d .args .k) 0 % 2 ^ w) (c .before .before .before .place .ensures) (c .before .width .ensures)
 
 pub start-word-spec : {M : Type 1} → statement M
 start-word-spec =
     tie.close
-    (tie.spec at-requires add-p mul-v shared-slice-read-v width-requires low-requires returns)
+    (tie.spec place-requires add-p mul-v shared-slice-read-v width-requires low-requires returns)
