@@ -32,8 +32,9 @@ use Rattle.tables.proofs.Complete.{length-encode}
 use Rattle.tables.proofs.Encoding.{fits-table, length-decode}
 use Rattle.tables.proofs.Wide.{all-wide}
 use Rattle.circuits.specs.Cells.{put}
-use Rattle.circuits.specs.Layout.{Layout, typeAt, typeOf, lay, layAll, noLayout, layout}
+use Rattle.circuits.specs.Layout.{Layout, typeAt, typeOf, lay, noLayout, layout}
 use Rattle.circuits.specs.Meaning.{Acc, noAcc}
+use Rattle.circuits.proofs.Placing.{lay-ctx}
 use Rattle.flattening.specs.declared.Flattened.{Flattened}
 use Rattle.flattening.specs.declared.Flattened.the-variants.{Done, Refused}
 use Rattle.flattening.specs.declared.Made.{Made}
@@ -144,13 +145,9 @@ all-known p c [] h i l = absurd (omega arith)
 all-known p c (r ∷ rs) h zero l = both (known p (kindIn r)) _ (both (formed p r) _ (both (keeps p (tyAt c) (given c) r) _ h .0) .0) .0
 all-known p c (r ∷ rs) h (suc i) l = all-known p (grow p c (lineOf r)) rs (both (keeps p (tyAt c) (given c) r) _ h .1) i (omega arith)
 
-lay-ctx : (Y : Layout) (ls : List Line) → layAll false Y ls .ctx ≡ growAll false (Y .ctx) ls
-lay-ctx Y [] = refl
-lay-ctx Y (l ∷ ls) = lay-ctx (lay false Y l) ls
-
 layout-ctx : (C : List Line) → layout false C .ctx ≡ context false C
 unfolding layout context
-layout-ctx C = lay-ctx noLayout C
+layout-ctx C = lay-ctx false noLayout C
 
 module _ (t : List ℕ) (n : ℕ) (acc : checked false t n ≡ Accepted) where
   abbrev pub C : List Line

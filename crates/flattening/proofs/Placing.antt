@@ -10,11 +10,12 @@ use Rattle.tables.specs.Lines.{fields, recorded, span, recordSize}
 use Rattle.tables.proofs.Laws.{past}
 use Rattle.tables.proofs.Places.{recorded-is}
 use Rattle.circuits.specs.Cells.{put}
+use Rattle.circuits.proofs.Puts.{length-put}
 use Rattle.flattening.specs.declared.Source.{Source}
 use borrow.Author.Tests.{le-leb, lt-leb}
 use Rattle.flattening.specs.Model.{Held, Tame, sourceAt, words, rowAt, pairAt}
 use Rattle.flattening.specs.Making.{run, still, of, runDown, ofDown, joinWords}
-use Rattle.flattening.proofs.Stores.{put-zero, put-suc, put-none, length-put}
+use Rattle.flattening.proofs.Stores.{put-zero, put-suc, put-none}
 
 -- what is put after what has been put
 pub put-append : (t : List ℕ) (a : ℕ) (u v : List ℕ) → a ≤ length t → put (put t a u) (a + length u) v ≡ put t a (u ++ v)

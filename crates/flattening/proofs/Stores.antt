@@ -4,10 +4,11 @@ use mathlib.Core.Path.{_≡_, refl, sym, ap, _∙_}
 use mathlib.Core.Bool.{Bool, true, false}
 use mathlib.Core.List.{List, [], _∷_, _++_}
 use native.Mathlib.Omega.{arith}
-use lib.ListN.{length, length-append, length-drop, take, drop}
+use lib.ListN.{length, take, drop}
 use lib.Seq.{drop-nil}
 use Rattle.tables.specs.Pick.{pick}
 use Rattle.circuits.specs.Cells.{put}
+use Rattle.circuits.proofs.Puts.{length-put}
 
 pub put-zero : (w vs : List ℕ) → put w 0 vs ≡ vs ++ drop (length vs) w
 unfolding put
@@ -30,11 +31,6 @@ put-more (x ∷ w) zero c cs h =
 put-more (x ∷ w) (suc a) c cs h =
     ap (λ (l : List ℕ). put l (suc (suc a)) cs) (put-suc x w a (c ∷ [])) ∙ put-suc x (put w a (c ∷ [])) (suc a) cs ∙ ap (λ (l : List ℕ). x ∷ l) (put-more w a c cs (omega arith))
     ∙ sym (put-suc x w a (c ∷ cs))
-
-pub length-put : (w : List ℕ) (a : ℕ) (vs : List ℕ) → a + length vs ≤ length w → length (put w a vs) ≡ length w
-length-put w zero vs h = ap length (put-zero w vs) ∙ length-append vs (drop (length vs) w) ∙ omega (arith, length-drop (length vs) w)
-length-put [] (suc a) vs h = absurd (omega arith)
-length-put (x ∷ w) (suc a) vs h = ap length (put-suc x w a vs) ∙ ap suc (length-put w a vs (omega arith))
 
 -- the same of a store that is made, or not
 pub stored-none : (b : Bool) (w : List ℕ) (a : ℕ) → w ≡ pick b (put w a []) w

@@ -17,8 +17,9 @@ use Rattle.tables.specs.Lines.{Line}
 use Rattle.tables.specs.Types.{ty, noTy, isFixed, givenBy}
 use Rattle.tables.proofs.Kept.{no-yes}
 use Rattle.tables.proofs.Facts.{IsWord, IsWordSort, AllOk}
-use Rattle.circuits.specs.Layout.{Place, Counts, noPlace, typeAt, placeAt, size, typeOf, placeOf, countOf}
+use Rattle.circuits.specs.Layout.{Place, noPlace, typeAt, placeAt, size, typeOf, placeOf}
 use Rattle.circuits.specs.Meaning.{Acc, cellsAt, wordAt, cellsOf, evalLine, evalAll}
+use Rattle.circuits.proofs.Laid.{grew}
 
 pub length-snoc {ℓ} : {A : Type ℓ} (xs : List A) (x : A) → length (xs ++ (x ∷ [])) ≡ suc (length xs)
 length-snoc xs x = length-append xs (x ∷ []) ∙ add-one (length xs)
@@ -226,17 +227,6 @@ pub grew-trans : {A B C : Acc} → Grew A B → Grew B C → Grew A C
 grew-trans x y = record { ext = ext-trans (x .ext) (y .ext); alike = alike-trans (x .alike) (y .alike); gave = λ m. y .gave m ∙ x .gave m }
 
 -- state words only grow
-states-grow : (c : Counts) (n : ℕ) (l : Line) → c .states ≤ countOf c n l .states
-states-grow c n (Line.bitvec w) = le-refl (c .states)
-states-grow c n (Line.array i e) = le-refl (c .states)
-states-grow c n (Line.input s) = le-refl (c .states)
-states-grow c n (Line.state s) = omega arith
-states-grow c n (Line.val s x) = le-refl (c .states)
-states-grow c n (Line.give m s q v) = le-refl (c .states)
-states-grow c n (Line.mark m a) = le-refl (c .states)
-states-grow c n (Line.output a) = le-refl (c .states)
-states-grow c n Line.junk = le-refl (c .states)
-
 pub value-class : (x : Bool) → 2 ≤ pick x 2 3
 value-class true = omega arith
 value-class false = omega arith
@@ -293,7 +283,7 @@ module _ (f : Bool) (σ ι : List ℕ) where
         place = λ p h. List·getD-append (A .lay .places) (placeOf (A .lay) l ∷ []) noPlace p (omega (arith, ev .places));
         cells = λ p h. List·getD-append (A .env) (cellsOf false f σ ι A l ∷ []) [] p h;
         len = omega (arith, len1 A l);
-        states = states-grow (A .lay .counts) (size (typeOf false (A .lay) l)) l;
+        states = grew (A .lay .counts) (size (typeOf false (A .lay) l)) l .states;
         even =
             record {
               types = length-snoc (A .lay .ctx .tys) (typeOf false (A .lay) l) ∙ ap suc (ev .types) ∙ sym (len1 A l);
@@ -303,7 +293,7 @@ module _ (f : Bool) (σ ι : List ℕ) where
 
   pub states-all : (A : Acc) (ls : List Line) → A .lay .counts .states ≤ evs A ls .lay .counts .states
   states-all A [] = le-refl (A .lay .counts .states)
-  states-all A (l ∷ ls) = le-trans (states-grow (A .lay .counts) (size (typeOf false (A .lay) l)) l) (states-all (ev1 A l) ls)
+  states-all A (l ∷ ls) = le-trans (grew (A .lay .counts) (size (typeOf false (A .lay) l)) l .states) (states-all (ev1 A l) ls)
 
   -- the line that has just been evaluated
   pub new-type : {A : Acc} → Even A → (l : Line) (b : ℕ) → b ≡ length (A .env) → typeAt (ev1 A l .lay) b ≡ typeOf false (A .lay) l

@@ -19,6 +19,7 @@ use Rattle.tables.proofs.Kept.{no-yes}
 use Rattle.tables.proofs.Facts.{OkOne, OkValue, OkExpr, Ok, AllOk}
 use Rattle.tables.proofs.Encoding.{encoded-accepted}
 use Rattle.circuits.specs.Layout.{Layout, typeAt, typeOf, placeOf, lay, layAll}
+use Rattle.circuits.proofs.Placing.{lay-ctx}
 use Rattle.programs.specs.Uses.{looseLine, looseExpr, needed}
 use Rattle.programs.specs.Translation.{Info, info, noInfo, widthOf, numberOf, looseOf, put, renumbered, made, isArraySort, hasArray, translateFrom, translate}
 use Rattle.programs.proofs.Grew.{lines, grew-line, new-type}
@@ -131,10 +132,6 @@ module _ {Y Z : Layout} {J : List Info} (v : Laid Y Z J) (o : Once Y Z J) where
 -- ---- all lines
 
 -- the context of a layout is the lines' context
-lay-ctx : (p : Bool) (Z : Layout) (ls : List Line) → layAll p Z ls .ctx ≡ growAll p (Z .ctx) ls
-lay-ctx p Z [] = refl
-lay-ctx p Z (l ∷ ls) = lay-ctx p (lay p Z l) ls
-
 ok-append : (p : Bool) (c : Ctx) (xs ys : List Line) → AllOk p c xs → AllOk p (growAll p c xs) ys → AllOk p c (xs ++ ys)
 ok-append p c [] ys h k = k
 ok-append p c (x ∷ xs) ys h k = (h .0, ok-append p (grow p c x) xs ys (h .1) k)

@@ -7,9 +7,10 @@ use native.Mathlib.Nat.{le-refl, le-trans}
 use native.Mathlib.Omega.{arith}
 use lib.ListN.{length}
 use lib.Seq.{getD-at}
-use Rattle.tables.specs.Lines.{Line, bitvec, array, input, state, val, give, mark, output, junk}
+use Rattle.tables.specs.Lines.{Line}
 use Rattle.tables.specs.Types.{noTy}
-use Rattle.circuits.specs.Layout.{Counts, Layout, noPlace, typeAt, placeAt, typeOf, placeOf, countOf, lay}
+use Rattle.circuits.specs.Layout.{Layout, noPlace, typeAt, placeAt, typeOf, placeOf, lay}
+use Rattle.circuits.proofs.Laid.{grew}
 use Rattle.programs.proofs.Lists.{length-snoc, below-snoc}
 
 -- how many lines there are, entry 0 with them: the next line's number
@@ -37,17 +38,6 @@ grew-more g h =
       states = le-trans (g .states) (h .states);
     }
 
-counts-grow : (c : Counts) (n : ℕ) (l : Line) → c .states ≤ countOf c n l .states
-counts-grow c n (bitvec w) = le-refl (c .states)
-counts-grow c n (array i e) = le-refl (c .states)
-counts-grow c n (input s) = le-refl (c .states)
-counts-grow c n (state s) = omega arith
-counts-grow c n (val s e) = le-refl (c .states)
-counts-grow c n (give m s q v) = le-refl (c .states)
-counts-grow c n (mark m a) = le-refl (c .states)
-counts-grow c n (output a) = le-refl (c .states)
-counts-grow c n junk = le-refl (c .states)
-
 module _ (p : Bool) {Z : Layout} (ev : Even Z) (l : Line) where
   pub line-more : lines (lay p Z l) ≡ suc (lines Z)
   line-more = length-snoc (Z .ctx .tys) (typeOf p Z l)
@@ -61,7 +51,7 @@ module _ (p : Bool) {Z : Layout} (ev : Even Z) (l : Line) where
         types = λ n h. below-snoc (Z .ctx .tys) (typeOf p Z l) noTy n h;
         places = λ n h. below-snoc (Z .places) (placeOf Z l) noPlace n (omega (arith, ev .alike));
         longer = omega (arith, line-more);
-        states = counts-grow (Z .counts) _ l;
+        states = grew (Z .counts) _ l .states;
       }
 
   -- the new line itself, number b

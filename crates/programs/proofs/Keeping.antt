@@ -2,7 +2,7 @@
 use Prim.Native.Nat.{ℕ, zero, suc, _+_, _≤_, _<_}
 use mathlib.Core.Path.{_≡_, refl, sym, ap, ap₂, _∙_, subst, subst⁻¹}
 use mathlib.Core.Bool.{Bool, true, false}
-use mathlib.Core.List.{List, [], _∷_, _++_, map}
+use mathlib.Core.List.{List, [], _∷_, _++_}
 use native.Mathlib.Omega.{arith}
 use lib.Dec.{eqb, ltb, leb}
 use borrow.Author.Tests.{ltb-true, ltb-false}
@@ -23,6 +23,7 @@ use Rattle.tables.proofs.Facts.{Ok, OkExpr, AllOk}
 use Rattle.tables.proofs.Sound.{accepted-lawful, accepted-ok}
 use Rattle.tables.proofs.Encoding.{fits-table}
 use Rattle.circuits.specs.Answers.{linesOf}
+use Rattle.circuits.proofs.Walked.{lines-many, line-here}
 use Rattle.programs.specs.Translation.{Info, noInfo, infoAt, widthOf, numberOf, looseOf}
 use Rattle.programs.specs.Records.{numberAt, flagAt, looseIn, widthIn, numberIn, emitted, Taken, Ample}
 use Rattle.programs.proofs.Modelled.{Kinded, KindedExpr, infoIn}
@@ -147,15 +148,6 @@ kinded-at c [] k i l = absurd (omega arith)
 kinded-at c (x ∷ ls) k zero l = kinded-line c x (k .0)
 kinded-at c (x ∷ ls) k (suc i) l = kinded-at (grow false c x) ls (k .1) i (omega arith)
 
-map-at : (rs : List (List ℕ)) (i : ℕ) → i < length rs → getD (map lineOf rs) i junk ≡ lineOf (getD rs i [])
-map-at [] i l = absurd (omega arith)
-map-at (r ∷ rs) zero l = refl
-map-at (r ∷ rs) (suc i) l = map-at rs i (omega arith)
-
-map-length : (rs : List (List ℕ)) → length (map lineOf rs) ≡ length rs
-map-length [] = refl
-map-length (r ∷ rs) = ap suc (map-length rs)
-
 pub line-at : (t : List ℕ) (n i : ℕ) → checked false t n ≡ Accepted → i < n → LineAt t n i
 line-at t n i e l =
     let rs = records (counted t n) in
@@ -164,19 +156,20 @@ line-at t n i e l =
     let li : i < length rs = omega arith in
     let ra : getD rs i [] ≡ recordAt t i = record-at n t i (f .1) l in
     let fo : formed false (recordAt t i) ≡ true = subst (λ (r : List ℕ). formed false r ≡ true) ra (formed-at false noCtx rs (accepted-lawful false t n e) i li) in
-    let x : getD (linesOf t n) i junk ≡ lineOf (recordAt t i) = map-at rs i li ∙ ap lineOf ra in
+    let x : getD (linesOf t n) i junk ≡ lineOf (recordAt t i) = line-here false t n e i l in
+    let many : i < length (linesOf t n) = omega (arith, lines-many false t n e) in
     let s : suc i ≡ i + 1 = omega arith in
     record {
       line = lineOf (recordAt t i);
-      rest = drop-cons (linesOf t n) i junk (rw (map-length rs) li) ∙ ap₂ (λ (y : Line) (k : ℕ). y ∷ drop k (linesOf t n)) x s;
+      rest = drop-cons (linesOf t n) i junk many ∙ ap₂ (λ (y : Line) (k : ℕ). y ∷ drop k (linesOf t n)) x s;
       words = words-back false (recordAt t i) (length-record t i (omega (arith, f .1))) fo;
-      kinded = subst Kinded x (kinded-at noCtx (linesOf t n) (accepted-ok false t n e) i (rw (map-length rs) li));
+      kinded = subst Kinded x (kinded-at noCtx (linesOf t n) (accepted-ok false t n e) i many);
       kind = range 1 55 (kindIn (recordAt t i)) (both (known false (kindIn (recordAt t i))) _ fo .0) .1;
     }
 
 -- past the last line
 pub no-line : (t : List ℕ) (n i : ℕ) → checked false t n ≡ Accepted → n ≤ i → drop i (linesOf t n) ≡ []
-no-line t n i e l = past (linesOf t n) i (omega (arith, map-length (records (counted t n)), length-records n t (fits-table false t n e .1)))
+no-line t n i e l = past (linesOf t n) i (omega (arith, lines-many false t n e))
   where
     past : (ls : List Line) (i : ℕ) → length ls ≤ i → drop i ls ≡ []
     past [] zero h = refl

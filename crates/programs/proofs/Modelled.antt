@@ -1,7 +1,7 @@
 -- What the code does with a record is what the definition does with its line: the instructions, what is kept of the line, and the lines it needs clean. Assumes nothing.
 use Prim.Native.Nat.{ℕ, suc, _≤_}
 use mathlib.Core.Path.{_≡_, refl, sym, ap, _∙_}
-use mathlib.Core.Bool.{Bool, true, false, not, _&&_, _||_}
+use mathlib.Core.Bool.{Bool, true, false, not, _&&_}
 use mathlib.Core.List.{List, [], _∷_, _++_, append-nil}
 use native.Mathlib.Omega.{arith}
 use lib.Dec.{eqb, leb}
@@ -10,6 +10,7 @@ use borrow.Author.Tests.{le-leb, lt-leb, ne-eqb}
 use Rattle.words.specs.Kinds.{needKind₁, needKind₂}
 use Rattle.tables.specs.Pick.{pick, inside}
 use Rattle.tables.specs.Lines.{Line, Expr, bitvec, array, input, state, val, give, mark, output, junk, const, one, two, cmp, ite, read, write, fields, wordsOf, encode, kindIn, sortIn, firstIn, secondIn}
+use Rattle.tables.proofs.Laws.{or-true, and-true}
 use Rattle.programs.specs.Uses.{looseLine, when, needs}
 use Rattle.programs.specs.Translation.{isArraySort, Info, info, widthOf, numberOf, looseOf, Made, put, made}
 use Rattle.programs.specs.Records.{firstLine, secondLine, thirdLine, hasValue, looseIn, instruction, maskWords, widthIn, numberIn, emitted}
@@ -46,11 +47,7 @@ module _ (k : ℕ) (h : 11 ≤ k) where
   first-op = le-leb 6 k (omega arith)
 
   value-op : hasValue k ≡ true
-  value-op = rw (lt-leb k 5 (omega arith), le-leb 11 k h) (or-yes (leb 3 k && false))
-    where
-      or-yes : (b : Bool) → (b || true) ≡ true
-      or-yes true = refl
-      or-yes false = refl
+  value-op = rw (lt-leb k 5 (omega arith), le-leb 11 k h) (or-true (leb 3 k && false))
 
   sort-op : leb k 2 ≡ false
   sort-op = lt-leb k 2 (omega arith)
@@ -82,11 +79,7 @@ needs-words (input s) k = refl
 needs-words (state s) k = refl
 needs-words (val s (const v)) k = refl
 needs-words (val s (one n a x y)) k = rw (second-one n (k .0) (k .1), and-none (needKind₂ n)) (sym (append-nil (when (needKind₁ n) a)))
-needs-words (val s (two n a b)) k = ap (λ (t : Bool). when (needKind₁ n) a ++ when t b) (sym (ap (λ (t : Bool). needKind₂ n && t) (second-two n (k .0)) ∙ and-yes (needKind₂ n)))
-  where
-    and-yes : (b : Bool) → (b && true) ≡ b
-    and-yes true = refl
-    and-yes false = refl
+needs-words (val s (two n a b)) k = ap (λ (t : Bool). when (needKind₁ n) a ++ when t b) (sym (ap (λ (t : Bool). needKind₂ n && t) (second-two n (k .0)) ∙ and-true (needKind₂ n)))
 needs-words (val s (cmp true a b)) k = refl
 needs-words (val s (cmp false a b)) k = refl
 needs-words (val s (ite c a b)) k = refl

@@ -149,11 +149,8 @@ module _ (g : Bool) (σ ι : List ℕ) {W : ℕ → ℕ} {N : ℕ → Bool} {A B
           result =
               operator 53 w (widthAt A c) w (wordAt A c) (wordAt A a) (wordAt A b) xc xa xb (looseOf J c) (looseOf J a) (looseOf J b) (omega arith) (omega arith) (a-width c (omega arith))
               (record { widths = wd; width = refl }) wd (v .word c hc .small) (rw ea at (v .word a ha .small)) (rw eb at (v .word b hb .small))
-              (v .word c hc .fits) (v .word a ha .fits) (v .word b hb .fits) (used true c hc (λ e. m .0)) (rw ea at (used false a ha (λ e. absurd (no e)))) (rw eb at (used false b hb (λ e. absurd (no e))));
+              (v .word c hc .fits) (v .word a ha .fits) (v .word b hb .fits) (used true c hc (λ e. m .0)) (rw ea at (used false a ha (λ e. absurd (no-yes e)))) (rw eb at (used false b hb (λ e. absurd (no-yes e))));
         }
-      where
-        no : _≡_ {A = Bool} false true → ⊥
-        no e = no-yes e
 
     new-const : (n : ℕ) → OkExpr false (tyAt (A .lay .ctx)) (typeAt (A .lay) s) (const n) → here (const n)
     new-const n ok = record { x = n; a = n; cellsB = refl; cellsA = refl; result = exact-result (widthOf J s) _ (lt-of-lt-of-le (ok .fits) (pow-mono most-is)) (rw width-is at (ok .fits)) refl }
