@@ -1,11 +1,4 @@
-// Runs of circuits and of programs: every line of a step, the steps, the first counted bad.
-pub mod area; // runs of words in the work area
-pub mod bad; // the first counted bad
-pub mod eval; // one line
-pub mod places; // where each line has its cells
-pub mod run; // the answers of a run
-pub mod steps; // all lines of a step, and the steps
-
+// Circuits: what the lines of a circuit and of a program mean, a step, a run, the first counted bad. The code is in `area`, `places`, `evaluation`, `state_lines`, `step_dispatch`, `steps`, `bad` and `runs`.
 use tables::Refusal;
 
 // What a run answers: nothing counted, the step and the place of the first counted bad, or a refusal.

@@ -1,148 +1,15 @@
 // The C interface: each function returns a refusal's number, 0 when done, and writes its further values to `answer`, a list of three words. A list of another length is refused by 1.
-use circuits::Ran;
-use flattening::Flattened;
-use peeks::Peeked;
-use programs::Translated;
-use tables::check;
-use tables::records;
-use texts::ReadOutcome;
-use texts::WriteOutcome;
-use texts::naming;
+use records::bytes;
 ghost use mathlib.Core.Path.{_≡_};
-ghost use mathlib.Core.Bool.{true, false};
-ghost use mathlib.Core.List.{[], _∷_};
+ghost use mathlib.Core.Bool.{false, true};
 ghost use lib.ListN.{length};
 ghost use Rattle.texts.specs.Reading.{readText, answerOf, tableOf};
+ghost use Rattle.answers.specs.Answers.{three, given, zeros, readNumber, readWords, writeNumber, writeWords, flatNumber, flatWords, programNumber, programWords, runNumber, runWords, peekNumber, peekWords, Named};
 ghost use Rattle.texts.specs.Writing.{writeTable, writeAnswer, bufferOf};
+ghost use Rattle.flattening.specs.Answers.{flattened, targetLeft as flatLeft};
+ghost use Rattle.programs.specs.Answers.{translated, targetLeft as programLeft};
 ghost use Rattle.circuits.specs.Answers.{ran, signalsLeft};
 ghost use Rattle.peeks.specs.Peek.{peeked};
-ghost use Rattle.programs.specs.Answers.{translated, targetLeft as programLeft};
-ghost use Rattle.flattening.specs.Answers.{flattened, targetLeft as flatLeft};
-ghost use Rattle.exports.specs.Answers.{three, given, zeros, Named, readNumber, readWords, writeNumber, writeWords, flatNumber, flatWords, programNumber, programWords, runNumber, runWords, peekNumber, peekWords};
-
-// Whether a list is an answer list; all its words are then 0.
-fn take(answer: &mut [u64]) -> bool
-    ensures { λ r. ⌜ (r ≡ three (now (answer .entry))) × (now (answer .exit) ≡ zeros (now (answer .entry))) ⌝ }
-{
-    records::clear(answer);
-    answer.len() == 3
-}
-
-// The words of an answer list.
-fn tell(answer: &mut [u64], a: u64, b: u64, c: u64)
-    requires { ⌜ length (now answer) ≡ 3 ⌝ }
-    ensures { λ _. ⌜ now (answer .exit) ≡ a ∷ b ∷ c ∷ [] ⌝ }
-{
-    answer[0] = a;
-    answer[1] = b;
-    answer[2] = c;
-}
-
-// What reading tells.
-fn tell_read(r: ReadOutcome, answer: &mut [u64]) -> u64
-    requires { ⌜ length (now answer) ≡ 3 ⌝ }
-    ensures { λ n. ⌜ (n ≡ readNumber r) × (now (answer .exit) ≡ readWords r) ⌝ }
-{
-    match r {
-        ReadOutcome::Done(n) => {
-            tell(answer, n as u64, 0, 0);
-            0
-        }
-        ReadOutcome::Refused(c, l) => {
-            tell(answer, l as u64, 0, 0);
-            tables::number(c)
-        }
-    }
-}
-
-// What writing tells.
-fn tell_write(r: WriteOutcome, answer: &mut [u64]) -> u64
-    requires { ⌜ length (now answer) ≡ 3 ⌝ }
-    ensures { λ n. ⌜ (n ≡ writeNumber r) × (now (answer .exit) ≡ writeWords r) ⌝ }
-{
-    match r {
-        WriteOutcome::Done(n) => {
-            tell(answer, n as u64, 0, 0);
-            0
-        }
-        WriteOutcome::Refused(c) => {
-            tell(answer, 0, 0, 0);
-            tables::number(c)
-        }
-    }
-}
-
-// What flattening tells.
-fn tell_flat(r: Flattened, answer: &mut [u64]) -> u64
-    requires { ⌜ length (now answer) ≡ 3 ⌝ }
-    ensures { λ n. ⌜ (n ≡ flatNumber r) × (now (answer .exit) ≡ flatWords r) ⌝ }
-{
-    match r {
-        Flattened::Done(n) => {
-            tell(answer, n as u64, 0, 0);
-            0
-        }
-        Flattened::Refused(c) => {
-            tell(answer, 0, 0, 0);
-            tables::number(c)
-        }
-    }
-}
-
-// What translating tells.
-fn tell_program(r: Translated, answer: &mut [u64]) -> u64
-    requires { ⌜ length (now answer) ≡ 3 ⌝ }
-    ensures { λ n. ⌜ (n ≡ programNumber r) × (now (answer .exit) ≡ programWords r) ⌝ }
-{
-    match r {
-        Translated::Done(n) => {
-            tell(answer, n as u64, 0, 0);
-            0
-        }
-        Translated::Refused(c) => {
-            tell(answer, 0, 0, 0);
-            tables::number(c)
-        }
-    }
-}
-
-// What a run tells.
-fn tell_run(r: Ran, answer: &mut [u64]) -> u64
-    requires { ⌜ length (now answer) ≡ 3 ⌝ }
-    ensures { λ n. ⌜ (n ≡ runNumber r) × (now (answer .exit) ≡ runWords r) ⌝ }
-{
-    match r {
-        Ran::Nothing => {
-            tell(answer, 0, 0, 0);
-            0
-        }
-        Ran::Bad(step, place) => {
-            tell(answer, 1, step as u64, place as u64);
-            0
-        }
-        Ran::Refused(c) => {
-            tell(answer, 0, 0, 0);
-            tables::number(c)
-        }
-    }
-}
-
-// What a peek tells.
-fn tell_peek(r: Peeked, answer: &mut [u64]) -> u64
-    requires { ⌜ length (now answer) ≡ 3 ⌝ }
-    ensures { λ n. ⌜ (n ≡ peekNumber r) × (now (answer .exit) ≡ peekWords r) ⌝ }
-{
-    match r {
-        Peeked::Value(v) => {
-            tell(answer, v, 0, 0);
-            0
-        }
-        Peeked::Refused(c) => {
-            tell(answer, 0, 0, 0);
-            tables::number(c)
-        }
-    }
-}
 
 // Reads a text into a table. The answer's first word is the number of records, or the text line of a refusal.
 #[no_mangle]
@@ -151,12 +18,12 @@ pub extern "C" fn gofeshan_read(text: &[u8], table: &mut [u64], answer: &mut [u6
     ensures { λ _. ⌜ now (answer .exit) ≡ given (three (now (answer .entry))) (readWords (answerOf (readText (length (now (table .entry))) (now (text .entry))))) (zeros (now (answer .entry))) ⌝ }
     ensures { λ _. ⌜ now (table .exit) ≡ given (three (now (answer .entry))) (tableOf (length (now (table .entry))) (readText (length (now (table .entry))) (now (text .entry)))) (zeros (now (table .entry))) ⌝ }
 {
-    if !take(answer) {
+    if !answers::take(answer) {
         records::clear(table);
         return 1;
     }
-    let r = texts::read(text, table);
-    tell_read(r, answer)
+    let r = reading::read(text, table);
+    answers::tell_read(r, answer)
 }
 
 // Writes the first `count` records of a table as text. The answer's first word is the number of bytes.
@@ -171,12 +38,12 @@ pub extern "C" fn gofeshan_write(
     ensures { λ _. ⌜ now (answer .exit) ≡ given (three (now (answer .entry))) (writeWords (writeAnswer (writeTable (now (table .entry)) count (length (now (text .entry)))))) (zeros (now (answer .entry))) ⌝ }
     ensures { λ _. ⌜ now (text .exit) ≡ given (three (now (answer .entry))) (bufferOf (length (now (text .entry))) (writeTable (now (table .entry)) count (length (now (text .entry))))) (zeros (now (text .entry))) ⌝ }
 {
-    if !take(answer) {
-        check::clear(text);
+    if !answers::take(answer) {
+        bytes::clear(text);
         return 1;
     }
-    let r = texts::write(table, count, text);
-    tell_write(r, answer)
+    let r = writing::write(table, count, text);
+    answers::tell_write(r, answer)
 }
 
 // Flattens a circuit. The answer's first word is the number of records in the target.
@@ -191,12 +58,12 @@ pub extern "C" fn gofeshan_flatten(
     ensures { λ _. ⌜ now (answer .exit) ≡ given (three (now (answer .entry))) (flatWords (flattened (now (table .entry)) count (length (now (target .entry))))) (zeros (now (answer .entry))) ⌝ }
     ensures { λ _. ⌜ now (target .exit) ≡ given (three (now (answer .entry))) (flatLeft (now (table .entry)) count (length (now (target .entry)))) (zeros (now (target .entry))) ⌝ }
 {
-    if !take(answer) {
+    if !answers::take(answer) {
         records::clear(target);
         return 1;
     }
-    let r = flattening::flatten(table, count, target);
-    tell_flat(r, answer)
+    let r = flatten::flatten(table, count, target);
+    answers::tell_flat(r, answer)
 }
 
 // Translates a flat circuit into a program. The answer's first word is the number of records in the target.
@@ -211,12 +78,12 @@ pub extern "C" fn gofeshan_translate(
     ensures { λ _. ⌜ now (answer .exit) ≡ given (three (now (answer .entry))) (programWords (translated (now (table .entry)) count (length (now (target .entry))))) (zeros (now (answer .entry))) ⌝ }
     ensures { λ _. ⌜ now (target .exit) ≡ given (three (now (answer .entry))) (programLeft (now (table .entry)) count (length (now (target .entry)))) (zeros (now (target .entry))) ⌝ }
 {
-    if !take(answer) {
+    if !answers::take(answer) {
         records::clear(target);
         return 1;
     }
-    let r = programs::translate(table, count, target);
-    tell_program(r, answer)
+    let r = translating::translate(table, count, target);
+    answers::tell_program(r, answer)
 }
 
 // Runs a circuit. The answer is 1, the step and the place of the first counted bad, or three zeros.
@@ -236,13 +103,13 @@ pub extern "C" fn gofeshan_run_circuit(
     ensures { λ _. ⌜ now (signals .exit) ≡ given (three (now (answer .entry))) (signalsLeft false (now (table .entry)) count steps (now (starts .entry)) (now (inputs .entry)) (length (now (signals .entry))) (length (now (work .entry)))) (zeros (now (signals .entry))) ⌝ }
     ensures { λ _. ⌜ now (work .exit) ≡ zeros (now (work .entry)) ⌝ }
 {
-    if !take(answer) {
-        check::clear(signals);
+    if !answers::take(answer) {
+        bytes::clear(signals);
         records::clear(work);
         return 1;
     }
-    let r = circuits::run::run_circuit(table, count, steps, starts, inputs, signals, work);
-    tell_run(r, answer)
+    let r = runs::run_circuit(table, count, steps, starts, inputs, signals, work);
+    answers::tell_run(r, answer)
 }
 
 // Runs a program. The answer is 1, the step and the place of the first counted bad, or three zeros.
@@ -262,13 +129,13 @@ pub extern "C" fn gofeshan_run_program(
     ensures { λ _. ⌜ now (signals .exit) ≡ given (three (now (answer .entry))) (signalsLeft true (now (table .entry)) count steps (now (starts .entry)) (now (inputs .entry)) (length (now (signals .entry))) (length (now (work .entry)))) (zeros (now (signals .entry))) ⌝ }
     ensures { λ _. ⌜ now (work .exit) ≡ zeros (now (work .entry)) ⌝ }
 {
-    if !take(answer) {
-        check::clear(signals);
+    if !answers::take(answer) {
+        bytes::clear(signals);
         records::clear(work);
         return 1;
     }
-    let r = programs::run_program(table, count, steps, starts, inputs, signals, work);
-    tell_run(r, answer)
+    let r = runs::run_program(table, count, steps, starts, inputs, signals, work);
+    answers::tell_run(r, answer)
 }
 
 // The value of a line's cell at step 0, from start words and one row of inputs. The answer's first word is the value.
@@ -285,11 +152,11 @@ pub extern "C" fn gofeshan_peek(
     ensures { λ n. ⌜ n ≡ given (three (now (answer .entry))) (peekNumber (peeked (now (table .entry)) count line cell (now (starts .entry)) (now (row .entry)))) 1 ⌝ }
     ensures { λ _. ⌜ now (answer .exit) ≡ given (three (now (answer .entry))) (peekWords (peeked (now (table .entry)) count line cell (now (starts .entry)) (now (row .entry)))) (zeros (now (answer .entry))) ⌝ }
 {
-    if !take(answer) {
+    if !answers::take(answer) {
         return 1;
     }
-    let r = peeks::peek::peek(table, count, line, cell, starts, row);
-    tell_peek(r, answer)
+    let r = peeking::peek(table, count, line, cell, starts, row);
+    answers::tell_peek(r, answer)
 }
 
 // The name of the first line whose id is the given number: where it starts in the text, and its length; the length is 0 where it has none.
@@ -299,12 +166,12 @@ pub extern "C" fn gofeshan_name(text: &[u8], id: u64, answer: &mut [u64]) -> u64
     ensures { λ _. ⌜ (three (now (answer .entry)) ≡ true → Named (now (text .entry)) id (now (answer .exit))) ⌝ }
     ensures { λ _. ⌜ (three (now (answer .entry)) ≡ false → now (answer .exit) ≡ zeros (now (answer .entry))) ⌝ }
 {
-    if !take(answer) {
+    if !answers::take(answer) {
         return 1;
     }
     let p = naming::find(text, id);
     let from = p.from;
     let to = p.to;
-    tell(answer, from as u64, (to - from) as u64, 0);
+    answers::tell(answer, from as u64, (to - from) as u64, 0);
     0
 }

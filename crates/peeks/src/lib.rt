@@ -1,6 +1,4 @@
-// Peeks: one value of a circuit at step 0, without a work area.
-pub mod peek; // the value of a line's cell
-
+// Peeks: one value of a circuit at step 0. The code is in `peek_values`, `peek_cells` and `peeking`.
 use tables::Refusal;
 
 // What a peek answers: a value, or a refusal.

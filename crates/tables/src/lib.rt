@@ -1,15 +1,9 @@
-// Tables of records: what a line is, the rules for lines, and the check of a table.
-pub mod check; // the check of a table with its count
-pub mod kinds; // the constant table of kinds
-pub mod notes; // what a check keeps of each line
-pub mod records; // a record's words in a table
-pub mod rules; // the rules 8, 9 and 10
-pub mod types; // what is known of a line
+// Tables: what a record and a line are, the kinds, the rules, when a table is accepted, and the laws of these. The code is in `records`, `types`, `widths`, `rules` and `checks`.
 
-ghost use mathlib.Core.Path.{_≡_};
-ghost use Rattle.tables.specs.Refusals.{numberOf};
+// The words of a record.
+pub const WORDS: usize = 5;
 
-// Why an operation refuses; `number` has the numbers.
+// Why an operation refuses; `checks::number` has the numbers.
 pub enum Refusal {
     NotATable,
     TextTooLong,
@@ -45,33 +39,4 @@ pub struct Ty {
     pub cls: u8,
     pub iw: u8,
     pub w: u8,
-}
-
-// The number of a refusal.
-pub fn number(r: Refusal) -> u64
-    ensures { λ n. ⌜ n ≡ numberOf r ⌝ }
-{
-    match r {
-        Refusal::NotATable => 1,
-        Refusal::TextTooLong => 2,
-        Refusal::WrongId => 3,
-        Refusal::NoRecordLeft => 4,
-        Refusal::UnknownWord => 5,
-        Refusal::BadOperand => 6,
-        Refusal::NumberTooLarge => 7,
-        Refusal::WrongClass => 8,
-        Refusal::Misfit => 9,
-        Refusal::InitOrNext => 10,
-        Refusal::BadTable => 11,
-        Refusal::TargetTooSmall => 12,
-        Refusal::TooManySteps => 13,
-        Refusal::StartWords => 14,
-        Refusal::InputWords => 15,
-        Refusal::SignalBytes => 16,
-        Refusal::WorkArea => 17,
-        Refusal::NoSuchCell => 18,
-        Refusal::ArrayPresent => 19,
-        Refusal::BadProgram => 20,
-        Refusal::TextBuffer => 21,
-    }
 }

@@ -1,17 +1,17 @@
 -- The answer list first, then the operation. Assumes nothing.
 use mathlib.Core.Path.{sym, ap, _∙_}
 use borrow.Author.Tests.{not-true, not-false}
-use Rattle.exports.proofs.Told.{three-length, is-told, is-refused}
-use Rattle.exports.specs.Answers.{flatNumber, flatWords}
+use Rattle.answers.proofs.Told.{three-length, is-told, is-refused}
+use Rattle.answers.specs.Answers.{flatNumber, flatWords}
 use borrow.Author.Needs.{needs}
 use Rattle.exports.proofs.gofeshan_flatten.Statement.{statement}
 use Rattle.exports.proofs.gofeshan_flatten.Tie as tie
 use Rattle.exports.proofs.gofeshan_flatten.Reads as reads
 use Rattle.exports.proofs.gofeshan_flatten.Lts as lts
-use Rattle.exports.proofs.take.Reads as take-reads
-use Rattle.exports.proofs.tell_flat.Reads as tell-flat-reads
-use Rattle.flattening.proofs.flatten.Reads as flatten-reads
-use Rattle.tables.proofs.records.clear.Reads as clear-reads
+use Rattle.answers.proofs.take.Reads as take-reads
+use Rattle.answers.proofs.tell_flat.Reads as tell-flat-reads
+use Rattle.flatten.proofs.flatten.Reads as flatten-reads
+use Rattle.records.proofs.clear.Reads as clear-reads
 
 take-requires : tie.Need-take-requires
 take-requires c κs = search needs

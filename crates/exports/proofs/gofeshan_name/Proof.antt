@@ -1,15 +1,15 @@
 -- The answer list first, then the name's part. Assumes nothing.
 use mathlib.Core.Path.{sym, _∙_}
 use borrow.Author.Tests.{not-true, not-false}
-use Rattle.exports.proofs.Told.{three-length, is-told, is-refused, not-both, named}
+use Rattle.answers.proofs.Told.{three-length, is-told, is-refused, not-both, named}
 use borrow.Author.Needs.{needs}
 use Rattle.exports.proofs.gofeshan_name.Statement.{statement}
 use Rattle.exports.proofs.gofeshan_name.Tie as tie
 use Rattle.exports.proofs.gofeshan_name.Reads as reads
 use Rattle.exports.proofs.gofeshan_name.Lts as lts
-use Rattle.exports.proofs.take.Reads as take-reads
-use Rattle.exports.proofs.tell.Reads as tell-reads
-use Rattle.texts.proofs.naming.find.Reads as find-reads
+use Rattle.answers.proofs.take.Reads as take-reads
+use Rattle.answers.proofs.tell.Reads as tell-reads
+use Rattle.naming.proofs.find.Reads as find-reads
 
 take-requires : tie.Need-take-requires
 take-requires c κs = search needs

@@ -1,16 +1,16 @@
 -- The answer list first, then the peek. Assumes nothing.
 use mathlib.Core.Path.{sym, ap, _∙_}
 use borrow.Author.Tests.{not-true, not-false}
-use Rattle.exports.specs.Answers.{peekNumber, peekWords}
-use Rattle.exports.proofs.Told.{three-length, is-told, is-refused}
+use Rattle.answers.specs.Answers.{peekNumber, peekWords}
+use Rattle.answers.proofs.Told.{three-length, is-told, is-refused}
 use borrow.Author.Needs.{needs}
 use Rattle.exports.proofs.gofeshan_peek.Statement.{statement}
 use Rattle.exports.proofs.gofeshan_peek.Tie as tie
 use Rattle.exports.proofs.gofeshan_peek.Reads as reads
 use Rattle.exports.proofs.gofeshan_peek.Lts as lts
-use Rattle.peeks.proofs.peek.peek.Reads as peek-reads
-use Rattle.exports.proofs.take.Reads as take-reads
-use Rattle.exports.proofs.tell_peek.Reads as tell-peek-reads
+use Rattle.peeking.proofs.peek.Reads as peek-reads
+use Rattle.answers.proofs.take.Reads as take-reads
+use Rattle.answers.proofs.tell_peek.Reads as tell-peek-reads
 
 take-requires : tie.Need-take-requires
 take-requires c κs = search needs

@@ -1,17 +1,17 @@
 -- The answer list first, then reading. Assumes nothing.
 use mathlib.Core.Path.{sym, ap, _∙_}
 use borrow.Author.Tests.{not-true, not-false}
-use Rattle.exports.specs.Answers.{readNumber, readWords}
-use Rattle.exports.proofs.Told.{three-length, is-told, is-refused}
+use Rattle.answers.specs.Answers.{readNumber, readWords}
+use Rattle.answers.proofs.Told.{three-length, is-told, is-refused}
 use borrow.Author.Needs.{needs}
 use Rattle.exports.proofs.gofeshan_read.Statement.{statement}
 use Rattle.exports.proofs.gofeshan_read.Tie as tie
 use Rattle.exports.proofs.gofeshan_read.Reads as reads
 use Rattle.exports.proofs.gofeshan_read.Lts as lts
-use Rattle.exports.proofs.take.Reads as take-reads
-use Rattle.exports.proofs.tell_read.Reads as tell-read-reads
-use Rattle.tables.proofs.records.clear.Reads as clear-reads
-use Rattle.texts.proofs.read.Reads as read-reads
+use Rattle.answers.proofs.take.Reads as take-reads
+use Rattle.answers.proofs.tell_read.Reads as tell-read-reads
+use Rattle.records.proofs.clear.Reads as clear-reads
+use Rattle.reading.proofs.read.Reads as read-reads
 
 take-requires : tie.Need-take-requires
 take-requires c κs = search needs

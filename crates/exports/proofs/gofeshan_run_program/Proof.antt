@@ -1,18 +1,18 @@
 -- The answer list first, then the operation. Assumes nothing.
 use mathlib.Core.Path.{sym, ap, _∙_}
 use borrow.Author.Tests.{not-true, not-false}
-use Rattle.exports.proofs.Told.{three-length, is-told, is-refused}
-use Rattle.exports.specs.Answers.{runNumber, runWords}
+use Rattle.answers.proofs.Told.{three-length, is-told, is-refused}
+use Rattle.answers.specs.Answers.{runNumber, runWords}
 use borrow.Author.Needs.{needs}
 use Rattle.exports.proofs.gofeshan_run_program.Statement.{statement}
 use Rattle.exports.proofs.gofeshan_run_program.Tie as tie
 use Rattle.exports.proofs.gofeshan_run_program.Reads as reads
 use Rattle.exports.proofs.gofeshan_run_program.Lts as lts
-use Rattle.exports.proofs.take.Reads as take-reads
-use Rattle.exports.proofs.tell_run.Reads as tell-run-reads
-use Rattle.programs.proofs.run_program.Reads as run-program-reads
-use Rattle.tables.proofs.check.clear.Reads as check-clear-reads
-use Rattle.tables.proofs.records.clear.Reads as records-clear-reads
+use Rattle.answers.proofs.take.Reads as take-reads
+use Rattle.answers.proofs.tell_run.Reads as tell-run-reads
+use Rattle.runs.proofs.run_program.Reads as run-program-reads
+use Rattle.records.proofs.bytes.clear.Reads as check-clear-reads
+use Rattle.records.proofs.clear.Reads as records-clear-reads
 
 take-requires : tie.Need-take-requires
 take-requires c κs = search needs

@@ -1,17 +1,17 @@
 -- The answer list first, then the operation. Assumes nothing.
 use mathlib.Core.Path.{sym, ap, _∙_}
 use borrow.Author.Tests.{not-true, not-false}
-use Rattle.exports.proofs.Told.{three-length, is-told, is-refused}
-use Rattle.exports.specs.Answers.{programNumber, programWords}
+use Rattle.answers.proofs.Told.{three-length, is-told, is-refused}
+use Rattle.answers.specs.Answers.{programNumber, programWords}
 use borrow.Author.Needs.{needs}
 use Rattle.exports.proofs.gofeshan_translate.Statement.{statement}
 use Rattle.exports.proofs.gofeshan_translate.Tie as tie
 use Rattle.exports.proofs.gofeshan_translate.Reads as reads
 use Rattle.exports.proofs.gofeshan_translate.Lts as lts
-use Rattle.exports.proofs.take.Reads as take-reads
-use Rattle.exports.proofs.tell_program.Reads as tell-program-reads
-use Rattle.programs.proofs.translate.Reads as translate-reads
-use Rattle.tables.proofs.records.clear.Reads as clear-reads
+use Rattle.answers.proofs.take.Reads as take-reads
+use Rattle.answers.proofs.tell_program.Reads as tell-program-reads
+use Rattle.translating.proofs.translate.Reads as translate-reads
+use Rattle.records.proofs.clear.Reads as clear-reads
 
 take-requires : tie.Need-take-requires
 take-requires c κs = search needs

@@ -1,17 +1,17 @@
 -- The answer list first, then writing. Assumes nothing.
 use mathlib.Core.Path.{sym, ap, _∙_}
 use borrow.Author.Tests.{not-true, not-false}
-use Rattle.exports.specs.Answers.{writeNumber, writeWords}
-use Rattle.exports.proofs.Told.{three-length, is-told, is-refused}
+use Rattle.answers.specs.Answers.{writeNumber, writeWords}
+use Rattle.answers.proofs.Told.{three-length, is-told, is-refused}
 use borrow.Author.Needs.{needs}
 use Rattle.exports.proofs.gofeshan_write.Statement.{statement}
 use Rattle.exports.proofs.gofeshan_write.Tie as tie
 use Rattle.exports.proofs.gofeshan_write.Reads as reads
 use Rattle.exports.proofs.gofeshan_write.Lts as lts
-use Rattle.exports.proofs.take.Reads as take-reads
-use Rattle.exports.proofs.tell_write.Reads as tell-write-reads
-use Rattle.tables.proofs.check.clear.Reads as clear-reads
-use Rattle.texts.proofs.write.Reads as write-reads
+use Rattle.answers.proofs.take.Reads as take-reads
+use Rattle.answers.proofs.tell_write.Reads as tell-write-reads
+use Rattle.records.proofs.bytes.clear.Reads as clear-reads
+use Rattle.writing.proofs.write.Reads as write-reads
 
 take-requires : tie.Need-take-requires
 take-requires c κs = search needs

@@ -11,7 +11,7 @@ use Rattle.flat.proofs.print.Reads as reads
 use Rattle.flat.proofs.print.Lts as lts
 use Rattle.flat.proofs.refuse.Reads as refuse-reads
 use Rattle.io.proofs.write_all.Reads as write-all-reads
-use Rattle.texts.proofs.write.Reads as write-reads
+use Rattle.writing.proofs.write.Reads as write-reads
 
 slice-aggregate-write : tie.Need-slice-aggregate-write
 slice-aggregate-write c = search needs

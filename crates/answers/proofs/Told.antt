@@ -1,0 +1,41 @@
+-- Laws of answer lists. Assumes nothing.
+use Prim.{tt}
+use Prim.Native.Nat.{ℕ, _-_, _≤_}
+use native.Mathlib.Omega.{arith}
+use mathlib.Core.Path.{_≡_, refl, sym, ap, _∙_, subst}
+use mathlib.Core.Bool.{Bool, true, false}
+use mathlib.Core.List.{List, [], _∷_}
+use lib.Dec.{T}
+use lib.ListN.{length, set, take, drop, length-replicate}
+use borrow.Author.Tests.{eqb-true}
+use Rattle.texts.specs.Naming.{nameOf}
+use Rattle.answers.specs.Answers.{three, given, zeros, Named}
+
+-- three stores fill a list of three words
+pub stored : (xs : List ℕ) (a b c : ℕ) → length xs ≡ 3 → set (set (set xs 0 a) 1 b) 2 c ≡ a ∷ b ∷ c ∷ []
+stored [] a b c n = absurd (omega arith)
+stored (x ∷ []) a b c n = absurd (omega arith)
+stored (x ∷ y ∷ []) a b c n = absurd (omega arith)
+stored (x ∷ y ∷ z ∷ []) a b c n = refl
+stored (x ∷ y ∷ z ∷ u ∷ v) a b c n = absurd (omega arith)
+
+-- a list of zeros is as long as the list it took the place of
+pub zeros-length : (xs ys : List ℕ) → ys ≡ zeros xs → length ys ≡ length xs
+zeros-length xs ys e = ap length e ∙ length-replicate {A = ℕ} (length xs) 0
+
+pub three-length : (xs ys : List ℕ) → three xs ≡ true → ys ≡ zeros xs → length ys ≡ 3
+three-length xs ys t e = zeros-length xs ys e ∙ eqb-true (length xs) 3 t
+
+-- what is told with an answer list, and without
+pub is-told : {A : Type 0} {b : Bool} (told refused : A) → b ≡ true → told ≡ given b told refused
+is-told told refused e = ap (λ (b : Bool). given b told refused) (sym e)
+
+pub is-refused : {A : Type 0} {b : Bool} (told refused : A) → b ≡ false → refused ≡ given b told refused
+is-refused told refused e = ap (λ (b : Bool). given b told refused) (sym e)
+
+pub not-both : {A : Type 0} {b : Bool} → b ≡ true → b ≡ false → A
+not-both t f = absurd (subst T (sym t ∙ f) tt)
+
+-- a part of the text that is the name, as a start and a length
+pub named : (text : List ℕ) (id from to : ℕ) (answer : List ℕ) → from ≤ to → to ≤ length text → take (to - from) (drop from text) ≡ nameOf text id → answer ≡ from ∷ (to - from) ∷ 0 ∷ [] → Named text id answer
+named text id from to answer l m n e = subst (Named text id) (sym e) (record { three-words = refl; inside = omega arith; name = n; unused = refl })

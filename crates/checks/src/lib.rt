@@ -1,0 +1,232 @@
+// The check of a table with its count: a circuit's (1, 11) and a program's (1, 20).
+use records::kinds;
+use records::notes;
+use records::notes::BYTES;
+use tables::Checked;
+use tables::Refusal;
+use tables::Ty;
+use tables::WORDS;
+ghost use mathlib.Core.Path.{_≡_};
+ghost use mathlib.Core.Bool.{true};
+ghost use Prim.Native.Nat.{_≤_, _*_, _<_};
+ghost use lib.ListN.{length};
+ghost use Rattle.tables.specs.Tables.{known as knownOf, unused as unusedOf, tidy as tidyOf, keeps, lawful, checked, broken};
+ghost use Rattle.tables.specs.Pick.{all};
+ghost use Rattle.tables.specs.Lines.{lineOf, kindIn, firstIn, records, decode, counted};
+ghost use Rattle.tables.specs.Types.{recordType, noCtx, context};
+ghost use Rattle.tables.specs.Notes.{lookIn, noted, givenIn, Shows, Fresh};
+ghost use Rattle.tables.specs.Kinds.{rows};
+ghost use Rattle.tables.specs.Refusals.{numberOf};
+
+// The kind is one of a circuit, or of a program.
+pub fn known(program: bool, k: u64) -> bool
+    ensures { λ r. ⌜ r ≡ knownOf program k ⌝ }
+{
+    if !program {
+        if k < 1 {
+            return false;
+        }
+        return k <= 55;
+    }
+    if k == 56 {
+        return true;
+    }
+    if k < 3 {
+        return false;
+    }
+    k <= 53
+}
+
+// A place that the line does not have holds 0.
+pub fn unused(k: u8, x: u64) -> bool
+    ensures { λ r. ⌜ r ≡ unusedOf k x ⌝ }
+{
+    if k != 0 {
+        return true;
+    }
+    x == 0
+}
+
+// The places that the row lacks hold 0.
+pub fn tidy(row: [u8; 16], rec: [u64; WORDS]) -> bool
+    ensures { λ r. ⌜ r ≡ all (tidyOf row rec) ⌝ }
+{
+    if !unused(row[11], rec[1]) {
+        return false;
+    }
+    if !unused(row[13], rec[2]) {
+        return false;
+    }
+    if !unused(row[14], rec[3]) {
+        return false;
+    }
+    unused(row[15], rec[4])
+}
+
+// The type of a record that keeps the rules, after the lines noted.
+fn type_in(program: bool, rec: [u64; WORDS], notes: &[[u8; BYTES]]) -> Ty
+    requires { ⌜ (kindIn rec ≡ 1 → firstIn rec ≤ 64) ⌝ }
+    ensures { λ r. ⌜ r ≡ recordType program (lookIn (now (notes .entry))) rec (lineOf rec) ⌝ }
+{
+    let t = types::sort_at(program, notes, rec[1]);
+    let a = notes::look(notes, rec[2]);
+    let b = notes::look(notes, rec[3]);
+    let c = notes::look(notes, rec[4]);
+    types::type_of(rec, t, a, b, c)
+}
+
+// The line n, whose record keeps the rules, is noted.
+pub fn note(program: bool, rec: [u64; WORDS], n: u64, notes: &mut [[u8; BYTES]])
+    requires { ⌜ (kindIn rec ≡ 1 → firstIn rec ≤ 64) ⌝ }
+    ensures { λ _. ⌜ now (notes .exit) ≡ noted program rec n (now (notes .entry)) ⌝ }
+{
+    let y = type_in(program, rec, notes);
+    notes::put_type(notes, n, y);
+    notes::mark(true, 6, rec, notes);
+    notes::mark(false, 7, rec, notes);
+}
+
+// The record breaks no rule after the lines noted.
+fn keeps_rules(
+    program: bool,
+    kinds: &[[u8; 16]; 55],
+    rec: [u64; WORDS],
+    notes: &[[u8; BYTES]],
+) -> bool
+    requires { ⌜ now kinds ≡ rows ⌝ }
+    ensures { λ r. ⌜ r ≡ keeps program (lookIn (now (notes .entry))) (givenIn (now (notes .entry))) rec ⌝ }
+{
+    let k = rec[0];
+    if !known(program, k) {
+        return false;
+    }
+    let row = kinds::row_of(kinds, k);
+    if !tidy(row, rec) {
+        return false;
+    }
+    rules::fault(program, row, rec, notes) == 0
+}
+
+// The record of the line n breaks no rule after the lines noted; then it is noted too.
+fn take_record(
+    program: bool,
+    kinds: &[[u8; 16]; 55],
+    rec: [u64; WORDS],
+    n: u64,
+    notes: &mut [[u8; BYTES]],
+) -> bool
+    requires { ⌜ now kinds ≡ rows ⌝ }
+    ensures { λ r. ⌜ (r ≡ keeps program (lookIn (now (notes .entry))) (givenIn (now (notes .entry))) rec) × (r ≡ true → now (notes .exit) ≡ noted program rec n (now (notes .entry))) ⌝ }
+{
+    if !keeps_rules(program, kinds, rec, notes) {
+        return false;
+    }
+    note(program, rec, n, notes);
+    true
+}
+
+// Every record breaks no rule, after those before it; then all are noted.
+fn lines(
+    program: bool,
+    kinds: &[[u8; 16]; 55],
+    table: &[u64],
+    count: usize,
+    notes: &mut [[u8; BYTES]],
+) -> bool
+    requires { ⌜ (now kinds ≡ rows) × ((count ≤ 16384) × ((5 * count ≤ length (now table)) × ((count < length (now notes)) × Shows (now notes) noCtx))) ⌝ }
+    ensures { λ r. ⌜ (r ≡ lawful program noCtx (records (counted (now (table .entry)) count))) × (r ≡ true → Shows (now (notes .exit)) (context program (decode (counted (now (table .entry)) count)))) ⌝ }
+{
+    let mut i: usize = 0;
+    while i < count {
+        let rec = records::record(table, i);
+        if !take_record(program, kinds, rec, (i + 1) as u64, notes) {
+            return false;
+        }
+        i += 1;
+    }
+    true
+}
+
+// The check of a table with its count. Where it is accepted the notes, blank before, hold its context.
+pub fn check(program: bool, table: &[u64], count: usize, notes: &mut [[u8; BYTES]]) -> Checked
+    requires { ⌜ Fresh count (now notes) ⌝ }
+    ensures { λ r. ⌜ (r ≡ checked program (now (table .entry)) count) × (r ≡ Checked.Accepted → Shows (now (notes .exit)) (context program (decode (counted (now (table .entry)) count)))) ⌝ }
+{
+    if !records::is_table(table.len()) {
+        return Checked::Refused(Refusal::NotATable);
+    }
+    if records::room_of(table.len()) < count {
+        return refused(program);
+    }
+    let kinds = kinds::all();
+    if !lines(program, &kinds, table, count, notes) {
+        return refused(program);
+    }
+    Checked::Accepted
+}
+
+// The answer of the check alone. A small table takes a small list, which is sooner blank.
+pub fn accept(program: bool, table: &[u64], count: usize) -> Checked
+    ensures { λ r. ⌜ r ≡ checked program (now (table .entry)) count ⌝ }
+{
+    if count < 512 {
+        return accept_few(program, table, count);
+    }
+    accept_many(program, table, count)
+}
+
+// At most 511 records.
+fn accept_few(program: bool, table: &[u64], count: usize) -> Checked
+    requires { ⌜ count < 512 ⌝ }
+    ensures { λ r. ⌜ r ≡ checked program (now (table .entry)) count ⌝ }
+{
+    let mut notes = [[0u8; BYTES]; 512];
+    check(program, table, count, &mut notes)
+}
+
+// As many as a table may have.
+fn accept_many(program: bool, table: &[u64], count: usize) -> Checked
+    ensures { λ r. ⌜ r ≡ checked program (now (table .entry)) count ⌝ }
+{
+    let mut notes = [[0u8; BYTES]; 16385];
+    check(program, table, count, &mut notes)
+}
+
+// 11, for a program 20.
+fn refused(program: bool) -> Checked
+    ensures { λ r. ⌜ r ≡ Checked.Refused (broken program) ⌝ }
+{
+    if program {
+        return Checked::Refused(Refusal::BadProgram);
+    }
+    Checked::Refused(Refusal::BadTable)
+}
+
+// The number of a refusal.
+pub fn number(r: Refusal) -> u64
+    ensures { λ n. ⌜ n ≡ numberOf r ⌝ }
+{
+    match r {
+        Refusal::NotATable => 1,
+        Refusal::TextTooLong => 2,
+        Refusal::WrongId => 3,
+        Refusal::NoRecordLeft => 4,
+        Refusal::UnknownWord => 5,
+        Refusal::BadOperand => 6,
+        Refusal::NumberTooLarge => 7,
+        Refusal::WrongClass => 8,
+        Refusal::Misfit => 9,
+        Refusal::InitOrNext => 10,
+        Refusal::BadTable => 11,
+        Refusal::TargetTooSmall => 12,
+        Refusal::TooManySteps => 13,
+        Refusal::StartWords => 14,
+        Refusal::InputWords => 15,
+        Refusal::SignalBytes => 16,
+        Refusal::WorkArea => 17,
+        Refusal::NoSuchCell => 18,
+        Refusal::ArrayPresent => 19,
+        Refusal::BadProgram => 20,
+        Refusal::TextBuffer => 21,
+    }
+}

@@ -1,0 +1,207 @@
+// Lines of a step that have a value and are no states: their cells go to their runs of the work area.
+use area::LAID;
+ghost use mathlib.Core.Path.{_≡_};
+ghost use mathlib.Core.Bool.{not, _||_};
+ghost use mathlib.Core.List.{[], _∷_};
+ghost use lib.ListN.{length, getD, set};
+ghost use Rattle.circuits.specs.Meaning.{opWord, inputWord};
+ghost use Rattle.circuits.specs.Model.{FitWord, Word, offIn, FitInput, posIn, widIn, wordIn, FitOne, FitTwo, runIn, FitCmp, FitRead, Run, FitIte, FitWrite};
+ghost use Rattle.words.specs.Word.{Width, bit};
+ghost use Rattle.circuits.specs.Cells.{say, put, same, choose};
+
+// A word operator, of a program or of a circuit.
+pub fn word(program: bool, k: u64, w: u64, u: u64, v: u64, a: u64, b: u64, c: u64) -> u64
+    requires { ⌜ FitWord program k w u v a b c ⌝ }
+    ensures { λ r. ⌜ r ≡ opWord program k u v a b c ⌝ }
+{
+    if program {
+        return operators::prog_word(k, u, v, a, b, c);
+    }
+    operators::circ_word(k, w, u, v, a, b, c)
+}
+
+// An input: modulo 2^w, in a program as it stands.
+fn input_word(program: bool, w: u64, x: u64) -> u64
+    requires { ⌜ Width w ⌝ }
+    ensures { λ r. ⌜ r ≡ inputWord program w x ⌝ }
+{
+    if program {
+        return x;
+    }
+    operators::low(w, x)
+}
+
+// What eq (true) and neq say of values that are the same, or not.
+pub fn says(e: bool, r: bool) -> u64
+    ensures { λ v. ⌜ v ≡ bit (say e r) ⌝ }
+{
+    if e {
+        if r { 1 } else { 0 }
+    } else {
+        if r { 0 } else { 1 }
+    }
+}
+
+// State words are masked: start words, and a circuit's at every step.
+pub fn masks(program: bool, first: bool) -> bool
+    ensures { λ r. ⌜ r ≡ (first || not program) ⌝ }
+{
+    if first {
+        return true;
+    }
+    !program
+}
+
+pub fn line_const(a: u64, n: usize, laid: &[[u32; LAID]; 16385], work: &mut [u64])
+    requires { ⌜ Word (now laid) (length (now work)) n ⌝ }
+    ensures { λ _. ⌜ now (work .exit) ≡ put (now (work .entry)) (offIn (now (laid .entry)) n) (a ∷ []) ⌝ }
+{
+    let o = area::off(laid, n);
+    work[o] = a;
+}
+
+pub fn line_input(
+    program: bool,
+    n: usize,
+    laid: &[[u32; LAID]; 16385],
+    row: &[u64],
+    work: &mut [u64],
+)
+    requires { ⌜ FitInput (now laid) (length (now work)) (length (now row)) n ⌝ }
+    ensures { λ _. ⌜ now (work .exit) ≡ put (now (work .entry)) (offIn (now (laid .entry)) n) (inputWord program (widIn (now (laid .entry)) n) (getD (now (row .entry)) (posIn (now (laid .entry)) n) 0) ∷ []) ⌝ }
+{
+    let o = area::off(laid, n);
+    let p = area::place(laid, n);
+    let v = row[p];
+    work[o] = input_word(program, area::width(laid, n), v);
+}
+
+pub fn line_one(
+    program: bool,
+    k: u64,
+    a: usize,
+    x: u64,
+    y: u64,
+    n: usize,
+    laid: &[[u32; LAID]; 16385],
+    work: &mut [u64],
+)
+    requires { ⌜ Word (now laid) (length (now work)) n × FitOne program (now laid) (now work) n k a x y ⌝ }
+    ensures { λ _. ⌜ now (work .exit) ≡ put (now (work .entry)) (offIn (now (laid .entry)) n) (opWord program k (widIn (now (laid .entry)) a) 64 (wordIn (now (laid .entry)) (now (work .entry)) a) x y ∷ []) ⌝ }
+{
+    let o = area::off(laid, n);
+    let p = area::off(laid, a);
+    let v = work[p];
+    work[o] = word(
+        program,
+        k,
+        area::width(laid, n),
+        area::width(laid, a),
+        64,
+        v,
+        x,
+        y,
+    );
+}
+
+pub fn line_two(
+    program: bool,
+    k: u64,
+    a: usize,
+    b: usize,
+    n: usize,
+    laid: &[[u32; LAID]; 16385],
+    work: &mut [u64],
+)
+    requires { ⌜ Word (now laid) (length (now work)) n × FitTwo program (now laid) (now work) n k a b ⌝ }
+    ensures { λ _. ⌜ now (work .exit) ≡ put (now (work .entry)) (offIn (now (laid .entry)) n) (opWord program k (widIn (now (laid .entry)) a) (widIn (now (laid .entry)) b) (wordIn (now (laid .entry)) (now (work .entry)) a) (wordIn (now (laid .entry)) (now (work .entry)) b) 0 ∷ []) ⌝ }
+{
+    let o = area::off(laid, n);
+    let p = area::off(laid, a);
+    let v = work[p];
+    let q = area::off(laid, b);
+    let y = work[q];
+    work[o] = word(
+        program,
+        k,
+        area::width(laid, n),
+        area::width(laid, a),
+        area::width(laid, b),
+        v,
+        y,
+        0,
+    );
+}
+
+pub fn line_cmp(
+    e: bool,
+    a: usize,
+    b: usize,
+    n: usize,
+    laid: &[[u32; LAID]; 16385],
+    work: &mut [u64],
+)
+    requires { ⌜ Word (now laid) (length (now work)) n × FitCmp (now laid) n a b ⌝ }
+    ensures { λ _. ⌜ now (work .exit) ≡ put (now (work .entry)) (offIn (now (laid .entry)) n) (bit (say e (same (runIn (now (laid .entry)) (now (work .entry)) a) (runIn (now (laid .entry)) (now (work .entry)) b))) ∷ []) ⌝ }
+{
+    let o = area::off(laid, n);
+    let x = area::off(laid, a);
+    let y = area::off(laid, b);
+    let m = area::cells(laid, a);
+    let r = area::alike(work, x, y, m);
+    work[o] = says(e, r);
+}
+
+pub fn line_read(a: usize, i: usize, n: usize, laid: &[[u32; LAID]; 16385], work: &mut [u64])
+    requires { ⌜ Word (now laid) (length (now work)) n × FitRead (now laid) (now work) n a i ⌝ }
+    ensures { λ _. ⌜ now (work .exit) ≡ put (now (work .entry)) (offIn (now (laid .entry)) n) (getD (runIn (now (laid .entry)) (now (work .entry)) a) (wordIn (now (laid .entry)) (now (work .entry)) i) 0 ∷ []) ⌝ }
+{
+    let o = area::off(laid, n);
+    let p = area::off(laid, i);
+    let v = work[p] as usize;
+    let q = area::off(laid, a);
+    let y = work[q + v];
+    work[o] = y;
+}
+
+pub fn line_ite(
+    c: usize,
+    a: usize,
+    b: usize,
+    n: usize,
+    laid: &[[u32; LAID]; 16385],
+    work: &mut [u64],
+)
+    requires { ⌜ Run (now laid) (length (now work)) n × FitIte (now laid) n c a b ⌝ }
+    ensures { λ _. ⌜ now (work .exit) ≡ put (now (work .entry)) (offIn (now (laid .entry)) n) (choose (wordIn (now (laid .entry)) (now (work .entry)) c) (runIn (now (laid .entry)) (now (work .entry)) a) (runIn (now (laid .entry)) (now (work .entry)) b)) ⌝ }
+{
+    let o = area::off(laid, n);
+    let m = area::cells(laid, n);
+    let p = area::off(laid, c);
+    if work[p] != 0 {
+        area::raise(work, area::off(laid, a), o, m);
+    } else {
+        area::raise(work, area::off(laid, b), o, m);
+    }
+}
+
+pub fn line_write(
+    a: usize,
+    i: usize,
+    v: usize,
+    n: usize,
+    laid: &[[u32; LAID]; 16385],
+    work: &mut [u64],
+)
+    requires { ⌜ Run (now laid) (length (now work)) n × FitWrite (now laid) (now work) n a i v ⌝ }
+    ensures { λ _. ⌜ now (work .exit) ≡ put (now (work .entry)) (offIn (now (laid .entry)) n) (set (runIn (now (laid .entry)) (now (work .entry)) a) (wordIn (now (laid .entry)) (now (work .entry)) i) (wordIn (now (laid .entry)) (now (work .entry)) v)) ⌝ }
+{
+    let o = area::off(laid, n);
+    let m = area::cells(laid, n);
+    let p = area::off(laid, i);
+    let j = work[p] as usize;
+    let q = area::off(laid, v);
+    let x = work[q];
+    area::raise(work, area::off(laid, a), o, m);
+    area::store_run(work, o, m, j, x);
+}

@@ -1,0 +1,55 @@
+-- A record and a row. Assumes nothing.
+use Prim.Native.Nat.{_+_, _-_}
+use mathlib.Core.Path.{refl, ap, _∙_, subst⁻¹}
+use native.Mathlib.Omega.{arith}
+use lib.ListN.{length}
+use Rattle.tables.specs.Lines.{fields, recorded, span}
+use Rattle.circuits.specs.Cells.{put}
+use Rattle.flattening.specs.Model.{Tame, words, rowAt}
+use Rattle.flattening.specs.Making.{run, still}
+use Rattle.flattening.proofs.Placing.{record-then, recorded-length, tame-run}
+use borrow.Author.Needs.{needs}
+use Rattle.flat_cells.proofs.making.array_lines.Statement.{statement}
+use Rattle.flat_cells.proofs.making.array_lines.Tie as tie
+use Rattle.flat_cells.proofs.making.array_lines.Reads as reads
+use Rattle.flat_cells.proofs.making.array_lines.Lts as lts
+use Rattle.flat_cells.proofs.making.run.Reads as run-reads
+use Rattle.flat_cells.proofs.rows.rows.Reads as rows-reads
+use Rattle.records.proofs.put.Reads as put-reads
+
+of-requires : tie.Need-of-requires
+of-requires c κs = tt
+
+put-requires : tie.Need-put-requires
+put-requires c κs = search needs
+
+run-requires : tie.Need-run-requires
+run-requires c κs = tt
+
+add-rows : tie.Need-add-rows
+add-rows c = search needs
+
+run-requires-2 : tie.Need-run-requires-2
+run-requires-2 c κs = tt
+
+rows-requires : tie.Need-rows-requires
+rows-requires c κs = let a = c .before .before .before .before .before .before .before .before .before .args in let l = ap length (c .before .before .before .before .before .put .ensures) ∙ recorded-length (a .target .now) (a .p) (c .before .before .before .before .before .before .of .result) (ap length (c .before .before .before .before .before .before .of .ensures)) (omega (arith, c .before .before .before .before .before .before .before .before .before .pre .1 .1)) in (c .before .before .before .before .before .before .before .before .before .pre .0, (subst⁻¹ Tame (c .run2 .ensures) (tame-run 0 1 (omega arith) (omega arith)), (subst⁻¹ Tame (c .before .before .run .ensures) (tame-run 0 0 (omega arith) (omega arith)), (subst⁻¹ Tame (c .before .before .run .ensures) (tame-run 0 0 (omega arith) (omega arith)), (c .before .before .before .before .before .before .before .before .before .pre .1 .0, omega (arith, l, c .before .before .before .before .before .before .before .before .before .pre .1 .1))))))
+
+same-length : tie.Need-same-length
+same-length c = c .before .before .rows .kept .1 .0 ∙ c .before .before .before .before .before .before .before .before .put .kept .0
+
+returns : tie.Need-returns
+returns c = let a = c .before .before .before .before .before .before .before .before .before .before .before .before .args in let H = a .kept .now in let W = words (a .n) (rowAt H 3 (a .s) (run 0 1) (still 0) (still 0)) in c .before .before .rows .ensures ∙ (λ i. put ((c .before .before .before .before .before .before .before .before .put .ensures ∙ ap (recorded (a .target .now) (a .p)) (c .before .before .before .before .before .before .before .before .before .of .ensures)) i) (span (a .p + 1)) (words (a .n) (rowAt H 3 (a .s) (c .before .before .before .run2 .ensures i) (c .before .before .before .before .before .run .ensures i) (c .before .before .before .before .before .run .ensures i)))) ∙ record-then (a .target .now) (a .p) (fields 1 0 1 0 0) W refl (omega (arith, c .before .before .before .before .before .before .before .before .before .before .before .before .pre .1 .1))
+
+pub array-lines-spec : {M : Type 1} → statement M
+array-lines-spec =
+    tie.close
+    (tie.spec
+    of-requires
+    put-requires
+    run-requires
+    add-rows
+    run-requires-2
+    rows-requires
+    same-length
+    returns)

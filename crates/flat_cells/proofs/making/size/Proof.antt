@@ -1,0 +1,25 @@
+-- The power of the line's index width. Assumes nothing.
+use Prim.Native.Nat.{_^_, _≤_}
+use mathlib.Core.Path.{ap, _∙_, subst⁻¹}
+use Rattle.tables.specs.declared.Ty.{Ty}
+use Rattle.flat_cells.proofs.making.size.Statement.{statement}
+use Rattle.flat_cells.proofs.making.size.Tie as tie
+use Rattle.flat_cells.proofs.making.size.Reads as reads
+use Rattle.flat_cells.proofs.making.size.Lts as lts
+use Rattle.flat_cells.proofs.making.power.Reads as power-reads
+use Rattle.records.proofs.notes.look.Reads as look-reads
+
+look-requires : tie.Need-look-requires
+look-requires c κs = tt
+
+power-requires : tie.Need-power-requires
+power-requires c κs = subst⁻¹ (λ (y : Ty). y .iw ≤ 8) (c .look .ensures) (c .before .pre)
+
+returns : tie.Need-returns
+returns c = c .power .ensures ∙ ap (λ (y : Ty). 2 ^ (y .iw)) (c .before .look .ensures)
+
+pub size-spec : {M : Type 1} → statement M
+size-spec = tie.close (tie.spec
+    look-requires
+    power-requires
+    returns)

@@ -1,0 +1,108 @@
+-- The records passed are those of the pairs. Assumes nothing.
+use borrow.Author.Needs.{needs}
+use Prim.Native.Nat.{ℕ, _+_, _-_, _*_, _≤_}
+use mathlib.Core.Path.{_≡_, refl, ap, ap₂, _∙_}
+use mathlib.Core.List.{List}
+use native.Mathlib.Omega.{arith}
+use lib.ListN.{length}
+use Rattle.tables.specs.Lines.{recorded, span}
+use Rattle.circuits.specs.Cells.{put}
+use Rattle.flattening.specs.Model.{words, pairAt}
+use Rattle.flattening.proofs.Placing.{rows-none, pairs-length, pair-more}
+use Rattle.flat_cells.proofs.rows.pairs.Statement.{statement}
+use Rattle.flat_cells.proofs.rows.pairs.Tie as tie
+use Rattle.flat_cells.proofs.rows.pairs.Reads as reads
+use Rattle.flat_cells.proofs.rows.pairs.Lts as lts
+use Rattle.flat_cells.proofs.cells.source.Reads as source-reads
+use Rattle.records.proofs.put.Reads as put-reads
+
+abbrev Inv-loop : tie.InvT-loop
+Inv-loop kept target₀ p n o i s c x y j₀ target j = (j ≤ n) × ((length target ≡ length target₀) × (target ≡ put target₀ (span p) (words j (pairAt kept p o i s c x y))))
+
+abbrev μ-loop : tie.MeasureT-loop
+μ-loop kept target₀ p n o i s c x y j₀ target j = n - j
+
+loop-holds : tie.Need-loop-holds Inv-loop μ-loop
+loop-holds c = let a = c .before .args in (search needs, (refl, rows-none (a .target .now) (a .p) (pairAt (a .kept .now) (a .p) (a .o) (a .i) (a .s) (a .c) (a .x) (a .y))))
+
+mul-q : tie.Need-mul-q Inv-loop μ-loop
+mul-q c = search needs
+
+add-q : tie.Need-add-q Inv-loop μ-loop
+add-q c = search needs
+
+source-requires : tie.Need-source-requires Inv-loop μ-loop
+source-requires c κs = (c .before .before .before .pre .0, (c .before .before .before .pre .1 .0, omega (arith, c .before .before .before .pre .1 .1 .1 .1 .0)))
+
+of-requires : tie.Need-of-requires Inv-loop μ-loop
+of-requires c κs = tt
+
+add-of : tie.Need-add-of Inv-loop μ-loop
+add-of c = search needs
+
+source-requires-2 : tie.Need-source-requires-2 Inv-loop μ-loop
+source-requires-2 c κs = (c .before .before .before .before .before .pre .0, (c .before .before .before .before .before .pre .1 .1 .0, omega (arith, c .before .before .before .before .before .pre .1 .1 .1 .1 .0)))
+
+source-requires-3 : tie.Need-source-requires-3 Inv-loop μ-loop
+source-requires-3 c κs = (c .before .before .before .before .before .before .pre .0, (c .before .before .before .before .before .before .pre .1 .1 .1 .0, omega (arith, c .before .before .before .before .before .before .pre .1 .1 .1 .1 .0)))
+
+of-requires-2 : tie.Need-of-requires-2 Inv-loop μ-loop
+of-requires-2 c κs = tt
+
+put-requires : tie.Need-put-requires Inv-loop μ-loop
+put-requires c κs = search needs
+
+add-put : tie.Need-add-put Inv-loop μ-loop
+add-put c = search needs
+
+put-requires-2 : tie.Need-put-requires-2 Inv-loop μ-loop
+put-requires-2 c κs = search needs
+
+add-j : tie.Need-add-j Inv-loop μ-loop
+add-j c = search needs
+
+loop-less : tie.Need-loop-less Inv-loop μ-loop
+loop-less c = search needs
+
+loop-again : tie.Need-loop-again Inv-loop μ-loop
+loop-again c = let a = c .before .before .before .before .before .before .before .before .before .before .before .before .before .before .before .before .args in
+    let H = a .kept .now in
+    let j = c .before .before .before .before .before .before .before .before .before .before .before .before .before .before .loop .j in
+    let q = a .p + 2 * j in
+    let e =
+    c .before .before .put2 .ensures
+    ∙ ap₂ (λ (t r : List ℕ). recorded t (q + 1) r) (c .before .before .before .before .before .before .put .ensures ∙ ap₂ (λ (t r : List ℕ). recorded t q r) (c .before .before .before .before .before .before .before .before .before .before .before .before .before .before .loop .inv .1 .1) (c .before .before .before .before .before .before .before .before .before .before .before .of .ensures)) (c .before .before .before .before .before .before .before .before .of2 .ensures)
+    ∙ pair-more (a .target .now) (a .p) j H (a .o) (a .i) (a .s) (a .c) (a .x) (a .y) (c .before .before .before .before .before .before .before .before .before .before .before .before .source .result) (c .before .before .before .before .before .before .before .before .before .before .source2 .result) (c .before .before .before .before .before .before .before .before .before .source3 .result) (omega (arith, c .before .before .before .before .before .before .before .before .before .before .before .before .before .before .before .before .pre .1 .1 .1 .1 .1 .1)) (c .before .before .before .before .before .before .before .before .before .before .before .before .source .ensures) (c .before .before .before .before .before .before .before .before .before .before .source2 .ensures) (c .before .before .before .before .before .before .before .before .before .source3 .ensures) in
+    (omega arith, (ap length e ∙ pairs-length (a .target .now) (a .p) (a .n) (j + 1) H (a .o) (a .i) (a .s) (a .c) (a .x) (a .y) (c .before .before .before .before .before .before .before .before .before .before .before .before .before .before .before .before .pre .1 .1 .1 .1 .1 .1) (omega arith), e))
+
+same-length : tie.Need-same-length Inv-loop μ-loop
+same-length c = search needs
+
+returns : tie.Need-returns Inv-loop μ-loop
+returns c = let a = c .before .before .before .args in
+    let q : c .before .loop .j ≡ a .n = omega arith in
+    c .before .loop .inv .1 .1 ∙ ap (λ (m : ℕ). put (a .target .now) (span (a .p)) (words m (pairAt (a .kept .now) (a .p) (a .o) (a .i) (a .s) (a .c) (a .x) (a .y)))) q
+
+pub pairs-spec : {M : Type 1} → statement M
+pairs-spec =
+    tie.close
+    (tie.spec
+    Inv-loop
+    μ-loop
+    loop-holds
+    mul-q
+    add-q
+    source-requires
+    of-requires
+    add-of
+    source-requires-2
+    source-requires-3
+    of-requires-2
+    put-requires
+    add-put
+    put-requires-2
+    add-j
+    loop-less
+    loop-again
+    same-length
+    returns)

@@ -1,0 +1,60 @@
+// The flat line of a cell.
+use flattening::Source;
+ghost use mathlib.Core.Path.{_≡_};
+ghost use Prim.Native.Nat.{_<_};
+ghost use Rattle.flattening.specs.Model.{keptOf, cellIn, Sound, turnAt, sourceAt, Tame};
+
+// The numbers kept of a line.
+pub const KEPT: usize = 5;
+
+// The number k of what is kept of the line a; 0 past the end.
+pub fn entry(kept: &[[u64; KEPT]], k: usize, a: u64) -> u64
+    requires { ⌜ k < 5 ⌝ }
+    ensures { λ r. ⌜ r ≡ keptOf (now (kept .entry)) k a ⌝ }
+{
+    if a < kept.len() as u64 {
+        let i = a as usize;
+        return kept[i][k];
+    }
+    0
+}
+
+// The flat line of the cell j of the line a.
+pub fn cell(kept: &[[u64; KEPT]], a: u64, j: u64) -> u64
+    requires { ⌜ Sound (now kept) × (j < 256) ⌝ }
+    ensures { λ r. ⌜ r ≡ cellIn (now (kept .entry)) a j ⌝ }
+{
+    let mut m = a;
+    while entry(kept, 2, m) != 0 {
+        if entry(kept, 3, m) == j {
+            return entry(kept, 0, m);
+        }
+        m = entry(kept, 2, m);
+    }
+    entry(kept, 0, m) + entry(kept, 3, m) * j
+}
+
+// The place of the word j of a source.
+pub fn turn(s: Source, j: u64) -> u64
+    ensures { λ r. ⌜ r ≡ turnAt s j ⌝ }
+{
+    if !s.falling {
+        return j;
+    }
+    if s.top < j {
+        return 0;
+    }
+    s.top - j
+}
+
+// The word j of a source.
+pub fn source(kept: &[[u64; KEPT]], s: Source, j: u64) -> u64
+    requires { ⌜ Sound (now kept) × (Tame s × (j < 256)) ⌝ }
+    ensures { λ r. ⌜ r ≡ sourceAt (now (kept .entry)) s j ⌝ }
+{
+    let i = turn(s, j);
+    if s.line == 0 {
+        return s.base + s.step * i;
+    }
+    cell(kept, s.line, i)
+}

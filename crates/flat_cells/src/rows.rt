@@ -1,0 +1,75 @@
+// Rows of records: the lines for each cell.
+use crate::cells;
+use crate::cells::KEPT;
+use flattening::Source;
+ghost use mathlib.Core.Path.{_≡_};
+ghost use Prim.Native.Nat.{_+_, _≤_, _*_};
+ghost use lib.ListN.{length};
+ghost use Rattle.tables.specs.Lines.{span};
+ghost use Rattle.circuits.specs.Cells.{put};
+ghost use Rattle.flattening.specs.Model.{Sound, Tame, words, rowAt, pairAt};
+
+// n records of the kind k and the sort line s, from the place p on: the record j has the words j of the three sources.
+pub fn rows(
+    kept: &[[u64; KEPT]],
+    target: &mut [u64],
+    p: usize,
+    n: usize,
+    k: u64,
+    s: u64,
+    x: Source,
+    y: Source,
+    z: Source,
+)
+    requires { ⌜ Sound (now kept) × (Tame x × (Tame y × (Tame z × ((n ≤ 256) × (span (p + n) ≤ length (now target)))))) ⌝ }
+    ensures { λ _. ⌜ now (target .exit) ≡ put (now (target .entry)) (span p) (words n (rowAt (now (kept .entry)) k s x y z)) ⌝ }
+{
+    let mut j: usize = 0;
+    while j < n {
+        let i = j as u64;
+        let rec = records::of(
+            k,
+            s,
+            cells::source(kept, x, i),
+            cells::source(kept, y, i),
+            cells::source(kept, z, i),
+        );
+        records::put(target, p + j, rec);
+        j += 1;
+    }
+}
+
+// n pairs of records from the place p on, for n index constants: an eq, of the sort line o, of the index i and the word j of c; then an ite, of the sort line s, of that eq
+// and the words j of x and y.
+pub fn pairs(
+    kept: &[[u64; KEPT]],
+    target: &mut [u64],
+    p: usize,
+    n: usize,
+    o: u64,
+    i: u64,
+    s: u64,
+    c: Source,
+    x: Source,
+    y: Source,
+)
+    requires { ⌜ Sound (now kept) × (Tame c × (Tame x × (Tame y × ((n ≤ 256) × ((p ≤ 65536) × (span (p + 2 * n) ≤ length (now target))))))) ⌝ }
+    ensures { λ _. ⌜ now (target .exit) ≡ put (now (target .entry)) (span p) (words n (pairAt (now (kept .entry)) p o i s c x y)) ⌝ }
+{
+    let mut j: usize = 0;
+    while j < n {
+        let t = j as u64;
+        let q = p + 2 * j;
+        let eq = records::of(21, o, i, cells::source(kept, c, t), 0);
+        let ite = records::of(
+            53,
+            s,
+            (q + 1) as u64,
+            cells::source(kept, x, t),
+            cells::source(kept, y, t),
+        );
+        records::put(target, q, eq);
+        records::put(target, q + 1, ite);
+        j += 1;
+    }
+}

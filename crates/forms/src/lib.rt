@@ -1,0 +1,153 @@
+// The words of lines: the rows of the 55 kinds, and of the five other words for a constant.
+pub mod heads; // the id and the word of a line
+pub mod operands; // the numbers of a line
+
+use records::kinds;
+ghost use mathlib.Core.Path.{_≡_};
+ghost use Prim.Native.Nat.{_≤_, _+_};
+ghost use lib.ListN.{getD};
+ghost use Rattle.texts.specs.Forms.{extra, formRow, kindOf, sorted as sortedOf, sortWord};
+ghost use Rattle.tables.specs.Kinds.{rowOf, wordOf};
+ghost use Rattle.texts.specs.Split.{same};
+ghost use Rattle.texts.specs.Reading.{findIn};
+
+// const, consth, zero, one and ones, in rows like those of the kinds.
+pub const EXTRA: [[u8; 16]; 5] = [
+    [5, 99, 111, 110, 115, 116, 0, 0, 0, 0, 0, 5, 1, 8, 0, 0],
+    [6, 99, 111, 110, 115, 116, 104, 0, 0, 0, 0, 5, 1, 8, 0, 0],
+    [4, 122, 101, 114, 111, 0, 0, 0, 0, 0, 0, 5, 0, 0, 0, 0],
+    [3, 111, 110, 101, 0, 0, 0, 0, 0, 0, 0, 5, 0, 0, 0, 0],
+    [4, 111, 110, 101, 115, 0, 0, 0, 0, 0, 0, 5, 0, 0, 0, 0],
+];
+
+fn others() -> [[u8; 16]; 5]
+    ensures { λ r. ⌜ r ≡ extra ⌝ }
+{
+    EXTRA
+}
+
+// The row of the form f.
+pub fn row(f: usize) -> [u8; 16]
+    requires { ⌜ (1 ≤ f) × (f ≤ 60) ⌝ }
+    ensures { λ r. ⌜ r ≡ formRow f ⌝ }
+{
+    if 55 < f {
+        let t = others();
+        return t[f - 56];
+    }
+    kinds::row(f as u64)
+}
+
+// The kind of a form.
+pub fn kind_of(f: usize) -> u64
+    ensures { λ r. ⌜ r ≡ kindOf f ⌝ }
+{
+    if f <= 55 {
+        return f as u64;
+    }
+    3
+}
+
+// The row of the kind of the form f, whose own row is at hand.
+pub fn kind_row(f: usize, row: [u8; 16]) -> [u8; 16]
+    requires { ⌜ (1 ≤ f) × (row ≡ formRow f) ⌝ }
+    ensures { λ r. ⌜ r ≡ rowOf (kindOf f) ⌝ }
+{
+    if f <= 55 {
+        return row;
+    }
+    kinds::row(3)
+}
+
+// 1 where a line has a sort, else 0.
+pub fn sorted(row: [u8; 16]) -> usize
+    ensures { λ r. ⌜ r ≡ sortedOf row ⌝ }
+{
+    if row[11] == 0 {
+        return 0;
+    }
+    1
+}
+
+// A token is the word of a row.
+pub fn is_word(t: &[u8], r: [u8; 16]) -> bool
+    requires { ⌜ getD r 0 0 ≤ 10 ⌝ }
+    ensures { λ x. ⌜ x ≡ same (now (t .entry)) (wordOf r) ⌝ }
+{
+    let n = r[0] as usize;
+    if t.len() != n {
+        return false;
+    }
+    let mut i: usize = 0;
+    while i < n {
+        if t[i] != r[i + 1] {
+            return false;
+        }
+        i += 1;
+    }
+    true
+}
+
+// The token is `sort`.
+pub fn is_sort(t: &[u8]) -> bool
+    ensures { λ r. ⌜ r ≡ same (now (t .entry)) sortWord ⌝ }
+{
+    if t.len() != 4 {
+        return false;
+    }
+    if t[0] != 115 {
+        return false;
+    }
+    if t[1] != 111 {
+        return false;
+    }
+    if t[2] != 114 {
+        return false;
+    }
+    t[3] == 116
+}
+
+// The first of n kinds from k on that has the word t, or 0.
+pub fn find_kind(t: &[u8], k: usize, n: usize) -> usize
+    requires { ⌜ (1 ≤ k) × (k + n ≤ 56) ⌝ }
+    ensures { λ r. ⌜ r ≡ findIn k n (now (t .entry)) ⌝ }
+{
+    let rows = kinds::all();
+    let e = k + n;
+    let mut j = k;
+    while j < e {
+        let r = rows[j - 1];
+        if is_word(t, r) {
+            return j;
+        }
+        j += 1;
+    }
+    0
+}
+
+// The first of the forms 56 to 60 that has the word t, or 0.
+pub fn find_other(t: &[u8]) -> usize
+    ensures { λ r. ⌜ r ≡ findIn 56 5 (now (t .entry)) ⌝ }
+{
+    let rows = others();
+    let mut j: usize = 0;
+    while j < 5 {
+        let r = rows[j];
+        if is_word(t, r) {
+            return j + 56;
+        }
+        j += 1;
+    }
+    0
+}
+
+// The form other than a sort's that has the word t, or 0.
+pub fn find(t: &[u8]) -> usize
+    ensures { λ r. ⌜ r ≡ findIn 3 58 (now (t .entry)) ⌝ }
+{
+    let f = find_kind(t, 3, 53);
+    if f != 0 {
+        return f;
+    }
+    find_other(t)
+}

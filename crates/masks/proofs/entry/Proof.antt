@@ -1,0 +1,23 @@
+-- An entry, or 0 past the end. Assumes nothing.
+use mathlib.Core.Path.{sym}
+use lib.ListN.{List·getD-eq-default}
+use borrow.Author.Needs.{needs}
+use Rattle.masks.proofs.entry.Statement.{statement}
+use Rattle.masks.proofs.entry.Tie as tie
+use Rattle.masks.proofs.entry.Reads as reads
+use Rattle.masks.proofs.entry.Lts as lts
+
+mul-result : tie.Need-mul-result
+mul-result c = search needs
+
+shared-slice-read-result : tie.Need-shared-slice-read-result
+shared-slice-read-result c = search needs
+
+returns : tie.Need-returns
+returns c = search needs
+
+returns-2 : tie.Need-returns-2
+returns-2 c = sym (List·getD-eq-default (c .before .args .xs .now) 0 {n = c .before .args .a} (c .if1 .left))
+
+pub entry-spec : {M : Type 1} → statement M
+entry-spec = tie.close (tie.spec mul-result shared-slice-read-result returns returns-2)

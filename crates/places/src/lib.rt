@@ -1,0 +1,169 @@
+// The pass over the lines before a run: where each line has its cells and its place, and the classes of the signals.
+use area::LAID;
+use circuits::Spot;
+use circuits::Totals;
+use records::notes;
+use records::notes::BYTES;
+use tables::Checked;
+use tables::Ty;
+use tables::WORDS;
+ghost use mathlib.Core.Path.{_≡_};
+ghost use mathlib.Core.List.{_++_};
+ghost use Prim.Native.Nat.{_≤_, _+_, _<_};
+ghost use lib.ListN.{length, set, take};
+ghost use Rattle.circuits.specs.Layout.{size, countOf, layout};
+ghost use Rattle.tables.specs.Lines.{lineOf};
+ghost use Rattle.circuits.specs.Model.{countsOf, totalsOf, Small, placeBy, laidAs, Shows, Noted, markOf, marks};
+ghost use Rattle.circuits.specs.Answers.{linesOf};
+ghost use Rattle.tables.specs.Tables.{checked};
+
+// The cells of a line of the type y.
+pub fn cells_of(y: Ty) -> usize
+    requires { ⌜ y .iw ≤ 8 ⌝ }
+    ensures { λ r. ⌜ r ≡ size y ⌝ }
+{
+    1 << y.iw
+}
+
+// The counts after a line of m cells.
+fn count_line(rec: [u64; WORDS], m: usize, t: Totals) -> Totals
+    requires { ⌜ Small (countsOf t) m ⌝ }
+    ensures { λ r. ⌜ r ≡ totalsOf (countOf (countsOf t) m (lineOf rec)) ⌝ }
+{
+    let k = rec[0];
+    match k {
+        4 => Totals {
+            cells: t.cells + m,
+            states: t.states,
+            inputs: t.inputs + 1,
+            signals: t.signals,
+        },
+        5 => Totals {
+            cells: t.cells + m,
+            states: t.states + m,
+            inputs: t.inputs,
+            signals: t.signals,
+        },
+        8..=9 => Totals {
+            cells: t.cells,
+            states: t.states,
+            inputs: t.inputs,
+            signals: t.signals + 1,
+        },
+        3 => more_cells(m, t),
+        11..=56 => more_cells(m, t),
+        _ => t,
+    }
+}
+
+fn more_cells(m: usize, t: Totals) -> Totals
+    requires { ⌜ t .cells + m < 4294967296 ⌝ }
+    ensures { λ r. ⌜ (r .cells ≡ t .cells + m) × ((r .states ≡ t .states) × ((r .inputs ≡ t .inputs) × (r .signals ≡ t .signals))) ⌝ }
+{
+    Totals {
+        cells: t.cells + m,
+        states: t.states,
+        inputs: t.inputs,
+        signals: t.signals,
+    }
+}
+
+// The place of a line after those counted.
+fn find_spot(rec: [u64; WORDS], t: Totals) -> Spot
+    ensures { λ r. ⌜ (r .off ≡ placeBy (countsOf t) (lineOf rec) .off) × (r .at ≡ placeBy (countsOf t) (lineOf rec) .at) ⌝ }
+{
+    let k = rec[0];
+    match k {
+        4 => Spot {
+            off: t.cells,
+            at: t.inputs,
+        },
+        5 => Spot {
+            off: t.cells,
+            at: t.states,
+        },
+        8..=9 => Spot {
+            off: 0,
+            at: t.signals,
+        },
+        3 => Spot {
+            off: t.cells,
+            at: 0,
+        },
+        11..=56 => Spot {
+            off: t.cells,
+            at: 0,
+        },
+        _ => Spot { off: 0, at: 0 },
+    }
+}
+
+// What is known of the line n goes to the list: its spot, its m cells and its width.
+fn put_line(laid: &mut [[u32; LAID]], n: usize, s: Spot, m: usize, w: u8)
+    requires { ⌜ (n < length (now laid)) × ((s .off < 4294967296) × ((s .at < 4294967296) × (m < 4294967296))) ⌝ }
+    ensures { λ _. ⌜ now (laid .exit) ≡ set (now (laid .entry)) n (laidAs (s .off) m (s .at) w) ⌝ }
+{
+    laid[n] = [s.off as u32, m as u32, s.at as u32, w as u32];
+}
+
+// What is known of all lines goes to the list, by the notes of the check.
+pub fn lay_out(
+    program: bool,
+    table: &[u64],
+    count: usize,
+    notes: &[[u8; BYTES]],
+    laid: &mut [[u32; LAID]],
+) -> Totals
+    requires { ⌜ Noted program (now table) count (now notes) × (length (now laid) ≡ 16385) ⌝ }
+    ensures { λ r. ⌜ Shows (now (laid .exit)) (layout program (linesOf (now (table .entry)) count)) × (r ≡ totalsOf (layout program (linesOf (now (table .entry)) count) .counts)) ⌝ }
+{
+    let none = Spot { off: 0, at: 0 };
+    put_line(laid, 0, none, 1, 0);
+    let mut t = Totals {
+        cells: 0,
+        states: 0,
+        inputs: 0,
+        signals: 0,
+    };
+    let mut i: usize = 0;
+    while i < count {
+        let rec = records::record(table, i);
+        let y = notes::look(notes, (i + 1) as u64);
+        let m = cells_of(y);
+        let s = find_spot(rec, t);
+        put_line(laid, i + 1, s, m, y.w);
+        t = count_line(rec, m, t);
+        i += 1;
+    }
+    t
+}
+
+// A record's signal, if it has one, goes to the classes after the g so far: 1 for a bad line, 0 for a constraint. Answers how many there are now.
+fn note_mark(rec: [u64; WORDS], g: usize, bad: &mut [u8]) -> usize
+    requires { ⌜ g < length (now bad) ⌝ }
+    ensures { λ r. ⌜ (take r (now (bad .exit)) ≡ take g (now (bad .entry)) ++ markOf (lineOf rec)) × (r ≡ g + length (markOf (lineOf rec))) ⌝ }
+{
+    if rec[0] == 8 {
+        bad[g] = 1;
+        return g + 1;
+    }
+    if rec[0] == 9 {
+        bad[g] = 0;
+        return g + 1;
+    }
+    g
+}
+
+// The classes of all signals, in line order.
+pub fn classes(program: bool, table: &[u64], count: usize, bad: &mut [u8])
+    requires { ⌜ (checked program (now table) count ≡ Checked.Accepted) × (length (now bad) ≡ 16385) ⌝ }
+    ensures { λ _. ⌜ take (length (marks (linesOf (now (table .entry)) count))) (now (bad .exit)) ≡ marks (linesOf (now (table .entry)) count) ⌝ }
+{
+    let mut i: usize = 0;
+    let mut g: usize = 0;
+    while i < count {
+        let rec = records::record(table, i);
+        g = note_mark(rec, g, bad);
+        i += 1;
+    }
+}

@@ -1,0 +1,61 @@
+-- Zero first, then the refusals 1 and 2, then the lines. Assumes nothing.
+use Prim.Native.Nat.{ℕ}
+use native.Mathlib.Omega.{arith}
+use mathlib.Core.Path.{sym, ap, _∙_}
+use lib.ListN.{length, replicate, length-replicate}
+use borrow.Author.Tests.{not-true, not-false}
+use Rattle.tables.specs.Notes.{blank}
+use Rattle.tables.specs.Tables.{whole}
+use Rattle.tables.proofs.Checking.{fresh, shows-none}
+use Rattle.texts.proofs.Reached.{text-1, text-2, out-refused, out-lines}
+use borrow.Author.Needs.{needs}
+use Rattle.reading.proofs.read.Statement.{statement}
+use Rattle.reading.proofs.read.Tie as tie
+
+clear-requires : tie.Need-clear-requires
+clear-requires c κs = tt
+
+is-table-requires : tie.Need-is-table-requires
+is-table-requires c κs = tt
+
+same-length : tie.Need-same-length
+same-length c = c .before .before .before .before .clear .kept .0
+
+returns : tie.Need-returns
+returns c = let s = c .before .before .before .before .before .before .before .before .args in let len = length (s .table .now) in
+    out-refused len (text-1 len (s .text .now) (ap whole (sym (c .before .before .before .before .clear .kept .0)) ∙ (sym (c .before .is-table .ensures) ∙ not-true _ (c .if1 .taken)))) (c .before .before .before .before .clear .ensures)
+
+same-length-2 : tie.Need-same-length-2
+same-length-2 c = c .before .before .before .before .before .clear .kept .0
+
+returns-2 : tie.Need-returns-2
+returns-2 c = let s = c .before .before .before .before .before .before .before .before .before .args in let len = length (s .table .now) in
+    out-refused len (text-2 len (s .text .now) (ap whole (sym (c .before .before .before .before .before .clear .kept .0)) ∙ (sym (c .before .before .is-table .ensures) ∙ not-false _ (c .before .if1 .left))) (c .if2 .taken)) (c .before .before .before .before .before .clear .ensures)
+
+slice-aggregate-read-lines : tie.Need-slice-aggregate-read-lines
+slice-aggregate-read-lines c = search needs
+
+read-lines-requires : tie.Need-read-lines-requires
+read-lines-requires c κs = (c .before .before .if2 .left, (c .before .before .before .before .before .before .before .clear .ensures ∙ ap (λ (n : ℕ). replicate {A = ℕ} n 0) (sym (c .before .before .before .before .before .before .before .clear .kept .0)), (length-replicate 16385 blank, shows-none (fresh 0 16385 (λ h. omega arith)))))
+
+same-length-3 : tie.Need-same-length-3
+same-length-3 c = c .before .before .before .read-lines .kept .1 .0 ∙ c .before .before .before .before .before .before .before .before .before .before .before .clear .kept .0
+
+returns-3 : tie.Need-returns-3
+returns-3 c = let s = c .before .before .before .before .before .before .before .before .before .before .before .before .before .before .before .args in
+    out-lines (length (s .table .now)) (length (c .before .before .before .before .before .before .before .before .before .before .before .clear .last .0)) (s .text .now) (c .before .before .before .before .before .before .before .before .before .before .before .clear .kept .0) (sym (c .before .before .before .before .before .before .before .before .is-table .ensures) ∙ not-false _ (c .before .before .before .before .before .before .before .if1 .left)) (c .before .before .before .before .before .before .if2 .left) (c .before .before .before .read-lines .ensures)
+
+pub read-spec : {M : Type 1} → statement M
+read-spec =
+    tie.close
+    (tie.spec
+    clear-requires
+    is-table-requires
+    same-length
+    returns
+    same-length-2
+    returns-2
+    slice-aggregate-read-lines
+    read-lines-requires
+    same-length-3
+    returns-3)

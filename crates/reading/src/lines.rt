@@ -1,0 +1,87 @@
+// The lines of a text, one after the other: 3, 4 and 5, then what stands behind the word.
+use forms::heads;
+use records::notes::BYTES;
+use tables::Refusal;
+use tables::WORDS;
+use texts::ReadOutcome;
+use texts::Readout;
+ghost use mathlib.Core.Path.{_≡_};
+ghost use mathlib.Core.Bool.{false};
+ghost use mathlib.Core.List.{[]};
+ghost use Prim.Native.Nat.{ℕ, _≤_, _+_, _<_};
+ghost use lib.ListN.{length, replicate};
+ghost use Rattle.tables.specs.Notes.{lookIn, givenIn, noted, Shows};
+ghost use Rattle.texts.specs.Split.{tokens as tokensIn, split};
+ghost use Rattle.texts.specs.Reading.{readLine, readLines, answerOf, tableOf};
+ghost use Rattle.texts.specs.Stages.{asRead};
+ghost use Rattle.tables.specs.Lines.{kindIn, firstIn, recorded};
+ghost use Rattle.tables.specs.Tables.{room as roomOf};
+ghost use Rattle.tables.specs.Types.{noCtx};
+
+// A line, after n records, with room for `room` of them.
+pub fn read_line(l: &[u8], n: usize, room: usize, notes: &[[u8; BYTES]]) -> Readout
+    requires { ⌜ (n ≤ 16384) × ((a : ℕ) → lookIn (now notes) a .w ≤ 64) ⌝ }
+    ensures { λ r. ⌜ r ≡ asRead (readLine (lookIn (now (notes .entry))) (givenIn (now (notes .entry))) room n (tokensIn (now (l .entry)))) ⌝ }
+{
+    let a = tokens::skip(l, 0);
+    if a == l.len() {
+        return Readout {
+            what: 1,
+            code: Refusal::NotATable,
+            rec: [0; WORDS],
+        };
+    }
+    let z = tokens::find_byte(l, a, 32);
+    let id = (n + 1) as u64;
+    if !heads::is_id(&l[a..z], id) {
+        return stages::refuse(Refusal::WrongId);
+    }
+    if room <= n {
+        return stages::refuse(Refusal::NoRecordLeft);
+    }
+    let w = heads::word(l, z);
+    if w.form == 0 {
+        return stages::refuse(Refusal::UnknownWord);
+    }
+    stages::rest(l, w.form, w.at, notes)
+}
+
+// The record of the line n + 1 goes to the table, and the line is noted.
+fn take(table: &mut [u64], n: usize, rec: [u64; WORDS], notes: &mut [[u8; BYTES]])
+    requires { ⌜ (n < roomOf (length (now table))) × (kindIn rec ≡ 1 → firstIn rec ≤ 64) ⌝ }
+    ensures { λ _. ⌜ (now (table .exit) ≡ recorded (now (table .entry)) n rec) × (now (notes .exit) ≡ noted false rec (n + 1) (now (notes .entry))) ⌝ }
+{
+    records::put(table, n, rec);
+    let id = (n + 1) as u64;
+    checks::note(false, rec, id, notes);
+}
+
+// The lines of a text, into a table of zeros.
+pub fn read_lines(text: &[u8], table: &mut [u64], notes: &mut [[u8; BYTES]]) -> ReadOutcome
+    requires { ⌜ (length (now text) ≤ 65536) × ((now table ≡ replicate (length (now table)) 0) × ((length (now notes) ≡ 16385) × Shows (now notes) noCtx)) ⌝ }
+    ensures { λ r. ⌜ (r ≡ answerOf (readLines (roomOf (length (now (table .entry)))) 1 0 noCtx [] (split 10 (now (text .entry))))) × (now (table .exit) ≡ tableOf (length (now (table .entry))) (readLines (roomOf (length (now (table .entry)))) 1 0 noCtx [] (split 10 (now (text .entry))))) ⌝ }
+{
+    let room = records::room_of(table.len());
+    let mut i: usize = 0;
+    let mut n: usize = 0;
+    let mut line: usize = 1;
+    while i < text.len() {
+        let e = tokens::find_byte(text, i, 10);
+        let z = tokens::cut(text, i, e);
+        let r = read_line(&text[i..z], n, room, notes);
+        i = tokens::after(e, text.len());
+        if r.what == 2 {
+            let code = r.code;
+            records::clear(table);
+            return ReadOutcome::Refused(code, line);
+        }
+        line += 1;
+        if r.what == 0 {
+            let rec = r.rec;
+            take(table, n, rec, notes);
+            n += 1;
+            continue;
+        }
+    }
+    ReadOutcome::Done(n)
+}

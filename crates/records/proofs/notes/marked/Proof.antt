@@ -1,0 +1,50 @@
+use borrow.Author.Needs.{needs}
+use Rattle.records.proofs.notes.marked.Statement.{statement}
+use Rattle.records.proofs.notes.marked.Tie as tie
+use Rattle.records.proofs.notes.marked.Reads as reads
+use Rattle.records.proofs.notes.marked.Lts as lts
+
+array-read-t7 : tie.Need-array-read-t7
+array-read-t7 c = search needs
+
+array-read-t10 : tie.Need-array-read-t10
+array-read-t10 c = search needs
+
+array-read-t13 : tie.Need-array-read-t13
+array-read-t13 c = search needs
+
+array-read-t16 : tie.Need-array-read-t16
+array-read-t16 c = search needs
+
+returns : tie.Need-returns
+returns c = rw (c .if1 .taken)
+
+array-read-t19 : tie.Need-array-read-t19
+array-read-t19 c = search needs
+
+array-read-t22 : tie.Need-array-read-t22
+array-read-t22 c = search needs
+
+array-read-t25 : tie.Need-array-read-t25
+array-read-t25 c = search needs
+
+array-read-t28 : tie.Need-array-read-t28
+array-read-t28 c = search needs
+
+returns-2 : tie.Need-returns-2
+returns-2 c = rw (c .if1 .left)
+
+pub marked-spec : {M : Type 1} → statement M
+marked-spec =
+    tie.close
+    (tie.spec
+    array-read-t7
+    array-read-t10
+    array-read-t13
+    array-read-t16
+    returns
+    array-read-t19
+    array-read-t22
+    array-read-t25
+    array-read-t28
+    returns-2)

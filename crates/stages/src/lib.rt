@@ -1,0 +1,153 @@
+// What stands behind the word of a line: the refusals 6 to 10 in their order. The notes hold what is known of the lines so far.
+use forms::operands;
+use records::notes;
+use records::notes::BYTES;
+use tables::Refusal;
+use tables::WORDS;
+use texts::Readout;
+use texts::Taken;
+ghost use mathlib.Core.Path.{_≡_};
+ghost use Prim.Native.Nat.{_-_, _^_, _≤_, ℕ};
+ghost use lib.ListN.{drop};
+ghost use Rattle.texts.specs.Reading.{no, ruled as ruledBy, settled, judged, large as largeOf, ended, numbersIn};
+ghost use Rattle.texts.specs.Stages.{asRead, asTook};
+ghost use Rattle.tables.specs.Kinds.{rowOf};
+ghost use Rattle.tables.specs.Lines.{kindIn};
+ghost use Rattle.tables.specs.Notes.{lookIn, givenIn};
+ghost use Rattle.texts.specs.Split.{tokens as tokensIn};
+
+// A refusal.
+pub fn refuse(r: Refusal) -> Readout
+    ensures { λ x. ⌜ x ≡ asRead (no r) ⌝ }
+{
+    Readout {
+        what: 2,
+        code: r,
+        rec: [0; WORDS],
+    }
+}
+
+// 9, 10, or the record.
+pub fn ruled(a: u64, rec: [u64; WORDS]) -> Readout
+    ensures { λ x. ⌜ x ≡ asRead (ruledBy a rec) ⌝ }
+{
+    if a == 0 {
+        return Readout {
+            what: 0,
+            code: Refusal::NotATable,
+            rec: rec,
+        };
+    }
+    if a == 9 {
+        return refuse(Refusal::Misfit);
+    }
+    refuse(Refusal::InitOrNext)
+}
+
+// 2^w - 1.
+pub fn ones(w: u8) -> u64
+    requires { ⌜ w ≤ 64 ⌝ }
+    ensures { λ r. ⌜ r ≡ 2 ^ w - 1 ⌝ }
+{
+    if w == 0 {
+        return 0;
+    }
+    18446744073709551615 >> (64 - w)
+}
+
+// The record after the words that give a value; w is the width of the line's sort.
+pub fn settle(w: u8, f: usize, rec: [u64; WORDS]) -> [u64; WORDS]
+    requires { ⌜ w ≤ 64 ⌝ }
+    ensures { λ r. ⌜ r ≡ settled w f rec ⌝ }
+{
+    let mut t = rec;
+    if f == 59 {
+        t[2] = 1;
+        return t;
+    }
+    if f == 60 {
+        t[2] = ones(w);
+        return t;
+    }
+    t
+}
+
+// 8, 9 and 10. The row is that of the record's kind.
+pub fn judge(
+    row: [u8; 16],
+    f: usize,
+    len: usize,
+    rec: [u64; WORDS],
+    notes: &[[u8; BYTES]],
+) -> Readout
+    requires { ⌜ row ≡ rowOf (kindIn rec) ⌝ }
+    ensures { λ r. ⌜ r ≡ asRead (judged (lookIn (now (notes .entry))) (givenIn (now (notes .entry))) f len rec) ⌝ }
+{
+    let a = rules::fault(false, row, rec, notes);
+    if a == 8 {
+        return refuse(Refusal::WrongClass);
+    }
+    if f == 56 {
+        let w = notes::look(notes, rec[1]).w;
+        if len != w as usize {
+            return refuse(Refusal::Misfit);
+        }
+        return ruled(a, rec);
+    }
+    ruled(a, rec)
+}
+
+// 7, and what follows.
+pub fn large(
+    row: [u8; 16],
+    f: usize,
+    rec: [u64; WORDS],
+    big: bool,
+    len: usize,
+    notes: &[[u8; BYTES]],
+) -> Readout
+    requires { ⌜ (row ≡ rowOf (kindIn rec)) × ((a : ℕ) → lookIn (now notes) a .w ≤ 64) ⌝ }
+    ensures { λ r. ⌜ r ≡ asRead (largeOf (lookIn (now (notes .entry))) (givenIn (now (notes .entry))) f rec big len) ⌝ }
+{
+    if big {
+        return refuse(Refusal::NumberTooLarge);
+    }
+    let w = notes::look(notes, rec[1]).w;
+    let t = settle(w, f, rec);
+    if f == 1 {
+        if !widths::is_width(rec[2]) {
+            return refuse(Refusal::NumberTooLarge);
+        }
+        return judge(row, f, len, t, notes);
+    }
+    judge(row, f, len, t, notes)
+}
+
+// What stands behind the numbers, 6, and what follows.
+pub fn finish(l: &[u8], row: [u8; 16], f: usize, t: Taken, notes: &[[u8; BYTES]]) -> Readout
+    requires { do ⌜ (t .at ≤ (← ⟦l.len()⟧)) × ((row ≡ rowOf (kindIn (t .rec))) × ((a : ℕ) → lookIn (now notes) a .w ≤ 64)) ⌝ }
+    ensures { λ r. ⌜ r ≡ asRead (ended (lookIn (now (notes .entry))) (givenIn (now (notes .entry))) f (asTook (now (l .entry)) t)) ⌝ }
+{
+    if !t.ok {
+        return refuse(Refusal::BadOperand);
+    }
+    if tokens::crowded(l, t.at) {
+        return refuse(Refusal::BadOperand);
+    }
+    let rec = t.rec;
+    large(row, f, rec, t.big, t.len, notes)
+}
+
+// The line behind its word, whose form is f.
+pub fn rest(l: &[u8], f: usize, at: usize, notes: &[[u8; BYTES]]) -> Readout
+    requires { do ⌜ (at ≤ (← ⟦l.len()⟧)) × ((1 ≤ f) × ((f ≤ 60) × ((a : ℕ) → lookIn (now notes) a .w ≤ 64))) ⌝ }
+    ensures { λ r. ⌜ r ≡ asRead (ended (lookIn (now (notes .entry))) (givenIn (now (notes .entry))) f (numbersIn f (tokensIn (drop at (now (l .entry)))))) ⌝ }
+{
+    let row = forms::row(f);
+    let s = forms::sorted(row);
+    let c = row[12] as usize;
+    let k = forms::kind_of(f);
+    let t = operands::operands(l, at, f, s + c, 2 - s, records::of(k, 0, 0, 0, 0));
+    let own = forms::kind_row(f, row);
+    finish(l, own, f, t, notes)
+}

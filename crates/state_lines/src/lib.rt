@@ -1,0 +1,98 @@
+// Lines of a step that begin, set or show: states, init and next lines, bad and constraint lines. `first` is true as the run starts, where init lines store and no line signals.
+use area::LAID;
+ghost use mathlib.Core.Path.{_≡_};
+ghost use mathlib.Core.Bool.{not};
+ghost use Prim.Native.Nat.{_+_};
+ghost use lib.ListN.{length, replicate, set};
+ghost use Rattle.circuits.specs.Cells.{put, choose};
+ghost use Rattle.circuits.specs.Model.{stateIn, FitState, offIn, posIn, wordIn, FitInit, numIn, runIn, FitNext, FitMark};
+ghost use Rattle.tables.specs.Pick.{pick};
+
+pub fn line_state(
+    program: bool,
+    first: bool,
+    n: usize,
+    laid: &[[u32; LAID]; 16385],
+    all: usize,
+    work: &mut [u64],
+)
+    requires { ⌜ FitState (now laid) all (length (now work)) n ⌝ }
+    ensures { λ _. ⌜ now (work .exit) ≡ put (put (now (work .entry)) (all + posIn (now (laid .entry)) n) (stateIn program first (now (laid .entry)) all (now (work .entry)) n)) (offIn (now (laid .entry)) n) (stateIn program first (now (laid .entry)) all (now (work .entry)) n) ⌝ }
+{
+    let o = area::off(laid, n);
+    let m = area::cells(laid, n);
+    let p = area::place(laid, n);
+    let s = all + p;
+    area::settle(
+        evaluation::masks(program, first),
+        work,
+        s,
+        m,
+        area::width(laid, n),
+    );
+    area::copy(work, s, o, m);
+}
+
+pub fn line_init(
+    first: bool,
+    q: usize,
+    v: usize,
+    laid: &[[u32; LAID]; 16385],
+    all: usize,
+    work: &mut [u64],
+)
+    requires { ⌜ FitInit (now laid) all (length (now work)) q v ⌝ }
+    ensures { λ _. ⌜ now (work .exit) ≡ pick first (put (now (work .entry)) (all + posIn (now (laid .entry)) q) (replicate (numIn (now (laid .entry)) q) (wordIn (now (laid .entry)) (now (work .entry)) v))) (now (work .entry)) ⌝ }
+{
+    if !first {
+        return;
+    }
+    let x = area::off(laid, v);
+    let y = work[x];
+    let p = area::place(laid, q);
+    let s = all + p;
+    area::fill_run(work, s, area::cells(laid, q), y);
+}
+
+pub fn line_next(
+    first: bool,
+    q: usize,
+    v: usize,
+    laid: &[[u32; LAID]; 16385],
+    all: usize,
+    work: &mut [u64],
+)
+    requires { ⌜ FitNext (now laid) all (length (now work)) q v ⌝ }
+    ensures { λ _. ⌜ now (work .exit) ≡ pick (not first) (put (now (work .entry)) (all + posIn (now (laid .entry)) q) (runIn (now (laid .entry)) (now (work .entry)) v)) (now (work .entry)) ⌝ }
+{
+    if first {
+        return;
+    }
+    let x = area::off(laid, v);
+    let p = area::place(laid, q);
+    let m = area::cells(laid, v);
+    area::raise(work, x, all + p, m);
+}
+
+pub fn line_mark(
+    first: bool,
+    a: usize,
+    n: usize,
+    laid: &[[u32; LAID]; 16385],
+    work: &[u64],
+    sig: &mut [u8],
+)
+    requires { ⌜ FitMark (now laid) (length (now work)) (length (now sig)) n a ⌝ }
+    ensures { λ _. ⌜ now (sig .exit) ≡ pick first (now (sig .entry)) (set (now (sig .entry)) (posIn (now (laid .entry)) n) (choose (wordIn (now (laid .entry)) (now (work .entry)) a) 1 0)) ⌝ }
+{
+    if first {
+        return;
+    }
+    let x = area::off(laid, a);
+    let p = area::place(laid, n);
+    if work[x] != 0 {
+        sig[p] = 1;
+    } else {
+        sig[p] = 0;
+    }
+}

@@ -1,0 +1,23 @@
+-- The two cases of the test. Assumes nothing.
+use borrow.Author.Tests.{eq-eqb, ne-eqb}
+use borrow.Author.Needs.{needs}
+use Rattle.uses.proofs.mark_if.Statement.{statement}
+use Rattle.uses.proofs.mark_if.Tie as tie
+use Rattle.uses.proofs.mark_if.Reads as reads
+use Rattle.uses.proofs.mark_if.Lts as lts
+use Rattle.uses.proofs.flags.put.Reads as put-reads
+
+put-requires : tie.Need-put-requires
+put-requires c κs = search needs
+
+same-length : tie.Need-same-length
+same-length c = search needs
+
+returns : tie.Need-returns
+returns c = rw (eq-eqb _ _ (c .before .before .before .before .if1 .taken)) (c .before .before .put .ensures)
+
+returns-2 : tie.Need-returns-2
+returns-2 c = rw (ne-eqb _ _ (c .if1 .left))
+
+pub mark-if-spec : {M : Type 1} → statement M
+mark-if-spec = tie.close (tie.spec put-requires same-length returns returns-2)

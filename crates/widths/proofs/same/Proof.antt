@@ -1,0 +1,14 @@
+use borrow.Author.Tests.{eq-eqb, ne-eqb}
+use Rattle.widths.proofs.same.Statement.{statement}
+use Rattle.widths.proofs.same.Tie as tie
+use Rattle.widths.proofs.same.Reads as reads
+use Rattle.widths.proofs.same.Lts as lts
+
+returns : tie.Need-returns
+returns c = simp (ne-eqb _ _ (c .if1 .taken))
+
+returns-2 : tie.Need-returns-2
+returns-2 c = simp (eq-eqb _ _ (c .before .before .if1 .left))
+
+pub same-spec : {M : Type 1} → statement M
+same-spec = tie.close (tie.spec returns returns-2)
