@@ -1,7 +1,6 @@
 // Lines of a step that have a value and are no states: their cells go to their runs of the work area.
 use area::LAID;
 ghost use mathlib.Core.Path.{_≡_};
-ghost use mathlib.Core.Bool.{not, _||_};
 ghost use mathlib.Core.List.{[], _∷_};
 ghost use lib.ListN.{length, getD, set};
 ghost use Rattle.circuits.specs.Meaning.{opWord, inputWord};
@@ -15,9 +14,9 @@ pub fn word(program: bool, k: u64, w: u64, u: u64, v: u64, a: u64, b: u64, c: u6
     ensures { λ r. ⌜ r ≡ opWord program k u v a b c ⌝ }
 {
     if program {
-        return operators::prog_word(k, u, v, a, b, c);
+        return instructions::prog_word(k, u, v, a, b, c);
     }
-    operators::circ_word(k, w, u, v, a, b, c)
+    instructions::circ_word(k, w, u, v, a, b, c)
 }
 
 // An input: modulo 2^w, in a program as it stands.
@@ -40,16 +39,6 @@ pub fn says(e: bool, r: bool) -> u64
     } else {
         if r { 0 } else { 1 }
     }
-}
-
-// State words are masked: start words, and a circuit's at every step.
-pub fn masks(program: bool, first: bool) -> bool
-    ensures { λ r. ⌜ r ≡ (first || not program) ⌝ }
-{
-    if first {
-        return true;
-    }
-    !program
 }
 
 pub fn line_const(a: u64, n: usize, laid: &[[u32; LAID]; 16385], work: &mut [u64])

@@ -31,12 +31,12 @@ fn operator(
         return flat_lines::line_one(k, s, a, b, c, kept, types, p, target);
     }
     if k <= 22 {
-        return flat_lines::line_cmp(k == 21, s, a, b, kept, types, p, target);
+        return flat_arrays::line_cmp(k == 21, s, a, b, kept, types, p, target);
     }
     match k {
-        53 => flat_lines::line_ite(s, a, b, c, kept, types, p, target),
-        54 => flat_lines::line_read(s, a, b, kept, types, p, target),
-        55 => flat_lines::line_write(s, a, b, c, kept, types, p, target),
+        53 => flat_arrays::line_ite(s, a, b, c, kept, types, p, target),
+        54 => flat_arrays::line_read(s, a, b, kept, types, p, target),
+        55 => flat_arrays::line_write(s, a, b, c, kept, types, p, target),
         _ => flat_lines::line_two(k, s, a, b, kept, types, p, target),
     }
 }
@@ -70,7 +70,7 @@ pub fn line(
         2 => flat_lines::line_array(a, b, kept, types, p, target),
         3 => flat_lines::line_const(s, a, kept, types, p, target),
         4 => flat_lines::line_input(s, kept, types, p, target),
-        5 => flat_lines::line_state(s, kept, types, p, target),
-        _ => flat_lines::line_give(k == 6, s, a, b, kept, types, p, target),
+        5 => flat_arrays::line_state(s, kept, types, p, target),
+        _ => flat_arrays::line_give(k == 6, s, a, b, kept, types, p, target),
     }
 }

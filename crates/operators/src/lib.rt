@@ -1,12 +1,9 @@
-// Operators on words of 1 to 64 bits. `prog_word` computes an instruction of a program and `circ_word` a line of a circuit, for every kind
-// that is a word operator. All of it works on whole 64-bit words, as programs do; a circuit's word is the low bits of a program's.
+// Operators on words of 1 to 64 bits. All of them work on whole 64-bit words, as programs do.
 ghost use mathlib.Core.Path.{_≡_};
 ghost use Prim.Native.Nat.{_-_, _^_, _%_, _<_, _*_, _+_, _≤_};
 ghost use Rattle.words.specs.Word.{Width, signed, word, toward};
-ghost use Rattle.words.specs.Op.{udiv, urem, redxor, eq, neq, ult, ulte, sext, slt, slte, sdiv, srem, smod, sll, srl, sra, rol, ror, opOf};
-ghost use Rattle.words.specs.Program.{prog, classOf};
-ghost use Rattle.words.specs.Widths.{Widths, widthOf};
-ghost use Rattle.words.specs.Circuit.{circ};
+ghost use Rattle.words.specs.Op.{udiv, urem, redxor, eq, neq, ult, ulte, sext, slt, slte, sdiv, srem, smod, sll, srl, sra, rol, ror};
+ghost use Rattle.words.specs.Program.{prog};
 
 // The greatest word of width w: all its bits are set.
 pub fn mask(w: u64) -> u64
@@ -27,7 +24,7 @@ pub fn low(w: u64, x: u64) -> u64
 // ---- arithmetic and tests on whole words
 
 // The product modulo 2^64, from halves of 32 bits. The middle products count 2^32 times, and the high halves' product 2^64 times, which is nothing.
-fn wrapping_mul(a: u64, b: u64) -> u64
+pub fn wrapping_mul(a: u64, b: u64) -> u64
     ensures { λ r. ⌜ r ≡ a * b % 2 ^ 64 ⌝ }
 {
     let a0 = a & 0xffff_ffff;
@@ -38,44 +35,44 @@ fn wrapping_mul(a: u64, b: u64) -> u64
     std::num::wrapping_add_u64(a0 * b0, middle << 32)
 }
 
-fn udiv(w: u64, a: u64, b: u64) -> u64
+pub fn udiv(w: u64, a: u64, b: u64) -> u64
     requires { ⌜ Width w ⌝ }
     ensures { λ r. ⌜ r ≡ prog udiv w w a b 0 ⌝ }
 {
     if b == 0 { mask(w) } else { a / b }
 }
 
-fn urem(a: u64, b: u64) -> u64
+pub fn urem(a: u64, b: u64) -> u64
     ensures { λ r. ⌜ r ≡ prog urem 64 64 a b 0 ⌝ }
 {
     if b == 0 { a } else { a % b }
 }
 
-fn redxor(a: u64) -> u64
+pub fn redxor(a: u64) -> u64
     ensures { λ r. ⌜ r ≡ prog redxor 64 64 a 0 0 ⌝ }
 {
     (u64::count_ones(a) & 1) as u64
 }
 
-fn eq(a: u64, b: u64) -> u64
+pub fn eq(a: u64, b: u64) -> u64
     ensures { λ r. ⌜ r ≡ prog eq 64 64 a b 0 ⌝ }
 {
     if a == b { 1 } else { 0 }
 }
 
-fn neq(a: u64, b: u64) -> u64
+pub fn neq(a: u64, b: u64) -> u64
     ensures { λ r. ⌜ r ≡ prog neq 64 64 a b 0 ⌝ }
 {
     if a == b { 0 } else { 1 }
 }
 
-fn ult(a: u64, b: u64) -> u64
+pub fn ult(a: u64, b: u64) -> u64
     ensures { λ r. ⌜ r ≡ prog ult 64 64 a b 0 ⌝ }
 {
     if a < b { 1 } else { 0 }
 }
 
-fn ulte(a: u64, b: u64) -> u64
+pub fn ulte(a: u64, b: u64) -> u64
     ensures { λ r. ⌜ r ≡ prog ulte 64 64 a b 0 ⌝ }
 {
     if a <= b { 1 } else { 0 }
@@ -108,14 +105,14 @@ fn from_signed(w: u64, z: i64) -> u64
     }
 }
 
-fn sext(w: u64, a: u64, extra: u64) -> u64
+pub fn sext(w: u64, a: u64, extra: u64) -> u64
     requires { ⌜ Width w × (w + extra ≤ 64) ⌝ }
     ensures { λ r. ⌜ r ≡ prog sext w w a extra 0 ⌝ }
 {
     from_signed(w + extra, to_signed(w, a))
 }
 
-fn slt(w: u64, a: u64, b: u64) -> u64
+pub fn slt(w: u64, a: u64, b: u64) -> u64
     requires { ⌜ Width w ⌝ }
     ensures { λ r. ⌜ r ≡ prog slt w w a b 0 ⌝ }
 {
@@ -124,7 +121,7 @@ fn slt(w: u64, a: u64, b: u64) -> u64
     if x < y { 1 } else { 0 }
 }
 
-fn slte(w: u64, a: u64, b: u64) -> u64
+pub fn slte(w: u64, a: u64, b: u64) -> u64
     requires { ⌜ Width w ⌝ }
     ensures { λ r. ⌜ r ≡ prog slte w w a b 0 ⌝ }
 {
@@ -134,7 +131,7 @@ fn slte(w: u64, a: u64, b: u64) -> u64
 }
 
 // By -1 the word is negated modulo 2^w: the least value has no opposite of its width, and stays.
-fn sdiv(w: u64, a: u64, b: u64) -> u64
+pub fn sdiv(w: u64, a: u64, b: u64) -> u64
     requires { ⌜ Width w ⌝ }
     ensures { λ r. ⌜ r ≡ prog sdiv w w a b 0 ⌝ }
 {
@@ -150,7 +147,7 @@ fn sdiv(w: u64, a: u64, b: u64) -> u64
 }
 
 // By -1 nothing is left over; the least i64 must not be divided by -1.
-fn srem(w: u64, a: u64, b: u64) -> u64
+pub fn srem(w: u64, a: u64, b: u64) -> u64
     requires { ⌜ Width w ⌝ }
     ensures { λ r. ⌜ r ≡ prog srem w w a b 0 ⌝ }
 {
@@ -178,7 +175,7 @@ fn toward_divisor(r: i64, d: i64) -> i64
     }
 }
 
-fn smod(w: u64, a: u64, b: u64) -> u64
+pub fn smod(w: u64, a: u64, b: u64) -> u64
     requires { ⌜ Width w ⌝ }
     ensures { λ r. ⌜ r ≡ prog smod w w a b 0 ⌝ }
 {
@@ -195,21 +192,21 @@ fn smod(w: u64, a: u64, b: u64) -> u64
 
 // ---- shifts, whose limit is w, and rotations
 
-fn sll(w: u64, a: u64, b: u64) -> u64
+pub fn sll(w: u64, a: u64, b: u64) -> u64
     requires { ⌜ Width w ⌝ }
     ensures { λ r. ⌜ r ≡ prog sll w w a b 0 ⌝ }
 {
     if b < w { a << b } else { 0 }
 }
 
-fn srl(w: u64, a: u64, b: u64) -> u64
+pub fn srl(w: u64, a: u64, b: u64) -> u64
     requires { ⌜ Width w ⌝ }
     ensures { λ r. ⌜ r ≡ prog srl w w a b 0 ⌝ }
 {
     if b < w { a >> b } else { 0 }
 }
 
-fn sra(w: u64, a: u64, b: u64) -> u64
+pub fn sra(w: u64, a: u64, b: u64) -> u64
     requires { ⌜ Width w ⌝ }
     ensures { λ r. ⌜ r ≡ prog sra w w a b 0 ⌝ }
 {
@@ -224,7 +221,7 @@ fn sra(w: u64, a: u64, b: u64) -> u64
     }
 }
 
-fn rol(w: u64, a: u64, b: u64) -> u64
+pub fn rol(w: u64, a: u64, b: u64) -> u64
     requires { ⌜ Width w ⌝ }
     ensures { λ r. ⌜ r ≡ prog rol w w a b 0 ⌝ }
 {
@@ -237,7 +234,7 @@ fn rol(w: u64, a: u64, b: u64) -> u64
     }
 }
 
-fn ror(w: u64, a: u64, b: u64) -> u64
+pub fn ror(w: u64, a: u64, b: u64) -> u64
     requires { ⌜ Width w ⌝ }
     ensures { λ r. ⌜ r ≡ prog ror w w a b 0 ⌝ }
 {
@@ -248,67 +245,4 @@ fn ror(w: u64, a: u64, b: u64) -> u64
     } else {
         (x >> r) | low(w, x << (w - r))
     }
-}
-
-// ---- every operator
-
-// An instruction's word, for kinds 11 to 53 and 56. u and v are the widths of its first and second operands; operands that are numbers stand in b and c.
-pub fn prog_word(kind: u64, u: u64, v: u64, a: u64, b: u64, c: u64) -> u64
-    requires { ⌜ (11 ≤ kind) × Width u × Widths (classOf (opOf kind)) u v b c ⌝ }
-    ensures { λ r. ⌜ r ≡ prog (opOf kind) u v a b c ⌝ }
-{
-    match kind {
-        11 => !a,
-        12 => std::num::wrapping_sub_u64(0, a),
-        13 => std::num::wrapping_add_u64(a, 1),
-        14 => std::num::wrapping_sub_u64(a, 1),
-        15 => eq(a, mask(u)),
-        16 => neq(a, 0),
-        17 => redxor(a),
-        18 => a >> c,
-        19 => a,
-        20 => sext(u, a, b),
-        21 => eq(a, b),
-        22 => neq(a, b),
-        23 => ult(a, b),
-        24 => ulte(a, b),
-        25 => ult(b, a),
-        26 => ulte(b, a),
-        27 => slt(u, a, b),
-        28 => slte(u, a, b),
-        29 => slt(u, b, a),
-        30 => slte(u, b, a),
-        31 => !(a ^ b),
-        32 => !a | b,
-        33 => a & b,
-        34 => a | b,
-        35 => a ^ b,
-        36 => !(a & b),
-        37 => !(a | b),
-        38 => !(a ^ b),
-        39 => std::num::wrapping_add_u64(a, b),
-        40 => std::num::wrapping_sub_u64(a, b),
-        41 => wrapping_mul(a, b),
-        42 => udiv(u, a, b),
-        43 => urem(a, b),
-        44 => sdiv(u, a, b),
-        45 => srem(u, a, b),
-        46 => smod(u, a, b),
-        47 => sll(u, a, b),
-        48 => srl(u, a, b),
-        49 => sra(u, a, b),
-        50 => rol(u, a, b),
-        51 => ror(u, a, b),
-        52 => (a << v) | b,
-        53 => if a != 0 { b } else { c },
-        _ => low(u, a),
-    }
-}
-
-// A line's word, for kinds 11 to 53. w is the line's width, and the operands are as in `prog_word`, each below 2 to its width.
-pub fn circ_word(kind: u64, w: u64, u: u64, v: u64, a: u64, b: u64, c: u64) -> u64
-    requires { ⌜ (11 ≤ kind) × Width u × Widths (classOf (opOf kind)) u v b c × (a < 2 ^ u) × (b < 2 ^ v) × (c < 2 ^ v) × (w ≡ widthOf (classOf (opOf kind)) u v b c) ⌝ }
-    ensures { λ r. ⌜ r ≡ circ (opOf kind) u v a b c ⌝ }
-{
-    low(w, prog_word(kind, u, v, a, b, c))
 }

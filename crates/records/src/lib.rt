@@ -1,4 +1,4 @@
-// Records in a table: the one place that knows how many words a record has and which is which.
+// Records in a table: the one place in the code that knows where the words of a record lie, and which is which.
 pub mod bytes; // lists of bytes
 pub mod kinds; // the constant table of kinds
 pub mod notes; // what a check keeps of each line

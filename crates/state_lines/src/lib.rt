@@ -1,12 +1,22 @@
 // Lines of a step that begin, set or show: states, init and next lines, bad and constraint lines. `first` is true as the run starts, where init lines store and no line signals.
 use area::LAID;
 ghost use mathlib.Core.Path.{_≡_};
-ghost use mathlib.Core.Bool.{not};
+ghost use mathlib.Core.Bool.{not, _||_};
 ghost use Prim.Native.Nat.{_+_};
 ghost use lib.ListN.{length, replicate, set};
 ghost use Rattle.circuits.specs.Cells.{put, choose};
 ghost use Rattle.circuits.specs.Model.{stateIn, FitState, offIn, posIn, wordIn, FitInit, numIn, runIn, FitNext, FitMark};
 ghost use Rattle.tables.specs.Pick.{pick};
+
+// State words are masked: start words, and a circuit's at every step.
+fn masks(program: bool, first: bool) -> bool
+    ensures { λ r. ⌜ r ≡ (first || not program) ⌝ }
+{
+    if first {
+        return true;
+    }
+    !program
+}
 
 pub fn line_state(
     program: bool,
@@ -23,13 +33,7 @@ pub fn line_state(
     let m = area::cells(laid, n);
     let p = area::place(laid, n);
     let s = all + p;
-    area::settle(
-        evaluation::masks(program, first),
-        work,
-        s,
-        m,
-        area::width(laid, n),
-    );
+    area::settle(masks(program, first), work, s, m, area::width(laid, n));
     area::copy(work, s, o, m);
 }
 

@@ -1,4 +1,4 @@
--- `eval::input_word` meets its contract. Assumes nothing.
+-- `evaluation::input_word` meets its contract. Assumes nothing.
 use borrow.Author.Needs.{needs}
 use Rattle.evaluation.proofs.input_word.Statement.{statement}
 use Rattle.evaluation.proofs.input_word.Tie as tie

@@ -1,4 +1,4 @@
--- `eval::line_cmp` meets its contract. Assumes nothing.
+-- `evaluation::line_cmp` meets its contract. Assumes nothing.
 use mathlib.Core.Path.{sym, ap, ap₂, _∙_}
 use mathlib.Core.Bool.{Bool}
 use lib.ListN.{length-set}

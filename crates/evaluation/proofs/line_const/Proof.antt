@@ -1,4 +1,4 @@
--- `eval::line_const` meets its contract. Assumes nothing.
+-- `evaluation::line_const` meets its contract. Assumes nothing.
 use mathlib.Core.Path.{refl}
 use Rattle.circuits.proofs.Puts as laws
 use borrow.Author.Needs.{needs}

@@ -1,4 +1,4 @@
--- `eval::line_input` meets its contract. Assumes nothing.
+-- `evaluation::line_input` meets its contract. Assumes nothing.
 use mathlib.Core.Path.{sym, ap₂, _∙_, subst}
 use Prim.Native.Nat.{ℕ}
 use lib.ListN.{getD, length-set}

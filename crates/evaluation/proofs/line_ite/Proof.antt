@@ -1,4 +1,4 @@
--- `eval::line_ite` meets its contract. Assumes nothing.
+-- `evaluation::line_ite` meets its contract. Assumes nothing.
 use borrow.Author.Needs.{needs}
 use mathlib.Core.Path.{sym, ap₂, _∙_}
 use Rattle.circuits.specs.Cells.{part, put}

@@ -1,4 +1,4 @@
--- `eval::line_one` meets its contract. Assumes nothing.
+-- `evaluation::line_one` meets its contract. Assumes nothing.
 use lib.ListN.{length-set}
 use Rattle.circuits.proofs.Fitting.{op-as, fit-as}
 use mathlib.Core.Path.{refl}

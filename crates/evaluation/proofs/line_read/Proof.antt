@@ -1,4 +1,4 @@
--- `eval::line_read` meets its contract. Assumes nothing.
+-- `evaluation::line_read` meets its contract. Assumes nothing.
 use borrow.Author.Needs.{needs}
 use mathlib.Core.Path.{_≡_, ap}
 use Prim.Native.Nat.{ℕ}

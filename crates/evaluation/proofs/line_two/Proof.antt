@@ -1,4 +1,4 @@
--- `eval::line_two` meets its contract. Assumes nothing.
+-- `evaluation::line_two` meets its contract. Assumes nothing.
 use lib.ListN.{length-set}
 use Prim.Native.Nat.{ℕ}
 use Rattle.circuits.proofs.Fitting.{op-as, fit-as}

@@ -1,4 +1,4 @@
--- `eval::line_write` meets its contract. Assumes nothing.
+-- `evaluation::line_write` meets its contract. Assumes nothing.
 use borrow.Author.Needs.{needs}
 use mathlib.Core.Path.{_≡_, sym, ap, _∙_}
 use Prim.Native.Nat.{ℕ}

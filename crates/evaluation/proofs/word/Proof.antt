@@ -1,4 +1,4 @@
--- `eval::word` meets its contract. Assumes nothing.
+-- `evaluation::word` meets its contract. Assumes nothing.
 use borrow.Author.Needs.{needs}
 use Rattle.evaluation.proofs.word.Statement.{statement}
 use Rattle.evaluation.proofs.word.Tie as tie

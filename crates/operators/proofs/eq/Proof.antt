@@ -1,4 +1,4 @@
--- `words::eq` meets its contract. Assumes nothing.
+-- `operators::eq` meets its contract. Assumes nothing.
 use mathlib.Core.Path.{sym, ap}
 use borrow.Author.Tests.{eq-eqb, ne-eqb}
 use Rattle.words.specs.Word.{bit}

@@ -1,4 +1,4 @@
--- `words::from_signed` meets its contract. `y` is the number as the code reads it back from its bits. Assumes nothing.
+-- `operators::from_signed` meets its contract. `y` is the number as the code reads it back from its bits. Assumes nothing.
 use mathlib.Core.Path.{_≡_, ap, ap₂, _∙_}
 use Prim.Native.Nat.{ℕ, _-_, _%_, _^_}
 use native.Mathlib.Nat.{mod-lt}

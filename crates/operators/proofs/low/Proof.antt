@@ -1,4 +1,4 @@
--- `words::low` meets its contract. Assumes nothing.
+-- `operators::low` meets its contract. Assumes nothing.
 use mathlib.Core.Path.{subst, sym}
 use Prim.Native.Nat.{ℕ, _<_, _^_}
 use native.Mathlib.Nat.{mod-lt}

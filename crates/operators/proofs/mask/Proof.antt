@@ -1,4 +1,4 @@
--- `words::mask` meets its contract. Assumes nothing.
+-- `operators::mask` meets its contract. Assumes nothing.
 use borrow.Author.Needs.{needs}
 use Rattle.words.proofs.Words.{mask-law}
 use Rattle.operators.proofs.mask.Statement.{statement}

@@ -1,4 +1,4 @@
--- `words::neq` meets its contract. Assumes nothing.
+-- `operators::neq` meets its contract. Assumes nothing.
 use mathlib.Core.Path.{sym, ap}
 use mathlib.Core.Bool.{Bool, not}
 use borrow.Author.Tests.{eq-eqb, ne-eqb}

@@ -1,4 +1,4 @@
--- `words::redxor` meets its contract. Assumes nothing.
+-- `operators::redxor` meets its contract. Assumes nothing.
 use mathlib.Core.Path.{_∙_, sym, ap}
 use Prim.Native.Nat.{ℕ, _%_}
 use lib.Bits.{and-mask}

@@ -1,4 +1,4 @@
--- `words::ror` meets its contract. Assumes nothing.
+-- `operators::ror` meets its contract. Assumes nothing.
 use mathlib.Core.Path.{_∙_, ap₂}
 use Prim.Native.Nat.{ℕ, _%_}
 use native.Mathlib.Nat.{lt-of-lt-of-le, le-of-lt}

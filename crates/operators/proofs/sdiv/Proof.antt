@@ -1,4 +1,4 @@
--- `words::sdiv` meets its contract. In each answer s is the place where both operands are read as signed, and g the entry. Assumes nothing.
+-- `operators::sdiv` meets its contract. In each answer s is the place where both operands are read as signed, and g the entry. Assumes nothing.
 use mathlib.Core.Path.{_∙_}
 use mathlib.Core.Bool.{true, false}
 use borrow.Author.Needs.{needs}

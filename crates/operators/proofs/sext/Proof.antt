@@ -1,4 +1,4 @@
--- `words::sext` meets its contract. Assumes nothing.
+-- `operators::sext` meets its contract. Assumes nothing.
 use mathlib.Core.Path.{_∙_, ap}
 use Prim.Native.Nat.{_+_}
 use mir.Facts.{toZ-ofZ}

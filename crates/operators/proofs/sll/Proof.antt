@@ -1,4 +1,4 @@
--- `words::sll` meets its contract. Assumes nothing.
+-- `operators::sll` meets its contract. Assumes nothing.
 use mathlib.Core.Path.{sym, ap}
 use mathlib.Core.Bool.{Bool}
 use borrow.Author.Tests.{lt-ltb, le-ltb}

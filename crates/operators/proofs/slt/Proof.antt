@@ -1,4 +1,4 @@
--- `words::slt` meets its contract. Assumes nothing.
+-- `operators::slt` meets its contract. Assumes nothing.
 use mathlib.Core.Path.{_∙_, sym, ap, ap₂}
 use lib.Signed.{ltZ}
 use mir.Facts.{toZ-ofZ}

@@ -1,4 +1,4 @@
--- `words::slte` meets its contract. Assumes nothing.
+-- `operators::slte` meets its contract. Assumes nothing.
 use mathlib.Core.Path.{_∙_, sym, ap, ap₂}
 use lib.Signed.{leZ}
 use mir.Facts.{toZ-ofZ}

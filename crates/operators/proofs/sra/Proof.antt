@@ -1,4 +1,4 @@
--- `words::sra` meets its contract. In each answer s is the place where the word and the amount are read, and g the entry. Assumes nothing.
+-- `operators::sra` meets its contract. In each answer s is the place where the word and the amount are read, and g the entry. Assumes nothing.
 use mathlib.Core.Path.{_∙_}
 use mathlib.Core.Bool.{true, false}
 use borrow.Author.Needs.{needs}

@@ -1,4 +1,4 @@
--- `words::srem` meets its contract. In each answer s is the place where both operands are read as signed, and g the entry. Assumes nothing.
+-- `operators::srem` meets its contract. In each answer s is the place where both operands are read as signed, and g the entry. Assumes nothing.
 use mathlib.Core.Path.{_∙_}
 use borrow.Author.Needs.{needs}
 use Rattle.words.proofs.Divide.{div-ok, srem-zero, srem-minus, srem-else}

@@ -1,4 +1,4 @@
--- `words::srl` meets its contract. Assumes nothing.
+-- `operators::srl` meets its contract. Assumes nothing.
 use mathlib.Core.Path.{sym, ap}
 use mathlib.Core.Bool.{Bool}
 use borrow.Author.Tests.{lt-ltb, le-ltb}

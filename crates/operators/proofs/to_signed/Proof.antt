@@ -1,4 +1,4 @@
--- `words::to_signed` meets its contract; x is the low bits. Assumes nothing.
+-- `operators::to_signed` meets its contract; x is the low bits. Assumes nothing.
 use mathlib.Core.Path.{_∙_, ap}
 use borrow.Author.Needs.{needs}
 use Rattle.words.specs.Word.{signed}

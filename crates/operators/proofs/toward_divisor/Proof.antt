@@ -1,4 +1,4 @@
--- `words::toward_divisor` meets its contract. Assumes nothing.
+-- `operators::toward_divisor` meets its contract. Assumes nothing.
 use mathlib.Core.Path.{_≡_, _∙_, sym, ap, ap₂}
 use mathlib.Core.Bool.{Bool, true, false, cond}
 use lib.IntN.{ℤ, pos, _+ℤ_}

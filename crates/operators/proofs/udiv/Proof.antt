@@ -1,4 +1,4 @@
--- `words::udiv` meets its contract. Assumes nothing.
+-- `operators::udiv` meets its contract. Assumes nothing.
 use mathlib.Core.Path.{_≡_, refl, sym, ap, _∙_}
 use Prim.Native.Nat.{ℕ, zero, suc, _/_}
 use borrow.Author.Needs.{needs}

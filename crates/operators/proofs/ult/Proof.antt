@@ -1,4 +1,4 @@
--- `words::ult` meets its contract. Assumes nothing.
+-- `operators::ult` meets its contract. Assumes nothing.
 use mathlib.Core.Path.{sym, ap}
 use borrow.Author.Tests.{lt-ltb, le-ltb}
 use Rattle.words.specs.Word.{bit}

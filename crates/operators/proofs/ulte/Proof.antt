@@ -1,4 +1,4 @@
--- `words::ulte` meets its contract. Assumes nothing.
+-- `operators::ulte` meets its contract. Assumes nothing.
 use mathlib.Core.Path.{sym, ap}
 use borrow.Author.Tests.{le-leb, lt-leb}
 use Rattle.words.specs.Word.{bit}

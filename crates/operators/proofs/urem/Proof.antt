@@ -1,4 +1,4 @@
--- `words::urem` meets its contract. Assumes nothing.
+-- `operators::urem` meets its contract. Assumes nothing.
 use mathlib.Core.Path.{_∙_, sym, ap}
 use Prim.Native.Nat.{ℕ, _%_}
 use native.Mathlib.Nat.{mod-zero}

@@ -1,4 +1,4 @@
--- `words::wrapping_mul` meets its contract. Assumes nothing.
+-- `operators::wrapping_mul` meets its contract. Assumes nothing.
 use Prim.Native.Nat.{_/_, _^_}
 use borrow.Author.Needs.{needs}
 use lib.Bits.{bitAnd, mask-lt}

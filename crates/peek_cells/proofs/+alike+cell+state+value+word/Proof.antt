@@ -1,4 +1,4 @@
--- `peek::word`, `peek::value`, `peek::state`, `peek::cell` and `peek::alike` meet their contracts. The line number falls at each call but three: a word asks for the
+-- `peek_cells::word`, `peek_cells::value`, `peek_cells::state`, `peek_cells::cell` and `peek_cells::alike` meet their contracts. The line number falls at each call but three: a word asks for the
 -- value of its own line, and a value or a cell for its own line's state. So the measure of a state is four times its line, of a value and of a cell one more, of a word
 -- two more, and of a comparison three more than four times the later of its lines. Assumes nothing.
 use Prim.Native.Nat.{ℕ, _+_, _-_, _*_, _<_}

@@ -1,4 +1,4 @@
--- `peek::chosen` meets its contract. Assumes nothing.
+-- `peek_values::chosen` meets its contract. Assumes nothing.
 use mathlib.Core.Path.{sym}
 use Rattle.peeks.proofs.Looked.{yes-choose}
 use borrow.Author.Needs.{needs}

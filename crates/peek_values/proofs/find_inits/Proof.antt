@@ -1,4 +1,4 @@
--- `peek::find_inits` meets its contract. Assumes nothing.
+-- `peek_values::find_inits` meets its contract. Assumes nothing.
 use Prim.Native.Nat.{_-_}
 use mathlib.Core.Bool.{false}
 use mathlib.Core.Path.{sym, _∙_}

@@ -1,4 +1,4 @@
--- `peek::given` meets its contract. Assumes nothing.
+-- `peek_values::given` meets its contract. Assumes nothing.
 use borrow.Author.Needs.{needs}
 use Rattle.peek_values.proofs.given.Statement.{statement}
 use Rattle.peek_values.proofs.given.Tie as tie

@@ -1,4 +1,4 @@
--- `peek::input_word` meets its contract. Assumes nothing.
+-- `peek_values::input_word` meets its contract. Assumes nothing.
 use Prim.Native.Nat.{ℕ, _%_, _^_}
 use mathlib.Core.Path.{ap₂, _∙_}
 use lib.ListN.{getD}

@@ -1,4 +1,4 @@
--- `peek::note_init` meets its contract. Assumes nothing.
+-- `peek_values::note_init` meets its contract. Assumes nothing.
 use Rattle.peeks.proofs.Inits.{note-other, note-set, note-far}
 use borrow.Author.Needs.{needs}
 use Rattle.peek_values.proofs.note_init.Statement.{statement}

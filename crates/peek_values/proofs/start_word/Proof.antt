@@ -1,4 +1,4 @@
--- `peek::start_word` meets its contract. Assumes nothing.
+-- `peek_values::start_word` meets its contract. Assumes nothing.
 use Prim.Native.Nat.{ℕ, _+_, _%_, _^_}
 use mathlib.Core.Path.{ap₂, _∙_}
 use lib.ListN.{getD}

@@ -1,4 +1,4 @@
--- `peek::find` meets its contract. Assumes nothing.
+-- `peeking::find` meets its contract. Assumes nothing.
 use mathlib.Core.Path.{refl, sym, _∙_}
 use native.Mathlib.Omega.{arith}
 use Rattle.peeks.proofs.Seen.{looks-all, line-few, word-here, word-seen, cell-here, cell-seen, found-none}

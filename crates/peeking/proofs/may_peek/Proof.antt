@@ -1,4 +1,4 @@
--- `peek::may_peek` meets its contract. Assumes nothing.
+-- `peeking::may_peek` meets its contract. Assumes nothing.
 use native.Mathlib.Omega.{arith}
 use Rattle.circuits.specs.Model.{countsOf}
 use Rattle.circuits.proofs.Placing.{shift-one}

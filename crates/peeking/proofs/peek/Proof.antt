@@ -1,4 +1,4 @@
--- `peek::peek` meets its contract. Assumes nothing.
+-- `peeking::peek` meets its contract. Assumes nothing.
 use mathlib.Core.Path.{sym, _∙_}
 use native.Mathlib.Omega.{arith}
 use Rattle.tables.proofs.Checking.{fresh}

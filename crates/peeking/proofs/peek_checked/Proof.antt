@@ -1,4 +1,4 @@
--- `peek::peek_checked` meets its contract. Assumes nothing.
+-- `peeking::peek_checked` meets its contract. Assumes nothing.
 use Prim.Native.Nat.{ℕ}
 use mathlib.Core.Bool.{false}
 use mathlib.Core.List.{List}

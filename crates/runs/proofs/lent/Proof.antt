@@ -1,4 +1,4 @@
--- `run::lent` meets its contract, test by test. Assumes nothing.
+-- `runs::lent` meets its contract, test by test. Assumes nothing.
 use Rattle.circuits.specs.Model.{countsOf}
 use Rattle.circuits.proofs.Answering.{is-13, is-14, is-15, is-16, is-17, is-lent, times-small}
 use borrow.Author.Needs.{needs}

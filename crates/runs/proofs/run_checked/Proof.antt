@@ -1,4 +1,4 @@
--- `run::run_checked` meets its contract. Assumes nothing.
+-- `runs::run_checked` meets its contract. Assumes nothing.
 use Prim.Native.Nat.{ℕ}
 use mathlib.Core.List.{List}
 use mathlib.Core.Path.{sym, _∙_}

@@ -1,4 +1,4 @@
--- `run::run_lent` meets its contract. Assumes nothing.
+-- `runs::run_lent` meets its contract. Assumes nothing.
 use Prim.Native.Nat.{ℕ, _+_, _*_, _≤_, _<_}
 use mathlib.Core.Path.{_≡_, refl, sym, _∙_, ap}
 use native.Mathlib.Omega.{arith}

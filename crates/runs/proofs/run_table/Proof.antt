@@ -1,4 +1,4 @@
--- `run::run_table` meets its contract. Assumes nothing.
+-- `runs::run_table` meets its contract. Assumes nothing.
 use Prim.Native.Nat.{ℕ}
 use mathlib.Core.Path.{ap₂, sym, _∙_, ap}
 use native.Mathlib.Omega.{arith}

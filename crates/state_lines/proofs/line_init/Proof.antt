@@ -1,4 +1,4 @@
--- `eval::line_init` meets its contract. Assumes nothing.
+-- `state_lines::line_init` meets its contract. Assumes nothing.
 use mathlib.Core.Path.{refl, ap, ap₂, _∙_}
 use Prim.Native.Nat.{ℕ, _+_}
 use lib.ListN.{replicate}

@@ -1,4 +1,4 @@
--- `eval::line_mark` meets its contract. Assumes nothing.
+-- `state_lines::line_mark` meets its contract. Assumes nothing.
 use mathlib.Core.Path.{sym, ap₂}
 use Prim.Native.Nat.{ℕ}
 use lib.ListN.{set}

@@ -1,4 +1,4 @@
--- `eval::line_next` meets its contract. Assumes nothing.
+-- `state_lines::line_next` meets its contract. Assumes nothing.
 use mathlib.Core.Path.{ap, ap₂, _∙_}
 use Prim.Native.Nat.{ℕ, _+_}
 use Rattle.circuits.specs.Cells.{put, part}

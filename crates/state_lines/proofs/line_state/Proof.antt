@@ -1,4 +1,4 @@
--- `eval::line_state` meets its contract: the state words, masked or not, are copied to the state's cells. Assumes nothing.
+-- `state_lines::line_state` meets its contract: the state words, masked or not, are copied to the state's cells. Assumes nothing.
 use mathlib.Core.Path.{_∙_, ap}
 use mathlib.Core.Logic.{inr}
 use Prim.Native.Nat.{ℕ, _+_}

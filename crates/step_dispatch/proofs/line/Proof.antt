@@ -1,4 +1,4 @@
--- `eval::line` meets its contract: each kind by its own function. Assumes nothing.
+-- `step_dispatch::line` meets its contract: each kind by its own function. Assumes nothing.
 use mathlib.Core.Path.{refl, _∙_, ap}
 use mathlib.Core.Bool.{Bool, true, false}
 use Prim.Native.Nat.{_+_}

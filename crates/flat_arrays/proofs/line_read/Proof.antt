@@ -13,10 +13,10 @@ use Rattle.flattening.proofs.Laying.{size-le, size-two, read-con, read-con-word
 use Rattle.tables.specs.Notes.{lookIn}
 use borrow.Author.Needs.{needs}
 use Rattle.tables.specs.Lines.{span}
-use Rattle.flat_lines.proofs.line_read.Statement.{statement}
-use Rattle.flat_lines.proofs.line_read.Tie as tie
-use Rattle.flat_lines.proofs.line_read.Reads as reads
-use Rattle.flat_lines.proofs.line_read.Lts as lts
+use Rattle.flat_arrays.proofs.line_read.Statement.{statement}
+use Rattle.flat_arrays.proofs.line_read.Tie as tie
+use Rattle.flat_arrays.proofs.line_read.Reads as reads
+use Rattle.flat_arrays.proofs.line_read.Lts as lts
 use Rattle.flat_cells.proofs.cells.cell.Reads as cell-reads
 use Rattle.flat_cells.proofs.cells.entry.Reads as entry-reads
 use Rattle.flat_cells.proofs.making.read_lines.Reads as read-lines-reads

@@ -1,4 +1,4 @@
--- `words::circ_word` meets its contract. Assumes nothing.
+-- `instructions::circ_word` meets its contract. Assumes nothing.
 use mathlib.Core.Path.{ap₂, sym, _∙_, subst}
 use Prim.Native.Nat.{ℕ, _%_, _^_}
 use borrow.Author.Needs.{needs}
@@ -6,8 +6,8 @@ use Rattle.words.specs.Word.{Width}
 use Rattle.words.specs.Op.{opOf}
 use Rattle.words.specs.Program.{classOf}
 use Rattle.words.proofs.Bounds.{masked, result-width}
-use Rattle.operators.proofs.circ_word.Statement.{statement}
-use Rattle.operators.proofs.circ_word.Tie as tie
+use Rattle.instructions.proofs.circ_word.Statement.{statement}
+use Rattle.instructions.proofs.circ_word.Tie as tie
 
 low-requires : tie.Need-low-requires
 low-requires c κs =

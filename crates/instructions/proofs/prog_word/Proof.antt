@@ -1,4 +1,4 @@
--- `words::prog_word` meets its contract: arm by arm, where `keysN` says which kind the arm is for. Assumes nothing.
+-- `instructions::prog_word` meets its contract: arm by arm, where `keysN` says which kind the arm is for. Assumes nothing.
 use mathlib.Core.Path.{_≡_, refl, sym, ap, _∙_}
 use Prim.Native.Nat.{ℕ, zero, suc, _+_, _-_, _≤_, _<_}
 use native.Mathlib.Omega.{arith}
@@ -9,8 +9,8 @@ use borrow.Author.Needs.{needs}
 use Rattle.words.specs.Word.{bit, choose}
 use Rattle.words.specs.Op.{Op, ops, opOf, mask}
 use Rattle.words.specs.Program.{prog}
-use Rattle.operators.proofs.prog_word.Statement.{statement}
-use Rattle.operators.proofs.prog_word.Tie as tie
+use Rattle.instructions.proofs.prog_word.Statement.{statement}
+use Rattle.instructions.proofs.prog_word.Tie as tie
 
 -- ---- the last arm: a kind that is none of 11 to 53
 

@@ -11,10 +11,10 @@ use Rattle.flattening.proofs.Holding.{cell-bound}
 use Rattle.flattening.proofs.Placing.{tame-run, tame-of}
 use Rattle.flattening.proofs.Laying.{size-le}
 use Rattle.tables.specs.Notes.{lookIn}
-use Rattle.flat_lines.proofs.line_ite.Statement.{statement}
-use Rattle.flat_lines.proofs.line_ite.Tie as tie
-use Rattle.flat_lines.proofs.line_ite.Reads as reads
-use Rattle.flat_lines.proofs.line_ite.Lts as lts
+use Rattle.flat_arrays.proofs.line_ite.Statement.{statement}
+use Rattle.flat_arrays.proofs.line_ite.Tie as tie
+use Rattle.flat_arrays.proofs.line_ite.Reads as reads
+use Rattle.flat_arrays.proofs.line_ite.Lts as lts
 use Rattle.flat_cells.proofs.cells.cell.Reads as cell-reads
 use Rattle.flat_cells.proofs.cells.entry.Reads as entry-reads
 use Rattle.flat_cells.proofs.making.of.Reads as of-reads

@@ -10,10 +10,10 @@ use Rattle.flattening.specs.Making.{run, made}
 use Rattle.flattening.proofs.Placing.{tame-run}
 use Rattle.flattening.proofs.Laying.{size-le}
 use Rattle.tables.specs.Notes.{lookIn}
-use Rattle.flat_lines.proofs.line_state.Statement.{statement}
-use Rattle.flat_lines.proofs.line_state.Tie as tie
-use Rattle.flat_lines.proofs.line_state.Reads as reads
-use Rattle.flat_lines.proofs.line_state.Lts as lts
+use Rattle.flat_arrays.proofs.line_state.Statement.{statement}
+use Rattle.flat_arrays.proofs.line_state.Tie as tie
+use Rattle.flat_arrays.proofs.line_state.Reads as reads
+use Rattle.flat_arrays.proofs.line_state.Lts as lts
 use Rattle.flat_cells.proofs.cells.entry.Reads as entry-reads
 use Rattle.flat_cells.proofs.making.run.Reads as run-reads
 use Rattle.flat_cells.proofs.making.size.Reads as size-reads

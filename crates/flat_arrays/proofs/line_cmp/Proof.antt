@@ -9,13 +9,13 @@ use Rattle.flattening.specs.Model.{words}
 use Rattle.flattening.specs.Making.{made, cmpWords}
 use Rattle.flattening.proofs.Laying.{size-le}
 use Rattle.tables.specs.Notes.{lookIn}
-use Rattle.flat_lines.proofs.line_cmp.Statement.{statement}
-use Rattle.flat_lines.proofs.line_cmp.Tie as tie
-use Rattle.flat_lines.proofs.line_cmp.Reads as reads
-use Rattle.flat_lines.proofs.line_cmp.Lts as lts
+use Rattle.flat_arrays.proofs.line_cmp.Statement.{statement}
+use Rattle.flat_arrays.proofs.line_cmp.Tie as tie
+use Rattle.flat_arrays.proofs.line_cmp.Reads as reads
+use Rattle.flat_arrays.proofs.line_cmp.Lts as lts
 use Rattle.flat_cells.proofs.cells.entry.Reads as entry-reads
-use Rattle.flat_lines.proofs.cmp_kind.Reads as cmp-kind-reads
-use Rattle.flat_lines.proofs.join_kind.Reads as join-kind-reads
+use Rattle.flat_arrays.proofs.cmp_kind.Reads as cmp-kind-reads
+use Rattle.flat_arrays.proofs.join_kind.Reads as join-kind-reads
 use Rattle.flat_cells.proofs.making.cmp_lines.Reads as cmp-lines-reads
 use Rattle.flat_cells.proofs.making.less.Reads as less-reads
 use Rattle.flat_cells.proofs.making.size.Reads as size-reads

@@ -15,10 +15,10 @@ use Rattle.flattening.proofs.Laying.{size-le, write-con, write-con-words, write
 use Rattle.tables.specs.Notes.{lookIn}
 use borrow.Author.Needs.{needs}
 use Rattle.tables.specs.Lines.{span}
-use Rattle.flat_lines.proofs.line_write.Statement.{statement}
-use Rattle.flat_lines.proofs.line_write.Tie as tie
-use Rattle.flat_lines.proofs.line_write.Reads as reads
-use Rattle.flat_lines.proofs.line_write.Lts as lts
+use Rattle.flat_arrays.proofs.line_write.Statement.{statement}
+use Rattle.flat_arrays.proofs.line_write.Tie as tie
+use Rattle.flat_arrays.proofs.line_write.Reads as reads
+use Rattle.flat_arrays.proofs.line_write.Lts as lts
 use Rattle.flat_cells.proofs.cells.cell.Reads as cell-reads
 use Rattle.flat_cells.proofs.cells.entry.Reads as entry-reads
 use Rattle.flat_cells.proofs.making.of.Reads as of-reads

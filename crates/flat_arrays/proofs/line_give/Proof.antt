@@ -11,13 +11,13 @@ use Rattle.flattening.proofs.Holding.{cell-bound}
 use Rattle.flattening.proofs.Placing.{tame-run, tame-of}
 use Rattle.flattening.proofs.Laying.{size-le}
 use Rattle.tables.specs.Notes.{lookIn}
-use Rattle.flat_lines.proofs.line_give.Statement.{statement}
-use Rattle.flat_lines.proofs.line_give.Tie as tie
-use Rattle.flat_lines.proofs.line_give.Reads as reads
-use Rattle.flat_lines.proofs.line_give.Lts as lts
+use Rattle.flat_arrays.proofs.line_give.Statement.{statement}
+use Rattle.flat_arrays.proofs.line_give.Tie as tie
+use Rattle.flat_arrays.proofs.line_give.Reads as reads
+use Rattle.flat_arrays.proofs.line_give.Lts as lts
 use Rattle.flat_cells.proofs.cells.cell.Reads as cell-reads
 use Rattle.flat_cells.proofs.cells.entry.Reads as entry-reads
 use Rattle.flat_lines.proofs.no_value.Reads as no-value-reads
 use Rattle.flat_cells.proofs.making.of.Reads as of-reads
 use Rattle.flat_cells.proofs.making.run.Reads as run-reads
 use Rattle.flat_cells.proofs.making.size.Reads as size-reads
