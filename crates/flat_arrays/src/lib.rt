@@ -1,15 +1,29 @@
 // Lines that leave a flat line for each cell: states, init and next, and the operators that take arrays. The flat lines go to the target, and what later lines need of the line is answered.
 use flat_cells::cells;
 use flat_cells::cells::KEPT;
-use flat_cells::making;
 use flat_cells::rows;
+use flat_cells::sources;
 use flattening::Made;
 use records::notes::BYTES;
 ghost use mathlib.Core.Path.{_≡_};
 ghost use lib.ListN.{length};
+ghost use Rattle.flattening.specs.Making.{made, notes, Fit, Laid};
 ghost use Rattle.tables.specs.Lines.{cmpKind, Line, Expr};
 ghost use Rattle.flattening.specs.Flat.{joinKind};
-ghost use Rattle.flattening.specs.Making.{notes, Fit, Laid};
+
+// Nothing is kept of a line that has no value.
+pub fn no_value(q: usize) -> Made
+    ensures { λ r. ⌜ r ≡ made q 0 0 0 0 0 ⌝ }
+{
+    Made {
+        next: q,
+        at: 0,
+        bit: 0,
+        old: 0,
+        key: 0,
+        con: 0,
+    }
+}
 
 // The kinds of eq and neq, and of and and or.
 pub fn cmp_kind(e: bool) -> u64
@@ -41,8 +55,8 @@ pub fn line_state(
     requires { ⌜ Fit (notes (now kept) (now types)) p (Line.state s) (length (now target)) ⌝ }
     ensures { λ r. ⌜ Laid (notes (now (kept .entry)) (now (types .entry))) p (Line.state s) (now (target .entry)) (now (target .exit)) r ⌝ }
 {
-    let n = making::size(types, s);
-    let z = making::run(0, 0);
+    let n = sources::size(types, s);
+    let z = sources::run(0, 0);
     rows::rows(kept, target, p, n, 5, cells::entry(kept, 0, s), z, z, z);
     Made {
         next: p + n,
@@ -68,8 +82,8 @@ pub fn line_cmp(
     requires { ⌜ Fit (notes (now kept) (now types)) p (Line.val s (Expr.cmp e x y)) (length (now target)) ⌝ }
     ensures { λ r. ⌜ Laid (notes (now (kept .entry)) (now (types .entry))) p (Line.val s (Expr.cmp e x y)) (now (target .entry)) (now (target .exit)) r ⌝ }
 {
-    let n = making::size(types, x);
-    making::cmp_lines(
+    let n = sources::size(types, x);
+    flat_chains::cmp_lines(
         kept,
         cmp_kind(e),
         join_kind(e),
@@ -80,7 +94,7 @@ pub fn line_cmp(
         p,
         target,
     );
-    let q = p + (n + making::less(n, 1));
+    let q = p + (n + sources::less(n, 1));
     Made {
         next: q,
         at: q as u64,
@@ -105,7 +119,7 @@ pub fn line_ite(
     requires { ⌜ Fit (notes (now kept) (now types)) p (Line.val s (Expr.ite c x y)) (length (now target)) ⌝ }
     ensures { λ r. ⌜ Laid (notes (now (kept .entry)) (now (types .entry))) p (Line.val s (Expr.ite c x y)) (now (target .entry)) (now (target .exit)) r ⌝ }
 {
-    let n = making::size(types, x);
+    let n = sources::size(types, x);
     rows::rows(
         kept,
         target,
@@ -113,9 +127,9 @@ pub fn line_ite(
         n,
         53,
         cells::entry(kept, 0, s),
-        making::run(cells::cell(kept, c, 0), 0),
-        making::of(x),
-        making::of(y),
+        sources::run(cells::cell(kept, c, 0), 0),
+        sources::of(x),
+        sources::of(y),
     );
     Made {
         next: p + n,
@@ -152,8 +166,8 @@ pub fn line_read(
             con: 0,
         };
     }
-    let n = making::size(types, a);
-    making::read_lines(
+    let n = sources::size(types, a);
+    flat_chains::read_lines(
         kept,
         cells::entry(kept, 1, a),
         cells::cell(kept, i, 0),
@@ -201,7 +215,7 @@ pub fn line_write(
             con: 0,
         };
     }
-    let n = making::size(types, s);
+    let n = sources::size(types, s);
     rows::pairs(
         kept,
         target,
@@ -210,9 +224,9 @@ pub fn line_write(
         o,
         cells::cell(kept, i, 0),
         cells::entry(kept, 0, s),
-        making::run(o + 1, 1),
-        making::run(x, 0),
-        making::of(a),
+        sources::run(o + 1, 1),
+        sources::run(x, 0),
+        sources::of(a),
     );
     Made {
         next: p + 2 * n,
@@ -238,7 +252,7 @@ pub fn line_give(
     requires { ⌜ Fit (notes (now kept) (now types)) p (Line.give m s q v) (length (now target)) ⌝ }
     ensures { λ r. ⌜ Laid (notes (now (kept .entry)) (now (types .entry))) p (Line.give m s q v) (now (target .entry)) (now (target .exit)) r ⌝ }
 {
-    let n = making::size(types, q);
+    let n = sources::size(types, q);
     let t = cells::entry(kept, 0, s);
     if m {
         let x = cells::cell(kept, v, 0);
@@ -249,11 +263,11 @@ pub fn line_give(
             n,
             6,
             t,
-            making::of(q),
-            making::run(x, 0),
-            making::run(0, 0),
+            sources::of(q),
+            sources::run(x, 0),
+            sources::run(0, 0),
         );
-        return flat_lines::no_value(p + n);
+        return no_value(p + n);
     }
     rows::rows(
         kept,
@@ -262,9 +276,9 @@ pub fn line_give(
         n,
         7,
         t,
-        making::of(q),
-        making::of(v),
-        making::run(0, 0),
+        sources::of(q),
+        sources::of(v),
+        sources::run(0, 0),
     );
-    flat_lines::no_value(p + n)
+    no_value(p + n)
 }

@@ -1,7 +1,7 @@
 // The number of flat lines that a line leaves.
 use flat_cells::cells;
 use flat_cells::cells::KEPT;
-use flat_cells::making;
+use flat_cells::sources;
 use records::notes::BYTES;
 use tables::WORDS;
 ghost use mathlib.Core.Path.{_≡_};
@@ -17,7 +17,7 @@ pub fn count_read(c: u64, n: usize) -> usize
     ensures { λ r. ⌜ r ≡ readCount c n ⌝ }
 {
     if c == 0 {
-        return 2 * making::less(n, 1);
+        return 2 * sources::less(n, 1);
     }
     0
 }
@@ -43,15 +43,15 @@ pub fn count_line(rec: [u64; WORDS], kept: &[[u64; KEPT]], types: &[[u8; BYTES]]
     let a = rec[2];
     let b = rec[3];
     match k {
-        2 => 1 + making::index_size(types, a),
-        5 => making::size(types, s),
-        6 => making::size(types, a),
-        7 => making::size(types, a),
-        21 => count_tests(making::size(types, a)),
-        22 => count_tests(making::size(types, a)),
-        53 => making::size(types, b),
-        54 => count_read(cells::entry(kept, 4, b), making::size(types, a)),
-        55 => count_write(cells::entry(kept, 4, b), making::size(types, s)),
+        2 => 1 + sources::index_size(types, a),
+        5 => sources::size(types, s),
+        6 => sources::size(types, a),
+        7 => sources::size(types, a),
+        21 => count_tests(sources::size(types, a)),
+        22 => count_tests(sources::size(types, a)),
+        53 => sources::size(types, b),
+        54 => count_read(cells::entry(kept, 4, b), sources::size(types, a)),
+        55 => count_write(cells::entry(kept, 4, b), sources::size(types, s)),
         _ => 1,
     }
 }
@@ -61,5 +61,5 @@ pub fn count_tests(n: usize) -> usize
     requires { ⌜ n ≤ 256 ⌝ }
     ensures { λ r. ⌜ r ≡ n + (n - 1) ⌝ }
 {
-    n + making::less(n, 1)
+    n + sources::less(n, 1)
 }

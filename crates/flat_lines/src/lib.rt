@@ -1,7 +1,7 @@
 // Lines that leave one flat line, and array sorts: the flat lines go to the target, and what later lines need of the line is answered.
 use flat_cells::cells;
 use flat_cells::cells::KEPT;
-use flat_cells::making;
+use flat_cells::sources;
 use flattening::Made;
 use records::notes::BYTES;
 use tables::WORDS;
@@ -33,20 +33,6 @@ pub fn single(
         old: 0,
         key: k,
         con: c,
-    }
-}
-
-// Nothing is kept of a line that has no value.
-pub fn no_value(q: usize) -> Made
-    ensures { λ r. ⌜ r ≡ made q 0 0 0 0 0 ⌝ }
-{
-    Made {
-        next: q,
-        at: 0,
-        bit: 0,
-        old: 0,
-        key: 0,
-        con: 0,
     }
 }
 
@@ -94,8 +80,8 @@ pub fn line_array(
     requires { ⌜ Fit (notes (now kept) (now types)) p (Line.array i e) (length (now target)) ⌝ }
     ensures { λ r. ⌜ Laid (notes (now (kept .entry)) (now (types .entry))) p (Line.array i e) (now (target .entry)) (now (target .exit)) r ⌝ }
 {
-    let n = making::index_size(types, i);
-    making::array_lines(kept, cells::entry(kept, 0, i), n, p, target);
+    let n = sources::index_size(types, i);
+    flat_chains::array_lines(kept, cells::entry(kept, 0, i), n, p, target);
     Made {
         next: p + (1 + n),
         at: cells::entry(kept, 0, e),

@@ -1,4 +1,4 @@
-// Flattening: the flat circuit, that it is accepted and that it runs as its circuit does. The code is in `flat_cells`, `flat_lines`, `flat_arrays`, `flat_dispatch`, `flat_counts` and `flatten`.
+// Flattening: the flat circuit, that it is accepted and that it runs as its circuit does. The code is in `flat_cells`, `flat_chains`, `flat_lines`, `flat_arrays`, `flat_dispatch`, `flat_counts` and `flatten`.
 use tables::Refusal;
 
 // What flattening answers: the number of records of the flat circuit, or a refusal.

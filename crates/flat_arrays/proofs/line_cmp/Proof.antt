@@ -16,9 +16,9 @@ use Rattle.flat_arrays.proofs.line_cmp.Lts as lts
 use Rattle.flat_cells.proofs.cells.entry.Reads as entry-reads
 use Rattle.flat_arrays.proofs.cmp_kind.Reads as cmp-kind-reads
 use Rattle.flat_arrays.proofs.join_kind.Reads as join-kind-reads
-use Rattle.flat_cells.proofs.making.cmp_lines.Reads as cmp-lines-reads
-use Rattle.flat_cells.proofs.making.less.Reads as less-reads
-use Rattle.flat_cells.proofs.making.size.Reads as size-reads
+use Rattle.flat_chains.proofs.cmp_lines.Reads as cmp-lines-reads
+use Rattle.flat_cells.proofs.sources.less.Reads as less-reads
+use Rattle.flat_cells.proofs.sources.size.Reads as size-reads
 
 size-requires : tie.Need-size-requires
 size-requires c κs = c .before .pre .neat .deep (c .before .args .x)

@@ -17,10 +17,10 @@ use Rattle.flat_arrays.proofs.line_give.Reads as reads
 use Rattle.flat_arrays.proofs.line_give.Lts as lts
 use Rattle.flat_cells.proofs.cells.cell.Reads as cell-reads
 use Rattle.flat_cells.proofs.cells.entry.Reads as entry-reads
-use Rattle.flat_lines.proofs.no_value.Reads as no-value-reads
-use Rattle.flat_cells.proofs.making.of.Reads as of-reads
-use Rattle.flat_cells.proofs.making.run.Reads as run-reads
-use Rattle.flat_cells.proofs.making.size.Reads as size-reads
+use Rattle.flat_arrays.proofs.no_value.Reads as no-value-reads
+use Rattle.flat_cells.proofs.sources.of.Reads as of-reads
+use Rattle.flat_cells.proofs.sources.run.Reads as run-reads
+use Rattle.flat_cells.proofs.sources.size.Reads as size-reads
 use Rattle.flat_cells.proofs.rows.rows.Reads as rows-reads
 
 size-requires : tie.Need-size-requires

@@ -19,8 +19,8 @@ use Rattle.flat_arrays.proofs.line_read.Reads as reads
 use Rattle.flat_arrays.proofs.line_read.Lts as lts
 use Rattle.flat_cells.proofs.cells.cell.Reads as cell-reads
 use Rattle.flat_cells.proofs.cells.entry.Reads as entry-reads
-use Rattle.flat_cells.proofs.making.read_lines.Reads as read-lines-reads
-use Rattle.flat_cells.proofs.making.size.Reads as size-reads
+use Rattle.flat_chains.proofs.read_lines.Reads as read-lines-reads
+use Rattle.flat_cells.proofs.sources.size.Reads as size-reads
 
 entry-requires : tie.Need-entry-requires
 entry-requires c κs = omega arith

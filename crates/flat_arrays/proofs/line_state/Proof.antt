@@ -15,8 +15,8 @@ use Rattle.flat_arrays.proofs.line_state.Tie as tie
 use Rattle.flat_arrays.proofs.line_state.Reads as reads
 use Rattle.flat_arrays.proofs.line_state.Lts as lts
 use Rattle.flat_cells.proofs.cells.entry.Reads as entry-reads
-use Rattle.flat_cells.proofs.making.run.Reads as run-reads
-use Rattle.flat_cells.proofs.making.size.Reads as size-reads
+use Rattle.flat_cells.proofs.sources.run.Reads as run-reads
+use Rattle.flat_cells.proofs.sources.size.Reads as size-reads
 use Rattle.flat_cells.proofs.rows.rows.Reads as rows-reads
 
 size-requires : tie.Need-size-requires

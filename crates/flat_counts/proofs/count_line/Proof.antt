@@ -16,8 +16,8 @@ use Rattle.flat_cells.proofs.cells.entry.Reads as entry-reads
 use Rattle.flat_counts.proofs.count_read.Reads as count-read-reads
 use Rattle.flat_counts.proofs.count_tests.Reads as count-tests-reads
 use Rattle.flat_counts.proofs.count_write.Reads as count-write-reads
-use Rattle.flat_cells.proofs.making.index_size.Reads as index-size-reads
-use Rattle.flat_cells.proofs.making.size.Reads as size-reads
+use Rattle.flat_cells.proofs.sources.index_size.Reads as index-size-reads
+use Rattle.flat_cells.proofs.sources.size.Reads as size-reads
 
 array-read-k : tie.Need-array-read-k
 array-read-k c = search needs

@@ -9,7 +9,7 @@ use Rattle.flat_counts.proofs.count_read.Statement.{statement}
 use Rattle.flat_counts.proofs.count_read.Tie as tie
 use Rattle.flat_counts.proofs.count_read.Reads as reads
 use Rattle.flat_counts.proofs.count_read.Lts as lts
-use Rattle.flat_cells.proofs.making.less.Reads as less-reads
+use Rattle.flat_cells.proofs.sources.less.Reads as less-reads
 
 less-requires : tie.Need-less-requires
 less-requires c κs = tt

@@ -15,8 +15,8 @@ use Rattle.flat_lines.proofs.line_array.Tie as tie
 use Rattle.flat_lines.proofs.line_array.Reads as reads
 use Rattle.flat_lines.proofs.line_array.Lts as lts
 use Rattle.flat_cells.proofs.cells.entry.Reads as entry-reads
-use Rattle.flat_cells.proofs.making.array_lines.Reads as array-lines-reads
-use Rattle.flat_cells.proofs.making.index_size.Reads as index-size-reads
+use Rattle.flat_chains.proofs.array_lines.Reads as array-lines-reads
+use Rattle.flat_cells.proofs.sources.index_size.Reads as index-size-reads
 
 index-size-requires : tie.Need-index-size-requires
 index-size-requires c κs = c .before .pre .deep

@@ -1,4 +1,4 @@
--- `runs::run_lent` meets its contract. Assumes nothing.
+-- `engine::run_lent` meets its contract. Assumes nothing.
 use Prim.Native.Nat.{ℕ, _+_, _*_, _≤_, _<_}
 use mathlib.Core.Path.{_≡_, refl, sym, _∙_, ap}
 use native.Mathlib.Omega.{arith}
@@ -10,8 +10,8 @@ use Rattle.circuits.proofs.Repeated.{ready-as}
 use Rattle.circuits.proofs.Answering.{nonzero, lent-facts, none-ran, none-signals, bad-found, signals-many, zero-front}
 use Rattle.circuits.proofs.Placing.{signals-few, words-few}
 use borrow.Author.Needs.{needs}
-use Rattle.runs.proofs.run_lent.Statement.{statement}
-use Rattle.runs.proofs.run_lent.Tie as tie
+use Rattle.engine.proofs.run_lent.Statement.{statement}
+use Rattle.engine.proofs.run_lent.Tie as tie
 
 returns : tie.Need-returns
 returns c = let a = c .before .before .before .before .before .before .args in

@@ -10,16 +10,16 @@ use Rattle.flattening.proofs.Holding.{cell-bound}
 use Rattle.flattening.proofs.Placing.{put-then, kept-length, length-pairs, tame-run, tame-run-down, tame-of-down}
 use borrow.Author.Needs.{needs}
 use Rattle.tables.specs.Lines.{span}
-use Rattle.flat_cells.proofs.making.read_lines.Statement.{statement}
-use Rattle.flat_cells.proofs.making.read_lines.Tie as tie
-use Rattle.flat_cells.proofs.making.read_lines.Reads as reads
-use Rattle.flat_cells.proofs.making.read_lines.Lts as lts
+use Rattle.flat_chains.proofs.read_lines.Statement.{statement}
+use Rattle.flat_chains.proofs.read_lines.Tie as tie
+use Rattle.flat_chains.proofs.read_lines.Reads as reads
+use Rattle.flat_chains.proofs.read_lines.Lts as lts
 use Rattle.flat_cells.proofs.cells.cell.Reads as cell-reads
-use Rattle.flat_cells.proofs.making.less.Reads as less-reads
-use Rattle.flat_cells.proofs.making.of_down.Reads as of-down-reads
-use Rattle.flat_cells.proofs.making.run.Reads as run-reads
-use Rattle.flat_cells.proofs.making.run_down.Reads as run-down-reads
+use Rattle.flat_cells.proofs.sources.less.Reads as less-reads
+use Rattle.flat_cells.proofs.sources.of_down.Reads as of-down-reads
+use Rattle.flat_cells.proofs.sources.run.Reads as run-reads
+use Rattle.flat_cells.proofs.sources.run_down.Reads as run-down-reads
 use Rattle.flat_cells.proofs.rows.pairs.Reads as pairs-reads
 
 sub-cell : tie.Need-sub-cell
 sub-cell c = search needs

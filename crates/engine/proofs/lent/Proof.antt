@@ -1,9 +1,9 @@
--- `runs::lent` meets its contract, test by test. Assumes nothing.
+-- `engine::lent` meets its contract, test by test. Assumes nothing.
 use Rattle.circuits.specs.Model.{countsOf}
 use Rattle.circuits.proofs.Answering.{is-13, is-14, is-15, is-16, is-17, is-lent, times-small}
 use borrow.Author.Needs.{needs}
-use Rattle.runs.proofs.lent.Statement.{statement}
-use Rattle.runs.proofs.lent.Tie as tie
+use Rattle.engine.proofs.lent.Statement.{statement}
+use Rattle.engine.proofs.lent.Tie as tie
 
 returns : tie.Need-returns
 returns c = is-13 (countsOf (c .before .args .t)) (c .before .args .k) (c .before .args .s) (c .before .args .i) (c .before .args .g) (c .before .args .w) (c .if1 .taken)

@@ -1,4 +1,4 @@
--- `runs::run_checked` meets its contract. Assumes nothing.
+-- `engine::run_checked` meets its contract. Assumes nothing.
 use Prim.Native.Nat.{ℕ}
 use mathlib.Core.List.{List}
 use mathlib.Core.Path.{sym, _∙_}
@@ -9,8 +9,8 @@ use Rattle.circuits.specs.Model.{laidAs}
 use Rattle.circuits.proofs.Placing.{ready-laid, lent-small}
 use Rattle.circuits.proofs.Answering.{lent-on, lent-refused, lent-runs}
 use borrow.Author.Needs.{needs}
-use Rattle.runs.proofs.run_checked.Statement.{statement}
-use Rattle.runs.proofs.run_checked.Tie as tie
+use Rattle.engine.proofs.run_checked.Statement.{statement}
+use Rattle.engine.proofs.run_checked.Tie as tie
 
 slice-aggregate-lay-out : tie.Need-slice-aggregate-lay-out
 slice-aggregate-lay-out c = search needs

@@ -8,14 +8,14 @@ use Rattle.circuits.specs.Cells.{put}
 use Rattle.flattening.specs.Model.{Tame, words, rowAt}
 use Rattle.flattening.specs.Making.{run, still, of, joinWords}
 use Rattle.flattening.proofs.Placing.{put-then, kept-length, length-row, tame-run, tame-of}
-use Rattle.flat_cells.proofs.making.cmp_lines.Statement.{statement}
-use Rattle.flat_cells.proofs.making.cmp_lines.Tie as tie
-use Rattle.flat_cells.proofs.making.cmp_lines.Reads as reads
-use Rattle.flat_cells.proofs.making.cmp_lines.Lts as lts
-use Rattle.flat_cells.proofs.making.join_lines.Reads as join-lines-reads
-use Rattle.flat_cells.proofs.making.of.Reads as of-reads
-use Rattle.flat_cells.proofs.making.run.Reads as run-reads
+use Rattle.flat_chains.proofs.cmp_lines.Statement.{statement}
+use Rattle.flat_chains.proofs.cmp_lines.Tie as tie
+use Rattle.flat_chains.proofs.cmp_lines.Reads as reads
+use Rattle.flat_chains.proofs.cmp_lines.Lts as lts
+use Rattle.flat_chains.proofs.join_lines.Reads as join-lines-reads
+use Rattle.flat_cells.proofs.sources.of.Reads as of-reads
+use Rattle.flat_cells.proofs.sources.run.Reads as run-reads
 use Rattle.flat_cells.proofs.rows.rows.Reads as rows-reads
 
 of-requires : tie.Need-of-requires
 of-requires c κs = tt

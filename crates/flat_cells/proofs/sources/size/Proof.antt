@@ -2,11 +2,11 @@
 use Prim.Native.Nat.{_^_, _≤_}
 use mathlib.Core.Path.{ap, _∙_, subst⁻¹}
 use Rattle.tables.specs.declared.Ty.{Ty}
-use Rattle.flat_cells.proofs.making.size.Statement.{statement}
-use Rattle.flat_cells.proofs.making.size.Tie as tie
-use Rattle.flat_cells.proofs.making.size.Reads as reads
-use Rattle.flat_cells.proofs.making.size.Lts as lts
-use Rattle.flat_cells.proofs.making.power.Reads as power-reads
+use Rattle.flat_cells.proofs.sources.size.Statement.{statement}
+use Rattle.flat_cells.proofs.sources.size.Tie as tie
+use Rattle.flat_cells.proofs.sources.size.Reads as reads
+use Rattle.flat_cells.proofs.sources.size.Lts as lts
+use Rattle.flat_cells.proofs.sources.power.Reads as power-reads
 use Rattle.records.proofs.notes.look.Reads as look-reads
 
 look-requires : tie.Need-look-requires

@@ -9,12 +9,12 @@ use Rattle.flattening.specs.Model.{Tame, words, rowAt}
 use Rattle.flattening.specs.Making.{run, still}
 use Rattle.flattening.proofs.Placing.{record-then, recorded-length, tame-run}
 use borrow.Author.Needs.{needs}
-use Rattle.flat_cells.proofs.making.array_lines.Statement.{statement}
-use Rattle.flat_cells.proofs.making.array_lines.Tie as tie
-use Rattle.flat_cells.proofs.making.array_lines.Reads as reads
-use Rattle.flat_cells.proofs.making.array_lines.Lts as lts
-use Rattle.flat_cells.proofs.making.run.Reads as run-reads
+use Rattle.flat_chains.proofs.array_lines.Statement.{statement}
+use Rattle.flat_chains.proofs.array_lines.Tie as tie
+use Rattle.flat_chains.proofs.array_lines.Reads as reads
+use Rattle.flat_chains.proofs.array_lines.Lts as lts
+use Rattle.flat_cells.proofs.sources.run.Reads as run-reads
 use Rattle.flat_cells.proofs.rows.rows.Reads as rows-reads
 use Rattle.records.proofs.put.Reads as put-reads
 
 of-requires : tie.Need-of-requires

@@ -11,12 +11,12 @@ use Rattle.flattening.specs.Making.{run, still}
 use Rattle.flattening.proofs.Stores.{put-none}
 use Rattle.flattening.proofs.Placing.{record-then, recorded-length, join-none, join-some, tame-run}
 use borrow.Author.Needs.{needs}
-use Rattle.flat_cells.proofs.making.join_lines.Statement.{statement}
-use Rattle.flat_cells.proofs.making.join_lines.Tie as tie
-use Rattle.flat_cells.proofs.making.join_lines.Reads as reads
-use Rattle.flat_cells.proofs.making.join_lines.Lts as lts
-use Rattle.flat_cells.proofs.making.run.Reads as run-reads
+use Rattle.flat_chains.proofs.join_lines.Statement.{statement}
+use Rattle.flat_chains.proofs.join_lines.Tie as tie
+use Rattle.flat_chains.proofs.join_lines.Reads as reads
+use Rattle.flat_chains.proofs.join_lines.Lts as lts
+use Rattle.flat_cells.proofs.sources.run.Reads as run-reads
 use Rattle.flat_cells.proofs.rows.rows.Reads as rows-reads
 use Rattle.records.proofs.put.Reads as put-reads
 
 returns : tie.Need-returns
