@@ -1,34 +1,34 @@
 -- A run that is lent what it asks for is not refused, and then answers by its signals. Assumes nothing.
-use Prim.Native.Nat.{ℕ, _+_, _*_, _≤_}
+use Prim.Native.Nat.{ℕ, _*_, _≤_}
 use mathlib.Core.Path.{_≡_}
 use mathlib.Core.Bool.{Bool}
-use mathlib.Core.List.{List}
 use lib.ListN.{length}
 use borrow.Author.Tests.{le-leb, eq-eqb}
 use Rattle.tables.specs.declared.Checked.the-variants.{Accepted}
+use Rattle.tables.specs.Layout.{linesOf}
 use Rattle.tables.specs.Tables.{checked}
-use Rattle.circuits.specs.Layout.{layout}
 use Rattle.circuits.specs.Run.{run, bytes, firstBad}
-use Rattle.circuits.specs.Answers.{linesOf, ready, ran, signalsLeft}
+use Rattle.circuits.specs.Answers.{ready, ran, signalsLeft}
+use Rattle.agreement.specs.Comparison.{Table, Lent, starts, bad, signals, totals, Roomy}
 
-module _ (p : Bool) (t : List ℕ) (n k : ℕ) (S I : List ℕ) (g w : ℕ) where
-  pub is-ready : checked p t n ≡ Accepted → k ≤ 4096 → length S ≡ layout p (linesOf t n) .counts .states → length I ≡ k * layout p (linesOf t n) .counts .inputs
-      → g ≡ k * layout p (linesOf t n) .counts .signals → layout p (linesOf t n) .counts .cells + layout p (linesOf t n) .counts .states ≤ w → ready p t n k S I g w ≡ Accepted
+module _ (p : Bool) (T : Table) (L : Lent) (w : ℕ) where
+  pub is-ready : checked p (T .words) (T .count) ≡ Accepted → L .steps ≤ 4096 → length (L .starts) ≡ totals p T .states → length (L .inputs) ≡ L .steps * totals p T .inputs
+      → L .signals ≡ L .steps * totals p T .signals → Roomy p T w → starts p T L w ≡ Accepted
   unfolding ready
   is-ready a b c d e f =
       rw (
         a,
-        le-leb k 4096 b,
-        eq-eqb (length S) (layout p (linesOf t n) .counts .states) c,
-        eq-eqb (length I) (k * layout p (linesOf t n) .counts .inputs) d,
-        eq-eqb g (k * layout p (linesOf t n) .counts .signals) e,
-        le-leb (layout p (linesOf t n) .counts .cells + layout p (linesOf t n) .counts .states) w f,
+        le-leb (L .steps) 4096 b,
+        eq-eqb (length (L .starts)) (totals p T .states) c,
+        eq-eqb (length (L .inputs)) (L .steps * totals p T .inputs) d,
+        eq-eqb (L .signals) (L .steps * totals p T .signals) e,
+        le-leb _ w f,
       )
 
-  pub answers : ready p t n k S I g w ≡ Accepted → ran p t n k S I g w ≡ firstBad 0 (run p (linesOf t n) k S I)
+  pub answers : starts p T L w ≡ Accepted → bad p T L w ≡ firstBad 0 (run p (linesOf p (T .words) (T .count)) (L .steps) (L .starts) (L .inputs))
   unfolding ran
   answers e = rw e
 
-  pub leaves : ready p t n k S I g w ≡ Accepted → signalsLeft p t n k S I g w ≡ bytes (run p (linesOf t n) k S I)
+  pub leaves : starts p T L w ≡ Accepted → signals p T L w ≡ bytes (run p (linesOf p (T .words) (T .count)) (L .steps) (L .starts) (L .inputs))
   unfolding signalsLeft
   leaves e = rw e

@@ -3,19 +3,35 @@ use mathlib.Core.Path.{refl}
 use mathlib.Core.List.{[], _∷_}
 use lib.Dec.{lit<, lit≤}
 use Rattle.tables.specs.Kinds.{rowOf}
+use Rattle.tables.specs.Layout.{filledBy}
 use Rattle.tables.specs.Rules.{suits, fault}
 use Rattle.tables.specs.Tables.{checked}
 use Rattle.circuits.specs.Examples.{circuit}
 use Rattle.circuits.specs.Layout.{layout}
-use Rattle.flattening.specs.Flat.{flatten, flatTable}
+use Rattle.flattening.specs.Flat.{flatten, flatRecords}
+use Rattle.flattening.specs.Placed.{flatFilled}
 use Rattle.flattening.specs.Answers.{flattened, targetLeft as flatLeft}
 use Rattle.programs.specs.Translation.{translate}
 use Rattle.programs.specs.Answers.{translated, targetLeft as programLeft}
-use Rattle.agreement.specs.Comparison.{Given, Agree}
+use Rattle.agreement.specs.Comparison.{Runs, Given, Agree}
 use Rattle.agreement.proofs.Demand3.{demand-3}
 
-given : Given circuit 11 95 19 85 17 3 (0 ∷ 0 ∷ []) (0 ∷ 0 ∷ 1 ∷ []) 3 100 100 100
-unfolding flattened flatLeft flatten flatTable translated programLeft translate checked fault suits rowOf layout
+abbrev sample : Runs
+sample =
+    record {
+      circuit = record { words = circuit; count = 11 };
+      flatWords = 95;
+      flatCount = 19;
+      programWords = 85;
+      programCount = 17;
+      lent = record { steps = 3; starts = 0 ∷ 0 ∷ []; inputs = 0 ∷ 0 ∷ 1 ∷ []; signals = 3 };
+      workC = 100;
+      workF = 100;
+      workP = 100;
+    }
+
+given : Given sample
+unfolding filledBy flattened flatLeft flatten flatRecords flatFilled translated programLeft translate checked fault suits rowOf layout
 given =
     record {
       flat = refl;
@@ -30,5 +46,5 @@ given =
       workP = lit≤ tt;
     }
 
-pub sample : Agree circuit 11 95 19 85 17 3 (0 ∷ 0 ∷ []) (0 ∷ 0 ∷ 1 ∷ []) 3 100 100 100
-sample = demand-3 circuit 11 95 19 85 17 3 (0 ∷ 0 ∷ []) (0 ∷ 0 ∷ 1 ∷ []) 3 100 100 100 given
+pub sample-agrees : Agree sample
+sample-agrees = demand-3 sample given

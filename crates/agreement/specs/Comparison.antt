@@ -5,47 +5,95 @@ use mathlib.Core.Path.{_≡_}
 use mathlib.Core.Bool.{Bool, true, false}
 use mathlib.Core.List.{List, [], _∷_}
 use lib.ListN.{length}
+use Rattle.tables.specs.declared.Answer.the-variants.{Done}
+use Rattle.tables.specs.declared.Checked.{Checked}
 use Rattle.tables.specs.declared.Checked.the-variants.{Accepted}
+use Rattle.tables.specs.Layout.{linesOf}
+use Rattle.circuits.specs.declared.Ran.{Ran}
 use Rattle.circuits.specs.Layout.{Counts, layout}
-use Rattle.circuits.specs.Answers.{linesOf, ready, ran, signalsLeft}
-use Rattle.flattening.specs.declared.Flattened.the-variants.{Done as Flat}
+use Rattle.circuits.specs.Answers.{ready, ran, signalsLeft}
 use Rattle.flattening.specs.Answers.{flattened, targetLeft as flatLeft}
-use Rattle.programs.specs.declared.Translated.the-variants.{Done as Program}
 use Rattle.programs.specs.Answers.{translated, targetLeft as programLeft}
+
+-- ---- what is given
+
+-- a list with its count
+pub record Table : Type 0 where
+  pub words : List ℕ
+  pub count : ℕ
+
+-- what all three runs are lent as it stands: the steps k, the start words S, the inputs I, and so many signal bytes
+pub record Lent : Type 0 where
+  pub steps : ℕ
+  pub starts : List ℕ
+  pub inputs : List ℕ
+  pub signals : ℕ
+
+-- Three runs: of C; of F, which flattening leaves for C in a target of so many words, with the count that it answers; of P, which translating leaves for F in a target of
+-- so many words, with the count that it answers. Each has a work area of its own.
+pub record Runs : Type 0 where
+  pub circuit : Table
+  pub flatWords : ℕ
+  pub flatCount : ℕ
+  pub programWords : ℕ
+  pub programCount : ℕ
+  pub lent : Lent
+  pub workC : ℕ
+  pub workF : ℕ
+  pub workP : ℕ
+
+abbrev pub flatOf : Runs → Table
+flatOf R = record { words = flatLeft (R .circuit .words) (R .circuit .count) (R .flatWords); count = R .flatCount }
+
+abbrev pub programOf : Runs → Table
+programOf R = record { words = programLeft (flatOf R .words) (flatOf R .count) (R .programWords); count = R .programCount }
+
+-- ---- one run
+
+-- whether it may start, its first counted bad and its signal bytes: of a circuit (false) or of a program (true), with a work area of w words
+abbrev pub starts : Bool → Table → Lent → (w : ℕ) → Checked
+starts p T L w = ready p (T .words) (T .count) (L .steps) (L .starts) (L .inputs) (L .signals) w
+
+abbrev pub bad : Bool → Table → Lent → (w : ℕ) → Ran
+bad p T L w = ran p (T .words) (T .count) (L .steps) (L .starts) (L .inputs) (L .signals) w
+
+abbrev pub signals : Bool → Table → Lent → (w : ℕ) → List ℕ
+signals p T L w = signalsLeft p (T .words) (T .count) (L .steps) (L .starts) (L .inputs) (L .signals) w
+
+-- the counts of a table's lines: cells of value lines, state words, inputs of a row, signals of a step
+abbrev pub totals : Bool → Table → Counts
+totals p T = layout p (linesOf p (T .words) (T .count)) .counts
+
+-- a work area of w words that 17 lets pass
+abbrev pub Roomy : Bool → Table → (w : ℕ) → Type 0
+Roomy p T w = totals p T .cells + totals p T .states ≤ w
 
 -- every word of a list fits 64 bits, as those of a lent list do
 abbrev pub Words : List ℕ → Type 0
 Words [] = Unit {0}
 Words (x ∷ xs) = (x < 2 ^ 64) × Words xs
 
--- the counts of a table's lines: cells of value lines, state words, inputs of a row, signals of a step
-abbrev pub countsOf : Bool → List ℕ → ℕ → Counts
-countsOf p t n = layout p (linesOf t n) .counts
+-- ---- the claim
 
--- A work area of w words that 17 lets pass.
-abbrev pub Roomy : Bool → List ℕ → ℕ → ℕ → Type 0
-Roomy p t n w = countsOf p t n .cells + countsOf p t n .states ≤ w
-
--- The table t with its count n is C. F is what flattening leaves for C in a target of u words, with the count m that it answers, and P what translating leaves for F in
--- one of v words, with the count q. Each run is given k, S and I as they stand, g signal bytes and a work area of its own.
-pub record Given (t : List ℕ) (n u m v q k : ℕ) (S I : List ℕ) (g x y z : ℕ) : Type 0 where
-  pub flat : flattened t n u ≡ Flat m
-  pub program : translated (flatLeft t n u) m v ≡ Program q
-  pub steps : k ≤ 4096
-  pub starts : length S ≡ countsOf false t n .states
-  pub inputs : length I ≡ k * countsOf false t n .inputs
-  pub signals : g ≡ k * countsOf false t n .signals
-  pub words : Words I
-  pub workC : Roomy false t n x
-  pub workF : Roomy false (flatLeft t n u) m y
-  pub workP : Roomy true (programLeft (flatLeft t n u) m v) q z
+-- what is assumed: flattening and translating answered these counts, and the runs are lent what C asks for
+pub record Given (R : Runs) : Type 0 where
+  pub flat : flattened (R .circuit .words) (R .circuit .count) (R .flatWords) ≡ Done (R .flatCount)
+  pub program : translated (flatOf R .words) (flatOf R .count) (R .programWords) ≡ Done (R .programCount)
+  pub steps : R .lent .steps ≤ 4096
+  pub starts : length (R .lent .starts) ≡ totals false (R .circuit) .states
+  pub inputs : length (R .lent .inputs) ≡ R .lent .steps * totals false (R .circuit) .inputs
+  pub signals : R .lent .signals ≡ R .lent .steps * totals false (R .circuit) .signals
+  pub words : Words (R .lent .inputs)
+  pub workC : Roomy false (R .circuit) (R .workC)
+  pub workF : Roomy false (flatOf R) (R .workF)
+  pub workP : Roomy true (programOf R) (R .workP)
 
 -- None of the three runs is refused, the three signal lists are equal byte for byte, and the three answers for the first counted bad are the same.
-pub record Agree (t : List ℕ) (n u m v q k : ℕ) (S I : List ℕ) (g x y z : ℕ) : Type 0 where
-  pub runC : ready false t n k S I g x ≡ Accepted
-  pub runF : ready false (flatLeft t n u) m k S I g y ≡ Accepted
-  pub runP : ready true (programLeft (flatLeft t n u) m v) q k S I g z ≡ Accepted
-  pub signalsF : signalsLeft false (flatLeft t n u) m k S I g y ≡ signalsLeft false t n k S I g x
-  pub signalsP : signalsLeft true (programLeft (flatLeft t n u) m v) q k S I g z ≡ signalsLeft false t n k S I g x
-  pub badF : ran false (flatLeft t n u) m k S I g y ≡ ran false t n k S I g x
-  pub badP : ran true (programLeft (flatLeft t n u) m v) q k S I g z ≡ ran false t n k S I g x
+pub record Agree (R : Runs) : Type 0 where
+  pub runC : starts false (R .circuit) (R .lent) (R .workC) ≡ Accepted
+  pub runF : starts false (flatOf R) (R .lent) (R .workF) ≡ Accepted
+  pub runP : starts true (programOf R) (R .lent) (R .workP) ≡ Accepted
+  pub signalsF : signals false (flatOf R) (R .lent) (R .workF) ≡ signals false (R .circuit) (R .lent) (R .workC)
+  pub signalsP : signals true (programOf R) (R .lent) (R .workP) ≡ signals false (R .circuit) (R .lent) (R .workC)
+  pub badF : bad false (flatOf R) (R .lent) (R .workF) ≡ bad false (R .circuit) (R .lent) (R .workC)
+  pub badP : bad true (programOf R) (R .lent) (R .workP) ≡ bad false (R .circuit) (R .lent) (R .workC)

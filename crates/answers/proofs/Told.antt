@@ -2,14 +2,15 @@
 use Prim.{tt}
 use Prim.Native.Nat.{ℕ, _-_, _≤_}
 use native.Mathlib.Omega.{arith}
-use mathlib.Core.Path.{_≡_, refl, sym, ap, _∙_, subst}
+use mathlib.Core.Path.{_≡_, refl, sym, ap, ap₂, _∙_, subst}
 use mathlib.Core.Bool.{Bool, true, false}
 use mathlib.Core.List.{List, [], _∷_}
 use lib.Dec.{T}
 use lib.ListN.{length, set, take, drop, length-replicate}
 use borrow.Author.Tests.{eqb-true}
 use Rattle.texts.specs.Naming.{nameOf}
-use Rattle.answers.specs.Answers.{three, given, zeros, Named}
+use Rattle.tables.specs.Pick.{pick}
+use Rattle.answers.specs.Answers.{three, zeros, tells, Named}
 
 -- three stores fill a list of three words
 pub stored : (xs : List ℕ) (a b c : ℕ) → length xs ≡ 3 → set (set (set xs 0 a) 1 b) 2 c ≡ a ∷ b ∷ c ∷ []
@@ -27,11 +28,21 @@ pub three-length : (xs ys : List ℕ) → three xs ≡ true → ys ≡ zeros xs 
 three-length xs ys t e = zeros-length xs ys e ∙ eqb-true (length xs) 3 t
 
 -- what is told with an answer list, and without
-pub is-told : {A : Type 0} {b : Bool} (told refused : A) → b ≡ true → told ≡ given b told refused
-is-told told refused e = ap (λ (b : Bool). given b told refused) (sym e)
+pub is-told : {A : Type 0} {b : Bool} (told refused : A) → b ≡ true → told ≡ pick b told refused
+is-told told refused e = ap (λ (b : Bool). pick b told refused) (sym e)
 
-pub is-refused : {A : Type 0} {b : Bool} (told refused : A) → b ≡ false → refused ≡ given b told refused
-is-refused told refused e = ap (λ (b : Bool). given b told refused) (sym e)
+pub is-refused : {A : Type 0} {b : Bool} (told refused : A) → b ≡ false → refused ≡ pick b told refused
+is-refused told refused e = ap (λ (b : Bool). pick b told refused) (sym e)
+
+-- the lists that are left beside the answer list: none, one, or two
+pub leaves : (n : ℕ) {a a₁ : List ℕ} {left left₁ : List (List ℕ)} → a ≡ a₁ → left ≡ left₁ → tells n a left ≡ tells n a₁ left₁
+leaves n e f = ap₂ (tells n) e f
+
+pub one-list : {x y : List ℕ} → x ≡ y → x ∷ [] ≡ y ∷ []
+one-list e = ap (λ (x : List ℕ). x ∷ []) e
+
+pub two-lists : {x y u v : List ℕ} → x ≡ y → u ≡ v → x ∷ u ∷ [] ≡ y ∷ v ∷ []
+two-lists e f = ap₂ (λ (x u : List ℕ). x ∷ u ∷ []) e f
 
 pub not-both : {A : Type 0} {b : Bool} → b ≡ true → b ≡ false → A
 not-both t f = absurd (subst T (sym t ∙ f) tt)

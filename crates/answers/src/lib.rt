@@ -1,14 +1,15 @@
 // What the C functions answer: a refusal's number, 0 when done, and three words.
 use circuits::Ran;
-use flattening::Flattened;
 use peeks::Peeked;
-use programs::Translated;
-use texts::ReadOutcome;
-use texts::WriteOutcome;
+use tables::Answer;
 ghost use mathlib.Core.Path.{_≡_};
-ghost use mathlib.Core.List.{[], _∷_};
+ghost use mathlib.Core.List.{List, [], _∷_};
+ghost use Prim.Native.Nat.{ℕ};
 ghost use lib.ListN.{length};
-ghost use Rattle.answers.specs.Answers.{three, zeros, readNumber, readWords, writeNumber, writeWords, flatNumber, flatWords, programNumber, programWords, runNumber, runWords, peekNumber, peekWords};
+ghost use Rattle.tables.specs.Answers.{told};
+ghost use Rattle.circuits.specs.Answers.{toldRun};
+ghost use Rattle.peeks.specs.Peek.{toldPeek};
+ghost use Rattle.answers.specs.Answers.{three, zeros, tells};
 
 // Whether a list is an answer list; all its words are then 0.
 pub fn take(answer: &mut [u64]) -> bool
@@ -28,69 +29,18 @@ pub fn tell(answer: &mut [u64], a: u64, b: u64, c: u64)
     answer[2] = c;
 }
 
-// What reading tells.
-pub fn tell_read(r: ReadOutcome, answer: &mut [u64]) -> u64
+// What reading, writing, flattening and translating tell.
+pub fn tell_count(r: Answer, answer: &mut [u64]) -> u64
     requires { ⌜ length (now answer) ≡ 3 ⌝ }
-    ensures { λ n. ⌜ (n ≡ readNumber r) × (now (answer .exit) ≡ readWords r) ⌝ }
+    ensures { λ n. ⌜ ((left : List (List ℕ)) → tells n (now (answer .exit)) left ≡ told r left) ⌝ }
 {
     match r {
-        ReadOutcome::Done(n) => {
+        Answer::Done(n) => {
             tell(answer, n as u64, 0, 0);
             0
         }
-        ReadOutcome::Refused(c, l) => {
+        Answer::Refused(c, l) => {
             tell(answer, l as u64, 0, 0);
-            checks::number(c)
-        }
-    }
-}
-
-// What writing tells.
-pub fn tell_write(r: WriteOutcome, answer: &mut [u64]) -> u64
-    requires { ⌜ length (now answer) ≡ 3 ⌝ }
-    ensures { λ n. ⌜ (n ≡ writeNumber r) × (now (answer .exit) ≡ writeWords r) ⌝ }
-{
-    match r {
-        WriteOutcome::Done(n) => {
-            tell(answer, n as u64, 0, 0);
-            0
-        }
-        WriteOutcome::Refused(c) => {
-            tell(answer, 0, 0, 0);
-            checks::number(c)
-        }
-    }
-}
-
-// What flattening tells.
-pub fn tell_flat(r: Flattened, answer: &mut [u64]) -> u64
-    requires { ⌜ length (now answer) ≡ 3 ⌝ }
-    ensures { λ n. ⌜ (n ≡ flatNumber r) × (now (answer .exit) ≡ flatWords r) ⌝ }
-{
-    match r {
-        Flattened::Done(n) => {
-            tell(answer, n as u64, 0, 0);
-            0
-        }
-        Flattened::Refused(c) => {
-            tell(answer, 0, 0, 0);
-            checks::number(c)
-        }
-    }
-}
-
-// What translating tells.
-pub fn tell_program(r: Translated, answer: &mut [u64]) -> u64
-    requires { ⌜ length (now answer) ≡ 3 ⌝ }
-    ensures { λ n. ⌜ (n ≡ programNumber r) × (now (answer .exit) ≡ programWords r) ⌝ }
-{
-    match r {
-        Translated::Done(n) => {
-            tell(answer, n as u64, 0, 0);
-            0
-        }
-        Translated::Refused(c) => {
-            tell(answer, 0, 0, 0);
             checks::number(c)
         }
     }
@@ -99,7 +49,7 @@ pub fn tell_program(r: Translated, answer: &mut [u64]) -> u64
 // What a run tells.
 pub fn tell_run(r: Ran, answer: &mut [u64]) -> u64
     requires { ⌜ length (now answer) ≡ 3 ⌝ }
-    ensures { λ n. ⌜ (n ≡ runNumber r) × (now (answer .exit) ≡ runWords r) ⌝ }
+    ensures { λ n. ⌜ ((left : List (List ℕ)) → tells n (now (answer .exit)) left ≡ toldRun r left) ⌝ }
 {
     match r {
         Ran::Nothing => {
@@ -120,7 +70,7 @@ pub fn tell_run(r: Ran, answer: &mut [u64]) -> u64
 // What a peek tells.
 pub fn tell_peek(r: Peeked, answer: &mut [u64]) -> u64
     requires { ⌜ length (now answer) ≡ 3 ⌝ }
-    ensures { λ n. ⌜ (n ≡ peekNumber r) × (now (answer .exit) ≡ peekWords r) ⌝ }
+    ensures { λ n. ⌜ tells n (now (answer .exit)) [] ≡ toldPeek r ⌝ }
 {
     match r {
         Peeked::Value(v) => {

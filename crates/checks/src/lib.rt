@@ -8,11 +8,12 @@ use tables::Ty;
 use tables::WORDS;
 ghost use mathlib.Core.Path.{_≡_};
 ghost use mathlib.Core.Bool.{true};
-ghost use Prim.Native.Nat.{_≤_, _*_, _<_};
+ghost use Prim.Native.Nat.{_≤_, _<_};
 ghost use lib.ListN.{length};
 ghost use Rattle.tables.specs.Tables.{known as knownOf, unused as unusedOf, tidy as tidyOf, keeps, lawful, checked, broken};
 ghost use Rattle.tables.specs.Pick.{all};
-ghost use Rattle.tables.specs.Lines.{lineOf, kindIn, firstIn, records, decode, counted};
+ghost use Rattle.tables.specs.Lines.{lineOf, kindIn, firstIn};
+ghost use Rattle.tables.specs.Layout.{held, recordsOf, linesOf};
 ghost use Rattle.tables.specs.Types.{recordType, noCtx, context};
 ghost use Rattle.tables.specs.Notes.{lookIn, noted, givenIn, Shows, Fresh};
 ghost use Rattle.tables.specs.Kinds.{rows};
@@ -116,7 +117,8 @@ fn take_record(
     notes: &mut [[u8; BYTES]],
 ) -> bool
     requires { ⌜ now kinds ≡ rows ⌝ }
-    ensures { λ r. ⌜ (r ≡ keeps program (lookIn (now (notes .entry))) (givenIn (now (notes .entry))) rec) × (r ≡ true → now (notes .exit) ≡ noted program rec n (now (notes .entry))) ⌝ }
+    ensures { λ r. ⌜ (r ≡ keeps program (lookIn (now (notes .entry))) (givenIn (now (notes .entry))) rec)
+        × (r ≡ true → now (notes .exit) ≡ noted program rec n (now (notes .entry))) ⌝ }
 {
     if !keeps_rules(program, kinds, rec, notes) {
         return false;
@@ -133,12 +135,14 @@ fn lines(
     count: usize,
     notes: &mut [[u8; BYTES]],
 ) -> bool
-    requires { ⌜ (now kinds ≡ rows) × ((count ≤ 16384) × ((5 * count ≤ length (now table)) × ((count < length (now notes)) × Shows (now notes) noCtx))) ⌝ }
-    ensures { λ r. ⌜ (r ≡ lawful program noCtx (records (counted (now (table .entry)) count))) × (r ≡ true → Shows (now (notes .exit)) (context program (decode (counted (now (table .entry)) count)))) ⌝ }
+    requires { ⌜ (now kinds ≡ rows) × ((count ≤ 16384) × ((count ≤ held program (length (now table))) × ((count < length (now notes)) × Shows (now notes) noCtx))) ⌝ }
+    ensures { λ r. ⌜ (r ≡ lawful program noCtx (recordsOf program (now (table .entry)) count))
+        × (r ≡ true → Shows (now (notes .exit)) (context program (linesOf program (now (table .entry)) count))) ⌝ }
 {
+    let h = records::step(program, table.len());
     let mut i: usize = 0;
     while i < count {
-        let rec = records::record(table, i);
+        let rec = records::record(program, table, h, i);
         if !take_record(program, kinds, rec, (i + 1) as u64, notes) {
             return false;
         }
@@ -150,12 +154,13 @@ fn lines(
 // The check of a table with its count. Where it is accepted the notes, blank before, hold its context.
 pub fn check(program: bool, table: &[u64], count: usize, notes: &mut [[u8; BYTES]]) -> Checked
     requires { ⌜ Fresh count (now notes) ⌝ }
-    ensures { λ r. ⌜ (r ≡ checked program (now (table .entry)) count) × (r ≡ Checked.Accepted → Shows (now (notes .exit)) (context program (decode (counted (now (table .entry)) count)))) ⌝ }
+    ensures { λ r. ⌜ (r ≡ checked program (now (table .entry)) count)
+        × (r ≡ Checked.Accepted → Shows (now (notes .exit)) (context program (linesOf program (now (table .entry)) count))) ⌝ }
 {
-    if !records::is_table(table.len()) {
+    if !records::is_table(program, table.len()) {
         return Checked::Refused(Refusal::NotATable);
     }
-    if records::room_of(table.len()) < count {
+    if records::room_of(program, table.len()) < count {
         return refused(program);
     }
     let kinds = kinds::all();

@@ -18,12 +18,14 @@ use Rattle.tables.specs.Lines.{Line}
 use Rattle.tables.specs.Tables.{checked}
 use Rattle.tables.proofs.Checking.{not-accepted}
 use Rattle.circuits.specs.declared.Totals.{Totals}
+use Rattle.circuits.specs.declared.Ran.{Ran}
 use Rattle.circuits.specs.declared.Ran.the-variants.{Nothing, Refused as RefusedRun}
 use Rattle.circuits.specs.Layout.{Counts, Layout, noLayout, lay, layAll, layout, countOf, size, typeOf}
 use Rattle.circuits.specs.Meaning.{Sig, sig, Acc, noAcc, evalLine, evalAll, sigsOf, step}
 use Rattle.circuits.specs.Run.{rowOf, start, steps, run, bytesOf, bytes, firstBad}
-use Rattle.circuits.specs.Answers.{linesOf, lent, ready, ran, signalsLeft}
-use Rattle.circuits.specs.Model.{markOf, marks, zipSig, sigRows, lentAnswer, lentSignals, countsOf, totalsOf}
+use Rattle.tables.specs.Layout.{linesOf}
+use Rattle.circuits.specs.Answers.{lent, ready, ran, signalsLeft, toldRun, started, runs}
+use Rattle.circuits.specs.Model.{markOf, marks, zipSig, sigRows, lentRuns, countsOf, totalsOf}
 
 -- ---- 13 to 17
 
@@ -177,22 +179,26 @@ zero-front w q u e h eq = ap₂ (λ (x y : List ℕ). x ++ drop u y) eq e ∙ fr
 
 -- ---- the answer
 
+-- what is told of a run, and what it leaves
+pub told-run : {r r₁ : Ran} {s s₁ w w₁ : List ℕ} → r ≡ r₁ → s ≡ s₁ → w ≡ w₁ → toldRun r (s ∷ w ∷ []) ≡ toldRun r₁ (s₁ ∷ w₁ ∷ [])
+told-run a b c = λ i. toldRun (a i) (b i ∷ c i ∷ [])
+
 module _ (p : Bool) (t : List ℕ) (n k : ℕ) (S I : List ℕ) (g w : ℕ) where
-  pub ran-refused : (r : Refusal) → checked p t n ≡ Refused r → (RefusedRun r ≡ ran p t n k S I g w) × (replicate g 0 ≡ signalsLeft p t n k S I g w)
-  unfolding ran signalsLeft ready
-  ran-refused r e = (rw e, rw e)
+  -- the table is refused, or it is accepted and what is lent decides
+  pub runs-refused : {r : Refusal} {s v : List ℕ} → checked p t n ≡ Refused r → s ≡ replicate g 0 → v ≡ replicate w 0 → toldRun (RefusedRun r) (s ∷ v ∷ []) ≡ runs p t n k S I g w
+  unfolding runs ran signalsLeft ready
+  runs-refused e a b = rw (e, a, b) refl
 
-  pub ran-lent : checked p t n ≡ Accepted → (lentAnswer p t n k S I g w ≡ ran p t n k S I g w) × (lentSignals p t n k S I g w ≡ signalsLeft p t n k S I g w)
-  unfolding ran signalsLeft ready
-  ran-lent e = (rw e, rw e)
+  pub runs-lent : checked p t n ≡ Accepted → lentRuns p t n k S I g w ≡ runs p t n k S I g w
+  unfolding runs ran signalsLeft ready
+  runs-lent e = rw e refl
 
-  pub lent-refused : (r : Refusal) → lent (layout p (linesOf t n) .counts) k (length S) (length I) g w ≡ Refused r
-      → (RefusedRun r ≡ lentAnswer p t n k S I g w) × (replicate g 0 ≡ lentSignals p t n k S I g w)
-  lent-refused r e = (rw e, rw e)
+  pub lent-refused : {r : Refusal} {s v : List ℕ} → lent (layout p (linesOf p t n) .counts) k (length S) (length I) g w ≡ Refused r → s ≡ replicate g 0 → v ≡ replicate w 0
+      → toldRun (RefusedRun r) (s ∷ v ∷ []) ≡ lentRuns p t n k S I g w
+  lent-refused e a b = rw (e, a, b) refl
 
-  pub lent-runs : lent (layout p (linesOf t n) .counts) k (length S) (length I) g w ≡ Accepted
-      → (firstBad 0 (run p (linesOf t n) k S I) ≡ lentAnswer p t n k S I g w) × (bytes (run p (linesOf t n) k S I) ≡ lentSignals p t n k S I g w)
-  lent-runs e = (rw e, rw e)
+  pub lent-runs : lent (layout p (linesOf p t n) .counts) k (length S) (length I) g w ≡ Accepted → started p (linesOf p t n) k S I w ≡ lentRuns p t n k S I g w
+  lent-runs e = rw e refl
 
 pub nonzero : (k : ℕ) → (k ≡ 0 → ⊥) → 0 < k
 nonzero zero n = absurd (n refl)

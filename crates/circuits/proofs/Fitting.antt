@@ -8,8 +8,8 @@ use native.Mathlib.Omega.{arith}
 use lib.Dec.{T, eqb, leb, ltb}
 use borrow.Author.Tests.{eqb-true, leb-true, leb-false, ltb-true, le-leb, lt-leb, ne-eqb}
 use Rattle.words.specs.Op.{opOf}
-use Rattle.words.specs.Program.{Class, turn, wrap, meet, merge, test, plain, copy, compare, low, extend, cut, left, join, pick, clear, classOf}
-use Rattle.words.specs.Widths.{Widths, widthOf}
+use Rattle.words.specs.Model.Classes.{Class, turn, wrap, meet, merge, test, plain, copy, compare, low, extend, cut, left, join, pick, clear, classOf}
+use Rattle.words.specs.Model.Widths.{Widths, widthOf}
 use Rattle.tables.specs.declared.Ty.{Ty}
 use Rattle.tables.specs.Kinds.{rowOf, secondClass, thirdClass}
 use Rattle.tables.specs.Rules.{fitsOne, fitsTwo}

@@ -11,13 +11,13 @@ use lib.Pow.{pow-lt, pow-mono}
 use lib.ListN.{length, take, getD, set, length-set, length-append}
 use lib.Seq.{getD-set-same, getD-set-other, take-suc-set, take-suc, take-length, length-take-le}
 use Rattle.tables.specs.declared.Ty.{Ty}
-use Rattle.tables.specs.Lines.{Line, Shape, isBitvec, isArray, isConst, isInput, isState, isOutput, isOne, isTwo, isIte, isRead, isWrite, isJunk, isGive, isMark, isCmp, shapeOf, build, lineOf, kindIn, sortIn, firstIn, secondIn, thirdIn, recordAt}
+use Rattle.tables.specs.Lines.{Line, Shape, isBitvec, isArray, isConst, isInput, isState, isOutput, isOne, isTwo, isIte, isRead, isWrite, isJunk, isGive, isMark, isCmp, shapeOf, build, lineOf, kindIn, sortIn, firstIn, secondIn, thirdIn}
+use Rattle.tables.specs.Layout.{recordAt, linesOf}
 use Rattle.tables.specs.Types.{tyAt, Ctx, growAll, context}
 use Rattle.tables.specs.Notes.{lookIn}
 use Rattle.tables.proofs.Shapes.{KindOf, kind-of, line-as, no-junk}
 use Rattle.tables.proofs.Showing.{by-place}
 use Rattle.circuits.specs.Layout.{Place, Counts, Layout, place, noPlace, counting, typeAt, placeAt, size, typeOf, placeOf, countOf, noLayout, lay, layAll, layout}
-use Rattle.circuits.specs.Answers.{linesOf}
 use Rattle.circuits.specs.Model.{laidAs, laidIn, Shows, countsOf, totalsOf, placeBy, Small, Noted, Ready, markOf, marks}
 use Rattle.tables.specs.declared.Checked.the-variants.{Accepted}
 use Rattle.tables.specs.Tables.{checked}
@@ -140,9 +140,9 @@ lay-ctx p Y [] = refl
 lay-ctx p Y (l ∷ C) = lay-ctx p (lay p Y l) C
 
 -- the types that the notes hold are those of the layout
-pub noted-types : (p : Bool) (t : List ℕ) (n : ℕ) {xs : List (List ℕ)} → Noted p t n xs → (a : ℕ) → lookIn xs a ≡ typeAt (layout p (linesOf t n)) a
+pub noted-types : (p : Bool) (t : List ℕ) (n : ℕ) {xs : List (List ℕ)} → Noted p t n xs → (a : ℕ) → lookIn xs a ≡ typeAt (layout p (linesOf p t n)) a
 unfolding context layout
-noted-types p t n k a = k .shows .types a ∙ ap (λ (c : Ctx). tyAt c a) (sym (lay-ctx p noLayout (linesOf t n)))
+noted-types p t n k a = k .shows .types a ∙ ap (λ (c : Ctx). tyAt c a) (sym (lay-ctx p noLayout (linesOf p t n)))
 
 shows-none : (P : List (List ℕ)) → 0 < length P → Shows (set P 0 (laidAs 0 1 0 0)) noLayout
 shows-none P h zero q =
@@ -190,8 +190,8 @@ shows-more p Y l P n o m at w S en few h eo em ep ew pl a q =
 pub record Sofar (p : Bool) (t : List ℕ) (n i : ℕ) (tot : Totals) (P : List (List ℕ)) : Type 0 where
   pub most : i ≤ n
   pub long : length P ≡ 16385
-  pub counts : tot ≡ totalsOf (layAll p noLayout (take i (linesOf t n)) .counts)
-  pub shows : Shows P (layAll p noLayout (take i (linesOf t n)))
+  pub counts : tot ≡ totalsOf (layAll p noLayout (take i (linesOf p t n)) .counts)
+  pub shows : Shows P (layAll p noLayout (take i (linesOf p t n)))
 
 module _ (p : Bool) (t : List ℕ) (n : ℕ) (xs : List (List ℕ)) (k : Noted p t n xs) where
   pub begun : (P : List (List ℕ)) {P′ : List (List ℕ)} → length P ≡ 16385 → P′ ≡ set P 0 (laidAs 0 1 0 0) → Sofar p t n 0 (record { cells = 0; states = 0; inputs = 0; signals = 0 }) P′
@@ -199,16 +199,16 @@ module _ (p : Bool) (t : List ℕ) (n : ℕ) (xs : List (List ℕ)) (k : Noted p
 
   module _ (i : ℕ) (h : i < n) where
     -- the note of the line at hand has its type
-    type-here : lookIn xs (i + 1) ≡ typeOf p (layAll p noLayout (take i (linesOf t n))) (getD (linesOf t n) i Line.junk)
+    type-here : lookIn xs (i + 1) ≡ typeOf p (layAll p noLayout (take i (linesOf p t n))) (getD (linesOf p t n) i Line.junk)
     type-here =
         let r = later-at p t n (k .accepted) i h in
         let S = sound-at p t n (k .accepted) i in
         let e = number-at p t n (k .accepted) i (omega arith) in
-        let lm = more-types p (layAll p noLayout (take i (linesOf t n))) (getD (linesOf t n) i Line.junk) in
-        noted-types p t n k (i + 1) ∙ r .type (i + 1) (omega arith) ∙ ap (typeAt (lay p (layAll p noLayout (take i (linesOf t n))) (getD (linesOf t n) i Line.junk))) (sym e) ∙ type-new p (layAll p noLayout (take i (linesOf t n))) (getD (linesOf t n) i Line.junk) (S .long)
+        let lm = more-types p (layAll p noLayout (take i (linesOf p t n))) (getD (linesOf p t n) i Line.junk) in
+        noted-types p t n k (i + 1) ∙ r .type (i + 1) (omega arith) ∙ ap (typeAt (lay p (layAll p noLayout (take i (linesOf p t n))) (getD (linesOf p t n) i Line.junk))) (sym e) ∙ type-new p (layAll p noLayout (take i (linesOf p t n))) (getD (linesOf p t n) i Line.junk) (S .long)
 
     pub deep-here : lookIn xs (i + 1) .iw ≤ 8
-    deep-here = omega (arith, ap (λ (x : Ty). x .iw) type-here, line-deep p (layAll p noLayout (take i (linesOf t n))) (getD (linesOf t n) i Line.junk) (sound-at p t n (k .accepted) i .wide) (ok-here p t n (k .accepted) i h))
+    deep-here = omega (arith, ap (λ (x : Ty). x .iw) type-here, line-deep p (layAll p noLayout (take i (linesOf p t n))) (getD (linesOf p t n) i Line.junk) (sound-at p t n (k .accepted) i .wide) (ok-here p t n (k .accepted) i h))
 
     pub small-here : {m : ℕ} {tot : Totals} {P : List (List ℕ)} → Sofar p t n i tot P → m ≡ size (lookIn xs (i + 1)) → Small (countsOf tot) m × (m ≤ 256)
     small-here {m} {tot} s em =
@@ -216,24 +216,24 @@ module _ (p : Bool) (t : List ℕ) (n : ℕ) (xs : List (List ℕ)) (k : Noted p
         let e = number-at p t n (k .accepted) i (omega arith) in
         let hm : m ≤ 256 = subst (λ (x : ℕ). x ≤ 256) (sym em) (pow-mono deep-here) in
         let f = fits-table p t n (k .accepted) in
-        let q : Small (layAll p noLayout (take i (linesOf t n)) .counts) m =
+        let q : Small (layAll p noLayout (take i (linesOf p t n)) .counts) m =
         record { cells = omega (arith, S .few-cells); states = omega (arith, S .few-states); inputs = omega (arith, S .few-inputs); signals = omega (arith, S .few-signals) } in
         (subst (λ (x : Totals). Small (countsOf x) m) (sym (s .counts)) q, hm)
 
     -- one line more: r is the record at hand, y its type
-    pub further : {r : List ℕ} {y : Ty} {m o at : ℕ} {tot tot′ : Totals} (P : List (List ℕ)) {P′ : List (List ℕ)} → Sofar p t n i tot P → r ≡ recordAt t i → y ≡ lookIn xs (i + 1) → m ≡ size y
+    pub further : {r : List ℕ} {y : Ty} {m o at : ℕ} {tot tot′ : Totals} (P : List (List ℕ)) {P′ : List (List ℕ)} → Sofar p t n i tot P → r ≡ recordAt p t i → y ≡ lookIn xs (i + 1) → m ≡ size y
         → o ≡ placeBy (countsOf tot) (lineOf r) .off → at ≡ placeBy (countsOf tot) (lineOf r) .at → tot′ ≡ totalsOf (countOf (countsOf tot) m (lineOf r)) → P′ ≡ set P (i + 1) (laidAs o m at (y .w))
         → Sofar p t n (i + 1) tot′ P′
     further {r} {y} {m} {o} {at} {tot} {tot′} P {P′} s er ey em eo ep et e =
-        let Y = layAll p noLayout (take i (linesOf t n)) in
-        let l = getD (linesOf t n) i Line.junk in
+        let Y = layAll p noLayout (take i (linesOf p t n)) in
+        let l = getD (linesOf p t n) i Line.junk in
         let S = sound-at p t n (k .accepted) i in
         let el : lineOf r ≡ l = ap lineOf er ∙ sym (line-here p t n (k .accepted) i h) in
         let ec : countsOf tot ≡ Y .counts = ap countsOf (s .counts) in
         let eq : placeBy (countsOf tot) (lineOf r) ≡ placeOf Y l = ap₂ placeBy ec el ∙ place-by Y l in
         let ty : y ≡ typeOf p Y l = ey ∙ type-here in
         let sm : m ≡ size (typeOf p Y l) = em ∙ ap size ty in
-        let next : layAll p noLayout (take (i + 1) (linesOf t n)) ≡ lay p Y l = ap (λ (j : ℕ). layAll p noLayout (take j (linesOf t n))) (add-one i) ∙ lay-next p t n (k .accepted) i h in
+        let next : layAll p noLayout (take (i + 1) (linesOf p t n)) ≡ lay p Y l = ap (λ (j : ℕ). layAll p noLayout (take j (linesOf p t n))) (add-one i) ∙ lay-next p t n (k .accepted) i h in
         let f = fits-table p t n (k .accepted) in
         let hl = s .long in
         record {
@@ -244,10 +244,10 @@ module _ (p : Bool) (t : List ℕ) (n : ℕ) (xs : List (List ℕ)) (k : Noted p
               (rw e (shows-more p Y l P (i + 1) o m at (y .w) S (number-at p t n (k .accepted) i (omega arith)) (omega arith) (omega arith) (eo ∙ ap (λ (x : Place). x .off) eq) sm (ep ∙ ap (λ (x : Place). x .at) eq) (ap (λ (x : Ty). x .w) ty) (s .shows)));
         }
 
-  pub laid : {i : ℕ} {tot : Totals} {P : List (List ℕ)} → n ≤ i → Sofar p t n i tot P → Shows P (layout p (linesOf t n)) × (tot ≡ totalsOf (layout p (linesOf t n) .counts))
+  pub laid : {i : ℕ} {tot : Totals} {P : List (List ℕ)} → n ≤ i → Sofar p t n i tot P → Shows P (layout p (linesOf p t n)) × (tot ≡ totalsOf (layout p (linesOf p t n) .counts))
   laid {i} {tot} {P} h s =
       let e : i ≡ n = omega (arith, s .most) in
-      let q : layAll p noLayout (take i (linesOf t n)) ≡ layout p (linesOf t n) = ap (λ (j : ℕ). layAll p noLayout (take j (linesOf t n))) e ∙ lay-done p t n (k .accepted) in
+      let q : layAll p noLayout (take i (linesOf p t n)) ≡ layout p (linesOf p t n) = ap (λ (j : ℕ). layAll p noLayout (take j (linesOf p t n))) e ∙ lay-done p t n (k .accepted) in
       (subst (λ (Z : Layout). Shows P Z) q (s .shows), s .counts ∙ ap (λ (Z : Layout). totalsOf (Z .counts)) q)
 
 pub place-small : (c : Counts) (m : ℕ) (l : Line) → Small c m → (placeBy c l .off < 4294967296) × (placeBy c l .at < 4294967296)
@@ -330,55 +330,55 @@ pub record Classed (C : List Line) (n i g : ℕ) (bad : List ℕ) : Type 0 where
   pub classes : take g bad ≡ marks (take i C)
 
 module _ (p : Bool) (t : List ℕ) (n : ℕ) (acc : checked p t n ≡ Accepted) where
-  pub class-more : {r : List ℕ} (i g g′ : ℕ) (bad bad′ : List ℕ) → i < n → Classed (linesOf t n) n i g bad → r ≡ recordAt t i → length bad′ ≡ length bad
-      → take g′ bad′ ≡ take g bad ++ markOf (lineOf r) → g′ ≡ g + length (markOf (lineOf r)) → Classed (linesOf t n) n (i + 1) g′ bad′
+  pub class-more : {r : List ℕ} (i g g′ : ℕ) (bad bad′ : List ℕ) → i < n → Classed (linesOf p t n) n i g bad → r ≡ recordAt p t i → length bad′ ≡ length bad
+      → take g′ bad′ ≡ take g bad ++ markOf (lineOf r) → g′ ≡ g + length (markOf (lineOf r)) → Classed (linesOf p t n) n (i + 1) g′ bad′
   class-more {r} i g g′ bad bad′ h s er lb e₁ e₂ =
-      let l = getD (linesOf t n) i Line.junk in
+      let l = getD (linesOf p t n) i Line.junk in
       let el : lineOf r ≡ l = ap lineOf er ∙ sym (line-here p t n acc i h) in
-      let q : i < length (linesOf t n) = omega (arith, lines-many p t n acc) in
-      let em : marks (take (i + 1) (linesOf t n)) ≡ marks (take i (linesOf t n)) ++ markOf l =
-      ap (λ (j : ℕ). marks (take j (linesOf t n))) (add-one i) ∙ ap marks (take-suc (linesOf t n) i Line.junk q) ∙ marks-append (take i (linesOf t n)) (l ∷ []) ∙ ap (λ (x : List ℕ). marks (take i (linesOf t n)) ++ x) (append-nil (markOf l)) in
+      let q : i < length (linesOf p t n) = omega (arith, lines-many p t n acc) in
+      let em : marks (take (i + 1) (linesOf p t n)) ≡ marks (take i (linesOf p t n)) ++ markOf l =
+      ap (λ (j : ℕ). marks (take j (linesOf p t n))) (add-one i) ∙ ap marks (take-suc (linesOf p t n) i Line.junk q) ∙ marks-append (take i (linesOf p t n)) (l ∷ []) ∙ ap (λ (x : List ℕ). marks (take i (linesOf p t n)) ++ x) (append-nil (markOf l)) in
       record {
         most = omega arith;
         few = omega (arith, s .few, e₂, one-mark (lineOf r));
         long = lb ∙ s .long;
-        count = e₂ ∙ ap₂ (λ (x : ℕ) (y : Line). x + length (markOf y)) (s .count) el ∙ sym (length-append (marks (take i (linesOf t n))) (markOf l)) ∙ ap length (sym em);
+        count = e₂ ∙ ap₂ (λ (x : ℕ) (y : Line). x + length (markOf y)) (s .count) el ∙ sym (length-append (marks (take i (linesOf p t n))) (markOf l)) ∙ ap length (sym em);
         classes = e₁ ∙ ap₂ (λ (x : List ℕ) (y : Line). x ++ markOf y) (s .classes) el ∙ sym em;
       }
 
-  pub class-ends : (i g : ℕ) (bad : List ℕ) → n ≤ i → Classed (linesOf t n) n i g bad → take (length (marks (linesOf t n))) bad ≡ marks (linesOf t n)
+  pub class-ends : (i g : ℕ) (bad : List ℕ) → n ≤ i → Classed (linesOf p t n) n i g bad → take (length (marks (linesOf p t n))) bad ≡ marks (linesOf p t n)
   class-ends i g bad h s =
-      let e : i ≡ length (linesOf t n) = omega (arith, s .most, lines-many p t n acc) in
-      let q : take i (linesOf t n) ≡ linesOf t n = ap (λ (j : ℕ). take j (linesOf t n)) e ∙ take-length (linesOf t n) in
+      let e : i ≡ length (linesOf p t n) = omega (arith, s .most, lines-many p t n acc) in
+      let q : take i (linesOf p t n) ≡ linesOf p t n = ap (λ (j : ℕ). take j (linesOf p t n)) e ∙ take-length (linesOf p t n) in
       ap (λ (x : ℕ). take x bad) (sym (s .count ∙ ap (λ (C : List Line). length (marks C)) q)) ∙ s .classes ∙ ap marks q
 
 -- ---- the counts of an accepted table are small
 
 module _ (p : Bool) (t : List ℕ) (n : ℕ) (acc : checked p t n ≡ Accepted) where
-  pub all-sound : Sound (layout p (linesOf t n))
+  pub all-sound : Sound (layout p (linesOf p t n))
   all-sound = subst Sound (lay-done p t n acc) (sound-at p t n acc n)
 
-  pub lines-here : length (layout p (linesOf t n) .ctx .tys) ≡ n + 1
+  pub lines-here : length (layout p (linesOf p t n) .ctx .tys) ≡ n + 1
   lines-here = ap (λ (Y : Layout). length (Y .ctx .tys)) (sym (lay-done p t n acc)) ∙ number-at p t n acc n (omega arith)
 
   pub few-here : n ≤ 16384
   few-here = fits-table p t n acc .0
 
-  pub words-few : (layout p (linesOf t n) .counts .cells ≤ 4194560) × (layout p (linesOf t n) .counts .states ≤ 4194560)
+  pub words-few : (layout p (linesOf p t n) .counts .cells ≤ 4194560) × (layout p (linesOf p t n) .counts .states ≤ 4194560)
   words-few = let e = lines-here in let h = few-here in (omega (arith, all-sound .few-cells), omega (arith, all-sound .few-states))
 
-  pub inputs-few : layout p (linesOf t n) .counts .inputs ≤ 16385
+  pub inputs-few : layout p (linesOf p t n) .counts .inputs ≤ 16385
   inputs-few = let e = lines-here in let h = few-here in omega (arith, all-sound .few-inputs)
 
-  pub signals-few : layout p (linesOf t n) .counts .signals ≤ 16384
+  pub signals-few : layout p (linesOf p t n) .counts .signals ≤ 16384
   signals-few =
-      let e : length (take n (linesOf t n)) ≡ n = length-take-le n (linesOf t n) (omega (arith, lines-many p t n acc)) in
-      let s = marks-few (linesOf t n) in
-      omega (arith, signals-many p (linesOf t n), lines-many p t n acc, few-here)
+      let e : length (take n (linesOf p t n)) ≡ n = length-take-le n (linesOf p t n) (omega (arith, lines-many p t n acc)) in
+      let s = marks-few (linesOf p t n) in
+      omega (arith, signals-many p (linesOf p t n), lines-many p t n acc, few-here)
 
   -- ---- what the pass leaves is what the steps ask for
 
-  pub ready-laid : {P : List (List ℕ)} {tot : Totals} → Shows P (layout p (linesOf t n)) → tot ≡ totalsOf (layout p (linesOf t n) .counts) → Ready p t n P (tot .cells) (tot .states) (tot .inputs) (tot .signals)
+  pub ready-laid : {P : List (List ℕ)} {tot : Totals} → Shows P (layout p (linesOf p t n)) → tot ≡ totalsOf (layout p (linesOf p t n) .counts) → Ready p t n P (tot .cells) (tot .states) (tot .inputs) (tot .signals)
   ready-laid sh e =
       record {
         accepted = acc;
@@ -389,7 +389,7 @@ module _ (p : Bool) (t : List ℕ) (n : ℕ) (acc : checked p t n ≡ Accepted) 
         signals = ap (λ (x : Totals). x .signals) (sym e);
       }
 
-  pub lent-small : {tot : Totals} → tot ≡ totalsOf (layout p (linesOf t n) .counts) → (tot .cells + tot .states < 4294967296) × ((tot .inputs < 4294967296) × (tot .signals < 4294967296))
+  pub lent-small : {tot : Totals} → tot ≡ totalsOf (layout p (linesOf p t n) .counts) → (tot .cells + tot .states < 4294967296) × ((tot .inputs < 4294967296) × (tot .signals < 4294967296))
   lent-small {tot} e =
       subst (λ (x : Totals). (x .cells + x .states < 4294967296) × ((x .inputs < 4294967296) × (x .signals < 4294967296))) (sym e)
       (omega (arith, words-few), (omega (arith, inputs-few), omega (arith, signals-few)))

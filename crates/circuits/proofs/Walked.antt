@@ -8,18 +8,17 @@ use native.Mathlib.Numerals.{add-one}
 use lib.ListN.{length, take, drop, getD, set, take-append-drop, List·getD-map}
 use lib.Seq.{take-suc, take-suc-set, take-length, drop-length, length-take-le}
 use Rattle.tables.specs.declared.Checked.the-variants.{Accepted}
-use Rattle.tables.specs.Lines.{Line, lineOf, records, counted, recordAt}
+use Rattle.tables.specs.Lines.{Line, lineOf}
+use Rattle.tables.specs.Layout.{recordAt, recordsOf, linesOf}
 use Rattle.tables.specs.Types.{tyAt, given}
 use Rattle.tables.specs.Tables.{checked}
-use Rattle.tables.proofs.Counted.{record-at}
+use Rattle.tables.proofs.Places.{record-at, length-lines}
 use Rattle.tables.proofs.Sound.{accepted-ok}
-use Rattle.tables.proofs.Encoding.{length-decode, fits-table}
 use Rattle.tables.proofs.Facts.{Ok, AllOk}
 use Rattle.circuits.specs.Cells.{choose}
 use Rattle.circuits.specs.Layout.{Layout, typeAt, placeAt, noLayout, lay, layAll, layout}
 use Rattle.circuits.specs.Meaning.{Sig, sig, Acc, wordAt, sigsOf, evalLine, evalAll, noAcc, step}
 use Rattle.circuits.specs.Run.{bytesOf}
-use Rattle.circuits.specs.Answers.{linesOf}
 use Rattle.circuits.specs.Model.{workIn, sigsIn, FitL, Shows, Ready}
 use Rattle.circuits.proofs.Laid.{Sound, sound-none, first-laid, lay-append, ok-at, Later, later, length-laid}
 use Rattle.circuits.proofs.Held.{Held, Holds, seen}
@@ -51,40 +50,40 @@ lay-rest p C i = ap (layAll p noLayout) (sym (take-append-drop i C)) ∙ lay-app
 -- ---- the lines of an accepted table
 
 module _ (p : Bool) (t : List ℕ) (n : ℕ) (acc : checked p t n ≡ Accepted) where
-  pub lines-many : length (linesOf t n) ≡ n
-  lines-many = length-decode p t n acc
+  pub lines-many : length (linesOf p t n) ≡ n
+  lines-many = length-lines p t n
 
-  pub line-here : (i : ℕ) → i < n → getD (linesOf t n) i Line.junk ≡ lineOf (recordAt t i)
-  line-here i h = List·getD-map lineOf (records (counted t n)) i [] ∙ ap lineOf (record-at n t i (fits-table p t n acc .1) h)
+  pub line-here : (i : ℕ) → i < n → getD (linesOf p t n) i Line.junk ≡ lineOf (recordAt p t i)
+  line-here i h = List·getD-map lineOf (recordsOf p t n) i [] ∙ ap lineOf (record-at p t n i h)
 
-  pub lines-ok : AllOk p (noLayout .ctx) (linesOf t n)
+  pub lines-ok : AllOk p (noLayout .ctx) (linesOf p t n)
   lines-ok = accepted-ok p t n acc
 
   -- the layout of the first i lines, and one line more
-  pub sound-at : (i : ℕ) → Sound (layAll p noLayout (take i (linesOf t n)))
-  sound-at i = first-laid p noLayout (linesOf t n) i sound-none lines-ok
+  pub sound-at : (i : ℕ) → Sound (layAll p noLayout (take i (linesOf p t n)))
+  sound-at i = first-laid p noLayout (linesOf p t n) i sound-none lines-ok
 
-  pub ok-here : (i : ℕ) → i < n → Ok p (tyAt (layAll p noLayout (take i (linesOf t n)) .ctx)) (given (layAll p noLayout (take i (linesOf t n)) .ctx)) (getD (linesOf t n) i Line.junk)
-  ok-here i h = ok-at p noLayout (linesOf t n) i lines-ok (omega (arith, lines-many))
+  pub ok-here : (i : ℕ) → i < n → Ok p (tyAt (layAll p noLayout (take i (linesOf p t n)) .ctx)) (given (layAll p noLayout (take i (linesOf p t n)) .ctx)) (getD (linesOf p t n) i Line.junk)
+  ok-here i h = ok-at p noLayout (linesOf p t n) i lines-ok (omega (arith, lines-many))
 
-  pub lay-next : (i : ℕ) → i < n → layAll p noLayout (take (suc i) (linesOf t n)) ≡ lay p (layAll p noLayout (take i (linesOf t n))) (getD (linesOf t n) i Line.junk)
-  lay-next i h = lay-suc p (linesOf t n) i (omega (arith, lines-many))
+  pub lay-next : (i : ℕ) → i < n → layAll p noLayout (take (suc i) (linesOf p t n)) ≡ lay p (layAll p noLayout (take i (linesOf p t n))) (getD (linesOf p t n) i Line.junk)
+  lay-next i h = lay-suc p (linesOf p t n) i (omega (arith, lines-many))
 
-  pub later-at : (i : ℕ) → i < n → Later (lay p (layAll p noLayout (take i (linesOf t n))) (getD (linesOf t n) i Line.junk)) (layout p (linesOf t n))
+  pub later-at : (i : ℕ) → i < n → Later (lay p (layAll p noLayout (take i (linesOf p t n))) (getD (linesOf p t n) i Line.junk)) (layout p (linesOf p t n))
   later-at i h =
-      let Y = layAll p noLayout (take i (linesOf t n)) in
-      let l = getD (linesOf t n) i Line.junk in
-      let full : layout p (linesOf t n) ≡ layAll p (lay p Y l) (drop (suc i) (linesOf t n)) = lay-rest p (linesOf t n) (suc i) ∙ ap (λ (Z : Layout). layAll p Z (drop (suc i) (linesOf t n))) (lay-next i h) in
-      subst (λ (Z : Layout). Later (lay p Y l) Z) (sym full) (later p (lay p Y l) (drop (suc i) (linesOf t n)))
+      let Y = layAll p noLayout (take i (linesOf p t n)) in
+      let l = getD (linesOf p t n) i Line.junk in
+      let full : layout p (linesOf p t n) ≡ layAll p (lay p Y l) (drop (suc i) (linesOf p t n)) = lay-rest p (linesOf p t n) (suc i) ∙ ap (λ (Z : Layout). layAll p Z (drop (suc i) (linesOf p t n))) (lay-next i h) in
+      subst (λ (Z : Layout). Later (lay p Y l) Z) (sym full) (later p (lay p Y l) (drop (suc i) (linesOf p t n)))
 
   -- the number of the line
-  pub number-at : (i : ℕ) → i ≤ n → length (layAll p noLayout (take i (linesOf t n)) .ctx .tys) ≡ i + 1
+  pub number-at : (i : ℕ) → i ≤ n → length (layAll p noLayout (take i (linesOf p t n)) .ctx .tys) ≡ i + 1
   number-at i h =
-      sym (sound-at i .long) ∙ length-laid p noLayout (take i (linesOf t n)) ∙ omega (arith, length-take-le i (linesOf t n) (omega (arith, lines-many)))
+      sym (sound-at i .long) ∙ length-laid p noLayout (take i (linesOf p t n)) ∙ omega (arith, length-take-le i (linesOf p t n) (omega (arith, lines-many)))
 
-  pub lay-done : layAll p noLayout (take n (linesOf t n)) ≡ layout p (linesOf t n)
+  pub lay-done : layAll p noLayout (take n (linesOf p t n)) ≡ layout p (linesOf p t n)
   unfolding layout
-  lay-done = ap (layAll p noLayout) (ap (λ (m : ℕ). take m (linesOf t n)) (sym lines-many) ∙ take-length (linesOf t n))
+  lay-done = ap (layAll p noLayout) (ap (λ (m : ℕ). take m (linesOf p t n)) (sym lines-many) ∙ take-length (linesOf p t n))
 
 -- ---- what is known at the line i
 
@@ -103,9 +102,9 @@ shows-first {P} {Y} {Z} S r sh a h =
     rw (r .type a (omega (arith, S .long)), r .place a h) at s
 
 module _ {p : Bool} {t : List ℕ} {n : ℕ} {P : List (List ℕ)} {all words ins sigs : ℕ} (rd : Ready p t n P all words ins sigs) where
-  pub facts-at : (i : ℕ) → i < n → Facts p P (layAll p noLayout (take i (linesOf t n))) (getD (linesOf t n) i Line.junk) all words ins sigs
+  pub facts-at : (i : ℕ) → i < n → Facts p P (layAll p noLayout (take i (linesOf p t n))) (getD (linesOf p t n) i Line.junk) all words ins sigs
   facts-at i h =
-      let S : Sound (lay p (layAll p noLayout (take i (linesOf t n))) (getD (linesOf t n) i Line.junk)) = subst Sound (lay-next p t n (rd .accepted) i h) (sound-at p t n (rd .accepted) (suc i)) in
+      let S : Sound (lay p (layAll p noLayout (take i (linesOf p t n))) (getD (linesOf p t n) i Line.junk)) = subst Sound (lay-next p t n (rd .accepted) i h) (sound-at p t n (rd .accepted) (suc i)) in
       let r = later-at p t n (rd .accepted) i h in
       record {
         ok = ok-here p t n (rd .accepted) i h;
@@ -166,42 +165,42 @@ seen-nothing p w = record { lines = refl; cells = cells; small = λ e a q. absur
     cells (suc a) = refl
 
 module _ (p f : Bool) (t : List ℕ) (n : ℕ) (P : List (List ℕ)) (all : ℕ) (ι σ : List ℕ) (ins sigs : ℕ) (rd : Ready p t n P all (length σ) ins sigs) where
-  pub walk-start : (w g : List ℕ) → σ ≡ drop all w → length w ≡ all + length σ → length g ≡ sigs → Walked p f (linesOf t n) all ι σ sigs w g 0
+  pub walk-start : (w g : List ℕ) → σ ≡ drop all w → length w ≡ all + length σ → length g ≡ sigs → Walked p f (linesOf p t n) all ι σ sigs w g 0
   walk-start w g e l lg =
       record { held = record { sound = sound-none; holds = seen-nothing p w; kept = record { words = sym e; many = refl; len = l } }; sig = λ q. refl; len = lg }
 
-  same-lay : (i : ℕ) → accAt p f σ ι (linesOf t n) i .lay ≡ layAll p noLayout (take i (linesOf t n))
-  same-lay i = acc-lay p f σ ι noAcc (take i (linesOf t n))
+  same-lay : (i : ℕ) → accAt p f σ ι (linesOf p t n) i .lay ≡ layAll p noLayout (take i (linesOf p t n))
+  same-lay i = acc-lay p f σ ι noAcc (take i (linesOf p t n))
 
   module _ (i : ℕ) (h : i < n) where
-    here : length (accAt p f σ ι (linesOf t n) i .lay .ctx .tys) ≡ i + 1
+    here : length (accAt p f σ ι (linesOf p t n) i .lay .ctx .tys) ≡ i + 1
     here = ap (λ (Y : Layout). length (Y .ctx .tys)) (same-lay i) ∙ number-at p t n (rd .accepted) i (omega arith)
 
-    line-is : getD (linesOf t n) i Line.junk ≡ lineOf (recordAt t i)
+    line-is : getD (linesOf p t n) i Line.junk ≡ lineOf (recordAt p t i)
     line-is = line-here p t n (rd .accepted) i h
 
-    known : Facts p P (accAt p f σ ι (linesOf t n) i .lay) (getD (linesOf t n) i Line.junk) all (length σ) ins sigs
-    known = subst (λ (Y : Layout). Facts p P Y (getD (linesOf t n) i Line.junk) all (length σ) ins sigs) (sym (same-lay i)) (facts-at rd i h)
+    known : Facts p P (accAt p f σ ι (linesOf p t n) i .lay) (getD (linesOf p t n) i Line.junk) all (length σ) ins sigs
+    known = subst (λ (Y : Layout). Facts p P Y (getD (linesOf p t n) i Line.junk) all (length σ) ins sigs) (sym (same-lay i)) (facts-at rd i h)
 
     -- r is the record at hand
-    pub walk-fit : {r : List ℕ} (w g : List ℕ) → r ≡ recordAt t i → Walked p f (linesOf t n) all ι σ sigs w g i → FitL p P all ins (length g) w (i + 1) (lineOf r)
+    pub walk-fit : {r : List ℕ} (w g : List ℕ) → r ≡ recordAt p t i → Walked p f (linesOf p t n) all ι σ sigs w g i → FitL p P all ins (length g) w (i + 1) (lineOf r)
     walk-fit {r} w g er k =
         subst (λ (x : List ℕ). FitL p P all ins (length g) w (i + 1) (lineOf x)) (sym er)
         (subst (λ (l : Line). FitL p P all ins (length g) w (i + 1) l) line-is
-        (subst (λ (m : ℕ). FitL p P all ins (length g) w m (getD (linesOf t n) i Line.junk)) here
-        (subst (λ (m : ℕ). FitL p P all ins m w (length (accAt p f σ ι (linesOf t n) i .lay .ctx .tys)) (getD (linesOf t n) i Line.junk)) (sym (k .len))
-        (fit p f P all σ ι w (accAt p f σ ι (linesOf t n) i) (k .held) ins sigs (getD (linesOf t n) i Line.junk) (known .ok) (known .shows) (known .cells) (known .states) (known .inputs) (known .signals)))))
+        (subst (λ (m : ℕ). FitL p P all ins (length g) w m (getD (linesOf p t n) i Line.junk)) here
+        (subst (λ (m : ℕ). FitL p P all ins m w (length (accAt p f σ ι (linesOf p t n) i .lay .ctx .tys)) (getD (linesOf p t n) i Line.junk)) (sym (k .len))
+        (fit p f P all σ ι w (accAt p f σ ι (linesOf p t n) i) (k .held) ins sigs (getD (linesOf p t n) i Line.junk) (known .ok) (known .shows) (known .cells) (known .states) (known .inputs) (known .signals)))))
 
-    pub walk-step : {r : List ℕ} (w g w′ g′ : List ℕ) → r ≡ recordAt t i → Walked p f (linesOf t n) all ι σ sigs w g i → length g′ ≡ length g
-        → w′ ≡ workIn p f P all ι w (i + 1) (lineOf r) → g′ ≡ sigsIn f P g w (i + 1) (lineOf r) → Walked p f (linesOf t n) all ι σ sigs w′ g′ (i + 1)
+    pub walk-step : {r : List ℕ} (w g w′ g′ : List ℕ) → r ≡ recordAt p t i → Walked p f (linesOf p t n) all ι σ sigs w g i → length g′ ≡ length g
+        → w′ ≡ workIn p f P all ι w (i + 1) (lineOf r) → g′ ≡ sigsIn f P g w (i + 1) (lineOf r) → Walked p f (linesOf p t n) all ι σ sigs w′ g′ (i + 1)
     walk-step {r} w g w′ g′ er k lg ew eg =
-        let A = accAt p f σ ι (linesOf t n) i in
-        let l = getD (linesOf t n) i Line.junk in
+        let A = accAt p f σ ι (linesOf p t n) i in
+        let l = getD (linesOf p t n) i Line.junk in
         let m = length (A .lay .ctx .tys) in
         let el : lineOf r ≡ l = ap lineOf er ∙ sym line-is in
         let ew′ : w′ ≡ workIn p f P all ι w m l = ew ∙ ap₂ (workIn p f P all ι w) (sym here) el in
         let eg′ : g′ ≡ sigsIn f P g w m l = eg ∙ ap₂ (sigsIn f P g w) (sym here) el in
-        let next : accAt p f σ ι (linesOf t n) (i + 1) ≡ evalLine p f σ ι A l = ap (accAt p f σ ι (linesOf t n)) (add-one i) ∙ acc-suc p f σ ι (linesOf t n) i (omega (arith, lines-many p t n (rd .accepted))) in
+        let next : accAt p f σ ι (linesOf p t n) (i + 1) ≡ evalLine p f σ ι A l = ap (accAt p f σ ι (linesOf p t n)) (add-one i) ∙ acc-suc p f σ ι (linesOf p t n) i (omega (arith, lines-many p t n (rd .accepted))) in
         record {
           held = subst (λ (B : Acc). Held p all σ w′ B) (sym next) (subst (λ (x : List ℕ). Held p all σ x (evalLine p f σ ι A l)) (sym ew′) (sim p f P all σ ι w A (k .held) l (known .ok) (known .shows) (known .cells) (known .states)));
           sig = λ q.
@@ -210,13 +209,13 @@ module _ (p f : Bool) (t : List ℕ) (n : ℕ) (P : List (List ℕ)) (all : ℕ)
           len = lg ∙ k .len;
         }
 
-  pub walk-ends : (w g : List ℕ) → Walked p f (linesOf t n) all ι σ sigs w g n
-      → (drop all w ≡ step p f (linesOf t n) σ ι .sts) × (f ≡ false → g ≡ bytesOf (step p f (linesOf t n) σ ι .sigs))
+  pub walk-ends : (w g : List ℕ) → Walked p f (linesOf p t n) all ι σ sigs w g n
+      → (drop all w ≡ step p f (linesOf p t n) σ ι .sts) × (f ≡ false → g ≡ bytesOf (step p f (linesOf p t n) σ ι .sigs))
   unfolding step layout
   walk-ends w g k =
-      let e : accAt p f σ ι (linesOf t n) n ≡ evalAll p f σ ι noAcc (linesOf t n) = ap (evalAll p f σ ι noAcc) (ap (λ (m : ℕ). take m (linesOf t n)) (sym (lines-many p t n (rd .accepted))) ∙ take-length (linesOf t n)) in
-      let y : accAt p f σ ι (linesOf t n) n .lay ≡ layAll p noLayout (linesOf t n) = ap (λ (A : Acc). A .lay) e ∙ acc-lay p f σ ι noAcc (linesOf t n) in
-      let A = accAt p f σ ι (linesOf t n) n in (
+      let e : accAt p f σ ι (linesOf p t n) n ≡ evalAll p f σ ι noAcc (linesOf p t n) = ap (evalAll p f σ ι noAcc) (ap (λ (m : ℕ). take m (linesOf p t n)) (sym (lines-many p t n (rd .accepted))) ∙ take-length (linesOf p t n)) in
+      let y : accAt p f σ ι (linesOf p t n) n .lay ≡ layAll p noLayout (linesOf p t n) = ap (λ (A : Acc). A .lay) e ∙ acc-lay p f σ ι noAcc (linesOf p t n) in
+      let A = accAt p f σ ι (linesOf p t n) n in (
         k .held .kept .words ∙ ap (λ (m : ℕ). A .sts ++ drop m σ) (ap (λ (Y : Layout). Y .counts .states) y ∙ rd .states) ∙ ap (λ (x : List ℕ). A .sts ++ x) (drop-length σ) ∙ append-nil (A .sts) ∙ ap (λ (B : Acc). B .sts) e,
         λ q. sym (ap (λ (m : ℕ). take m g) (ap (λ (Y : Layout). Y .counts .signals) y ∙ rd .signals ∙ sym (k .len)) ∙ take-length g) ∙ k .sig q ∙ ap (λ (B : Acc). bytesOf (B .sigs)) e,
       )

@@ -1,23 +1,22 @@
--- The answers of a run: 1, 11 (20 for a program), 13, 14, 15, 16, 17, the first that holds; else the first counted bad. Assumes nothing.
+-- What a run answers and leaves: 1, 11 (20 for a program), 13, 14, 15, 16, 17, the first that holds; else the first counted bad. Assumes nothing.
 use Prim.Native.Nat.{ℕ, _+_, _*_}
 use mathlib.Core.Bool.{Bool}
-use mathlib.Core.List.{List}
+use mathlib.Core.List.{List, [], _∷_}
 use lib.Dec.{leb, eqb}
 use lib.ListN.{length, replicate}
 use Rattle.tables.specs.declared.Refusal.the-variants.{TooManySteps, StartWords, InputWords, SignalBytes, WorkArea}
 use Rattle.tables.specs.declared.Checked.{Checked}
 use Rattle.tables.specs.declared.Checked.the-variants.{Accepted, Refused}
 use Rattle.tables.specs.Pick.{pick}
-use Rattle.tables.specs.Lines.{Line, decode, counted}
+use Rattle.tables.specs.Lines.{Line}
+use Rattle.tables.specs.Layout.{linesOf}
 use Rattle.tables.specs.Tables.{checked}
+use Rattle.tables.specs.Refusals.{numberOf}
+use Rattle.tables.specs.Answers.{Outcome, outcome}
 use Rattle.circuits.specs.declared.Ran.{Ran}
-use Rattle.circuits.specs.declared.Ran.the-variants.{Refused as RefusedRun}
+use Rattle.circuits.specs.declared.Ran.the-variants.{Nothing, Bad, Refused as RefusedRun}
 use Rattle.circuits.specs.Layout.{Counts, layout}
 use Rattle.circuits.specs.Run.{run, bytes, firstBad}
-
--- the lines that a table with its count holds
-abbrev pub linesOf : List ℕ → ℕ → List Line
-linesOf t n = decode (counted t n)
 
 -- the tests after the table's: s start words, i input words, g signal bytes and w words of work area are lent for k steps
 abbrev pub lent : Counts → (k s i g w : ℕ) → Checked
@@ -35,7 +34,7 @@ andThen (Refused r) d = Refused r
 
 -- may a run start
 unfoldable pub ready : Bool → (t : List ℕ) (n k : ℕ) (S I : List ℕ) (g w : ℕ) → Checked
-ready p t n k S I g w = andThen (checked p t n) (lent (layout p (linesOf t n) .counts) k (length S) (length I) g w)
+ready p t n k S I g w = andThen (checked p t n) (lent (layout p (linesOf p t n) .counts) k (length S) (length I) g w)
 
 abbrev pub answerOf : Checked → Ran → Ran
 answerOf Accepted r = r
@@ -47,7 +46,21 @@ leftOf (Refused r) g x = replicate g 0
 
 -- what a run answers, and the signal bytes that it leaves; the work area is zero after any call
 unfoldable pub ran : Bool → (t : List ℕ) (n k : ℕ) (S I : List ℕ) (g w : ℕ) → Ran
-ran p t n k S I g w = answerOf (ready p t n k S I g w) (firstBad 0 (run p (linesOf t n) k S I))
+ran p t n k S I g w = answerOf (ready p t n k S I g w) (firstBad 0 (run p (linesOf p t n) k S I))
 
 unfoldable pub signalsLeft : Bool → (t : List ℕ) (n k : ℕ) (S I : List ℕ) (g w : ℕ) → List ℕ
-signalsLeft p t n k S I g w = leftOf (ready p t n k S I g w) g (bytes (run p (linesOf t n) k S I))
+signalsLeft p t n k S I g w = leftOf (ready p t n k S I g w) g (bytes (run p (linesOf p t n) k S I))
+
+-- the request's number and values for what a run answers: 1, the step and the place of the first counted bad, or zeros
+abbrev pub toldRun : Ran → (left : List (List ℕ)) → Outcome
+toldRun Nothing left = outcome 0 0 0 0 left
+toldRun (Bad k p) left = outcome 0 1 k p left
+toldRun (RefusedRun r) left = outcome (numberOf r) 0 0 0 left
+
+-- of a run that may start: the first counted bad and the signal bytes of all steps; the work area, of w words, is zero
+abbrev pub started : Bool → List Line → (k : ℕ) (S I : List ℕ) (w : ℕ) → Outcome
+started p C k S I w = toldRun (firstBad 0 (run p C k S I)) (bytes (run p C k S I) ∷ replicate w 0 ∷ [])
+
+-- the outcome of a run of k steps from the start words S with the inputs I, where g signal bytes and w words of work area are lent
+unfoldable pub runs : Bool → (t : List ℕ) (n k : ℕ) (S I : List ℕ) (g w : ℕ) → Outcome
+runs p t n k S I g w = toldRun (ran p t n k S I g w) (signalsLeft p t n k S I g w ∷ replicate w 0 ∷ [])

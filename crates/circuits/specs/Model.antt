@@ -9,12 +9,13 @@ use lib.Dec.{eqb}
 use lib.ListN.{length, getD, set, replicate, drop}
 use Rattle.words.specs.Word.{Width, bit}
 use Rattle.words.specs.Op.{opOf}
-use Rattle.words.specs.Program.{classOf}
-use Rattle.words.specs.Widths.{Widths, widthOf}
+use Rattle.words.specs.Model.Classes.{classOf}
+use Rattle.words.specs.Model.Widths.{Widths, widthOf}
 use Rattle.tables.specs.declared.Ty.{Ty}
 use Rattle.tables.specs.declared.Checked.the-variants.{Accepted}
 use Rattle.tables.specs.Pick.{pick, alike}
 use Rattle.tables.specs.Lines.{Line, Expr}
+use Rattle.tables.specs.Layout.{linesOf}
 use Rattle.tables.specs.Types.{context}
 use Rattle.tables.specs.Notes.{Shows as Listed}
 use Rattle.tables.specs.Tables.{checked}
@@ -24,7 +25,8 @@ use Rattle.circuits.specs.Layout.{Place, Counts, Layout, place, noPlace,
 use Rattle.circuits.specs.Meaning.{cellsE, inputWord, stateWords, Sig, sig}
 use Rattle.circuits.specs.declared.Ran.{Ran}
 use Rattle.circuits.specs.Run.{run, bytes, firstBad}
-use Rattle.circuits.specs.Answers.{linesOf, lent, answerOf, leftOf}
+use Rattle.tables.specs.Answers.{Outcome}
+use Rattle.circuits.specs.Answers.{lent, answerOf, leftOf, toldRun}
 
 -- two runs of n words do not meet
 abbrev pub Apart : ℕ → ℕ → ℕ → Type 0
@@ -232,11 +234,11 @@ Shows P Y = (a : ℕ) → a < length (Y .places) → Shown P a (typeAt Y a) (pla
 -- an accepted table, and a list that holds what is known of its lines
 pub record Ready (p : Bool) (t : List ℕ) (n : ℕ) (P : List (List ℕ)) (all words ins sigs : ℕ) : Type 0 where
   pub accepted : checked p t n ≡ Accepted
-  pub shows : Shows P (layout p (linesOf t n))
-  pub cells : layout p (linesOf t n) .counts .cells ≡ all
-  pub states : layout p (linesOf t n) .counts .states ≡ words
-  pub inputs : layout p (linesOf t n) .counts .inputs ≡ ins
-  pub signals : layout p (linesOf t n) .counts .signals ≡ sigs
+  pub shows : Shows P (layout p (linesOf p t n))
+  pub cells : layout p (linesOf p t n) .counts .cells ≡ all
+  pub states : layout p (linesOf p t n) .counts .states ≡ words
+  pub inputs : layout p (linesOf p t n) .counts .inputs ≡ ins
+  pub signals : layout p (linesOf p t n) .counts .signals ≡ sigs
 
 -- ---- the pass over the lines before a run
 
@@ -300,10 +302,13 @@ sigRows bs (suc k) g = zipSig bs g ∷ sigRows bs k (drop (length bs) g)
 -- the notes are those of an accepted table's check
 pub record Noted (p : Bool) (t : List ℕ) (n : ℕ) (xs : List (List ℕ)) : Type 0 where
   pub accepted : checked p t n ≡ Accepted
-  pub shows : Listed xs (context p (linesOf t n))
+  pub shows : Listed xs (context p (linesOf p t n))
 
 abbrev pub lentAnswer : Bool → (t : List ℕ) (n k : ℕ) (S I : List ℕ) (g w : ℕ) → Ran
-lentAnswer p t n k S I g w = answerOf (lent (layout p (linesOf t n) .counts) k (length S) (length I) g w) (firstBad 0 (run p (linesOf t n) k S I))
+lentAnswer p t n k S I g w = answerOf (lent (layout p (linesOf p t n) .counts) k (length S) (length I) g w) (firstBad 0 (run p (linesOf p t n) k S I))
 
 abbrev pub lentSignals : Bool → (t : List ℕ) (n k : ℕ) (S I : List ℕ) (g w : ℕ) → List ℕ
-lentSignals p t n k S I g w = leftOf (lent (layout p (linesOf t n) .counts) k (length S) (length I) g w) g (bytes (run p (linesOf t n) k S I))
+lentSignals p t n k S I g w = leftOf (lent (layout p (linesOf p t n) .counts) k (length S) (length I) g w) g (bytes (run p (linesOf p t n) k S I))
+
+abbrev pub lentRuns : Bool → (t : List ℕ) (n k : ℕ) (S I : List ℕ) (g w : ℕ) → Outcome
+lentRuns p t n k S I g w = toldRun (lentAnswer p t n k S I g w) (lentSignals p t n k S I g w ∷ replicate w 0 ∷ [])

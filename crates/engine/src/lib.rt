@@ -6,11 +6,12 @@ use records::notes::BYTES;
 use tables::Checked;
 use tables::Refusal;
 ghost use mathlib.Core.Path.{_≡_};
+ghost use mathlib.Core.List.{[], _∷_};
 ghost use Prim.Native.Nat.{_+_, _<_};
 ghost use lib.ListN.{length, replicate};
-ghost use Rattle.circuits.specs.Answers.{lent as lentOf, linesOf};
-ghost use Rattle.circuits.specs.Model.{countsOf, Ready, Noted, lentAnswer, lentSignals};
-ghost use Rattle.circuits.specs.Run.{bytes, firstBad, run};
+ghost use Rattle.tables.specs.Layout.{linesOf};
+ghost use Rattle.circuits.specs.Answers.{lent as lentOf, toldRun, started};
+ghost use Rattle.circuits.specs.Model.{countsOf, Ready, Noted, lentRuns};
 
 // 13 to 17: s start words, i input words, g signal bytes and w words of work area are lent for k steps.
 fn lent(t: Totals, k: usize, s: usize, i: usize, g: usize, w: usize) -> Checked
@@ -48,8 +49,11 @@ fn run_lent(
     signals: &mut [u8],
     work: &mut [u64],
 ) -> Ran
-    requires { ⌜ Ready program (now table) count (now laid) (t .cells) (t .states) (t .inputs) (t .signals) × ((lentOf (countsOf t) k (length (now starts)) (length (now inputs)) (length (now signals)) (length (now work)) ≡ Checked.Accepted) × (now work ≡ replicate (length (now work)) 0)) ⌝ }
-    ensures { λ r. ⌜ (r ≡ firstBad 0 (run program (linesOf (now (table .entry)) count) k (now (starts .entry)) (now (inputs .entry)))) × ((now (signals .exit) ≡ bytes (run program (linesOf (now (table .entry)) count) k (now (starts .entry)) (now (inputs .entry)))) × (now (work .exit) ≡ replicate (length (now (work .entry))) 0)) ⌝ }
+    requires { ⌜ Ready program (now table) count (now laid) (t .cells) (t .states) (t .inputs) (t .signals)
+        × ((lentOf (countsOf t) k (length (now starts)) (length (now inputs)) (length (now signals)) (length (now work)) ≡ Checked.Accepted)
+        × (now work ≡ replicate (length (now work)) 0)) ⌝ }
+    ensures { λ r. ⌜ toldRun r (now (signals .exit) ∷ now (work .exit) ∷ [])
+        ≡ started program (linesOf program (now (table .entry)) count) k (now (starts .entry)) (now (inputs .entry)) (length (now (work .entry))) ⌝ }
 {
     if k == 0 {
         return Ran::Nothing;
@@ -88,7 +92,8 @@ pub fn run_checked(
     work: &mut [u64],
 ) -> Ran
     requires { ⌜ Noted program (now table) count (now notes) × ((now signals ≡ replicate (length (now signals)) 0) × (now work ≡ replicate (length (now work)) 0)) ⌝ }
-    ensures { λ r. ⌜ (r ≡ lentAnswer program (now (table .entry)) count k (now (starts .entry)) (now (inputs .entry)) (length (now (signals .entry))) (length (now (work .entry)))) × ((now (signals .exit) ≡ lentSignals program (now (table .entry)) count k (now (starts .entry)) (now (inputs .entry)) (length (now (signals .entry))) (length (now (work .entry)))) × (now (work .exit) ≡ replicate (length (now (work .entry))) 0)) ⌝ }
+    ensures { λ r. ⌜ toldRun r (now (signals .exit) ∷ now (work .exit) ∷ []) ≡ lentRuns program (now (table .entry)) count k
+        (now (starts .entry)) (now (inputs .entry)) (length (now (signals .entry))) (length (now (work .entry))) ⌝ }
 {
     let mut laid = [[0u32; LAID]; 16385];
     let t = places::lay_out(program, table, count, notes, &mut laid);

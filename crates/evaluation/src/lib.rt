@@ -1,12 +1,14 @@
 // Lines of a step that have a value and are no states: their cells go to their runs of the work area.
 use area::LAID;
 ghost use mathlib.Core.Path.{_≡_};
+ghost use mathlib.Core.Bool.{false};
 ghost use mathlib.Core.List.{[], _∷_};
-ghost use lib.ListN.{length, getD, set};
+ghost use lib.ListN.{length, getD};
 ghost use Rattle.circuits.specs.Meaning.{opWord, inputWord};
-ghost use Rattle.circuits.specs.Model.{FitWord, Word, offIn, FitInput, posIn, widIn, wordIn, FitOne, FitTwo, runIn, FitCmp, FitRead, Run, FitIte, FitWrite};
+ghost use Rattle.tables.specs.Lines.{Expr};
+ghost use Rattle.circuits.specs.Model.{FitWord, Word, offIn, FitInput, posIn, widIn, exprIn, FitOne, FitTwo, FitCmp, FitRead, Run, FitIte, FitWrite};
 ghost use Rattle.words.specs.Word.{Width, bit};
-ghost use Rattle.circuits.specs.Cells.{say, put, same, choose};
+ghost use Rattle.circuits.specs.Cells.{say, put};
 
 // A word operator, of a program or of a circuit.
 pub fn word(program: bool, k: u64, w: u64, u: u64, v: u64, a: u64, b: u64, c: u64) -> u64
@@ -57,7 +59,8 @@ pub fn line_input(
     work: &mut [u64],
 )
     requires { ⌜ FitInput (now laid) (length (now work)) (length (now row)) n ⌝ }
-    ensures { λ _. ⌜ now (work .exit) ≡ put (now (work .entry)) (offIn (now (laid .entry)) n) (inputWord program (widIn (now (laid .entry)) n) (getD (now (row .entry)) (posIn (now (laid .entry)) n) 0) ∷ []) ⌝ }
+    ensures { λ _. ⌜ now (work .exit) ≡ put (now (work .entry)) (offIn (now (laid .entry)) n)
+        (inputWord program (widIn (now (laid .entry)) n) (getD (now (row .entry)) (posIn (now (laid .entry)) n) 0) ∷ []) ⌝ }
 {
     let o = area::off(laid, n);
     let p = area::place(laid, n);
@@ -76,7 +79,7 @@ pub fn line_one(
     work: &mut [u64],
 )
     requires { ⌜ Word (now laid) (length (now work)) n × FitOne program (now laid) (now work) n k a x y ⌝ }
-    ensures { λ _. ⌜ now (work .exit) ≡ put (now (work .entry)) (offIn (now (laid .entry)) n) (opWord program k (widIn (now (laid .entry)) a) 64 (wordIn (now (laid .entry)) (now (work .entry)) a) x y ∷ []) ⌝ }
+    ensures { λ _. ⌜ now (work .exit) ≡ put (now (work .entry)) (offIn (now (laid .entry)) n) (exprIn program (now (laid .entry)) (now (work .entry)) (Expr.one k a x y)) ⌝ }
 {
     let o = area::off(laid, n);
     let p = area::off(laid, a);
@@ -103,7 +106,7 @@ pub fn line_two(
     work: &mut [u64],
 )
     requires { ⌜ Word (now laid) (length (now work)) n × FitTwo program (now laid) (now work) n k a b ⌝ }
-    ensures { λ _. ⌜ now (work .exit) ≡ put (now (work .entry)) (offIn (now (laid .entry)) n) (opWord program k (widIn (now (laid .entry)) a) (widIn (now (laid .entry)) b) (wordIn (now (laid .entry)) (now (work .entry)) a) (wordIn (now (laid .entry)) (now (work .entry)) b) 0 ∷ []) ⌝ }
+    ensures { λ _. ⌜ now (work .exit) ≡ put (now (work .entry)) (offIn (now (laid .entry)) n) (exprIn program (now (laid .entry)) (now (work .entry)) (Expr.two k a b)) ⌝ }
 {
     let o = area::off(laid, n);
     let p = area::off(laid, a);
@@ -131,7 +134,7 @@ pub fn line_cmp(
     work: &mut [u64],
 )
     requires { ⌜ Word (now laid) (length (now work)) n × FitCmp (now laid) n a b ⌝ }
-    ensures { λ _. ⌜ now (work .exit) ≡ put (now (work .entry)) (offIn (now (laid .entry)) n) (bit (say e (same (runIn (now (laid .entry)) (now (work .entry)) a) (runIn (now (laid .entry)) (now (work .entry)) b))) ∷ []) ⌝ }
+    ensures { λ _. ⌜ now (work .exit) ≡ put (now (work .entry)) (offIn (now (laid .entry)) n) (exprIn false (now (laid .entry)) (now (work .entry)) (Expr.cmp e a b)) ⌝ }
 {
     let o = area::off(laid, n);
     let x = area::off(laid, a);
@@ -143,7 +146,7 @@ pub fn line_cmp(
 
 pub fn line_read(a: usize, i: usize, n: usize, laid: &[[u32; LAID]; 16385], work: &mut [u64])
     requires { ⌜ Word (now laid) (length (now work)) n × FitRead (now laid) (now work) n a i ⌝ }
-    ensures { λ _. ⌜ now (work .exit) ≡ put (now (work .entry)) (offIn (now (laid .entry)) n) (getD (runIn (now (laid .entry)) (now (work .entry)) a) (wordIn (now (laid .entry)) (now (work .entry)) i) 0 ∷ []) ⌝ }
+    ensures { λ _. ⌜ now (work .exit) ≡ put (now (work .entry)) (offIn (now (laid .entry)) n) (exprIn false (now (laid .entry)) (now (work .entry)) (Expr.read a i)) ⌝ }
 {
     let o = area::off(laid, n);
     let p = area::off(laid, i);
@@ -162,7 +165,7 @@ pub fn line_ite(
     work: &mut [u64],
 )
     requires { ⌜ Run (now laid) (length (now work)) n × FitIte (now laid) n c a b ⌝ }
-    ensures { λ _. ⌜ now (work .exit) ≡ put (now (work .entry)) (offIn (now (laid .entry)) n) (choose (wordIn (now (laid .entry)) (now (work .entry)) c) (runIn (now (laid .entry)) (now (work .entry)) a) (runIn (now (laid .entry)) (now (work .entry)) b)) ⌝ }
+    ensures { λ _. ⌜ now (work .exit) ≡ put (now (work .entry)) (offIn (now (laid .entry)) n) (exprIn false (now (laid .entry)) (now (work .entry)) (Expr.ite c a b)) ⌝ }
 {
     let o = area::off(laid, n);
     let m = area::cells(laid, n);
@@ -183,7 +186,7 @@ pub fn line_write(
     work: &mut [u64],
 )
     requires { ⌜ Run (now laid) (length (now work)) n × FitWrite (now laid) (now work) n a i v ⌝ }
-    ensures { λ _. ⌜ now (work .exit) ≡ put (now (work .entry)) (offIn (now (laid .entry)) n) (set (runIn (now (laid .entry)) (now (work .entry)) a) (wordIn (now (laid .entry)) (now (work .entry)) i) (wordIn (now (laid .entry)) (now (work .entry)) v)) ⌝ }
+    ensures { λ _. ⌜ now (work .exit) ≡ put (now (work .entry)) (offIn (now (laid .entry)) n) (exprIn false (now (laid .entry)) (now (work .entry)) (Expr.write a i v)) ⌝ }
 {
     let o = area::off(laid, n);
     let m = area::cells(laid, n);

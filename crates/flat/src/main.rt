@@ -1,14 +1,11 @@
 // The flat program: standard input to the flat text, or `refused N L`.
-use flattening::Flattened;
 use libc::STDIN_FILENO;
 use libc::STDOUT_FILENO;
+use tables::Answer;
 use tables::Refusal;
-use tables::WORDS;
-use texts::ReadOutcome;
-use texts::WriteOutcome;
 
-// A table of 1,600 records.
-const TABLE: usize = 1600 * WORDS;
+// The words of a table: 1,600 records.
+const TABLE: usize = 8000;
 
 // Prints `refused N L`, L the text line, 0 if none.
 fn refuse(r: Refusal, line: usize) {
@@ -23,12 +20,12 @@ fn refuse(r: Refusal, line: usize) {
 fn print(table: &[u64], count: usize) {
     let mut text = [0u8; 65536];
     match writing::write(table, count, &mut text) {
-        WriteOutcome::Done(n) => {
+        Answer::Done(n) => {
             if n <= 65536 {
                 io::write_all(STDOUT_FILENO, &text[..n]);
             }
         }
-        WriteOutcome::Refused(r) => refuse(r, 0),
+        Answer::Refused(r, line) => refuse(r, line),
     }
 }
 
@@ -38,10 +35,10 @@ fn main() {
     let mut table = [0; TABLE];
     let mut target = [0; TABLE];
     match reading::read(&text[..n], &mut table) {
-        ReadOutcome::Refused(r, line) => refuse(r, line),
-        ReadOutcome::Done(count) => match flatten::flatten(&table, count, &mut target) {
-            Flattened::Refused(r) => refuse(r, 0),
-            Flattened::Done(m) => print(&target, m),
+        Answer::Refused(r, line) => refuse(r, line),
+        Answer::Done(count) => match flatten::flatten(&table, count, &mut target) {
+            Answer::Refused(r, line) => refuse(r, line),
+            Answer::Done(m) => print(&target, m),
         },
     }
 }

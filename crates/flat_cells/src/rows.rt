@@ -2,12 +2,23 @@
 use crate::cells;
 use crate::cells::KEPT;
 use flattening::Source;
+use tables::WORDS;
 ghost use mathlib.Core.Path.{_≡_};
-ghost use Prim.Native.Nat.{_+_, _≤_, _*_};
+ghost use mathlib.Core.Bool.{false};
+ghost use mathlib.Core.List.{[], _∷_};
+ghost use Prim.Native.Nat.{_+_, _≤_, _<_, _*_};
 ghost use lib.ListN.{length};
-ghost use Rattle.tables.specs.Lines.{span};
-ghost use Rattle.circuits.specs.Cells.{put};
-ghost use Rattle.flattening.specs.Model.{Sound, Tame, words, rowAt, pairAt};
+ghost use Rattle.tables.specs.Layout.{held};
+ghost use Rattle.flattening.specs.Placed.{putFlat};
+ghost use Rattle.flattening.specs.Model.{Sound, Tame, rowsFor, rowAt, pairAt};
+
+// The record of a flat line goes to the place i.
+pub fn put(target: &mut [u64], i: usize, rec: [u64; WORDS])
+    requires { ⌜ i < held false (length (now target)) ⌝ }
+    ensures { λ _. ⌜ now (target .exit) ≡ putFlat (now (target .entry)) i (rec ∷ []) ⌝ }
+{
+    records::put(false, target, i, rec);
+}
 
 // n records of the kind k and the sort line s, from the place p on: the record j has the words j of the three sources.
 pub fn rows(
@@ -21,8 +32,8 @@ pub fn rows(
     y: Source,
     z: Source,
 )
-    requires { ⌜ Sound (now kept) × (Tame x × (Tame y × (Tame z × ((n ≤ 256) × (span (p + n) ≤ length (now target)))))) ⌝ }
-    ensures { λ _. ⌜ now (target .exit) ≡ put (now (target .entry)) (span p) (words n (rowAt (now (kept .entry)) k s x y z)) ⌝ }
+    requires { ⌜ Sound (now kept) × (Tame x × (Tame y × (Tame z × ((n ≤ 256) × (p + n ≤ held false (length (now target))))))) ⌝ }
+    ensures { λ _. ⌜ now (target .exit) ≡ putFlat (now (target .entry)) p (rowsFor n (rowAt (now (kept .entry)) k s x y z)) ⌝ }
 {
     let mut j: usize = 0;
     while j < n {
@@ -34,7 +45,7 @@ pub fn rows(
             cells::source(kept, y, i),
             cells::source(kept, z, i),
         );
-        records::put(target, p + j, rec);
+        put(target, p + j, rec);
         j += 1;
     }
 }
@@ -53,8 +64,8 @@ pub fn pairs(
     x: Source,
     y: Source,
 )
-    requires { ⌜ Sound (now kept) × (Tame c × (Tame x × (Tame y × ((n ≤ 256) × ((p ≤ 65536) × (span (p + 2 * n) ≤ length (now target))))))) ⌝ }
-    ensures { λ _. ⌜ now (target .exit) ≡ put (now (target .entry)) (span p) (words n (pairAt (now (kept .entry)) p o i s c x y)) ⌝ }
+    requires { ⌜ Sound (now kept) × (Tame c × (Tame x × (Tame y × ((n ≤ 256) × ((p ≤ 65536) × (p + 2 * n ≤ held false (length (now target)))))))) ⌝ }
+    ensures { λ _. ⌜ now (target .exit) ≡ putFlat (now (target .entry)) p (rowsFor n (pairAt (now (kept .entry)) p o i s c x y)) ⌝ }
 {
     let mut j: usize = 0;
     while j < n {
@@ -68,8 +79,8 @@ pub fn pairs(
             cells::source(kept, x, t),
             cells::source(kept, y, t),
         );
-        records::put(target, q, eq);
-        records::put(target, q + 1, ite);
+        put(target, q, eq);
+        put(target, q + 1, ite);
         j += 1;
     }
 }

@@ -4,32 +4,33 @@ use flat_cells::cells::KEPT;
 use flat_cells::rows;
 use flat_cells::sources;
 ghost use mathlib.Core.Path.{_≡_};
+ghost use mathlib.Core.Bool.{false};
 ghost use Prim.Native.Nat.{_+_, _≤_, _-_, _*_};
 ghost use lib.ListN.{length};
-ghost use Rattle.tables.specs.Lines.{span};
-ghost use Rattle.circuits.specs.Cells.{put};
+ghost use Rattle.tables.specs.Layout.{held};
+ghost use Rattle.flattening.specs.Placed.{putFlat};
 ghost use Rattle.flattening.specs.Model.{Sound};
-ghost use Rattle.flattening.specs.Making.{arrayWords, joinWords, cmpWords, readWords};
+ghost use Rattle.flattening.specs.Making.{arrayRecords, joinRecords, cmpRecords, readRecords};
 
 // An array sort of n cells, whose index sort has the flat line s: a width-1 sort, then the index constants.
 pub fn array_lines(kept: &[[u64; KEPT]], s: u64, n: usize, p: usize, target: &mut [u64])
-    requires { ⌜ Sound (now kept) × ((n ≤ 256) × (span (p + (1 + n)) ≤ length (now target))) ⌝ }
-    ensures { λ _. ⌜ now (target .exit) ≡ put (now (target .entry)) (span p) (arrayWords (now (kept .entry)) s n) ⌝ }
+    requires { ⌜ Sound (now kept) × ((n ≤ 256) × (p + (1 + n) ≤ held false (length (now target)))) ⌝ }
+    ensures { λ _. ⌜ now (target .exit) ≡ putFlat (now (target .entry)) p (arrayRecords (now (kept .entry)) s n) ⌝ }
 {
-    records::put(target, p, records::of(1, 0, 1, 0, 0));
+    rows::put(target, p, records::of(1, 0, 1, 0, 0));
     let z = sources::run(0, 0);
     rows::rows(kept, target, p + 1, n, 3, s, sources::run(0, 1), z, z);
 }
 
 // The ands, or ors, of n tests that begin at the place p, from the left.
 pub fn join_lines(kept: &[[u64; KEPT]], j: u64, s: u64, n: usize, p: usize, target: &mut [u64])
-    requires { ⌜ Sound (now kept) × ((n ≤ 256) × ((p ≤ 65536) × (span (p + (n + (n - 1))) ≤ length (now target)))) ⌝ }
-    ensures { λ _. ⌜ now (target .exit) ≡ put (now (target .entry)) (span (p + n)) (joinWords (now (kept .entry)) p j s n) ⌝ }
+    requires { ⌜ Sound (now kept) × ((n ≤ 256) × ((p ≤ 65536) × (p + (n + (n - 1)) ≤ held false (length (now target))))) ⌝ }
+    ensures { λ _. ⌜ now (target .exit) ≡ putFlat (now (target .entry)) (p + n) (joinRecords (now (kept .entry)) p j s n) ⌝ }
 {
     if n < 2 {
         return;
     }
-    records::put(
+    rows::put(
         target,
         p + n,
         records::of(j, s, (p + 1) as u64, (p + 2) as u64, 0),
@@ -59,8 +60,8 @@ pub fn cmp_lines(
     p: usize,
     target: &mut [u64],
 )
-    requires { ⌜ Sound (now kept) × ((n ≤ 256) × ((p ≤ 65536) × (span (p + (n + (n - 1))) ≤ length (now target)))) ⌝ }
-    ensures { λ _. ⌜ now (target .exit) ≡ put (now (target .entry)) (span p) (cmpWords (now (kept .entry)) p k j s x y n) ⌝ }
+    requires { ⌜ Sound (now kept) × ((n ≤ 256) × ((p ≤ 65536) × (p + (n + (n - 1)) ≤ held false (length (now target))))) ⌝ }
+    ensures { λ _. ⌜ now (target .exit) ≡ putFlat (now (target .entry)) p (cmpRecords (now (kept .entry)) p k j s x y n) ⌝ }
 {
     rows::rows(
         kept,
@@ -87,8 +88,8 @@ pub fn read_lines(
     p: usize,
     target: &mut [u64],
 )
-    requires { ⌜ Sound (now kept) × ((2 ≤ n) × ((n ≤ 256) × ((p ≤ 60000) × ((o ≤ 65536) × (span (p + 2 * (n - 1)) ≤ length (now target)))))) ⌝ }
-    ensures { λ _. ⌜ now (target .exit) ≡ put (now (target .entry)) (span p) (readWords (now (kept .entry)) p o i s a n) ⌝ }
+    requires { ⌜ Sound (now kept) × ((2 ≤ n) × ((n ≤ 256) × ((p ≤ 60000) × ((o ≤ 65536) × (p + 2 * (n - 1) ≤ held false (length (now target))))))) ⌝ }
+    ensures { λ _. ⌜ now (target .exit) ≡ putFlat (now (target .entry)) p (readRecords (now (kept .entry)) p o i s a n) ⌝ }
 {
     let last = cells::cell(kept, a, (n - 1) as u64);
     let m = n - 2;

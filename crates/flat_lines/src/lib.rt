@@ -1,15 +1,19 @@
 // Lines that leave one flat line, and array sorts: the flat lines go to the target, and what later lines need of the line is answered.
 use flat_cells::cells;
 use flat_cells::cells::KEPT;
+use flat_cells::rows;
 use flat_cells::sources;
 use flattening::Made;
 use records::notes::BYTES;
 use tables::WORDS;
 ghost use mathlib.Core.Path.{_≡_};
-ghost use Prim.Native.Nat.{_+_, _≤_};
+ghost use mathlib.Core.Bool.{false};
+ghost use mathlib.Core.List.{[], _∷_};
+ghost use Prim.Native.Nat.{_+_, _<_};
 ghost use lib.ListN.{length};
-ghost use Rattle.tables.specs.Lines.{span, Line, Expr};
-ghost use Rattle.circuits.specs.Cells.{put};
+ghost use Rattle.tables.specs.Lines.{Line, Expr};
+ghost use Rattle.tables.specs.Layout.{held};
+ghost use Rattle.flattening.specs.Placed.{putFlat};
 ghost use Rattle.flattening.specs.Making.{made, small as smallOf, notes, Fit, Laid};
 
 // A line that leaves one flat line.
@@ -22,10 +26,10 @@ pub fn single(
     c: u64,
     target: &mut [u64],
 ) -> Made
-    requires { ⌜ span (p + 1) ≤ length (now target) ⌝ }
-    ensures { λ r. ⌜ (r ≡ made (p + 1) a b 0 k c) × (now (target .exit) ≡ put (now (target .entry)) (span p) rec) ⌝ }
+    requires { ⌜ p < held false (length (now target)) ⌝ }
+    ensures { λ r. ⌜ (r ≡ made (p + 1) a b 0 k c) × (now (target .exit) ≡ putFlat (now (target .entry)) p (rec ∷ [])) ⌝ }
 {
-    records::put(target, p, rec);
+    rows::put(target, p, rec);
     Made {
         next: p + 1,
         at: a,

@@ -1,11 +1,13 @@
 // The pass over the lines: each is counted, and then its flat lines are written.
 use flat_cells::cells::KEPT;
-use flattening::Flattened;
 use records::notes::BYTES;
+use tables::Answer;
 use tables::Refusal;
 ghost use mathlib.Core.Path.{_≡_};
+ghost use mathlib.Core.List.{[], _∷_};
 ghost use lib.ListN.{length};
-ghost use Rattle.flattening.specs.Answers.{flattened, targetLeft};
+ghost use Rattle.tables.specs.Answers.{told};
+ghost use Rattle.flattening.specs.Answers.{flattens};
 ghost use Rattle.flattening.specs.Begun.{Begun};
 
 // The lines of an accepted table.
@@ -15,19 +17,20 @@ pub fn all_lines(
     types: &[[u8; BYTES]],
     kept: &mut [[u64; KEPT]],
     target: &mut [u64],
-) -> Flattened
+) -> Answer
     requires { ⌜ Begun (now table) count (now types) (now kept) (now target) ⌝ }
-    ensures { λ r. ⌜ (r ≡ flattened (now (table .entry)) count (length (now (target .entry)))) × (now (target .exit) ≡ targetLeft (now (table .entry)) count (length (now (target .entry)))) ⌝ }
+    ensures { λ r. ⌜ told r (now (target .exit) ∷ []) ≡ flattens (now (table .entry)) count (length (now (target .entry))) ⌝ }
 {
-    let room = records::room_of(target.len());
+    let h = records::step(false, table.len());
+    let room = records::room_of(false, target.len());
     let mut i: usize = 0;
     let mut p: usize = 0;
     while i < count {
-        let rec = records::record(table, i);
+        let rec = records::record(false, table, h, i);
         let c = flat_counts::count_line(rec, kept, types);
         if room - p < c {
             records::clear(target);
-            return Flattened::Refused(Refusal::TargetTooSmall);
+            return Answer::Refused(Refusal::TargetTooSmall, 0);
         }
         let m = flat_dispatch::line(rec, kept, types, p, target);
         let n = i + 1;
@@ -35,5 +38,5 @@ pub fn all_lines(
         p = m.next;
         i = n;
     }
-    Flattened::Done(p)
+    Answer::Done(p)
 }

@@ -1,17 +1,17 @@
--- The words that the code makes of a line are those of its flat lines, where what it keeps of earlier lines tells what the definition keeps. Assumes nothing.
+-- The records that the code makes of a line are those of its flat lines, where what it keeps of earlier lines tells what the definition keeps. Assumes nothing.
 use Prim.Native.Nat.{ℕ, zero, suc, _+_, _-_, _*_, _^_, _≤_, _<_}
 use mathlib.Core.Path.{_≡_, refl, sym, ap, ap₂, _∙_, subst, subst⁻¹}
 use mathlib.Core.Logic.{_≢_}
 use mathlib.Core.Bool.{Bool, true, false}
 use mathlib.Core.Option.{Option, none, some}
-use mathlib.Core.List.{List, [], _∷_, _++_}
+use mathlib.Core.List.{List, [], _∷_, _++_, map, map-append}
 use native.Mathlib.Omega.{arith}
 use lib.ListN.{length, getD, length-replicate, getD-replicate}
 use lib.Pow.{pow-pos, pow-mono}
 use borrow.Author.Tests.{eq-eqb, ne-eqb, lt-ltb}
 use Rattle.tables.specs.declared.Ty.{Ty}
 use Rattle.tables.specs.Pick.{pick}
-use Rattle.tables.specs.Lines.{Line, Expr, fields, encode, giveKind, cmpKind}
+use Rattle.tables.specs.Lines.{Line, Expr, fields, wordsOf, giveKind, cmpKind}
 use Rattle.tables.specs.Types.{tyAt, given}
 use Rattle.tables.specs.Rules.{valueIndex}
 use Rattle.tables.proofs.Facts.{IsWord, OkValue, Ok}
@@ -19,15 +19,13 @@ use Rattle.circuits.specs.Layout.{typeAt}
 use Rattle.circuits.specs.Meaning.{Acc, cellsAt}
 use Rattle.flattening.specs.declared.Source.{Source}
 use Rattle.flattening.specs.Flat.{from, Info, infoAt, linesAt, lineAt, chunk, chunkRead, chunkWrite, givenLines, cmpLines, joinKind, joinAll, writeLines, readAll}
-use Rattle.flattening.specs.Model.{Held, cellIn, sourceAt, words, rowAt, pairAt}
-use Rattle.flattening.specs.Making.{deepIn, wideIn, run, still, of, runDown, ofDown, joinWords, readWords, writeWords, Notes, sortIn, wordIn, bitIn, conIn, sizeIn, small, givenFrom, flatWords, Neat}
+use Rattle.flattening.specs.Model.{Held, cellIn, sourceAt, rowsFor, rowAt, pairAt}
+use Rattle.flattening.specs.Making.{deepIn, wideIn, run, still, of, runDown, ofDown, joinRecords, readRecords, writeRecords, Notes, sortIn, wordIn, bitIn, conIn, sizeIn, small, givenFrom, lineRecords, Neat}
 use Rattle.flattening.proofs.Walk.{holds-length}
 use Rattle.flattening.proofs.CellLaws.{from-at, length-from}
 use Rattle.flattening.proofs.Rel.{Inv, KnownRel, word-small}
-use Rattle.flattening.proofs.Placing.{join-some}
-use Rattle.flattening.proofs.Laying.{size-two}
-use Rattle.tables.proofs.Places.{encode-append}
-use Rattle.flattening.proofs.Rowing.{words-ext, words-more, const-words, state-words, give-words, ite-words, cmp-words, join-words, writePair, write-words, before, readPair, read-words}
+use Rattle.flattening.proofs.Laying.{size-two, join-some}
+use Rattle.flattening.proofs.Rowing.{rows-ext, rows-more, const-records, state-records, give-records, ite-records, cmp-records, join-records, writePair, write-records, before, readPair, read-records}
 
 -- what is kept of a constant
 abbrev pub KnownNote : Option ℕ → ℕ → Type 0
@@ -61,59 +59,59 @@ module _ (H : Held) where
   down-at a t j v d e = sym e ∙ rw (ne-eqb a 0 d)
 
   rows-as : (n k s : ℕ) (x y z : Source) (X Y Z : ℕ → ℕ) → ((j : ℕ) → j < n → X j ≡ sourceAt H x j) → ((j : ℕ) → j < n → Y j ≡ sourceAt H y j) → ((j : ℕ) → j < n → Z j ≡ sourceAt H z j)
-      → words n (λ j. fields k s (X j) (Y j) (Z j)) ≡ words n (rowAt H k s x y z)
-  rows-as n k s x y z X Y Z a b c = words-ext n (λ j. fields k s (X j) (Y j) (Z j)) (rowAt H k s x y z) (λ j l i. fields k s (a j l i) (b j l i) (c j l i))
+      → rowsFor n (λ j. fields k s (X j) (Y j) (Z j) ∷ []) ≡ rowsFor n (rowAt H k s x y z)
+  rows-as n k s x y z X Y Z a b c = rows-ext n (λ j. fields k s (X j) (Y j) (Z j) ∷ []) (rowAt H k s x y z) (λ j l i. fields k s (a j l i) (b j l i) (c j l i) ∷ [])
 
-  pairs-as : (n p o i s : ℕ) (c x y : Source) (g : ℕ → List ℕ) (C B X Y : ℕ → ℕ) → ((j : ℕ) → j < n → g j ≡ fields 21 o i (C j) 0 ++ fields 53 s (B j) (X j) (Y j)) → ((j : ℕ) → j < n → C j ≡ sourceAt H c j)
-      → ((j : ℕ) → j < n → B j ≡ suc (p + 2 * j)) → ((j : ℕ) → j < n → X j ≡ sourceAt H x j) → ((j : ℕ) → j < n → Y j ≡ sourceAt H y j) → words n g ≡ words n (pairAt H p o i s c x y)
+  pairs-as : (n p o i s : ℕ) (c x y : Source) (g : ℕ → List (List ℕ)) (C B X Y : ℕ → ℕ) → ((j : ℕ) → j < n → g j ≡ fields 21 o i (C j) 0 ∷ fields 53 s (B j) (X j) (Y j) ∷ []) → ((j : ℕ) → j < n → C j ≡ sourceAt H c j)
+      → ((j : ℕ) → j < n → B j ≡ suc (p + 2 * j)) → ((j : ℕ) → j < n → X j ≡ sourceAt H x j) → ((j : ℕ) → j < n → Y j ≡ sourceAt H y j) → rowsFor n g ≡ rowsFor n (pairAt H p o i s c x y)
   pairs-as n p o i s c x y g C B X Y e ec eb ex ey =
-      words-ext n g (pairAt H p o i s c x y) (λ j l. e j l ∙ (λ m. fields 21 o i (ec j l m) 0 ++ fields 53 s (eb j l m) (ex j l m) (ey j l m)))
+      rows-ext n g (pairAt H p o i s c x y) (λ j l. e j l ∙ (λ m. fields 21 o i (ec j l m) 0 ∷ fields 53 s (eb j l m) (ex j l m) (ey j l m) ∷ []))
 
   -- the joins of an eq
-  joined-words : (e : Bool) (s p n : ℕ) → 0 < n → encode (joinAll e s (suc p + n) (from (suc p) n)) ≡ joinWords H p (joinKind e) s n
-  joined-words e s p zero h = absurd (omega arith)
-  joined-words e s p (suc zero) h = refl
-  joined-words e s p (suc (suc m)) h =
+  joined-records : (e : Bool) (s p n : ℕ) → 0 < n → map wordsOf (joinAll e s (suc p + n) (from (suc p) n)) ≡ joinRecords H p (joinKind e) s n
+  joined-records e s p zero h = absurd (omega arith)
+  joined-records e s p (suc zero) h = refl
+  joined-records e s p (suc (suc m)) h =
       let n = suc (suc m) in
       let c = suc p + n in
       let k = joinKind e in
       let q₁ : suc p ≡ p + 1 = omega arith in
       let q₂ : suc (suc p) ≡ p + 2 = omega arith in
       let q₃ : m ≡ n - 2 = omega arith in
-      ap₂ (λ (x y : List ℕ). x ++ y) (λ i. fields k s (q₁ i) (q₂ i) 0)
-      (join-words e s c (suc (suc (suc p))) m
+      ap₂ (λ (x y : List (List ℕ)). x ++ y) (λ i. fields k s (q₁ i) (q₂ i) 0 ∷ [])
+      (join-records e s c (suc (suc (suc p))) m
       ∙ rows-as m k s (run (p + n + 1) 1) (run (p + 3) 1) (still 0) (λ j. c + j) (λ j. suc (suc (suc p)) + j) (λ j. 0) (λ j l. omega arith) (λ j l. omega arith) (λ j l. still-at 0 j)
-      ∙ ap (λ (x : ℕ). words x (rowAt H k s (run (p + n + 1) 1) (run (p + 3) 1) (still 0))) q₃)
+      ∙ ap (λ (x : ℕ). rowsFor x (rowAt H k s (run (p + n + 1) 1) (run (p + 3) 1) (still 0))) q₃)
       ∙ sym (join-some H p k s n (omega arith))
 
   -- a write
-  wrote-words : (o s i v a p n : ℕ) (ps : List ℕ) → a ≢ 0 → length ps ≡ n → ((j : ℕ) → j < n → cellIn H a j ≡ getD ps j 0)
-      → encode (writeLines o s i v (suc p) (from (suc o) n) ps) ≡ writeWords H p o i s v a n
-  wrote-words o s i v a p n ps d e h =
-      write-words o s i v (suc p) (from (suc o) n) ps (length-from (suc o) n ∙ sym e)
-      ∙ ap (λ (x : ℕ). words x (writePair o s i v (suc p) (from (suc o) n) ps)) e
+  wrote-records : (o s i v a p n : ℕ) (ps : List ℕ) → a ≢ 0 → length ps ≡ n → ((j : ℕ) → j < n → cellIn H a j ≡ getD ps j 0)
+      → map wordsOf (writeLines o s i v (suc p) (from (suc o) n) ps) ≡ writeRecords H p o i s v a n
+  wrote-records o s i v a p n ps d e h =
+      write-records o s i v (suc p) (from (suc o) n) ps (length-from (suc o) n ∙ sym e)
+      ∙ ap (λ (x : ℕ). rowsFor x (writePair o s i v (suc p) (from (suc o) n) ps)) e
       ∙ pairs-as n p o i s (run (o + 1) 1) (still v) (of a) (writePair o s i v (suc p) (from (suc o) n) ps) (λ j. getD (from (suc o) n) j 0) (λ j. suc p + 2 * j) (λ j. v) (λ j. getD ps j 0) (λ j l. refl)
       (λ j l. from-at (suc o) n j l ∙ omega arith) (λ j l. omega arith) (λ j l. still-at v j) (λ j l. of-at a j (getD ps j 0) d (h j l))
 
   -- a read of the cells q and qs
-  red-words : (o s i a p m q : ℕ) (qs : List ℕ) → a ≢ 0 → length qs ≡ suc m → ((j : ℕ) → j < suc (suc m) → cellIn H a j ≡ getD (q ∷ qs) j 0)
-      → encode (readAll o s i (suc p) (from (suc o) (suc (suc m))) (q ∷ qs) .made) ≡ readWords H p o i s a (suc (suc m))
-  red-words o s i a p m q qs d e h =
+  red-records : (o s i a p m q : ℕ) (qs : List ℕ) → a ≢ 0 → length qs ≡ suc m → ((j : ℕ) → j < suc (suc m) → cellIn H a j ≡ getD (q ∷ qs) j 0)
+      → map wordsOf (readAll o s i (suc p) (from (suc o) (suc (suc m))) (q ∷ qs) .made) ≡ readRecords H p o i s a (suc (suc m))
+  red-records o s i a p m q qs d e h =
       let n = suc (suc m) in
       let ks = from (suc o) n in
       let C = q ∷ qs in
       let g = readPair o s i (suc p) (suc m) ks C in
-      let r = read-words o s i (suc p) ks q qs (omega (arith, length-from (suc o) n)) in
+      let r = read-records o s i (suc p) ks q qs (omega (arith, length-from (suc o) n)) in
       let t : n - 2 ≡ m = omega arith in
       let t₁ : n - 1 ≡ suc m = omega arith in
-      r .lines ∙ ap (λ (x : ℕ). words x (readPair o s i (suc p) x ks C)) e ∙ words-more m g
-      ∙ ap₂ (λ (x y : List ℕ). x ++ y)
+      r .lines ∙ ap (λ (x : ℕ). rowsFor x (readPair o s i (suc p) x ks C)) e ∙ rows-more m g
+      ∙ ap₂ (λ (x y : List (List ℕ)). x ++ y)
       (pairs-as 1 p o i s (runDown (o + 1) (n - 2)) (ofDown a (n - 2)) (still (cellIn H a (n - 1))) g (λ j. getD ks (suc m - 1 - j) 0) (λ j. suc p + 2 * j) (λ j. getD C (suc m - 1 - j) 0) (λ j. before (suc p) (suc m) C j) (λ j l. refl)
       (λ j l. from-at (suc o) n (suc m - 1 - j) (omega arith) ∙ omega arith) (λ j l. omega arith) (λ j l. down-at a (n - 2) j (getD C (suc m - 1 - j) 0) d (ap (λ (x : ℕ). cellIn H a (x - j)) (omega arith) ∙ h (suc m - 1 - j) (omega arith)))
       (λ j l.
       let z : j ≡ 0 = omega arith in
       ap (λ (x : ℕ). before (suc p) (suc m) C x) z ∙ sym (h (suc m) (omega arith)) ∙ ap (λ (x : ℕ). cellIn H a x) (sym t₁) ∙ still-at (cellIn H a (n - 1)) j))
-      (ap (λ (x : ℕ). words x (λ j. g (suc j))) (sym t)
+      (ap (λ (x : ℕ). rowsFor x (λ j. g (suc j))) (sym t)
       ∙ pairs-as (n - 2) (p + 2) o i s (runDown (o + 1) (n - 3)) (ofDown a (n - 3)) (run (p + 2) 2) (λ j. g (suc j)) (λ j. getD ks (suc m - 1 - suc j) 0) (λ j. suc p + 2 * suc j) (λ j. getD C (suc m - 1 - suc j) 0) (λ j. before (suc p) (suc m) C (suc j)) (λ j l. refl)
       (λ j l. from-at (suc o) n (suc m - 1 - suc j) (omega arith) ∙ omega arith) (λ j l. omega arith)
       (λ j l. down-at a (n - 3) j (getD C (suc m - 1 - suc j) 0) d (ap (λ (x : ℕ). cellIn H a x) (let q : n - 3 - j ≡ suc m - 1 - suc j = omega arith in q) ∙ h (suc m - 1 - suc j) (omega arith)))
@@ -148,83 +146,83 @@ module _ {A B : Acc} {I : List Info} (v : Inv A B I) (N : Notes) (ne : Neat N) (
   same-size : (a b : ℕ) → 2 ≤ typeAt (A .lay) a .cls → 2 ≤ typeAt (A .lay) b .cls → typeAt (A .lay) b .iw ≡ typeAt (A .lay) a .iw → sizeIn N b ≡ sizeIn N a
   same-size a b ha hb e = ap (λ (i : ℕ). 2 ^ i) (tl .iw b (omega arith) ∙ e ∙ sym (tl .iw a (omega arith)))
 
-  array-words : (i e : ℕ) → Ok false (tyAt (A .lay .ctx)) (given (A .lay .ctx)) (Line.array i e) → encode (chunk I (suc p) (Line.array i e) .lines) ≡ flatWords N p (Line.array i e)
-  array-words i e k =
+  array-records : (i e : ℕ) → Ok false (tyAt (A .lay .ctx)) (given (A .lay .ctx)) (Line.array i e) → map wordsOf (chunk I (suc p) (Line.array i e) .lines) ≡ lineRecords N p (Line.array i e)
+  array-records i e k =
       let H = N .held in
       let q : infoAt I i .width ≡ wideIn N i = v .rel i .sort (k .index .is) .wide ∙ sym (tl .w i (omega (arith, k .index .is))) in
       let n = 2 ^ (infoAt I i .width) in
       let s = infoAt I i .elem in
-      ap (λ (w : List ℕ). fields 1 0 1 0 0 ++ w)
-      (const-words s 0 n ∙ rows-as H n 3 s (run 0 1) (still 0) (still 0) (λ j. 0 + j) (λ j. 0) (λ j. 0) (λ j l. omega arith) (λ j l. still-at H 0 j) (λ j l. still-at H 0 j)
-      ∙ ap₂ (λ (x y : ℕ). words (2 ^ x) (rowAt H 3 y (run 0 1) (still 0) (still 0))) q (elem-of i (k .index .is)))
+      ap (λ (w : List (List ℕ)). fields 1 0 1 0 0 ∷ w)
+      (const-records s 0 n ∙ rows-as H n 3 s (run 0 1) (still 0) (still 0) (λ j. 0 + j) (λ j. 0) (λ j. 0) (λ j l. omega arith) (λ j l. still-at H 0 j) (λ j l. still-at H 0 j)
+      ∙ ap₂ (λ (x y : ℕ). rowsFor (2 ^ x) (rowAt H 3 y (run 0 1) (still 0) (still 0))) q (elem-of i (k .index .is)))
 
-  state-line-words : (s : ℕ) → Ok false (tyAt (A .lay .ctx)) (given (A .lay .ctx)) (Line.state s) → encode (chunk I (suc p) (Line.state s) .lines) ≡ flatWords N p (Line.state s)
-  state-line-words s k =
+  state-line-records : (s : ℕ) → Ok false (tyAt (A .lay .ctx)) (given (A .lay .ctx)) (Line.state s) → map wordsOf (chunk I (suc p) (Line.state s) .lines) ≡ lineRecords N p (Line.state s)
+  state-line-records s k =
       let H = N .held in
       let e = infoAt I s .elem in
       let n = infoAt I s .size in
-      state-words e n ∙ rows-as H n 5 e (still 0) (still 0) (still 0) (λ j. 0) (λ j. 0) (λ j. 0) (λ j l. still-at H 0 j) (λ j l. still-at H 0 j) (λ j l. still-at H 0 j)
-      ∙ ap₂ (λ (x y : ℕ). words x (rowAt H 5 y (still 0) (still 0) (still 0))) (size-sort s (k .is)) (elem-of s (k .is))
+      state-records e n ∙ rows-as H n 5 e (still 0) (still 0) (still 0) (λ j. 0) (λ j. 0) (λ j. 0) (λ j l. still-at H 0 j) (λ j l. still-at H 0 j) (λ j l. still-at H 0 j)
+      ∙ ap₂ (λ (x y : ℕ). rowsFor x (rowAt H 5 y (still 0) (still 0) (still 0))) (size-sort s (k .is)) (elem-of s (k .is))
 
   value-is : (m : Bool) (q a : ℕ) → OkValue m q a (typeAt (A .lay) a) → 2 ≤ typeAt (A .lay) a .cls
   value-is true q a h = h .word .is
   value-is false q a h = h .is
 
   -- what an init or a next gives to n cells
-  record GivenWords (m : Bool) (n a : ℕ) : Type 0 where
+  record GivenAs (m : Bool) (n a : ℕ) : Type 0 where
     len : length (givenLines I m n a) ≡ n
     at : (j : ℕ) → j < n → getD (givenLines I m n a) j 0 ≡ sourceAt (N .held) (givenFrom N m a) j
 
-  given-words : (m : Bool) (n q a : ℕ) (t : Ty) → OkValue m q a (typeAt (A .lay) a) → typeAt (A .lay) a .iw ≡ valueIndex m t → 2 ^ (t .iw) ≡ n → GivenWords m n a
-  given-words true n q a t k e h =
+  given-as : (m : Bool) (n q a : ℕ) (t : Ty) → OkValue m q a (typeAt (A .lay) a) → typeAt (A .lay) a .iw ≡ valueIndex m t → 2 ^ (t .iw) ≡ n → GivenAs m n a
+  given-as true n q a t k e h =
       record {
         len = length-replicate n (lineAt I a);
         at = λ j l. getD-replicate n j (lineAt I a) 0 l ∙ word-line a (k .word) ∙ still-at (N .held) (wordIn N a) j;
       }
-  given-words false n q a t k e h =
+  given-as false n q a t k e h =
       let z : sizeIn N a ≡ n = ap (λ (i : ℕ). 2 ^ i) (tl .iw a (let g : 2 ≤ typeAt (A .lay) a .cls = k .is in omega arith) ∙ e) ∙ h in
       record { len = size-of a (k .is) ∙ z; at = λ j l. from-line a (k .is) j (subst⁻¹ (λ (x : ℕ). j < x) z l) }
 
-  give-line-words : (m : Bool) (s q a : ℕ) → Ok false (tyAt (A .lay .ctx)) (given (A .lay .ctx)) (Line.give m s q a) → encode (chunk I (suc p) (Line.give m s q a) .lines) ≡ flatWords N p (Line.give m s q a)
-  give-line-words m s q a k =
+  give-line-records : (m : Bool) (s q a : ℕ) → Ok false (tyAt (A .lay .ctx)) (given (A .lay .ctx)) (Line.give m s q a) → map wordsOf (chunk I (suc p) (Line.give m s q a) .lines) ≡ lineRecords N p (Line.give m s q a)
+  give-line-records m s q a k =
       let H = N .held in
       let hq : 2 ≤ typeAt (A .lay) q .cls = (let h : typeAt (A .lay) q .cls ≡ 4 = k .state in omega arith) in
       let n = length (linesAt I q) in
       let eq = size-of q hq in
       let e = infoAt I s .elem in
-      let g = given-words m n q a (typeAt (A .lay) s) (k .value) (k .iw) (ap (λ (i : ℕ). 2 ^ i) (sym (k .same .iw) ∙ sym (tl .iw q (omega arith))) ∙ sym eq) in
-      give-words m e (linesAt I q) (givenLines I m n a) (sym (g .len))
+      let g = given-as m n q a (typeAt (A .lay) s) (k .value) (k .iw) (ap (λ (i : ℕ). 2 ^ i) (sym (k .same .iw) ∙ sym (tl .iw q (omega arith))) ∙ sym eq) in
+      give-records m e (linesAt I q) (givenLines I m n a) (sym (g .len))
       ∙ rows-as H n (giveKind m) e (of q) (givenFrom N m a) (still 0) (λ j. getD (linesAt I q) j 0) (λ j. getD (givenLines I m n a) j 0) (λ j. 0) (λ j l. from-line q hq j (subst (λ (x : ℕ). j < x) eq l)) (g .at) (λ j l. still-at H 0 j)
-      ∙ ap₂ (λ (x y : ℕ). words x (rowAt H (giveKind m) y (of q) (givenFrom N m a) (still 0))) eq (elem-of s (k .sort .is))
+      ∙ ap₂ (λ (x y : ℕ). rowsFor x (rowAt H (giveKind m) y (of q) (givenFrom N m a) (still 0))) eq (elem-of s (k .sort .is))
 
-  ite-line-words : (s c x y : ℕ) → Ok false (tyAt (A .lay .ctx)) (given (A .lay .ctx)) (Line.val s (Expr.ite c x y)) → encode (chunk I (suc p) (Line.val s (Expr.ite c x y)) .lines) ≡ flatWords N p (Line.val s (Expr.ite c x y))
-  ite-line-words s c x y k =
+  ite-line-records : (s c x y : ℕ) → Ok false (tyAt (A .lay .ctx)) (given (A .lay .ctx)) (Line.val s (Expr.ite c x y)) → map wordsOf (chunk I (suc p) (Line.val s (Expr.ite c x y)) .lines) ≡ lineRecords N p (Line.val s (Expr.ite c x y))
+  ite-line-records s c x y k =
       let H = N .held in
       let ex = size-of x (k .left .is) in
       let exy : sizeIn N y ≡ sizeIn N x = same-size x y (k .left .is) (k .right .is) (k .sameB .iw ∙ sym (k .sameA .iw)) in
       let e = infoAt I s .elem in
       let w = lineAt I c in
       let n = length (linesAt I x) in
-      ite-words e w (linesAt I x) (linesAt I y) (ex ∙ sym exy ∙ sym (size-of y (k .right .is)))
+      ite-records e w (linesAt I x) (linesAt I y) (ex ∙ sym exy ∙ sym (size-of y (k .right .is)))
       ∙ rows-as H n 53 e (still w) (of x) (of y) (λ j. w) (λ j. getD (linesAt I x) j 0) (λ j. getD (linesAt I y) j 0) (λ j l. still-at H w j) (λ j l. from-line x (k .left .is) j (subst (λ (m : ℕ). j < m) ex l))
       (λ j l. from-line y (k .right .is) j (subst (λ (m : ℕ). j < m) (ex ∙ sym exy) l))
-      ∙ (λ i. words (ex i) (rowAt H 53 (elem-of s (k .sort .is) i) (still (word-line c (k .cond) i)) (of x) (of y)))
+      ∙ (λ i. rowsFor (ex i) (rowAt H 53 (elem-of s (k .sort .is) i) (still (word-line c (k .cond) i)) (of x) (of y)))
 
-  cmp-line-words : (s : ℕ) (e : Bool) (x y : ℕ) → Ok false (tyAt (A .lay .ctx)) (given (A .lay .ctx)) (Line.val s (Expr.cmp e x y)) → encode (chunk I (suc p) (Line.val s (Expr.cmp e x y)) .lines) ≡ flatWords N p (Line.val s (Expr.cmp e x y))
-  cmp-line-words s e x y k =
+  cmp-line-records : (s : ℕ) (e : Bool) (x y : ℕ) → Ok false (tyAt (A .lay .ctx)) (given (A .lay .ctx)) (Line.val s (Expr.cmp e x y)) → map wordsOf (chunk I (suc p) (Line.val s (Expr.cmp e x y)) .lines) ≡ lineRecords N p (Line.val s (Expr.cmp e x y))
+  cmp-line-records s e x y k =
       let H = N .held in
       let ex = size-of x (k .left .is) in
       let exy : sizeIn N y ≡ sizeIn N x = same-size x y (k .left .is) (k .right .is) (k .same .iw) in
       let t = infoAt I s .elem in
       let n = length (linesAt I x) in
       let es = elem-of s (k .sort .is) in
-      encode-append (cmpLines e t (linesAt I x) (linesAt I y)) (joinAll e t (suc p + n) (from (suc p) n))
-      ∙ ap₂ (λ (u w : List ℕ). u ++ w)
-      (cmp-words e t (linesAt I x) (linesAt I y) (ex ∙ sym exy ∙ sym (size-of y (k .right .is)))
+      map-append wordsOf (cmpLines e t (linesAt I x) (linesAt I y)) (joinAll e t (suc p + n) (from (suc p) n))
+      ∙ ap₂ (λ (u w : List (List ℕ)). u ++ w)
+      (cmp-records e t (linesAt I x) (linesAt I y) (ex ∙ sym exy ∙ sym (size-of y (k .right .is)))
       ∙ rows-as H n (cmpKind e) t (of x) (of y) (still 0) (λ j. getD (linesAt I x) j 0) (λ j. getD (linesAt I y) j 0) (λ j. 0) (λ j l. from-line x (k .left .is) j (subst (λ (m : ℕ). j < m) ex l))
       (λ j l. from-line y (k .right .is) j (subst (λ (m : ℕ). j < m) (ex ∙ sym exy) l)) (λ j l. still-at H 0 j)
-      ∙ (λ i. words (ex i) (rowAt H (cmpKind e) (es i) (of x) (of y) (still 0))))
-      (joined-words H e t p n (subst⁻¹ (λ (m : ℕ). 0 < m) ex (pow-pos (deepIn N x))) ∙ (λ i. joinWords H p (joinKind e) (es i) (ex i)))
+      ∙ (λ i. rowsFor (ex i) (rowAt H (cmpKind e) (es i) (of x) (of y) (still 0))))
+      (joined-records H e t p n (subst⁻¹ (λ (m : ℕ). 0 < m) ex (pow-pos (deepIn N x))) ∙ (λ i. joinRecords H p (joinKind e) (es i) (ex i)))
 
   -- a constant index is small
   pub index-small : (i k : ℕ) → IsWord (typeAt (A .lay) i) → typeAt (A .lay) i .w ≤ 8 → cellsAt A i ≡ k ∷ [] → k < 256
@@ -250,14 +248,14 @@ module _ {A B : Acc} {I : List Info} (v : Inv A B I) (N : Notes) (ne : Neat N) (
 
   -- two cells or more
   read-all : (o s i a n : ℕ) (ps : List ℕ) → a ≢ 0 → 2 ≤ n → length ps ≡ n → ((j : ℕ) → j < n → cellIn (N .held) a j ≡ getD ps j 0)
-      → encode (readAll o s i (suc p) (from (suc o) n) ps .made) ≡ readWords (N .held) p o i s a n
+      → map wordsOf (readAll o s i (suc p) (from (suc o) n) ps .made) ≡ readRecords (N .held) p o i s a n
   read-all o s i a zero ps d h e c = absurd (omega arith)
   read-all o s i a (suc zero) ps d h e c = absurd (omega arith)
   read-all o s i a (suc (suc m)) [] d h e c = absurd (omega arith)
-  read-all o s i a (suc (suc m)) (q ∷ qs) d h e c = red-words (N .held) o s i a p m q qs d (omega arith) c
+  read-all o s i a (suc (suc m)) (q ∷ qs) d h e c = red-records (N .held) o s i a p m q qs d (omega arith) c
 
-  read-line-words : (s a i : ℕ) → Ok false (tyAt (A .lay .ctx)) (given (A .lay .ctx)) (Line.val s (Expr.read a i)) → encode (chunk I (suc p) (Line.val s (Expr.read a i)) .lines) ≡ flatWords N p (Line.val s (Expr.read a i))
-  read-line-words s a i k = go (infoAt I i .known) (v .rel i .value (k .index .is) .known) (nr i .known)
+  read-line-records : (s a i : ℕ) → Ok false (tyAt (A .lay .ctx)) (given (A .lay .ctx)) (Line.val s (Expr.read a i)) → map wordsOf (chunk I (suc p) (Line.val s (Expr.read a i)) .lines) ≡ lineRecords N p (Line.val s (Expr.read a i))
+  read-line-records s a i k = go (infoAt I i .known) (v .rel i .value (k .index .is) .known) (nr i .known)
     where
       ha : 2 ≤ typeAt (A .lay) a .cls
       ha = k .arr .is
@@ -266,19 +264,19 @@ module _ {A B : Acc} {I : List Info} (v : Inv A B I) (N : Notes) (ne : Neat N) (
       deep = let e : deepIn N a ≡ typeAt (A .lay) a .iw = tl .iw a (omega arith) in let f = ne .deep a in let g : typeAt (A .lay) i .w ≡ typeAt (A .lay) a .iw = k .iw in omega arith
 
       go : (c : Option ℕ) → KnownRel c (cellsAt A i) → KnownNote c (conIn N i)
-          → encode (chunkRead (infoAt I s) (infoAt I a) c (lineAt I i) (suc p) .lines) ≡ flatWords N p (Line.val s (Expr.read a i))
+          → map wordsOf (chunkRead (infoAt I s) (infoAt I a) c (lineAt I i) (suc p) .lines) ≡ lineRecords N p (Line.val s (Expr.read a i))
       go (some x) r z =
           let q = con-some i x (conIn N i) (index-small i x (k .index) deep r) z in
           sym (rw (ne-eqb (conIn N i) 0 (λ w. omega arith)))
       go none r z =
           let n = sizeIn N a in
           let two : 2 ≤ n = size-two (deepIn N a) (let e : deepIn N a ≡ typeAt (A .lay) a .iw = tl .iw a (omega arith) in let d : 0 < typeAt (A .lay) a .iw = k .arr .deep in omega arith) in
-          (λ m. encode (readAll (sym (nr a .bit) m) (elem-of s (k .sort .is) m) (word-line i (k .index) m) (suc p) (index-list a n (index-length a ha (k .arr .deep)) m) (linesAt I a) .made))
+          (λ m. map wordsOf (readAll (sym (nr a .bit) m) (elem-of s (k .sort .is) m) (word-line i (k .index) m) (suc p) (index-list a n (index-length a ha (k .arr .deep)) m) (linesAt I a) .made))
           ∙ read-all (bitIn N a) (sortIn N s) (wordIn N i) a n (linesAt I a) (is-line a (omega arith)) two (size-of a ha) (cell-of a ha)
           ∙ sym (rw (eq-eqb (conIn N i) 0 z))
 
-  write-line-words : (s a i x : ℕ) → Ok false (tyAt (A .lay .ctx)) (given (A .lay .ctx)) (Line.val s (Expr.write a i x)) → encode (chunk I (suc p) (Line.val s (Expr.write a i x)) .lines) ≡ flatWords N p (Line.val s (Expr.write a i x))
-  write-line-words s a i x k = go (infoAt I i .known) (v .rel i .value (k .index .is) .known) (nr i .known)
+  write-line-records : (s a i x : ℕ) → Ok false (tyAt (A .lay .ctx)) (given (A .lay .ctx)) (Line.val s (Expr.write a i x)) → map wordsOf (chunk I (suc p) (Line.val s (Expr.write a i x)) .lines) ≡ lineRecords N p (Line.val s (Expr.write a i x))
+  write-line-records s a i x k = go (infoAt I i .known) (v .rel i .value (k .index .is) .known) (nr i .known)
     where
       ha : 2 ≤ typeAt (A .lay) a .cls
       ha = k .arr .is
@@ -293,31 +291,31 @@ module _ {A B : Acc} {I : List Info} (v : Inv A B I) (N : Notes) (ne : Neat N) (
       same = ap (λ (j : ℕ). 2 ^ j) (tl .iw a (omega arith) ∙ k .same .iw ∙ sym (tl .iw s (omega arith)))
 
       go : (c : Option ℕ) → KnownRel c (cellsAt A i) → KnownNote c (conIn N i)
-          → encode (chunkWrite (infoAt I s) (linesAt I a) c (lineAt I i) (lineAt I x) (suc p) .lines) ≡ flatWords N p (Line.val s (Expr.write a i x))
+          → map wordsOf (chunkWrite (infoAt I s) (linesAt I a) c (lineAt I i) (lineAt I x) (suc p) .lines) ≡ lineRecords N p (Line.val s (Expr.write a i x))
       go (some y) r z =
           let q = con-some i y (conIn N i) (index-small i y (k .index) deep r) z in
           sym (rw (ne-eqb (conIn N i) 0 (λ w. omega arith)))
       go none r z =
           let n = sizeIn N s in
-          (λ m. encode (writeLines (sym (nr s .bit) m) (elem-of s is m) (word-line i (k .index) m) (word-line x (k .value) m) (suc p) (index-list s n (index-sort s is (k .sort .deep)) m) (linesAt I a)))
-          ∙ wrote-words (N .held) (bitIn N s) (sortIn N s) (wordIn N i) (wordIn N x) a p n (linesAt I a) (is-line a (omega arith)) (size-of a ha ∙ same) (λ j l. cell-of a ha j (subst⁻¹ (λ (m : ℕ). j < m) same l))
+          (λ m. map wordsOf (writeLines (sym (nr s .bit) m) (elem-of s is m) (word-line i (k .index) m) (word-line x (k .value) m) (suc p) (index-list s n (index-sort s is (k .sort .deep)) m) (linesAt I a)))
+          ∙ wrote-records (N .held) (bitIn N s) (sortIn N s) (wordIn N i) (wordIn N x) a p n (linesAt I a) (is-line a (omega arith)) (size-of a ha ∙ same) (λ j l. cell-of a ha j (subst⁻¹ (λ (m : ℕ). j < m) same l))
           ∙ sym (rw (eq-eqb (conIn N i) 0 z))
 
   -- any line
-  pub line-words : (l : Line) → Ok false (tyAt (A .lay .ctx)) (given (A .lay .ctx)) l → encode (chunk I (suc p) l .lines) ≡ flatWords N p l
-  line-words (Line.bitvec w) k = refl
-  line-words (Line.array i e) k = array-words i e k
-  line-words (Line.input s) k = ap (λ (e : ℕ). fields 4 e 0 0 0) (elem-of s (k .is))
-  line-words (Line.state s) k = state-line-words s k
-  line-words (Line.val s (Expr.const c)) k = ap (λ (e : ℕ). fields 3 e c 0 0) (elem-of s (k .sort .is))
-  line-words (Line.val s (Expr.one h a x y)) k = ap₂ (λ (e w : ℕ). fields h e w x y) (elem-of s (k .sort .is)) (word-line a (k .arg))
-  line-words (Line.val s (Expr.two h a b)) k = λ i. fields h (elem-of s (k .sort .is) i) (word-line a (k .left) i) (word-line b (k .right) i) 0
-  line-words (Line.val s (Expr.cmp e a b)) k = cmp-line-words s e a b k
-  line-words (Line.val s (Expr.ite c a b)) k = ite-line-words s c a b k
-  line-words (Line.val s (Expr.read a i)) k = read-line-words s a i k
-  line-words (Line.val s (Expr.write a i x)) k = write-line-words s a i x k
-  line-words (Line.give m s q a) k = give-line-words m s q a k
-  line-words (Line.mark true a) k = ap (λ (w : ℕ). fields 8 0 w 0 0) (word-line a (k .word))
-  line-words (Line.mark false a) k = ap (λ (w : ℕ). fields 9 0 w 0 0) (word-line a (k .word))
-  line-words (Line.output a) k = ap (λ (w : ℕ). fields 10 0 w 0 0) (word-line a k)
-  line-words Line.junk k = absurd k
+  pub line-records : (l : Line) → Ok false (tyAt (A .lay .ctx)) (given (A .lay .ctx)) l → map wordsOf (chunk I (suc p) l .lines) ≡ lineRecords N p l
+  line-records (Line.bitvec w) k = refl
+  line-records (Line.array i e) k = array-records i e k
+  line-records (Line.input s) k = ap (λ (e : ℕ). fields 4 e 0 0 0 ∷ []) (elem-of s (k .is))
+  line-records (Line.state s) k = state-line-records s k
+  line-records (Line.val s (Expr.const c)) k = ap (λ (e : ℕ). fields 3 e c 0 0 ∷ []) (elem-of s (k .sort .is))
+  line-records (Line.val s (Expr.one h a x y)) k = ap₂ (λ (e w : ℕ). fields h e w x y ∷ []) (elem-of s (k .sort .is)) (word-line a (k .arg))
+  line-records (Line.val s (Expr.two h a b)) k = λ i. fields h (elem-of s (k .sort .is) i) (word-line a (k .left) i) (word-line b (k .right) i) 0 ∷ []
+  line-records (Line.val s (Expr.cmp e a b)) k = cmp-line-records s e a b k
+  line-records (Line.val s (Expr.ite c a b)) k = ite-line-records s c a b k
+  line-records (Line.val s (Expr.read a i)) k = read-line-records s a i k
+  line-records (Line.val s (Expr.write a i x)) k = write-line-records s a i x k
+  line-records (Line.give m s q a) k = give-line-records m s q a k
+  line-records (Line.mark true a) k = ap (λ (w : ℕ). fields 8 0 w 0 0 ∷ []) (word-line a (k .word))
+  line-records (Line.mark false a) k = ap (λ (w : ℕ). fields 9 0 w 0 0 ∷ []) (word-line a (k .word))
+  line-records (Line.output a) k = ap (λ (w : ℕ). fields 10 0 w 0 0 ∷ []) (word-line a k)
+  line-records Line.junk k = absurd k

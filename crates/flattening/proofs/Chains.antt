@@ -1,6 +1,6 @@
 -- The flat lines that one line leaves, evaluated. `Run A ls u w ps cs`: the lines ls are quiet and keep the rules, and after them the lines ps are words of width w and of
 -- values cs; `Ends A ls u p w v` says it of one line. Assumes nothing.
-use Prim.Native.Nat.{ℕ, zero, suc, _+_, _^_, _≤_, _<_}
+use Prim.Native.Nat.{ℕ, zero, suc, _^_, _≤_, _<_}
 use mathlib.Core.Path.{_≡_, refl, sym, ap, _∙_, subst⁻¹}
 use mathlib.Core.Bool.{Bool, true, false, _&&_}
 use mathlib.Core.List.{List, [], _∷_, _++_}

@@ -11,8 +11,8 @@ use borrow.Author.Tests.{eqb-true, eqb-false, ltb-true, leb-true, leb-false, le-
 use Rattle.words.specs.Word.{Width}
 use Rattle.words.specs.Op.{opOf}
 use Rattle.words.specs.Circuit.{circ}
-use Rattle.words.specs.Program.{Class, turn, wrap, meet, merge, test, plain, copy, compare, low, extend, cut, left, join, pick as pickClass, clear, classOf}
-use Rattle.words.specs.Widths.{Widths, widthOf}
+use Rattle.words.specs.Model.Classes.{Class, turn, wrap, meet, merge, test, plain, copy, compare, low, extend, cut, left, join, pick as pickClass, clear, classOf}
+use Rattle.words.specs.Model.Widths.{Widths, widthOf}
 use Rattle.words.proofs.Bounds.{circ-lt}
 use Rattle.tables.specs.declared.Ty.{Ty}
 use Rattle.tables.specs.Kinds.{rowOf, secondClass, thirdClass}

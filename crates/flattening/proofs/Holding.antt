@@ -1,4 +1,4 @@
--- The flat line of a cell along writes by constant indexes. Assumes nothing.
+-- The flat line of a cell along writes by constant indexes, and the words of a source. Assumes nothing.
 use Prim.Native.Nat.{ℕ, zero, suc, _+_, _-_, _*_, _≤_, _<_}
 use mathlib.Core.Path.{_≡_, refl, sym, ap, _∙_}
 use mathlib.Core.Logic.{_≢_}
@@ -12,6 +12,7 @@ use borrow.Author.Tests.{eqb-true, eqb-false, eq-eqb, ne-eqb}
 use Rattle.tables.specs.Pick.{pick}
 use Rattle.flattening.specs.declared.Source.{Source}
 use Rattle.flattening.specs.Model.{Held, nothing, keptOf, atOf, oldOf, keyOf, cellBy, cellIn, Sound, Tame, turnAt, sourceAt}
+use Rattle.flattening.specs.Making.{run, of, runDown, ofDown}
 
 -- a step of a row
 pub product : (x j : ℕ) → x ≤ 256 → j < 256 → x * j ≤ 65536
@@ -98,6 +99,18 @@ source-own H s j i t e = ap (λ (x : ℕ). s .base + s .step * x) t ∙ rw (eq-e
 
 pub source-cell : (H : Held) (s : Source) (j i r : ℕ) → i ≡ turnAt s j → s .line ≢ 0 → r ≡ cellIn H (s .line) i → r ≡ sourceAt H s j
 source-cell H s j i r t d e = e ∙ ap (λ (x : ℕ). cellIn H (s .line) x) t ∙ rw (ne-eqb (s .line) 0 d)
+
+pub tame-run : (b s : ℕ) → b ≤ 1048576 → s ≤ 256 → Tame (run b s)
+tame-run b s h l = record { base = h; step = l; top = omega arith }
+
+pub tame-of : (a : ℕ) → Tame (of a)
+tame-of a = record { base = omega arith; step = omega arith; top = omega arith }
+
+pub tame-run-down : (b t : ℕ) → b ≤ 1048576 → t < 256 → Tame (runDown b t)
+tame-run-down b t h l = record { base = h; step = omega arith; top = l }
+
+pub tame-of-down : (a t : ℕ) → t < 256 → Tame (ofDown a t)
+tame-of-down a t l = record { base = omega arith; step = omega arith; top = l }
 
 -- ---- nothing is kept yet
 

@@ -3,19 +3,19 @@ use Prim.Native.Nat.{ℕ, suc, _+_, _-_, _*_, _^_, _≤_, _<_}
 use mathlib.Core.Path.{_≡_, refl, sym, ap, _∙_, subst, subst⁻¹}
 use mathlib.Core.Bool.{Bool, true, false}
 use mathlib.Core.Logic.{_≢_}
-use mathlib.Core.List.{List, []}
+use mathlib.Core.List.{List, [], _∷_}
 use native.Mathlib.Omega.{arith}
 use lib.Dec.{eqb}
 use lib.Pow.{pow-mono}
-use borrow.Author.Tests.{eq-eqb, ne-eqb, eqb-true, eqb-false}
+use borrow.Author.Tests.{eq-eqb, ne-eqb, eqb-true, eqb-false, le-leb, lt-leb}
 use lib.Arith.{lt-of-le-ne}
-use Rattle.tables.specs.Lines.{Line, Expr, Shape, isBitvec, isArray, isConst, isInput, isState, isOutput, isOne, isTwo, isIte, isRead, isWrite, isJunk, isGive, isMark, isCmp, shapeOf, build, lineOf, kindIn, sortIn as sortOf, firstIn, secondIn, thirdIn}
+use Rattle.tables.specs.Lines.{Line, Expr, Shape, isBitvec, isArray, isConst, isInput, isState, isOutput, isOne, isTwo, isIte, isRead, isWrite, isJunk, isGive, isMark, isCmp, shapeOf, build, fields, lineOf, kindIn, sortIn as sortOf, firstIn, secondIn, thirdIn}
 use Rattle.tables.specs.Tables.{known}
 use Rattle.tables.proofs.Laws.{past, within}
 use Rattle.tables.proofs.Shapes.{KindOf, kind-of, line-as, shape-one, shape-two, range}
 use Rattle.flattening.specs.declared.Made.{Made}
-use Rattle.flattening.specs.Model.{cellIn}
-use Rattle.flattening.specs.Making.{Notes, sortIn, wordIn, bitIn, conIn, sizeIn, made, flatCount, flatWords, flatMade, readWords, writeWords, Fit, Laid}
+use Rattle.flattening.specs.Model.{Held, cellIn, rowsFor, rowAt}
+use Rattle.flattening.specs.Making.{run, still, joinRecords, Notes, sortIn, wordIn, bitIn, conIn, sizeIn, made, flatCount, lineRecords, flatMade, readRecords, writeRecords, Fit, Laid}
 
 -- an index width of at most 8 means at most 256 cells
 pub size-le : (w : ℕ) → w ≤ 8 → 2 ^ w ≤ 256
@@ -24,13 +24,31 @@ size-le w h = pow-mono h
 pub size-two : (w : ℕ) → 0 < w → 2 ≤ 2 ^ w
 size-two w h = pow-mono h
 
+-- none of 0 to 7
+pub eight : (w : ℕ) → w ≤ 8 → (w ≡ 0 → ⊥) → (w ≡ 1 → ⊥) → (w ≡ 2 → ⊥) → (w ≡ 3 → ⊥) → (w ≡ 4 → ⊥) → (w ≡ 5 → ⊥) → (w ≡ 6 → ⊥) → (w ≡ 7 → ⊥) → w ≡ 8
+eight w h a b c d e f g i = top h (past (past (past (past (past (past (past (past (zero-le w) a) b) c) d) e) f) g) i)
+  where
+    zero-le : (n : ℕ) → 0 ≤ n
+    zero-le n = omega arith
+
+    top : w ≤ 8 → 8 ≤ w → w ≡ 8
+    top x y = omega arith
+
+-- ---- by the number of cells, or the index
+
+pub join-none : (H : Held) (p j s n : ℕ) → n < 2 → joinRecords H p j s n ≡ []
+join-none H p j s n h = rw (lt-leb 2 n h)
+
+pub join-some : (H : Held) (p j s n : ℕ) → 2 ≤ n → joinRecords H p j s n ≡ fields j s (p + 1) (p + 2) 0 ∷ rowsFor (n - 2) (rowAt H j s (run (p + n + 1) 1) (run (p + 3) 1) (still 0))
+join-some H p j s n h = rw (le-leb 2 n h)
+
 module _ (N : Notes) (p s a i : ℕ) where
   -- by a constant index
   pub read-con : conIn N i ≢ 0 → flatMade N p (Line.val s (Expr.read a i)) ≡ made p (cellIn (N .held) a (conIn N i - 1)) (bitIn N s) 0 1 0
   read-con d = let e : p + 0 ≡ p = omega arith in rw (ne-eqb (conIn N i) 0 d) (ap (λ (q : ℕ). made q (cellIn (N .held) a (conIn N i - 1)) (bitIn N s) 0 1 0) e)
 
-  pub read-con-words : conIn N i ≢ 0 → flatWords N p (Line.val s (Expr.read a i)) ≡ []
-  read-con-words d = rw (ne-eqb (conIn N i) 0 d)
+  pub read-con-records : conIn N i ≢ 0 → lineRecords N p (Line.val s (Expr.read a i)) ≡ []
+  read-con-records d = rw (ne-eqb (conIn N i) 0 d)
 
   -- by any other
   pub read-any : conIn N i ≡ 0 → flatMade N p (Line.val s (Expr.read a i)) ≡ made (p + 2 * (sizeIn N a - 1)) (p + 2 * (sizeIn N a - 1)) (bitIn N s) 0 1 0
@@ -39,14 +57,14 @@ module _ (N : Notes) (p s a i : ℕ) where
   pub read-any-count : conIn N i ≡ 0 → flatCount N (Line.val s (Expr.read a i)) ≡ 2 * (sizeIn N a - 1)
   read-any-count e = rw (eq-eqb (conIn N i) 0 e)
 
-  pub read-any-words : conIn N i ≡ 0 → flatWords N p (Line.val s (Expr.read a i)) ≡ readWords (N .held) p (bitIn N a) (wordIn N i) (sortIn N s) a (sizeIn N a)
-  read-any-words e = rw (eq-eqb (conIn N i) 0 e)
+  pub read-any-records : conIn N i ≡ 0 → lineRecords N p (Line.val s (Expr.read a i)) ≡ readRecords (N .held) p (bitIn N a) (wordIn N i) (sortIn N s) a (sizeIn N a)
+  read-any-records e = rw (eq-eqb (conIn N i) 0 e)
 
   pub write-con : (v : ℕ) → conIn N i ≢ 0 → flatMade N p (Line.val s (Expr.write a i v)) ≡ made p (wordIn N v) (bitIn N s) a (conIn N i - 1) 0
   write-con v d = let e : p + 0 ≡ p = omega arith in rw (ne-eqb (conIn N i) 0 d) (ap (λ (q : ℕ). made q (wordIn N v) (bitIn N s) a (conIn N i - 1) 0) e)
 
-  pub write-con-words : (v : ℕ) → conIn N i ≢ 0 → flatWords N p (Line.val s (Expr.write a i v)) ≡ []
-  write-con-words v d = rw (ne-eqb (conIn N i) 0 d)
+  pub write-con-records : (v : ℕ) → conIn N i ≢ 0 → lineRecords N p (Line.val s (Expr.write a i v)) ≡ []
+  write-con-records v d = rw (ne-eqb (conIn N i) 0 d)
 
   pub write-any : (v : ℕ) → conIn N i ≡ 0 → flatMade N p (Line.val s (Expr.write a i v)) ≡ made (p + 2 * sizeIn N s) (p + 2) (bitIn N s) 0 2 0
   write-any v e = rw (eq-eqb (conIn N i) 0 e)
@@ -54,8 +72,8 @@ module _ (N : Notes) (p s a i : ℕ) where
   pub write-any-count : (v : ℕ) → conIn N i ≡ 0 → flatCount N (Line.val s (Expr.write a i v)) ≡ 2 * sizeIn N s
   write-any-count v e = rw (eq-eqb (conIn N i) 0 e)
 
-  pub write-any-words : (v : ℕ) → conIn N i ≡ 0 → flatWords N p (Line.val s (Expr.write a i v)) ≡ writeWords (N .held) p (bitIn N s) (wordIn N i) (sortIn N s) (wordIn N v) a (sizeIn N s)
-  write-any-words v e = rw (eq-eqb (conIn N i) 0 e)
+  pub write-any-records : (v : ℕ) → conIn N i ≡ 0 → lineRecords N p (Line.val s (Expr.write a i v)) ≡ writeRecords (N .held) p (bitIn N s) (wordIn N i) (sortIn N s) (wordIn N v) a (sizeIn N s)
+  write-any-records v e = rw (eq-eqb (conIn N i) 0 e)
 
 -- ---- by the kind of a record
 

@@ -1,39 +1,39 @@
 -- What flattening leaves for an accepted table: the flat table with the count answered is accepted, has no record of kind 2, and runs as the circuit does. Assumes nothing.
-use Prim.Native.Nat.{ℕ, _+_, _-_, _≤_, _<_}
+use Prim.Native.Nat.{ℕ, _≤_, _<_}
 use mathlib.Core.Path.{_≡_, refl, sym, ap, ap₂, _∙_, subst, subst⁻¹}
 use mathlib.Core.Logic.{_≢_}
 use mathlib.Core.Bool.{Bool, true, false, _&&_}
-use mathlib.Core.List.{List, [], _++_, map}
+use mathlib.Core.List.{List, [], map}
 use native.Mathlib.Omega.{arith}
 use lib.Dec.{leb}
-use lib.ListN.{length, getD, replicate, length-append, length-replicate}
+use lib.ListN.{length, getD}
 use borrow.Author.Tests.{leb-true}
 use Rattle.tables.specs.declared.Refusal.{Refusal}
 use Rattle.tables.specs.declared.Refusal.the-variants.{NotATable, TargetTooSmall}
 use Rattle.tables.specs.declared.Checked.{Checked}
-use Rattle.tables.specs.declared.Checked.the-variants.{Accepted, Refused}
+use Rattle.tables.specs.declared.Checked.the-variants.{Accepted, Refused as RefusedTable}
+use Rattle.tables.specs.declared.Answer.{Answer}
+use Rattle.tables.specs.declared.Answer.the-variants.{Done, Refused}
 use Rattle.tables.specs.Pick.{pick}
-use Rattle.tables.specs.Lines.{Line, encode, counted, records, recordAt, wordsOf, kindIn, span}
+use Rattle.tables.specs.Lines.{Line, wordsOf, kindIn}
+use Rattle.tables.specs.Layout.{whole, held, room, recordAt, recordsOf, linesOf}
 use Rattle.tables.specs.Types.{noCtx}
-use Rattle.tables.specs.Tables.{whole, room, checked}
+use Rattle.tables.specs.Tables.{checked}
 use Rattle.tables.proofs.Kept.{both}
 use Rattle.tables.proofs.Facts.{AllOk}
 use Rattle.tables.proofs.Checking.{roomy}
-use Rattle.tables.proofs.Counted.{record-at}
+use Rattle.tables.proofs.Places.{record-at}
 use Rattle.tables.proofs.Sound.{accepted-ok}
-use Rattle.tables.proofs.Complete.{length-encode, records-encode}
-use Rattle.tables.proofs.Encoding.{counted-encode, encoded-accepted, lines-back}
 use Rattle.circuits.specs.Layout.{layout}
 use Rattle.circuits.specs.Run.{run, bytes, firstBad}
-use Rattle.circuits.specs.Answers.{linesOf}
-use Rattle.flattening.specs.declared.Flattened.{Flattened}
-use Rattle.flattening.specs.declared.Flattened.the-variants.{Done, Refused as RefusedFlat}
-use Rattle.flattening.specs.Flat.{flatten, flatLines, flatTable}
+use Rattle.flattening.specs.Flat.{flatten, flatLines, flatRecords}
+use Rattle.flattening.specs.Placed.{flatFilled}
 use Rattle.flattening.specs.Answers.{answerOf, flattened, leftOf, targetLeft}
 use Rattle.flattening.proofs.Alike.{flat-ok, SameCounts, counts-alike, runs-alike}
 use Rattle.flattening.proofs.Arrayless.{flat-plain, no-kind-two}
+use Rattle.flattening.proofs.Placing.{length-flat-filled, records-flat, accepted-flat, lines-flat}
 
-not-done : (r : Refusal) (m : ℕ) → RefusedFlat r ≡ Done m → ⊥
+not-done : (r : Refusal) (m : ℕ) → Refused r 0 ≡ Done m → ⊥
 not-done r m e = let z : _≡_ {A = ℕ} 0 1 = cc in omega arith
 
 done-count : (m n : ℕ) → Done m ≡ Done n → m ≡ n
@@ -42,86 +42,82 @@ done-count m n e = cc
 -- what an answer other than a refusal says
 pub record Answered (t : List ℕ) (n len m : ℕ) : Type 0 where
   pub accepted : checked false t n ≡ Accepted
-  pub even : whole len ≡ true
+  pub even : whole false len ≡ true
   pub count : length (flatLines t n) ≡ m
-  pub fits : m ≤ room len
+  pub fits : m ≤ room false len
 
 pub answered : (t : List ℕ) (n len m : ℕ) → flattened t n len ≡ Done m → Answered t n len m
 unfolding flattened
-answered t n len m e = go (whole (length t) && whole len) (checked false t n) (leb M (room len)) refl refl refl e
+answered t n len m e = go (whole false (length t) && whole false len) (checked false t n) (leb M (room false len)) refl refl refl e
   where
     M : ℕ
     M = length (flatLines t n)
 
-    go : (a : Bool) (c : Checked) (b : Bool) → (whole (length t) && whole len) ≡ a → checked false t n ≡ c → leb M (room len) ≡ b
-        → pick a (answerOf c (pick b (Done M) (RefusedFlat TargetTooSmall))) (RefusedFlat NotATable) ≡ Done m → Answered t n len m
+    go : (a : Bool) (c : Checked) (b : Bool) → (whole false (length t) && whole false len) ≡ a → checked false t n ≡ c → leb M (room false len) ≡ b
+        → pick a (answerOf c (pick b (Done M) (Refused TargetTooSmall 0))) (Refused NotATable 0) ≡ Done m → Answered t n len m
     go true Accepted true p q r z =
         let d = done-count M m z in
-        record { accepted = q; even = both (whole (length t)) (whole len) p .1; count = d; fits = subst (λ (x : ℕ). x ≤ room len) d (leb-true M (room len) r) }
+        record { accepted = q; even = both (whole false (length t)) (whole false len) p .1; count = d; fits = subst (λ (x : ℕ). x ≤ room false len) d (leb-true M (room false len) r) }
     go true Accepted false p q r z = absurd (not-done TargetTooSmall m z)
-    go true (Refused x) b p q r z = absurd (not-done x m z)
+    go true (RefusedTable x) b p q r z = absurd (not-done x m z)
     go false c b p q r z = absurd (not-done NotATable m z)
 
 module _ (t : List ℕ) (n len m : ℕ) (e : flattened t n len ≡ Done m) where
   a : Answered t n len m
   a = answered t n len m e
 
-  abbrev rest : List ℕ
-  rest = replicate (len - span m) 0
-
   abbrev F : List Line
   F = flatLines t n
 
   -- the circuit and its flat circuit keep the rules
-  ok : AllOk false noCtx (linesOf t n)
+  ok : AllOk false noCtx (linesOf false t n)
   ok = accepted-ok false t n (a .accepted)
 
   okF : AllOk false noCtx F
-  okF = flat-ok (linesOf t n) ok
+  okF = flat-ok (linesOf false t n) ok
 
-  left : targetLeft t n len ≡ encode F ++ rest
-  unfolding targetLeft flatTable
-  left = ap (λ (r : Flattened). leftOf r len (encode (flatLines t n))) e
+  left : targetLeft t n len ≡ flatFilled len (map wordsOf F)
+  unfolding targetLeft flatRecords
+  left = ap (λ (r : Answer). leftOf r len (map wordsOf (flatLines t n))) e
 
-  small : (m ≤ 16384) × (span m ≤ len)
-  small = roomy len m (a .fits)
+  small : (m ≤ 16384) × (m ≤ held false len)
+  small = roomy false len m (a .fits)
 
-  length-left : length (encode F ++ rest) ≡ len
-  length-left = length-append (encode F) rest ∙ omega (arith, length-encode F, length-replicate {A = ℕ} (len - span m) 0, a .count, small .1)
+  fits : length F ≤ held false len
+  fits = omega (arith, a .count, small .1)
 
   -- the target keeps its length
   pub target-length : length (targetLeft t n len) ≡ len
-  target-length = ap length left ∙ length-left
+  target-length = ap length left ∙ length-flat-filled len (map wordsOf F)
 
   -- the flat table with the count answered is accepted
   pub flat-accepted : checked false (targetLeft t n len) m ≡ Accepted
   flat-accepted =
-      ap₂ (λ (x : List ℕ) (k : ℕ). checked false x k) left (sym (a .count))
-      ∙ encoded-accepted false F rest okF (omega (arith, a .count, small .0)) (ap whole length-left ∙ a .even)
+      ap₂ (λ (x : List ℕ) (k : ℕ). checked false x k) left (sym (a .count)) ∙ accepted-flat F len fits okF (omega (arith, a .count, small .0)) (a .even)
 
   -- and its lines are the flat circuit's
-  pub flat-lines : linesOf (targetLeft t n len) m ≡ flatten (linesOf t n)
-  flat-lines = ap₂ (λ (x : List ℕ) (k : ℕ). linesOf x k) left (sym (a .count)) ∙ lines-back false F rest okF
+  pub flat-lines : linesOf false (targetLeft t n len) m ≡ flatten (linesOf false t n)
+  flat-lines = ap₂ (λ (x : List ℕ) (k : ℕ). linesOf false x k) left (sym (a .count)) ∙ lines-flat F len fits okF
 
   -- none of its records has kind 2
-  pub flat-kinds : (i : ℕ) → i < m → kindIn (recordAt (targetLeft t n len) i) ≢ 2
-  flat-kinds i h z = no-kind-two noCtx F (flat-plain (linesOf t n)) okF i (ap kindIn (sym same) ∙ z)
+  pub flat-kinds : (i : ℕ) → i < m → kindIn (recordAt false (targetLeft t n len) i) ≢ 2
+  flat-kinds i h z = no-kind-two noCtx F (flat-plain (linesOf false t n)) okF i (ap kindIn (sym same) ∙ z)
     where
-      same : recordAt (targetLeft t n len) i ≡ getD (map wordsOf F) i []
+      same : recordAt false (targetLeft t n len) i ≡ getD (map wordsOf F) i []
       same =
-          sym (record-at m (targetLeft t n len) i (subst⁻¹ (λ (x : ℕ). span m ≤ x) target-length (small .1)) h)
-          ∙ ap (λ (rs : List (List ℕ)). getD rs i []) (ap records (ap₂ (λ (x : List ℕ) (k : ℕ). counted x k) left (sym (a .count)) ∙ counted-encode F rest) ∙ records-encode F)
+          sym (record-at false (targetLeft t n len) m i h)
+          ∙ ap (λ (rs : List (List ℕ)). getD rs i []) (ap₂ (λ (x : List ℕ) (k : ℕ). recordsOf false x k) left (sym (a .count)) ∙ records-flat F len fits)
 
   -- it has as many state words, inputs and signals
-  pub flat-counts : SameCounts (linesOf t n) (linesOf (targetLeft t n len) m)
-  flat-counts = subst⁻¹ (λ (x : List Line). SameCounts (linesOf t n) x) flat-lines (counts-alike (linesOf t n) ok)
+  pub flat-counts : SameCounts (linesOf false t n) (linesOf false (targetLeft t n len) m)
+  flat-counts = subst⁻¹ (λ (x : List Line). SameCounts (linesOf false t n) x) flat-lines (counts-alike (linesOf false t n) ok)
 
   -- and the same run: signals with their classes, hence bytes and the first counted bad
-  pub flat-run : (k : ℕ) (S I : List ℕ) → layout false (linesOf t n) .counts .states ≤ length S → run false (linesOf (targetLeft t n len) m) k S I ≡ run false (linesOf t n) k S I
-  flat-run k S I h = ap (λ (C : List Line). run false C k S I) flat-lines ∙ runs-alike (linesOf t n) ok k S I h
+  pub flat-run : (k : ℕ) (S I : List ℕ) → layout false (linesOf false t n) .counts .states ≤ length S → run false (linesOf false (targetLeft t n len) m) k S I ≡ run false (linesOf false t n) k S I
+  flat-run k S I h = ap (λ (C : List Line). run false C k S I) flat-lines ∙ runs-alike (linesOf false t n) ok k S I h
 
-  pub flat-bytes : (k : ℕ) (S I : List ℕ) → layout false (linesOf t n) .counts .states ≤ length S → bytes (run false (linesOf (targetLeft t n len) m) k S I) ≡ bytes (run false (linesOf t n) k S I)
+  pub flat-bytes : (k : ℕ) (S I : List ℕ) → layout false (linesOf false t n) .counts .states ≤ length S → bytes (run false (linesOf false (targetLeft t n len) m) k S I) ≡ bytes (run false (linesOf false t n) k S I)
   flat-bytes k S I h = ap bytes (flat-run k S I h)
 
-  pub flat-bad : (k : ℕ) (S I : List ℕ) → layout false (linesOf t n) .counts .states ≤ length S → firstBad 0 (run false (linesOf (targetLeft t n len) m) k S I) ≡ firstBad 0 (run false (linesOf t n) k S I)
+  pub flat-bad : (k : ℕ) (S I : List ℕ) → layout false (linesOf false t n) .counts .states ≤ length S → firstBad 0 (run false (linesOf false (targetLeft t n len) m) k S I) ≡ firstBad 0 (run false (linesOf false t n) k S I)
   flat-bad k S I h = ap (firstBad 0) (flat-run k S I h)

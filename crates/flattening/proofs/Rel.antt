@@ -1,6 +1,6 @@
 -- How a circuit's walk A and its flat circuit's walk B go together (`Inv`): what they leave is the same, and what is kept of each line in I names the flat lines that hold
 -- its sort, its index constants and its cells (`Rel`). Assumes nothing.
-use Prim.Native.Nat.{ℕ, suc, _+_, _^_, _≤_, _<_}
+use Prim.Native.Nat.{ℕ, suc, _^_, _≤_, _<_}
 use mathlib.Core.Path.{_≡_, refl, sym, ap, _∙_, subst, subst⁻¹}
 use mathlib.Core.Bool.{Bool, true, false}
 use mathlib.Core.Option.{Option, none, some}

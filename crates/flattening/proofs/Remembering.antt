@@ -25,7 +25,7 @@ use Rattle.flattening.proofs.CellLaws.{from-at, length-from}
 use Rattle.flattening.proofs.Rel.{Inv, KnownRel, no-sort, word-small}
 use Rattle.flattening.proofs.SimStates.{held-below}
 use Rattle.flattening.proofs.Laying.{size-two, read-con, read-any, read-any-count, write-con, write-any, write-any-count}
-use Rattle.flattening.proofs.Rowing.{before, read-words}
+use Rattle.flattening.proofs.Rowing.{before, read-records}
 use Rattle.flattening.proofs.Agreeing.{KnownNote, NoteRel, Told, is-line, size-of, cell-of, word-line, elem-of, index-small, con-some, index-length, index-sort}
 use Rattle.flattening.proofs.Keeping.{noted, Holds, kept-new, sound-new, cell-step, cell-swap, write-cell, write-length, joined-all}
 
@@ -128,7 +128,7 @@ module _ {A B : Acc} {I : List Info} (v : Inv A B I) (N : Notes) (ne : Neat N) (
   read-end o s i c ks [] h e l = absurd (omega arith)
   read-end o s i c ks (q ∷ qs) h e l =
       let m = length qs in
-      let r = read-words o s i (suc p) ks q qs (omega arith) in
+      let r = read-records o s i (suc p) ks q qs (omega arith) in
       let f : before (suc p) m (q ∷ qs) m ≡ suc p + (2 * m - 1) = ap (λ (b : Bool). pick b (getD (q ∷ qs) m 0) (suc p + (2 * m - 1))) (ne-eqb m 0 (λ z. omega arith)) in
       r .end ∙ f ∙ omega arith
 

@@ -6,7 +6,9 @@ use mathlib.Core.List.{List}
 use native.Mathlib.Omega.{arith}
 use lib.ListN.{length}
 use Rattle.tables.specs.declared.Checked.the-variants.{Accepted}
+use Rattle.tables.specs.declared.Answer.the-variants.{Done}
 use Rattle.tables.specs.Kinds.{rowOf}
+use Rattle.tables.specs.Layout.{linesOf}
 use Rattle.tables.specs.Types.{noCtx}
 use Rattle.tables.specs.Rules.{suits, fault}
 use Rattle.tables.specs.Tables.{checked}
@@ -15,8 +17,6 @@ use Rattle.tables.proofs.Sound.{accepted-ok}
 use Rattle.circuits.specs.Examples.{circuit}
 use Rattle.circuits.specs.Layout.{layout}
 use Rattle.circuits.specs.Run.{run}
-use Rattle.circuits.specs.Answers.{linesOf}
-use Rattle.flattening.specs.declared.Flattened.the-variants.{Done}
 use Rattle.flattening.specs.Flat.{flatten}
 use Rattle.flattening.specs.Answers.{flattened, targetLeft}
 use Rattle.flattening.proofs.Leaves.{flat-accepted, flat-run}
@@ -25,19 +25,19 @@ circuit-accepted : checked false circuit 11 ≡ Accepted
 unfolding checked fault suits rowOf
 circuit-accepted = refl
 
-circuit-ok : AllOk false noCtx (linesOf circuit 11)
+circuit-ok : AllOk false noCtx (linesOf false circuit 11)
 circuit-ok = accepted-ok false circuit 11 circuit-accepted
 
 circuit-answer : flattened circuit 11 95 ≡ Done 19
 unfolding flattened checked fault suits rowOf flatten
 circuit-answer = refl
 
-circuit-words : layout false (linesOf circuit 11) .counts .states ≡ 2
+circuit-words : layout false (linesOf false circuit 11) .counts .states ≡ 2
 unfolding layout
 circuit-words = refl
 
 pub circuit-flat : checked false (targetLeft circuit 11 95) 19 ≡ Accepted
 circuit-flat = flat-accepted circuit 11 95 19 circuit-answer
 
-pub circuit-run : (k : ℕ) (S I : List ℕ) → length S ≡ 2 → run false (linesOf (targetLeft circuit 11 95) 19) k S I ≡ run false (linesOf circuit 11) k S I
+pub circuit-run : (k : ℕ) (S I : List ℕ) → length S ≡ 2 → run false (linesOf false (targetLeft circuit 11 95) 19) k S I ≡ run false (linesOf false circuit 11) k S I
 circuit-run k S I h = flat-run circuit 11 95 19 circuit-answer k S I (omega (arith, circuit-words, h))

@@ -5,24 +5,17 @@ use mathlib.Core.Bool.{Bool, true, false}
 use mathlib.Core.List.{List, [], _∷_, _++_}
 use native.Mathlib.Omega.{arith}
 use lib.ListN.{length, take, drop}
-use lib.Seq.{drop-nil}
 use Rattle.tables.specs.Pick.{pick}
 use Rattle.circuits.specs.Cells.{put}
-use Rattle.circuits.proofs.Puts.{length-put}
+use Rattle.circuits.proofs.Puts.{length-put, put-none}
 
-pub put-zero : (w vs : List ℕ) → put w 0 vs ≡ vs ++ drop (length vs) w
+put-zero : (w vs : List ℕ) → put w 0 vs ≡ vs ++ drop (length vs) w
 unfolding put
 put-zero w vs = let e : 0 + length vs ≡ length vs = omega arith in ap (λ (n : ℕ). vs ++ drop n w) e
 
-pub put-suc : (x : ℕ) (w : List ℕ) (a : ℕ) (vs : List ℕ) → put (x ∷ w) (suc a) vs ≡ x ∷ put w a vs
+put-suc : (x : ℕ) (w : List ℕ) (a : ℕ) (vs : List ℕ) → put (x ∷ w) (suc a) vs ≡ x ∷ put w a vs
 unfolding put
 put-suc x w a vs = let e : suc a + length vs ≡ suc (a + length vs) = omega arith in ap (λ (n : ℕ). x ∷ (take a w ++ (vs ++ drop n (x ∷ w)))) e
-
-pub put-none : (w : List ℕ) (a : ℕ) → put w a [] ≡ w
-unfolding put
-put-none w zero = put-zero w []
-put-none [] (suc a) = drop-nil (suc a + 0)
-put-none (x ∷ w) (suc a) = put-suc x w a [] ∙ ap (λ (l : List ℕ). x ∷ l) (put-none w a)
 
 put-more : (w : List ℕ) (a c : ℕ) (cs : List ℕ) → a < length w → put (put w a (c ∷ [])) (suc a) cs ≡ put w a (c ∷ cs)
 put-more [] a c cs h = absurd (omega arith)

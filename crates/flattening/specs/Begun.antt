@@ -5,17 +5,17 @@ use mathlib.Core.Bool.{true, false}
 use mathlib.Core.List.{List}
 use lib.ListN.{length, replicate}
 use Rattle.tables.specs.declared.Checked.the-variants.{Accepted}
-use Rattle.tables.specs.Lines.{decode, counted}
 use Rattle.tables.specs.Types.{tyAt, context}
 use Rattle.tables.specs.Notes.{lookIn, Fresh}
-use Rattle.tables.specs.Tables.{whole, checked}
+use Rattle.tables.specs.Layout.{whole, linesOf}
+use Rattle.tables.specs.Tables.{checked}
 use Rattle.flattening.specs.Model.{nothing}
 
 pub record Begun (t : List ℕ) (n : ℕ) (types kept : List (List ℕ)) (target : List ℕ) : Type 0 where
   pub accepted : checked false t n ≡ Accepted
-  pub iw : (a : ℕ) → lookIn types a .iw ≡ tyAt (context false (decode (counted t n))) a .iw
-  pub w : (a : ℕ) → lookIn types a .w ≡ tyAt (context false (decode (counted t n))) a .w
-  pub even : whole (length target) ≡ true
+  pub iw : (a : ℕ) → lookIn types a .iw ≡ tyAt (context false (linesOf false t n)) a .iw
+  pub w : (a : ℕ) → lookIn types a .w ≡ tyAt (context false (linesOf false t n)) a .w
+  pub even : whole false (length target) ≡ true
   pub empty : target ≡ replicate (length target) 0
   -- there are more entries than lines
   pub size : ℕ
@@ -24,8 +24,8 @@ pub record Begun (t : List ℕ) (n : ℕ) (types kept : List (List ℕ)) (target
 
 -- both tables hold whole records, and the target is empty
 pub record Clear (t target : List ℕ) : Type 0 where
-  pub first : whole (length t) ≡ true
-  pub even : whole (length target) ≡ true
+  pub first : whole false (length t) ≡ true
+  pub even : whole false (length target) ≡ true
   pub empty : target ≡ replicate (length target) 0
 
 -- and nothing is noted or kept of a line yet, where each will have its place

@@ -2,42 +2,44 @@
 use Prim.Native.Nat.{ℕ}
 use mathlib.Core.Path.{_≡_, refl}
 use mathlib.Core.Bool.{true, false}
-use mathlib.Core.List.{List, [], _∷_, _++_}
+use mathlib.Core.List.{List, [], _∷_, map}
 use lib.ListN.{replicate}
 use Rattle.tables.specs.declared.Refusal.the-variants.{NotATable, BadTable, TargetTooSmall}
 use Rattle.tables.specs.declared.Checked.the-variants.{Accepted}
+use Rattle.tables.specs.declared.Answer.the-variants.{Done, Refused}
 use Rattle.tables.specs.Kinds.{rowOf}
-use Rattle.tables.specs.Lines.{Line, fields, encode, bitvec, array, input, state, val, give, mark, output, const, two, cmp, ite, read, write}
+use Rattle.tables.specs.Lines.{Line, fields, wordsOf, bitvec, array, input, state, val, give, mark, output, const, two, cmp, ite, read, write}
+use Rattle.tables.specs.Layout.{filledBy, filled}
 use Rattle.tables.specs.Rules.{suits, fault}
 use Rattle.tables.specs.Tables.{checked}
 use Rattle.circuits.specs.Examples.{circuit}
-use Rattle.flattening.specs.declared.Flattened.the-variants.{Done, Refused}
-use Rattle.flattening.specs.Flat.{flatten, flatTable}
+use Rattle.flattening.specs.Flat.{flatten, flatRecords}
+use Rattle.flattening.specs.Placed.{flatFilled}
 use Rattle.flattening.specs.Answers.{flattened, targetLeft}
 
 -- ---- the request's circuit of 11 lines, and its 19 flat lines
 
 -- 1 sort bitvec 1, 2 sort bitvec 3, 3 sort bitvec 1, 4 constd 1 0, 5 constd 1 1, 6 state 2, 7 state 2, 8 input 1, 9 constd 2 5, 10 eq 3 8 4, 11 ite 2 10 9 6,
 -- 12 eq 3 8 5, 13 ite 2 12 9 7, 14 next 2 6 11, 15 next 2 7 13, 16 eq 3 8 4, 17 ite 2 16 6 7, 18 eq 1 17 9, 19 bad 18
-abbrev pub flat : List ℕ
+abbrev pub flat : List (List ℕ)
 flat =
-    fields 1 0 1 0 0 ++ fields 1 0 3 0 0 ++ fields 1 0 1 0 0 ++ fields 3 1 0 0 0 ++ fields 3 1 1 0 0 ++ fields 5 2 0 0 0 ++ fields 5 2 0 0 0 ++ fields 4 1 0 0 0 ++ fields 3 2 5 0 0 ++ fields 21 3 8 4 0
-    ++ fields 53 2 10 9 6 ++ fields 21 3 8 5 0 ++ fields 53 2 12 9 7 ++ fields 7 2 6 11 0 ++ fields 7 2 7 13 0 ++ fields 21 3 8 4 0 ++ fields 53 2 16 6 7 ++ fields 21 1 17 9 0 ++ fields 8 0 18 0 0
+    fields 1 0 1 0 0 ∷ fields 1 0 3 0 0 ∷ fields 1 0 1 0 0 ∷ fields 3 1 0 0 0 ∷ fields 3 1 1 0 0 ∷ fields 5 2 0 0 0 ∷ fields 5 2 0 0 0 ∷ fields 4 1 0 0 0 ∷ fields 3 2 5 0 0 ∷ fields 21 3 8 4 0
+    ∷ fields 53 2 10 9 6 ∷ fields 21 3 8 5 0 ∷ fields 53 2 12 9 7 ∷ fields 7 2 6 11 0 ∷ fields 7 2 7 13 0 ∷ fields 21 3 8 4 0 ∷ fields 53 2 16 6 7 ∷ fields 21 1 17 9 0 ∷ fields 8 0 18 0 0 ∷ []
 
-flat-table : flatTable circuit 11 ≡ flat
-unfolding flatTable flatten
-flat-table = refl
+flat-circuit : flatRecords circuit 11 ≡ flat
+unfolding flatRecords flatten
+flat-circuit = refl
 
 -- the flat size is exactly the target's room; a target of one record more; one of one record less
 exact-answer : flattened circuit 11 95 ≡ Done 19
 unfolding flattened checked fault suits rowOf flatten
 exact-answer = refl
 
-spare-target : targetLeft circuit 11 100 ≡ flat ++ fields 0 0 0 0 0
-unfolding targetLeft flattened checked fault suits rowOf flatTable flatten
+spare-target : targetLeft circuit 11 100 ≡ filled false 100 flat
+unfolding targetLeft flattened checked fault suits rowOf flatRecords flatten flatFilled
 spare-target = refl
 
-short-answer : flattened circuit 11 90 ≡ Refused TargetTooSmall
+short-answer : flattened circuit 11 90 ≡ Refused TargetTooSmall 0
 unfolding flattened checked fault suits rowOf flatten
 short-answer = refl
 
@@ -46,17 +48,17 @@ unfolding targetLeft flattened checked fault suits rowOf flatten
 short-target = refl
 
 -- 1 comes before 11, and 11 before 12
-uneven-answer : flattened circuit 12 94 ≡ Refused NotATable
+uneven-answer : flattened circuit 12 94 ≡ Refused NotATable 0
 unfolding flattened
 uneven-answer = refl
 
-count-answer : flattened circuit 12 90 ≡ Refused BadTable
+count-answer : flattened circuit 12 90 ≡ Refused BadTable 0
 unfolding flattened checked fault suits rowOf
 count-answer = refl
 
 -- the flat table with its count is accepted
-flat-accepted : checked false flat 19 ≡ Accepted
-unfolding checked fault suits rowOf
+flat-accepted : checked false (filled false 95 flat) 19 ≡ Accepted
+unfolding checked fault suits rowOf filledBy
 flat-accepted = refl
 
 -- ---- constant indexes, an init, array eq, neq and ite, an output
@@ -73,8 +75,8 @@ flat-second : flatten second
 unfolding flatten
 flat-second = refl
 
-second-accepted : checked false (encode second) 15 ≡ Accepted
-unfolding checked fault suits rowOf
+second-accepted : checked false (filled false 75 (map wordsOf second)) 15 ≡ Accepted
+unfolding checked fault suits rowOf filledBy
 second-accepted = refl
 
 -- ---- a read of four cells: from the last cell, the constants falling
@@ -88,8 +90,8 @@ flat-third : flatten third
 unfolding flatten
 flat-third = refl
 
-third-accepted : checked false (encode third) 5 ≡ Accepted
-unfolding checked fault suits rowOf
+third-accepted : checked false (filled false 25 (map wordsOf third)) 5 ≡ Accepted
+unfolding checked fault suits rowOf filledBy
 third-accepted = refl
 
 -- ---- two array sorts of equal widths on different lines: a write takes constants and sorts of its own sort line, a read the sort and constants of its array's
@@ -105,6 +107,6 @@ flat-fourth : flatten fourth
 unfolding flatten
 flat-fourth = refl
 
-fourth-accepted : checked false (encode fourth) 12 ≡ Accepted
-unfolding checked fault suits rowOf
+fourth-accepted : checked false (filled false 60 (map wordsOf fourth)) 12 ≡ Accepted
+unfolding checked fault suits rowOf filledBy
 fourth-accepted = refl

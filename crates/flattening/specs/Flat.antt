@@ -2,10 +2,11 @@
 -- need (`Info`). The sentences quoted are the request's. Assumes nothing.
 use Prim.Native.Nat.{ℕ, zero, suc, _+_, _^_}
 use mathlib.Core.Bool.{Bool, true, false}
-use mathlib.Core.List.{List, [], _∷_, _++_}
+use mathlib.Core.List.{List, [], _∷_, _++_, map}
 use mathlib.Core.Option.{Option, none, some}
 use lib.ListN.{length, getD, set, replicate}
-use Rattle.tables.specs.Lines.{Line, Expr, encode, decode, counted}
+use Rattle.tables.specs.Lines.{Line, Expr, wordsOf}
+use Rattle.tables.specs.Layout.{linesOf}
 
 -- Of a sort: its width (an array's elements'), the number of cells of its values, the flat sort line of one cell; of an array sort besides the new width-1 sort line and
 -- the flat lines of the index constants. A value has all that from its sort, and the flat line of each of its cells; and its number where the line is a constant.
@@ -198,9 +199,9 @@ flattenFrom I b (l ∷ ls) =
 unfoldable pub flatten : List Line → List Line
 flatten C = flattenFrom (noInfo ∷ []) 1 C
 
--- the flat circuit of a table with its count, and its table
+-- the flat circuit of a table with its count, and its records
 abbrev pub flatLines : List ℕ → ℕ → List Line
-flatLines t n = flatten (decode (counted t n))
+flatLines t n = flatten (linesOf false t n)
 
-unfoldable pub flatTable : List ℕ → ℕ → List ℕ
-flatTable t n = encode (flatLines t n)
+unfoldable pub flatRecords : List ℕ → ℕ → List (List ℕ)
+flatRecords t n = map wordsOf (flatLines t n)

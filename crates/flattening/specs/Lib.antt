@@ -1,4 +1,5 @@
 pub mod Flat
+pub mod Placed
 pub mod Answers
 pub mod Examples
 pub mod Model

@@ -1,17 +1,18 @@
--- What the code makes of one line: the number of its flat lines, the words of their records, and what it keeps. The flat lines so far are p. Assumes nothing.
+-- What the code makes of one line: the number of its flat lines, their records, and what it keeps. The flat lines so far are p. Assumes nothing.
 use Prim.Native.Nat.{ℕ, _+_, _-_, _*_, _^_, _≤_, _<_}
 use mathlib.Core.Path.{_≡_}
 use mathlib.Core.Bool.{Bool, true, false}
-use mathlib.Core.List.{List, [], _++_}
+use mathlib.Core.List.{List, [], _∷_, _++_}
 use lib.Dec.{eqb, leb, ltb}
 use Rattle.tables.specs.Pick.{pick}
-use Rattle.tables.specs.Lines.{Line, Expr, fields, giveKind, markKind, cmpKind, span}
+use Rattle.tables.specs.Lines.{Line, Expr, fields, giveKind, markKind, cmpKind}
+use Rattle.tables.specs.Layout.{held}
 use Rattle.tables.specs.Notes.{lookIn}
-use Rattle.circuits.specs.Cells.{put}
 use Rattle.flattening.specs.declared.Source.{Source}
 use Rattle.flattening.specs.declared.Made.{Made}
 use Rattle.flattening.specs.Flat.{joinKind}
-use Rattle.flattening.specs.Model.{Held, atOf, bitOf, conOf, cellIn, Sound, words, rowAt, pairAt}
+use Rattle.flattening.specs.Model.{Held, atOf, bitOf, conOf, cellIn, Sound, rowsFor, rowAt, pairAt}
+use Rattle.flattening.specs.Placed.{putFlat}
 
 -- ---- sources
 
@@ -30,27 +31,27 @@ runDown b t = record { line = 0; base = b; step = 1; falling = true; top = t }
 abbrev pub ofDown : (a top : ℕ) → Source
 ofDown a t = record { line = a; base = 0; step = 0; falling = true; top = t }
 
--- ---- the words of the records, where n is a number of cells
+-- ---- the records, where n is a number of cells
 
-abbrev pub arrayWords : Held → (s n : ℕ) → List ℕ
-arrayWords H s n = fields 1 0 1 0 0 ++ words n (rowAt H 3 s (run 0 1) (still 0) (still 0))
+abbrev pub arrayRecords : Held → (s n : ℕ) → List (List ℕ)
+arrayRecords H s n = fields 1 0 1 0 0 ∷ rowsFor n (rowAt H 3 s (run 0 1) (still 0) (still 0))
 
 -- the first of the ands, or ors, takes the first two tests; each of the others the one before it and the next test
-abbrev pub joinWords : Held → (p j s n : ℕ) → List ℕ
-joinWords H p j s n =
-    pick (leb 2 n) (fields j s (p + 1) (p + 2) 0 ++ words (n - 2) (rowAt H j s (run (p + n + 1) 1) (run (p + 3) 1) (still 0))) []
+abbrev pub joinRecords : Held → (p j s n : ℕ) → List (List ℕ)
+joinRecords H p j s n =
+    pick (leb 2 n) (fields j s (p + 1) (p + 2) 0 ∷ rowsFor (n - 2) (rowAt H j s (run (p + n + 1) 1) (run (p + 3) 1) (still 0))) []
 
-abbrev pub cmpWords : Held → (p k j s x y n : ℕ) → List ℕ
-cmpWords H p k j s x y n = words n (rowAt H k s (of x) (of y) (still 0)) ++ joinWords H p j s n
+abbrev pub cmpRecords : Held → (p k j s x y n : ℕ) → List (List ℕ)
+cmpRecords H p k j s x y n = rowsFor n (rowAt H k s (of x) (of y) (still 0)) ++ joinRecords H p j s n
 
 -- o is the width-1 sort line, i the flat line of the index; the index constants stand after o
-abbrev pub readWords : Held → (p o i s a n : ℕ) → List ℕ
-readWords H p o i s a n =
-    words 1 (pairAt H p o i s (runDown (o + 1) (n - 2)) (ofDown a (n - 2)) (still (cellIn H a (n - 1))))
-    ++ words (n - 2) (pairAt H (p + 2) o i s (runDown (o + 1) (n - 3)) (ofDown a (n - 3)) (run (p + 2) 2))
+abbrev pub readRecords : Held → (p o i s a n : ℕ) → List (List ℕ)
+readRecords H p o i s a n =
+    rowsFor 1 (pairAt H p o i s (runDown (o + 1) (n - 2)) (ofDown a (n - 2)) (still (cellIn H a (n - 1))))
+    ++ rowsFor (n - 2) (pairAt H (p + 2) o i s (runDown (o + 1) (n - 3)) (ofDown a (n - 3)) (run (p + 2) 2))
 
-abbrev pub writeWords : Held → (p o i s v a n : ℕ) → List ℕ
-writeWords H p o i s v a n = words n (pairAt H p o i s (run (o + 1) 1) (still v) (of a))
+abbrev pub writeRecords : Held → (p o i s v a n : ℕ) → List (List ℕ)
+writeRecords H p o i s v a n = rowsFor n (pairAt H p o i s (run (o + 1) 1) (still v) (of a))
 
 -- ---- one line
 
@@ -118,31 +119,31 @@ flatCount N (Line.mark m a) = 1
 flatCount N (Line.output a) = 1
 flatCount N Line.junk = 1
 
--- the words of their records
-abbrev pub exprWords : Notes → (p s : ℕ) → Expr → List ℕ
-exprWords N p s (Expr.const v) = fields 3 (sortIn N s) v 0 0
-exprWords N p s (Expr.one k a x y) = fields k (sortIn N s) (wordIn N a) x y
-exprWords N p s (Expr.two k a b) = fields k (sortIn N s) (wordIn N a) (wordIn N b) 0
-exprWords N p s (Expr.cmp e a b) = cmpWords (N .held) p (cmpKind e) (joinKind e) (sortIn N s) a b (sizeIn N a)
-exprWords N p s (Expr.ite c a b) = words (sizeIn N a) (rowAt (N .held) 53 (sortIn N s) (still (wordIn N c)) (of a) (of b))
-exprWords N p s (Expr.read a i) = pick (eqb (conIn N i) 0) (readWords (N .held) p (bitIn N a) (wordIn N i) (sortIn N s) a (sizeIn N a)) []
-exprWords N p s (Expr.write a i v) = pick (eqb (conIn N i) 0) (writeWords (N .held) p (bitIn N s) (wordIn N i) (sortIn N s) (wordIn N v) a (sizeIn N s)) []
+-- their records
+abbrev pub exprRecords : Notes → (p s : ℕ) → Expr → List (List ℕ)
+exprRecords N p s (Expr.const v) = fields 3 (sortIn N s) v 0 0 ∷ []
+exprRecords N p s (Expr.one k a x y) = fields k (sortIn N s) (wordIn N a) x y ∷ []
+exprRecords N p s (Expr.two k a b) = fields k (sortIn N s) (wordIn N a) (wordIn N b) 0 ∷ []
+exprRecords N p s (Expr.cmp e a b) = cmpRecords (N .held) p (cmpKind e) (joinKind e) (sortIn N s) a b (sizeIn N a)
+exprRecords N p s (Expr.ite c a b) = rowsFor (sizeIn N a) (rowAt (N .held) 53 (sortIn N s) (still (wordIn N c)) (of a) (of b))
+exprRecords N p s (Expr.read a i) = pick (eqb (conIn N i) 0) (readRecords (N .held) p (bitIn N a) (wordIn N i) (sortIn N s) a (sizeIn N a)) []
+exprRecords N p s (Expr.write a i v) = pick (eqb (conIn N i) 0) (writeRecords (N .held) p (bitIn N s) (wordIn N i) (sortIn N s) (wordIn N v) a (sizeIn N s)) []
 
 -- an init gives one word to all cells, a next its cells
 abbrev pub givenFrom : Notes → Bool → ℕ → Source
 givenFrom N true v = still (wordIn N v)
 givenFrom N false v = of v
 
-abbrev pub flatWords : Notes → ℕ → Line → List ℕ
-flatWords N p (Line.bitvec w) = fields 1 0 w 0 0
-flatWords N p (Line.array i e) = arrayWords (N .held) (sortIn N i) (2 ^ wideIn N i)
-flatWords N p (Line.input s) = fields 4 (sortIn N s) 0 0 0
-flatWords N p (Line.state s) = words (sizeIn N s) (rowAt (N .held) 5 (sortIn N s) (still 0) (still 0) (still 0))
-flatWords N p (Line.val s e) = exprWords N p s e
-flatWords N p (Line.give m s q v) = words (sizeIn N q) (rowAt (N .held) (giveKind m) (sortIn N s) (of q) (givenFrom N m v) (still 0))
-flatWords N p (Line.mark m a) = fields (markKind m) 0 (wordIn N a) 0 0
-flatWords N p (Line.output a) = fields 10 0 (wordIn N a) 0 0
-flatWords N p Line.junk = fields 0 0 0 0 0
+abbrev pub lineRecords : Notes → ℕ → Line → List (List ℕ)
+lineRecords N p (Line.bitvec w) = fields 1 0 w 0 0 ∷ []
+lineRecords N p (Line.array i e) = arrayRecords (N .held) (sortIn N i) (2 ^ wideIn N i)
+lineRecords N p (Line.input s) = fields 4 (sortIn N s) 0 0 0 ∷ []
+lineRecords N p (Line.state s) = rowsFor (sizeIn N s) (rowAt (N .held) 5 (sortIn N s) (still 0) (still 0) (still 0))
+lineRecords N p (Line.val s e) = exprRecords N p s e
+lineRecords N p (Line.give m s q v) = rowsFor (sizeIn N q) (rowAt (N .held) (giveKind m) (sortIn N s) (of q) (givenFrom N m v) (still 0))
+lineRecords N p (Line.mark m a) = fields (markKind m) 0 (wordIn N a) 0 0 ∷ []
+lineRecords N p (Line.output a) = fields 10 0 (wordIn N a) 0 0 ∷ []
+lineRecords N p Line.junk = fields 0 0 0 0 0 ∷ []
 
 -- what is kept: q is the number of flat lines after the line
 abbrev pub exprMade : Notes → (p q s : ℕ) → Expr → Made
@@ -203,13 +204,13 @@ Deep N Line.junk = Unit {0}
 pub record Fit (N : Notes) (p : ℕ) (l : Line) (len : ℕ) : Type 0 where
   pub neat : Neat N
   pub low : p ≤ 60000
-  pub room : span (p + flatCount N l) ≤ len
+  pub room : p + flatCount N l ≤ held false len
   pub deep : Deep N l
 
--- it is made flat: r is what is kept of it, and the words of its records go to the target
+-- it is made flat: r is what is kept of it, and its records go to the target
 pub record Laid (N : Notes) (p : ℕ) (l : Line) (target target₁ : List ℕ) (r : Made) : Type 0 where
   pub kept : r ≡ flatMade N p l
-  pub words : target₁ ≡ put target (span p) (flatWords N p l)
+  pub records : target₁ ≡ putFlat target p (lineRecords N p l)
 
 -- no line has more than 256 cells
 pub record Shallow (types : List (List ℕ)) : Type 0 where

@@ -1,7 +1,7 @@
 -- How the code keeps what later lines need: five numbers for each line, in a list whose index is the line's number. Assumes nothing.
 use Prim.Native.Nat.{ℕ, zero, suc, _+_, _-_, _*_, _≤_, _<_}
 use mathlib.Core.Logic.{_≢_}
-use mathlib.Core.List.{List, [], _++_}
+use mathlib.Core.List.{List, [], _∷_, _++_}
 use lib.Dec.{eqb}
 use lib.ListN.{getD}
 use Rattle.tables.specs.Pick.{pick}
@@ -69,15 +69,15 @@ pub record Tame (s : Source) : Type 0 where
   pub step : s .step ≤ 256
   pub top : s .top < 256
 
--- the words of n records
-abbrev pub words : ℕ → (ℕ → List ℕ) → List ℕ
-words zero g = []
-words (suc n) g = words n g ++ g n
+-- the records for n cells, where those for the cell j are g j
+abbrev pub rowsFor : ℕ → (ℕ → List (List ℕ)) → List (List ℕ)
+rowsFor zero g = []
+rowsFor (suc n) g = rowsFor n g ++ g n
 
 -- the record j of a row
-abbrev pub rowAt : Held → (k s : ℕ) → (x y z : Source) → ℕ → List ℕ
-rowAt H k s x y z j = fields k s (sourceAt H x j) (sourceAt H y j) (sourceAt H z j)
+abbrev pub rowAt : Held → (k s : ℕ) → (x y z : Source) → ℕ → List (List ℕ)
+rowAt H k s x y z j = fields k s (sourceAt H x j) (sourceAt H y j) (sourceAt H z j) ∷ []
 
 -- the pair j of an eq and an ite: the ite's condition is the line of the eq
-abbrev pub pairAt : Held → (p o i s : ℕ) → (c x y : Source) → ℕ → List ℕ
-pairAt H p o i s c x y j = fields 21 o i (sourceAt H c j) 0 ++ fields 53 s (suc (p + 2 * j)) (sourceAt H x j) (sourceAt H y j)
+abbrev pub pairAt : Held → (p o i s : ℕ) → (c x y : Source) → ℕ → List (List ℕ)
+pairAt H p o i s c x y j = fields 21 o i (sourceAt H c j) 0 ∷ fields 53 s (suc (p + 2 * j)) (sourceAt H x j) (sourceAt H y j) ∷ []

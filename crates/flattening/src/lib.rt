@@ -1,11 +1,5 @@
-// Flattening: the flat circuit, that it is accepted and that it runs as its circuit does. The code is in `flat_cells`, `flat_chains`, `flat_lines`, `flat_arrays`, `flat_dispatch`, `flat_counts` and `flatten`.
-use tables::Refusal;
-
-// What flattening answers: the number of records of the flat circuit, or a refusal.
-pub enum Flattened {
-    Done(usize),
-    Refused(Refusal),
-}
+// Flattening: the flat circuit, that it is accepted and that it runs as its circuit does. The code is in
+// `flat_cells`, `flat_chains`, `flat_lines`, `flat_arrays`, `flat_dispatch`, `flat_counts` and `flatten`.
 
 // Where the words of a row of records come from: the cells of a line, or base + step * j. A falling row counts j down from top.
 pub struct Source {

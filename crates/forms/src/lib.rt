@@ -3,6 +3,10 @@ pub mod heads; // the id and the word of a line
 pub mod operands; // the numbers of a line
 
 use records::kinds;
+use records::kinds::NONE;
+use records::kinds::NUM;
+use records::kinds::WSORT;
+use records::kinds::letters::*;
 ghost use mathlib.Core.Path.{_≡_};
 ghost use Prim.Native.Nat.{_≤_, _+_};
 ghost use lib.ListN.{getD};
@@ -11,13 +15,14 @@ ghost use Rattle.tables.specs.Kinds.{rowOf, wordOf};
 ghost use Rattle.texts.specs.Split.{same};
 ghost use Rattle.texts.specs.Reading.{findIn};
 
-// const, consth, zero, one and ones, in rows like those of the kinds.
+// const, consth, zero, one and ones, in rows like those of the kinds. In the table of kinds a kind has one word, the one that the writer prints. These five are
+// further words for kind 3 that only the reader knows, so they have a table of their own.
 pub const EXTRA: [[u8; 16]; 5] = [
-    [5, 99, 111, 110, 115, 116, 0, 0, 0, 0, 0, 5, 1, 8, 0, 0],
-    [6, 99, 111, 110, 115, 116, 104, 0, 0, 0, 0, 5, 1, 8, 0, 0],
-    [4, 122, 101, 114, 111, 0, 0, 0, 0, 0, 0, 5, 0, 0, 0, 0],
-    [3, 111, 110, 101, 0, 0, 0, 0, 0, 0, 0, 5, 0, 0, 0, 0],
-    [4, 111, 110, 101, 115, 0, 0, 0, 0, 0, 0, 5, 0, 0, 0, 0],
+    [5, C, O, N, S, T, 0, 0, 0, 0, 0, WSORT, 1, NUM, 0, 0],
+    [6, C, O, N, S, T, H, 0, 0, 0, 0, WSORT, 1, NUM, 0, 0],
+    [4, Z, E, R, O, 0, 0, 0, 0, 0, 0, WSORT, 0, 0, 0, 0],
+    [3, O, N, E, 0, 0, 0, 0, 0, 0, 0, WSORT, 0, 0, 0, 0],
+    [4, O, N, E, S, 0, 0, 0, 0, 0, 0, WSORT, 0, 0, 0, 0],
 ];
 
 fn others() -> [[u8; 16]; 5]
@@ -63,7 +68,7 @@ pub fn kind_row(f: usize, row: [u8; 16]) -> [u8; 16]
 pub fn sorted(row: [u8; 16]) -> usize
     ensures { λ r. ⌜ r ≡ sortedOf row ⌝ }
 {
-    if row[11] == 0 {
+    if row[11] == NONE {
         return 0;
     }
     1
@@ -95,16 +100,16 @@ pub fn is_sort(t: &[u8]) -> bool
     if t.len() != 4 {
         return false;
     }
-    if t[0] != 115 {
+    if t[0] != b's' {
         return false;
     }
-    if t[1] != 111 {
+    if t[1] != b'o' {
         return false;
     }
-    if t[2] != 114 {
+    if t[2] != b'r' {
         return false;
     }
-    t[3] == 116
+    t[3] == b't'
 }
 
 // The first of n kinds from k on that has the word t, or 0.

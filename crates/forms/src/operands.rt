@@ -8,7 +8,8 @@ ghost use mathlib.Core.Bool.{false};
 ghost use Prim.Native.Nat.{_+_, _≤_};
 ghost use lib.ListN.{drop};
 ghost use Rattle.texts.specs.Reading.{numberAt, operands as operandsOf};
-ghost use Rattle.tables.specs.Lines.{kindIn, recordSize};
+ghost use Rattle.tables.specs.Lines.{kindIn};
+ghost use Rattle.tables.specs.Layout.{recordWords};
 ghost use Rattle.texts.specs.Split.{tokens as tokensIn};
 ghost use Rattle.texts.specs.Stages.{asTook};
 
@@ -30,8 +31,10 @@ pub fn number(f: usize, j: usize, t: &[u8]) -> Num
 
 // m numbers from the place i of the line on, to the places j and up of a record.
 pub fn operands(l: &[u8], i: usize, f: usize, m: usize, j: usize, start: [u64; WORDS]) -> Taken
-    requires { do ⌜ (i ≤ (← ⟦l.len()⟧)) × ((1 ≤ j) × (j + m ≤ recordSize)) ⌝ }
-    ensures { λ r. do ⌜ (r .at ≤ (← ⟦l.len()⟧ .entry)) × ((kindIn (r .rec) ≡ kindIn start) × (operandsOf f m j start false 0 (tokensIn (drop i (now (l .entry)))) ≡ asTook (now (l .entry)) r)) ⌝ }
+    requires { do ⌜ (i ≤ (← ⟦l.len()⟧)) × ((1 ≤ j) × (j + m ≤ recordWords)) ⌝ }
+    ensures { λ r. do
+      ⌜ (r .at ≤ (← ⟦l.len()⟧ .entry)) × ((kindIn (r .rec) ≡ kindIn start)
+          × (operandsOf f m j start false 0 (tokensIn (drop i (now (l .entry)))) ≡ asTook (now (l .entry)) r)) ⌝ }
 {
     let e = j + m;
     let mut rec = start;

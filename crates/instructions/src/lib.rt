@@ -3,9 +3,10 @@ ghost use mathlib.Core.Path.{_≡_};
 ghost use Prim.Native.Nat.{_≤_, _^_, _<_};
 ghost use Rattle.words.specs.Word.{Width};
 ghost use Rattle.words.specs.Op.{opOf};
-ghost use Rattle.words.specs.Program.{prog, classOf};
-ghost use Rattle.words.specs.Widths.{Widths, widthOf};
 ghost use Rattle.words.specs.Circuit.{circ};
+ghost use Rattle.words.specs.Program.{prog};
+ghost use Rattle.words.specs.Model.Classes.{classOf};
+ghost use Rattle.words.specs.Model.Widths.{Widths, widthOf};
 
 // An instruction's word, for kinds 11 to 53 and 56. u and v are the widths of its first and second operands; operands that are numbers stand in b and c.
 pub fn prog_word(kind: u64, u: u64, v: u64, a: u64, b: u64, c: u64) -> u64

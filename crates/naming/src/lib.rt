@@ -28,7 +28,9 @@ pub fn pass(l: &[u8], i: usize, m: usize) -> usize
 // The token that stands alone from the place i on, or an empty part.
 pub fn only(l: &[u8], i: usize) -> Part
     requires { do ⌜ i ≤ (← ⟦l.len()⟧) ⌝ }
-    ensures { λ r. do ⌜ (r .from ≤ r .to) × ((r .to ≤ (← ⟦l.len()⟧ .entry)) × (take (r .to - r .from) (drop (r .from) (now (l .entry))) ≡ onlyOf (tokensIn (drop i (now (l .entry)))))) ⌝ }
+    ensures { λ r. do
+      ⌜ (r .from ≤ r .to) × ((r .to ≤ (← ⟦l.len()⟧ .entry))
+          × (take (r .to - r .from) (drop (r .from) (now (l .entry))) ≡ onlyOf (tokensIn (drop i (now (l .entry)))))) ⌝ }
 {
     let a = tokens::skip(l, i);
     if a == l.len() {
@@ -44,7 +46,9 @@ pub fn only(l: &[u8], i: usize) -> Part
 
 // The name in a line.
 pub fn part(l: &[u8]) -> Part
-    ensures { λ r. do ⌜ (r .from ≤ r .to) × ((r .to ≤ (← ⟦l.len()⟧ .entry)) × (take (r .to - r .from) (drop (r .from) (now (l .entry))) ≡ lineName (tokensIn (now (l .entry))))) ⌝ }
+    ensures { λ r. do
+      ⌜ (r .from ≤ r .to) × ((r .to ≤ (← ⟦l.len()⟧ .entry))
+          × (take (r .to - r .from) (drop (r .from) (now (l .entry))) ≡ lineName (tokensIn (now (l .entry))))) ⌝ }
 {
     let i = pass(l, 0, 1);
     let w = heads::word(l, i);
@@ -72,7 +76,9 @@ pub fn leads(l: &[u8], n: u64) -> bool
 
 // The name of the first line whose id is n.
 pub fn find(text: &[u8], n: u64) -> Part
-    ensures { λ r. do ⌜ (r .from ≤ r .to) × ((r .to ≤ (← ⟦text.len()⟧ .entry)) × (take (r .to - r .from) (drop (r .from) (now (text .entry))) ≡ nameOf (now (text .entry)) n)) ⌝ }
+    ensures { λ r. do
+      ⌜ (r .from ≤ r .to) × ((r .to ≤ (← ⟦text.len()⟧ .entry))
+          × (take (r .to - r .from) (drop (r .from) (now (text .entry))) ≡ nameOf (now (text .entry)) n)) ⌝ }
 {
     let mut i: usize = 0;
     while i < text.len() {

@@ -1,7 +1,7 @@
 // Operators on words of 1 to 64 bits. All of them work on whole 64-bit words, as programs do.
 ghost use mathlib.Core.Path.{_≡_};
 ghost use Prim.Native.Nat.{_-_, _^_, _%_, _<_, _*_, _+_, _≤_};
-ghost use Rattle.words.specs.Word.{Width, signed, word, toward};
+ghost use Rattle.words.specs.Word.{Width, signedValue, twosComplement, towardDivisor};
 ghost use Rattle.words.specs.Op.{udiv, urem, redxor, eq, neq, ult, ulte, sext, slt, slte, sdiv, srem, smod, sll, srl, sra, rol, ror};
 ghost use Rattle.words.specs.Program.{prog};
 
@@ -83,7 +83,7 @@ pub fn ulte(a: u64, b: u64) -> u64
 // The low w bits of a word as a signed number, by their sign bit, bit w - 1. `-1 - n` fits at every width, 64 included.
 fn to_signed(w: u64, a: u64) -> i64
     requires { ⌜ Width w ⌝ }
-    ensures { λ r. ⌜ r ≡ signed w (a % 2 ^ w) ⌝ }
+    ensures { λ r. ⌜ r ≡ signedValue w (a % 2 ^ w) ⌝ }
 {
     let x = low(w, a);
     if x >> (w - 1) == 0 {
@@ -96,7 +96,7 @@ fn to_signed(w: u64, a: u64) -> i64
 // The word of width w of a signed number.
 fn from_signed(w: u64, z: i64) -> u64
     requires { ⌜ Width w ⌝ }
-    ensures { λ r. ⌜ r ≡ word w z ⌝ }
+    ensures { λ r. ⌜ r ≡ twosComplement w z ⌝ }
 {
     if z >= 0 {
         low(w, z as u64)
@@ -164,7 +164,7 @@ pub fn srem(w: u64, a: u64, b: u64) -> u64
 
 // A remainder moved to the divisor's sign.
 fn toward_divisor(r: i64, d: i64) -> i64
-    ensures { λ s. ⌜ s ≡ toward r d ⌝ }
+    ensures { λ s. ⌜ s ≡ towardDivisor r d ⌝ }
 {
     if r == 0 {
         r

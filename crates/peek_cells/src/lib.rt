@@ -1,9 +1,10 @@
 // The word of a line and a cell of an array, each found from words and cells of earlier lines; words that were found are kept.
 use area::LAID;
 ghost use mathlib.Core.Path.{_≡_};
+ghost use mathlib.Core.Bool.{false};
 ghost use lib.ListN.{getD};
 ghost use Rattle.circuits.specs.Meaning.{wordAt, cellsAt};
-ghost use Rattle.circuits.specs.Answers.{linesOf};
+ghost use Rattle.tables.specs.Layout.{linesOf};
 ghost use Rattle.peeks.specs.Peek.{stepZero};
 ghost use Rattle.peeks.specs.Looks.{Looks, Found, WordLine, StateLine, CellLine, Pair};
 ghost use Rattle.circuits.specs.Cells.{same};
@@ -20,8 +21,10 @@ pub fn word(
     has: &mut [u8],
     n: usize,
 ) -> u64
-    requires { ⌜ Looks (now table) count (now laid) (now ini) (now from) (now row) × (WordLine (now table) count n × Found (stepZero (linesOf (now table) count) (now from) (now row)) (now vals) (now has)) ⌝ }
-    ensures { λ r. ⌜ (r ≡ wordAt (stepZero (linesOf (now (table .entry)) count) (now (from .entry)) (now (row .entry))) n) × Found (stepZero (linesOf (now (table .entry)) count) (now (from .entry)) (now (row .entry))) (now (vals .exit)) (now (has .exit)) ⌝ }
+    requires { ⌜ Looks (now table) count (now laid) (now ini) (now from) (now row) × (WordLine (now table) count n
+        × Found (stepZero (linesOf false (now table) count) (now from) (now row)) (now vals) (now has)) ⌝ }
+    ensures { λ r. ⌜ (r ≡ wordAt (stepZero (linesOf false (now (table .entry)) count) (now (from .entry)) (now (row .entry))) n)
+        × Found (stepZero (linesOf false (now (table .entry)) count) (now (from .entry)) (now (row .entry))) (now (vals .exit)) (now (has .exit)) ⌝ }
 {
     if has[n] == 1 {
         return vals[n];
@@ -42,10 +45,12 @@ fn value(
     has: &mut [u8],
     n: usize,
 ) -> u64
-    requires { ⌜ Looks (now table) count (now laid) (now ini) (now from) (now row) × (WordLine (now table) count n × Found (stepZero (linesOf (now table) count) (now from) (now row)) (now vals) (now has)) ⌝ }
-    ensures { λ r. ⌜ (r ≡ wordAt (stepZero (linesOf (now (table .entry)) count) (now (from .entry)) (now (row .entry))) n) × Found (stepZero (linesOf (now (table .entry)) count) (now (from .entry)) (now (row .entry))) (now (vals .exit)) (now (has .exit)) ⌝ }
+    requires { ⌜ Looks (now table) count (now laid) (now ini) (now from) (now row) × (WordLine (now table) count n
+        × Found (stepZero (linesOf false (now table) count) (now from) (now row)) (now vals) (now has)) ⌝ }
+    ensures { λ r. ⌜ (r ≡ wordAt (stepZero (linesOf false (now (table .entry)) count) (now (from .entry)) (now (row .entry))) n)
+        × Found (stepZero (linesOf false (now (table .entry)) count) (now (from .entry)) (now (row .entry))) (now (vals .exit)) (now (has .exit)) ⌝ }
 {
-    let rec = records::record(table, n - 1);
+    let rec = peek_values::record(table, n - 1);
     let k = rec[0];
     let a = rec[2] as usize;
     let b = rec[3] as usize;
@@ -91,8 +96,10 @@ fn state(
     n: usize,
     k: usize,
 ) -> u64
-    requires { ⌜ Looks (now table) count (now laid) (now ini) (now from) (now row) × (StateLine (now table) count n k × Found (stepZero (linesOf (now table) count) (now from) (now row)) (now vals) (now has)) ⌝ }
-    ensures { λ r. ⌜ (r ≡ getD (cellsAt (stepZero (linesOf (now (table .entry)) count) (now (from .entry)) (now (row .entry))) n) k 0) × Found (stepZero (linesOf (now (table .entry)) count) (now (from .entry)) (now (row .entry))) (now (vals .exit)) (now (has .exit)) ⌝ }
+    requires { ⌜ Looks (now table) count (now laid) (now ini) (now from) (now row) × (StateLine (now table) count n k
+        × Found (stepZero (linesOf false (now table) count) (now from) (now row)) (now vals) (now has)) ⌝ }
+    ensures { λ r. ⌜ (r ≡ getD (cellsAt (stepZero (linesOf false (now (table .entry)) count) (now (from .entry)) (now (row .entry))) n) k 0)
+        × Found (stepZero (linesOf false (now (table .entry)) count) (now (from .entry)) (now (row .entry))) (now (vals .exit)) (now (has .exit)) ⌝ }
 {
     let d = ini[n] as usize;
     if d == 0 {
@@ -114,10 +121,12 @@ pub fn cell(
     n: usize,
     k: usize,
 ) -> u64
-    requires { ⌜ Looks (now table) count (now laid) (now ini) (now from) (now row) × (CellLine (now table) count n k × Found (stepZero (linesOf (now table) count) (now from) (now row)) (now vals) (now has)) ⌝ }
-    ensures { λ r. ⌜ (r ≡ getD (cellsAt (stepZero (linesOf (now (table .entry)) count) (now (from .entry)) (now (row .entry))) n) k 0) × Found (stepZero (linesOf (now (table .entry)) count) (now (from .entry)) (now (row .entry))) (now (vals .exit)) (now (has .exit)) ⌝ }
+    requires { ⌜ Looks (now table) count (now laid) (now ini) (now from) (now row) × (CellLine (now table) count n k
+        × Found (stepZero (linesOf false (now table) count) (now from) (now row)) (now vals) (now has)) ⌝ }
+    ensures { λ r. ⌜ (r ≡ getD (cellsAt (stepZero (linesOf false (now (table .entry)) count) (now (from .entry)) (now (row .entry))) n) k 0)
+        × Found (stepZero (linesOf false (now (table .entry)) count) (now (from .entry)) (now (row .entry))) (now (vals .exit)) (now (has .exit)) ⌝ }
 {
-    let rec = records::record(table, n - 1);
+    let rec = peek_values::record(table, n - 1);
     let a = rec[2] as usize;
     let b = rec[3] as usize;
     if rec[0] == 5 {
@@ -149,8 +158,11 @@ fn alike(
     a: usize,
     b: usize,
 ) -> bool
-    requires { ⌜ Looks (now table) count (now laid) (now ini) (now from) (now row) × (Pair (now table) count a b × Found (stepZero (linesOf (now table) count) (now from) (now row)) (now vals) (now has)) ⌝ }
-    ensures { λ r. ⌜ (r ≡ same (cellsAt (stepZero (linesOf (now (table .entry)) count) (now (from .entry)) (now (row .entry))) a) (cellsAt (stepZero (linesOf (now (table .entry)) count) (now (from .entry)) (now (row .entry))) b)) × Found (stepZero (linesOf (now (table .entry)) count) (now (from .entry)) (now (row .entry))) (now (vals .exit)) (now (has .exit)) ⌝ }
+    requires { ⌜ Looks (now table) count (now laid) (now ini) (now from) (now row) × (Pair (now table) count a b
+        × Found (stepZero (linesOf false (now table) count) (now from) (now row)) (now vals) (now has)) ⌝ }
+    ensures { λ r. ⌜ (r ≡ same (cellsAt (stepZero (linesOf false (now (table .entry)) count) (now (from .entry)) (now (row .entry))) a)
+        (cellsAt (stepZero (linesOf false (now (table .entry)) count) (now (from .entry)) (now (row .entry))) b))
+        × Found (stepZero (linesOf false (now (table .entry)) count) (now (from .entry)) (now (row .entry))) (now (vals .exit)) (now (has .exit)) ⌝ }
 {
     let m = area::cells(laid, a);
     if m == 1 {

@@ -9,7 +9,7 @@ ghost use lib.ListN.{length, getD, replicate, set};
 ghost use Rattle.tables.specs.Lines.{lineOf, kindIn, firstIn, secondIn, thirdIn};
 ghost use Rattle.peeks.specs.Looks.{noteInit, initOf};
 ghost use Rattle.tables.specs.Tables.{checked};
-ghost use Rattle.circuits.specs.Answers.{linesOf};
+ghost use Rattle.tables.specs.Layout.{held, recordAt, linesOf};
 ghost use Rattle.words.specs.Word.{Width};
 ghost use Rattle.circuits.specs.Model.{posIn, widIn, FitWord};
 ghost use Rattle.circuits.specs.Meaning.{opWord};
@@ -29,14 +29,23 @@ fn note_init(rec: [u64; WORDS], ini: &mut [u64])
     }
 }
 
+// The record at the place i of a circuit, from 0.
+pub fn record(table: &[u64], i: usize) -> [u64; WORDS]
+    requires { ⌜ i < held false (length (now table)) ⌝ }
+    ensures { λ r. ⌜ r ≡ recordAt false (now (table .entry)) i ⌝ }
+{
+    records::record(false, table, records::step(false, table.len()), i)
+}
+
 // The line of each state's init value, 0 where it has none.
 pub fn find_inits(table: &[u64], count: usize, ini: &mut [u64])
     requires { ⌜ (checked false (now table) count ≡ Checked.Accepted) × (now ini ≡ replicate 65 0) ⌝ }
-    ensures { λ _. ⌜ ((q : ℕ) → q < 65 → getD (now (ini .exit)) q 0 ≡ initOf q (linesOf (now (table .entry)) count)) ⌝ }
+    ensures { λ _. ⌜ ((q : ℕ) → q < 65 → getD (now (ini .exit)) q 0 ≡ initOf q (linesOf false (now (table .entry)) count)) ⌝ }
 {
+    let h = records::step(false, table.len());
     let mut i: usize = 0;
     while i < count {
-        let rec = records::record(table, i);
+        let rec = records::record(false, table, h, i);
         note_init(rec, ini);
         i += 1;
     }
@@ -84,7 +93,8 @@ pub fn one(rec: [u64; WORDS], n: usize, laid: &[[u32; LAID]; 16385], v: u64) -> 
 
 // An operator of two words, x and y, on the line n.
 pub fn two(rec: [u64; WORDS], n: usize, laid: &[[u32; LAID]; 16385], x: u64, y: u64) -> u64
-    requires { ⌜ (n ≤ 16384) × ((firstIn rec ≤ 16384) × ((secondIn rec ≤ 16384) × FitWord false (kindIn rec) (widIn (now laid) n) (widIn (now laid) (firstIn rec)) (widIn (now laid) (secondIn rec)) x y 0)) ⌝ }
+    requires { ⌜ (n ≤ 16384) × ((firstIn rec ≤ 16384) × ((secondIn rec ≤ 16384)
+        × FitWord false (kindIn rec) (widIn (now laid) n) (widIn (now laid) (firstIn rec)) (widIn (now laid) (secondIn rec)) x y 0)) ⌝ }
     ensures { λ r. ⌜ r ≡ opWord false (kindIn rec) (widIn (now (laid .entry)) (firstIn rec)) (widIn (now (laid .entry)) (secondIn rec)) x y 0 ⌝ }
 {
     let w = area::width(laid, n);
@@ -96,7 +106,8 @@ pub fn two(rec: [u64; WORDS], n: usize, laid: &[[u32; LAID]; 16385], x: u64, y: 
 // The word of the constant or of the input on the line n.
 pub fn given(rec: [u64; WORDS], n: usize, laid: &[[u32; LAID]; 16385], row: &[u64]) -> u64
     requires { ⌜ ((kindIn rec ≡ 3 → ⊥) → (n ≤ 16384) × ((posIn (now laid) n < length (now row)) × Width (widIn (now laid) n))) ⌝ }
-    ensures { λ r. ⌜ ((kindIn rec ≡ 3 → r ≡ firstIn rec) × ((kindIn rec ≡ 3 → ⊥) → r ≡ getD (now (row .entry)) (posIn (now (laid .entry)) n) 0 % 2 ^ widIn (now (laid .entry)) n)) ⌝ }
+    ensures { λ r. ⌜ ((kindIn rec ≡ 3 → r ≡ firstIn rec)
+        × ((kindIn rec ≡ 3 → ⊥) → r ≡ getD (now (row .entry)) (posIn (now (laid .entry)) n) 0 % 2 ^ widIn (now (laid .entry)) n)) ⌝ }
 {
     if rec[0] == 3 {
         return rec[2];

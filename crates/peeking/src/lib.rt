@@ -10,8 +10,8 @@ use tables::Ty;
 ghost use mathlib.Core.Path.{_≡_};
 ghost use mathlib.Core.Bool.{false};
 ghost use Prim.Native.Nat.{_≤_};
-ghost use Rattle.circuits.specs.Answers.{linesOf};
-ghost use Rattle.peeks.specs.Peek.{peekAt, mayPeek, peeked};
+ghost use Rattle.tables.specs.Layout.{linesOf};
+ghost use Rattle.peeks.specs.Peek.{peekAt, mayPeek, toldPeek, peeks};
 ghost use Rattle.peeks.specs.Looks.{Laid, HasCell, lentPeek};
 ghost use Rattle.circuits.specs.Model.{countsOf, Noted};
 
@@ -26,7 +26,7 @@ fn find(
     k: usize,
 ) -> u64
     requires { ⌜ Laid (now table) count (now laid) (now starts) (now row) × HasCell (now table) count n k ⌝ }
-    ensures { λ r. ⌜ r ≡ peekAt (linesOf (now (table .entry)) count) (now (starts .entry)) (now (row .entry)) n k ⌝ }
+    ensures { λ r. ⌜ r ≡ peekAt (linesOf false (now (table .entry)) count) (now (starts .entry)) (now (row .entry)) n k ⌝ }
 {
     let mut ini = [0u64; 65];
     peek_values::find_inits(table, count, &mut ini);
@@ -118,7 +118,7 @@ pub fn peek(
     starts: &[u64],
     row: &[u64],
 ) -> Peeked
-    ensures { λ r. ⌜ r ≡ peeked (now (table .entry)) count line cell (now (starts .entry)) (now (row .entry)) ⌝ }
+    ensures { λ r. ⌜ toldPeek r ≡ peeks (now (table .entry)) count line cell (now (starts .entry)) (now (row .entry)) ⌝ }
 {
     let mut notes = [[0u8; BYTES]; 16385];
     match checks::check(false, table, count, &mut notes) {

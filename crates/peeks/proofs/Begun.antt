@@ -20,7 +20,7 @@ use Rattle.tables.proofs.Showing.{by-place, earlier}
 use Rattle.circuits.specs.Cells.{choose, lows, part, put}
 use Rattle.circuits.specs.Layout.{Place, Layout, typeAt, placeAt, size, typeOf, placeOf, noLayout, lay, layout}
 use Rattle.circuits.specs.Meaning.{Acc, wordAt, cellsOf, stsOf, evalLine, step}
-use Rattle.circuits.specs.Answers.{linesOf}
+use Rattle.tables.specs.Layout.{linesOf}
 use Rattle.peeks.specs.Looks.{noteInit, initAfter, initOf}
 use Rattle.circuits.proofs.Puts as laws
 use Rattle.circuits.proofs.Laid.{Sound, not-four, type-new, place-new, type-old, place-old, more-types, grew, later}
@@ -240,35 +240,35 @@ settled-new Y S s z h =
 
 -- ---- the state on the line i + 1 of an accepted circuit
 
-module _ (t : List ℕ) (n : ℕ) (acc : checked false t n ≡ Accepted) (S ι : List ℕ) (many : length S ≡ layout false (linesOf t n) .counts .states) where
+module _ (t : List ℕ) (n : ℕ) (acc : checked false t n ≡ Accepted) (S ι : List ℕ) (many : length S ≡ layout false (linesOf false t n) .counts .states) where
   abbrev C : List Line
-  C = linesOf t n
+  C = linesOf false t n
 
   abbrev B : ℕ → Acc
-  B j = accAt false true S ι (linesOf t n) j
+  B j = accAt false true S ι (linesOf false t n) j
 
-  number : (j : ℕ) → j ≤ n → length (accAt false true S ι (linesOf t n) j .lay .ctx .tys) ≡ j + 1
+  number : (j : ℕ) → j ≤ n → length (accAt false true S ι (linesOf false t n) j .lay .ctx .tys) ≡ j + 1
   number j h = ap (λ (Y : Layout). length (Y .ctx .tys)) (lay-is t n acc S many true ι j) ∙ number-at false t n acc j h
 
-  nothing : (j : ℕ) → typeAt (accAt false true S ι (linesOf t n) j .lay) 0 .cls ≡ 0
-  nothing j = ap (λ (Y : Layout). typeAt Y 0 .cls) (lay-is t n acc S many true ι j) ∙ ap (λ (y : Ty). y .cls) (later false noLayout (take j (linesOf t n)) .type 0 (omega arith))
+  nothing : (j : ℕ) → typeAt (accAt false true S ι (linesOf false t n) j .lay) 0 .cls ≡ 0
+  nothing j = ap (λ (Y : Layout). typeAt Y 0 .cls) (lay-is t n acc S many true ι j) ∙ ap (λ (y : Ty). y .cls) (later false noLayout (take j (linesOf false t n)) .type 0 (omega arith))
 
-  module _ (i : ℕ) (h : i < n) (s : ℕ) (el : getD (linesOf t n) i Line.junk ≡ Line.state s) where
-    early : (j : ℕ) → j ≤ suc i → initOf (suc i) (take j (linesOf t n)) ≡ 0
+  module _ (i : ℕ) (h : i < n) (s : ℕ) (el : getD (linesOf false t n) i Line.junk ≡ Line.state s) where
+    early : (j : ℕ) → j ≤ suc i → initOf (suc i) (take j (linesOf false t n)) ≡ 0
     early zero z = refl
     early (suc j) z =
-        init-more (suc i) (linesOf t n) j (omega (arith, lines-many false t n acc)) ∙ ap (λ (d : ℕ). noteInit (suc i) d (getD (linesOf t n) j Line.junk)) (early j (omega arith))
-        ∙ note-early (accAt false true S ι (linesOf t n) j .lay) (suc i) (getD (linesOf t n) j Line.junk) (facts-of t n acc S many true ι j (omega arith) .ok) (omega (arith, number j (omega arith)))
+        init-more (suc i) (linesOf false t n) j (omega (arith, lines-many false t n acc)) ∙ ap (λ (d : ℕ). noteInit (suc i) d (getD (linesOf false t n) j Line.junk)) (early j (omega arith))
+        ∙ note-early (accAt false true S ι (linesOf false t n) j .lay) (suc i) (getD (linesOf false t n) j Line.junk) (facts-of t n acc S many true ι j (omega arith) .ok) (omega (arith, number j (omega arith)))
 
     abbrev at : ℕ
-    at = accAt false true S ι (linesOf t n) i .lay .counts .states
+    at = accAt false true S ι (linesOf false t n) i .lay .counts .states
 
     abbrev own : Ty
-    own = typeOf false (accAt false true S ι (linesOf t n) i .lay) (Line.state s)
+    own = typeOf false (accAt false true S ι (linesOf false t n) i .lay) (Line.state s)
 
-    first : Begun S (accAt false true S ι (linesOf t n) (suc i)) (suc i) at (size own) (own .w) 0
+    first : Begun S (accAt false true S ι (linesOf false t n) (suc i)) (suc i) at (size own) (own .w) 0
     first =
-        let A = accAt false true S ι (linesOf t n) i in
+        let A = accAt false true S ι (linesOf false t n) i in
         let l = Line.state s in
         let H = held-at t n acc S many true ι i (omega arith) .held in
         let k = facts-of t n acc S many true ι i h in
@@ -276,34 +276,34 @@ module _ (t : List ℕ) (n : ℕ) (acc : checked false t n ≡ Accepted) (S ι :
         let hs : at + size own ≤ length S = subst (λ (x : Line). lay false (A .lay) x .counts .states ≤ length S) el (k .states) in
         let vs : List ℕ = lows (own .w) (part S at (size own)) in
         let lv : length vs ≡ size own = laws.length-lows (own .w) (part S at (size own)) ∙ laws.length-part S at (size own) hs in
-        subst (λ (X : Acc). Begun S X (suc i) at (size own) (own .w) 0) (sym (acc-suc false true S ι (linesOf t n) i (omega (arith, lines-many false t n acc)) ∙ ap (evalLine false true S ι A) el))
+        subst (λ (X : Acc). Begun S X (suc i) at (size own) (own .w) 0) (sym (acc-suc false true S ι (linesOf false t n) i (omega (arith, lines-many false t n acc)) ∙ ap (evalLine false true S ι A) el))
         (record {
           settled = subst (λ (x : ℕ). Settled (lay false (A .lay) l) x at (size own) (own .w) 0) q (settled-new (A .lay) (H .sound) s (nothing i) (omega arith));
           words = ap (take (size own)) (drop-at (A .sts) vs at (H .kept .many)) ∙ take-all (size own) vs (omega arith);
         })
 
-    from : (k : ℕ) → k + suc i ≤ n → Begun S (accAt false true S ι (linesOf t n) (k + suc i)) (suc i) at (size own) (own .w) (initOf (suc i) (take (k + suc i) (linesOf t n)))
+    from : (k : ℕ) → k + suc i ≤ n → Begun S (accAt false true S ι (linesOf false t n) (k + suc i)) (suc i) at (size own) (own .w) (initOf (suc i) (take (k + suc i) (linesOf false t n)))
     from zero z =
         let e : suc i ≡ 0 + suc i = omega arith in
-        subst (λ (j : ℕ). Begun S (accAt false true S ι (linesOf t n) j) (suc i) at (size own) (own .w) (initOf (suc i) (take j (linesOf t n)))) e
-        (subst (λ (d : ℕ). Begun S (accAt false true S ι (linesOf t n) (suc i)) (suc i) at (size own) (own .w) d) (sym (early (suc i) (omega arith))) first)
+        subst (λ (j : ℕ). Begun S (accAt false true S ι (linesOf false t n) j) (suc i) at (size own) (own .w) (initOf (suc i) (take j (linesOf false t n)))) e
+        (subst (λ (d : ℕ). Begun S (accAt false true S ι (linesOf false t n) (suc i)) (suc i) at (size own) (own .w) d) (sym (early (suc i) (omega arith))) first)
     from (suc k) z =
         let j : ℕ = k + suc i in
         let hj : j < n = omega arith in
-        let hl : j < length (linesOf t n) = omega (arith, lines-many false t n acc) in
+        let hl : j < length (linesOf false t n) = omega (arith, lines-many false t n acc) in
         let e : suc (k + suc i) ≡ suc k + suc i = omega arith in
         let H = held-at t n acc S many true ι (k + suc i) (omega arith) .held in
-        let r = begun-line S ι (accAt false true S ι (linesOf t n) (k + suc i)) (H .sound) (H .holds .lines) (H .kept .many) (from k (omega arith)) (getD (linesOf t n) (k + suc i) Line.junk) (facts-of t n acc S many true ι (k + suc i) hj .ok) in
-        subst (λ (x : ℕ). Begun S (accAt false true S ι (linesOf t n) x) (suc i) at (size own) (own .w) (initOf (suc i) (take x (linesOf t n)))) e
-        (subst (λ (d : ℕ). Begun S (accAt false true S ι (linesOf t n) (suc (k + suc i))) (suc i) at (size own) (own .w) d) (sym (init-more (suc i) (linesOf t n) (k + suc i) hl))
-        (subst (λ (X : Acc). Begun S X (suc i) at (size own) (own .w) (noteInit (suc i) (initOf (suc i) (take (k + suc i) (linesOf t n))) (getD (linesOf t n) (k + suc i) Line.junk))) (sym (acc-suc false true S ι (linesOf t n) (k + suc i) hl)) r))
+        let r = begun-line S ι (accAt false true S ι (linesOf false t n) (k + suc i)) (H .sound) (H .holds .lines) (H .kept .many) (from k (omega arith)) (getD (linesOf false t n) (k + suc i) Line.junk) (facts-of t n acc S many true ι (k + suc i) hj .ok) in
+        subst (λ (x : ℕ). Begun S (accAt false true S ι (linesOf false t n) x) (suc i) at (size own) (own .w) (initOf (suc i) (take x (linesOf false t n)))) e
+        (subst (λ (d : ℕ). Begun S (accAt false true S ι (linesOf false t n) (suc (k + suc i))) (suc i) at (size own) (own .w) d) (sym (init-more (suc i) (linesOf false t n) (k + suc i) hl))
+        (subst (λ (X : Acc). Begun S X (suc i) at (size own) (own .w) (noteInit (suc i) (initOf (suc i) (take (k + suc i) (linesOf false t n))) (getD (linesOf false t n) (k + suc i) Line.junk))) (sym (acc-suc false true S ι (linesOf false t n) (k + suc i) hl)) r))
 
     -- after all lines
-    pub begun : Begun S (step false true (linesOf t n) S ι) (suc i) at (size own) (own .w) (initOf (suc i) (linesOf t n))
+    pub begun : Begun S (step false true (linesOf false t n) S ι) (suc i) at (size own) (own .w) (initOf (suc i) (linesOf false t n))
     begun =
         let k : ℕ = n - suc i in
         let e : k + suc i ≡ n = omega arith in
-        let c : take n (linesOf t n) ≡ linesOf t n = ap (λ (m : ℕ). take m (linesOf t n)) (sym (lines-many false t n acc)) ∙ take-length (linesOf t n) in
-        subst (λ (x : List Line). Begun S (step false true (linesOf t n) S ι) (suc i) at (size own) (own .w) (initOf (suc i) x)) c
-        (subst (λ (X : Acc). Begun S X (suc i) at (size own) (own .w) (initOf (suc i) (take n (linesOf t n)))) (all-lines t n acc S many true ι)
-        (subst (λ (x : ℕ). Begun S (accAt false true S ι (linesOf t n) x) (suc i) at (size own) (own .w) (initOf (suc i) (take x (linesOf t n)))) e (from k (omega arith))))
+        let c : take n (linesOf false t n) ≡ linesOf false t n = ap (λ (m : ℕ). take m (linesOf false t n)) (sym (lines-many false t n acc)) ∙ take-length (linesOf false t n) in
+        subst (λ (x : List Line). Begun S (step false true (linesOf false t n) S ι) (suc i) at (size own) (own .w) (initOf (suc i) x)) c
+        (subst (λ (X : Acc). Begun S X (suc i) at (size own) (own .w) (initOf (suc i) (take n (linesOf false t n)))) (all-lines t n acc S many true ι)
+        (subst (λ (x : ℕ). Begun S (accAt false true S ι (linesOf false t n) x) (suc i) at (size own) (own .w) (initOf (suc i) (take x (linesOf false t n)))) e (from k (omega arith))))

@@ -11,11 +11,11 @@ use lib.Seq.{getD-set-same, getD-set-other, take-length}
 use borrow.Author.Tests.{eq-eqb, ne-eqb}
 use Rattle.tables.specs.declared.Checked.the-variants.{Accepted}
 use Rattle.tables.specs.Pick.{pick}
-use Rattle.tables.specs.Lines.{Line, Shape, isBitvec, isArray, isConst, isInput, isState, isOutput, isOne, isTwo, isIte, isRead, isWrite, isJunk, isGive, isMark, isCmp, shapeOf, build, lineOf, kindIn, sortIn, firstIn, secondIn, thirdIn, recordAt}
+use Rattle.tables.specs.Lines.{Line, Shape, isBitvec, isArray, isConst, isInput, isState, isOutput, isOne, isTwo, isIte, isRead, isWrite, isJunk, isGive, isMark, isCmp, shapeOf, build, lineOf, kindIn, sortIn, firstIn, secondIn, thirdIn}
+use Rattle.tables.specs.Layout.{recordAt, linesOf}
 use Rattle.tables.specs.Tables.{checked}
 use Rattle.tables.proofs.Shapes.{KindOf, kind-of, line-as}
 use Rattle.tables.proofs.Showing.{by-place}
-use Rattle.circuits.specs.Answers.{linesOf}
 use Rattle.peeks.specs.Looks.{noteInit, initOf}
 use Rattle.circuits.proofs.Walked.{lines-many, line-here}
 use Rattle.peeks.proofs.Begun.{init-more}
@@ -73,19 +73,19 @@ noting-none C n ini e =
     record { most = omega arith; long = ap length e ∙ length-replicate {A = ℕ} 65 0; are = λ q h. ap (λ (x : List ℕ). getD x q 0) e ∙ getD-replicate {A = ℕ} 65 q 0 0 h }
 
 module _ (t : List ℕ) (n : ℕ) (acc : checked false t n ≡ Accepted) where
-  pub noting-more : {r : List ℕ} (i : ℕ) (ini ini′ : List ℕ) → i < n → Noting (linesOf t n) n i ini → r ≡ recordAt t i → length ini′ ≡ length ini
-      → ((q : ℕ) → q < length ini → getD ini′ q 0 ≡ noteInit q (getD ini q 0) (lineOf r)) → Noting (linesOf t n) n (i + 1) ini′
+  pub noting-more : {r : List ℕ} (i : ℕ) (ini ini′ : List ℕ) → i < n → Noting (linesOf false t n) n i ini → r ≡ recordAt false t i → length ini′ ≡ length ini
+      → ((q : ℕ) → q < length ini → getD ini′ q 0 ≡ noteInit q (getD ini q 0) (lineOf r)) → Noting (linesOf false t n) n (i + 1) ini′
   noting-more {r} i ini ini′ h s er l e =
-      let el : lineOf r ≡ getD (linesOf t n) i Line.junk = ap lineOf er ∙ sym (line-here false t n acc i h) in
+      let el : lineOf r ≡ getD (linesOf false t n) i Line.junk = ap lineOf er ∙ sym (line-here false t n acc i h) in
       record {
         most = omega arith;
         long = l ∙ s .long;
         are = λ q k.
-            e q (omega (arith, s .long)) ∙ ap₂ (λ (d : ℕ) (x : Line). noteInit q d x) (s .are q k) el ∙ sym (init-more q (linesOf t n) i (omega (arith, lines-many false t n acc)))
-            ∙ ap (λ (m : ℕ). initOf q (take m (linesOf t n))) (sym (add-one i));
+            e q (omega (arith, s .long)) ∙ ap₂ (λ (d : ℕ) (x : Line). noteInit q d x) (s .are q k) el ∙ sym (init-more q (linesOf false t n) i (omega (arith, lines-many false t n acc)))
+            ∙ ap (λ (m : ℕ). initOf q (take m (linesOf false t n))) (sym (add-one i));
       }
 
-  pub noting-ends : (i : ℕ) (ini : List ℕ) → n ≤ i → Noting (linesOf t n) n i ini → (q : ℕ) → q < 65 → getD ini q 0 ≡ initOf q (linesOf t n)
+  pub noting-ends : (i : ℕ) (ini : List ℕ) → n ≤ i → Noting (linesOf false t n) n i ini → (q : ℕ) → q < 65 → getD ini q 0 ≡ initOf q (linesOf false t n)
   noting-ends i ini h s q k =
-      let e : i ≡ length (linesOf t n) = omega (arith, s .most, lines-many false t n acc) in
-      s .are q k ∙ ap (initOf q) (ap (λ (m : ℕ). take m (linesOf t n)) e ∙ take-length (linesOf t n))
+      let e : i ≡ length (linesOf false t n) = omega (arith, s .most, lines-many false t n acc) in
+      s .are q k ∙ ap (initOf q) (ap (λ (m : ℕ). take m (linesOf false t n)) e ∙ take-length (linesOf false t n))

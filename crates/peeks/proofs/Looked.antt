@@ -11,7 +11,8 @@ use lib.Seq.{take-all, getD-set-same, getD-set-other}
 use Rattle.words.specs.Word.{Width, bit}
 use Rattle.tables.specs.declared.Ty.{Ty}
 use Rattle.tables.specs.declared.Checked.the-variants.{Accepted}
-use Rattle.tables.specs.Lines.{Line, Expr, lineOf, recordAt}
+use Rattle.tables.specs.Lines.{Line, Expr, lineOf}
+use Rattle.tables.specs.Layout.{recordAt, linesOf}
 use Rattle.tables.specs.Types.{tyAt, given, sortAt}
 use Rattle.tables.specs.Tables.{checked}
 use Rattle.tables.proofs.Facts.{IsWord, IsArray, Ok, OkExpr}
@@ -22,7 +23,6 @@ use Rattle.circuits.specs.Cells.{choose, say, same, lows, part}
 use Rattle.circuits.specs.Layout.{Place, Layout, typeAt, placeAt, size, typeOf, placeOf, noLayout, lay, layout}
 use Rattle.circuits.specs.Meaning.{opWord, cellsE, Acc, cellsAt, wordAt, widthAt, cellsOf, step}
 use Rattle.circuits.specs.Run.{rowOf, start}
-use Rattle.circuits.specs.Answers.{linesOf}
 use Rattle.peeks.specs.Peek.{stepZero}
 use Rattle.circuits.specs.Model.{posIn, widIn, FitWord, Shown}
 use Rattle.peeks.specs.Looks.{initOf, Laid, Looks}
@@ -163,36 +163,36 @@ more-cells zero z = absurd (z refl)
 more-cells (suc x) z = omega arith
 
 -- what is known of a line by its number
-pub shown : {t : List ℕ} {n : ℕ} {P : List (List ℕ)} {S R : List ℕ} → Laid t n P S R → (a : ℕ) → a ≤ n → Shown P a (typeAt (layout false (linesOf t n)) a) (placeAt (layout false (linesOf t n)) a)
+pub shown : {t : List ℕ} {n : ℕ} {P : List (List ℕ)} {S R : List ℕ} → Laid t n P S R → (a : ℕ) → a ≤ n → Shown P a (typeAt (layout false (linesOf false t n)) a) (placeAt (layout false (linesOf false t n)) a)
 shown {t} {n} l a h = let long = all-sound false t n (l .accepted) .long in let many = lines-here false t n (l .accepted) in l .shows a (omega arith)
 
 -- ---- step 0 of an accepted circuit
 
 module _ {t : List ℕ} {n : ℕ} {P : List (List ℕ)} {ini S R : List ℕ} (lk : Looks t n P ini S R) where
   abbrev C : List Line
-  C = linesOf t n
+  C = linesOf false t n
 
   abbrev Z : Layout
-  Z = layout false (linesOf t n)
+  Z = layout false (linesOf false t n)
 
   abbrev ι : List ℕ
-  ι = take (rowOf false (linesOf t n)) R
+  ι = take (rowOf false (linesOf false t n)) R
 
   abbrev σ : List ℕ
-  σ = step false true (linesOf t n) S (take (rowOf false (linesOf t n)) R) .sts
+  σ = step false true (linesOf false t n) S (take (rowOf false (linesOf false t n)) R) .sts
 
   abbrev A : Acc
-  A = step false false (linesOf t n) σ ι
+  A = step false false (linesOf false t n) σ ι
 
   accepted : checked false t n ≡ Accepted
   accepted = lk .laid .accepted
 
-  zero-is : stepZero (linesOf t n) S R ≡ A
+  zero-is : stepZero (linesOf false t n) S R ≡ A
   unfolding stepZero start
   zero-is = refl
 
   row-is : ι ≡ R
-  row-is = take-all (rowOf false (linesOf t n)) R (omega (arith, lk .laid .row))
+  row-is = take-all (rowOf false (linesOf false t n)) R (omega (arith, lk .laid .row))
 
   many : length σ ≡ Z .counts .states
   many =
@@ -216,11 +216,11 @@ module _ {t : List ℕ} {n : ℕ} {P : List (List ℕ)} {ini S R : List ℕ} (lk
   small : (a : ℕ) → 2 ≤ typeAt Z a .cls → (j : ℕ) → getD (cellsAt A a) j 0 < 2 ^ (typeAt Z a .w)
   small a q j = subst (λ (y : Ty). getD (cellsAt A a) j 0 < 2 ^ (y .w)) (type-A a) (cells-small H room a (subst (λ (y : Ty). 2 ≤ y .cls) (sym (type-A a)) q) j)
 
-  no-line : typeAt (layout false (linesOf t n)) 0 .cls ≡ 0
+  no-line : typeAt (layout false (linesOf false t n)) 0 .cls ≡ 0
   unfolding layout
-  no-line = ap (λ (y : Ty). y .cls) (later false noLayout (linesOf t n) .type 0 (omega arith))
+  no-line = ap (λ (y : Ty). y .cls) (later false noLayout (linesOf false t n) .type 0 (omega arith))
 
-  from-one : (a : ℕ) → 1 ≤ typeAt (layout false (linesOf t n)) a .cls → 1 ≤ a
+  from-one : (a : ℕ) → 1 ≤ typeAt (layout false (linesOf false t n)) a .cls → 1 ≤ a
   from-one zero q = absurd (omega (arith, no-line))
   from-one (suc a) q = omega arith
 
@@ -238,10 +238,10 @@ module _ {t : List ℕ} {n : ℕ} {P : List (List ℕ)} {ini S R : List ℕ} (lk
 
   module _ (i : ℕ) (h : i < n) where
     abbrev B : Acc
-    B = accAt false false σ ι (linesOf t n) i
+    B = accAt false false σ ι (linesOf false t n) i
 
     abbrev l : Line
-    l = getD (linesOf t n) i Line.junk
+    l = getD (linesOf false t n) i Line.junk
 
     known : Facts false (laidOf Z) (B .lay) l (Z .counts .cells) (length σ) (Z .counts .inputs) (Z .counts .signals)
     known = facts-of t n accepted σ many false ι i h
@@ -264,7 +264,7 @@ module _ {t : List ℕ} {n : ℕ} {P : List (List ℕ)} {ini S R : List ℕ} (lk
         next .type a (omega (arith, more-types false (B .lay) l)) ∙ type-old false (B .lay) l (held .held .sound .long) a (λ e. omega arith)
 
     arg-cells : (a : ℕ) → 1 ≤ typeAt (B .lay) a .cls → cellsAt A a ≡ cellsAt B a
-    arg-cells a q = cells-first false false (linesOf t n) σ ι i a (omega (arith, lines-many false t n accepted)) (omega (arith, arg-below a q))
+    arg-cells a q = cells-first false false (linesOf false t n) σ ι i a (omega (arith, lines-many false t n accepted)) (omega (arith, arg-below a q))
 
     arg-word : (a : ℕ) → 1 ≤ typeAt (B .lay) a .cls → wordAt A a ≡ wordAt B a
     arg-word a q = ap (λ (x : List ℕ). getD x 0 0) (arg-cells a q)
@@ -282,7 +282,7 @@ module _ {t : List ℕ} {n : ℕ} {P : List (List ℕ)} {ini S R : List ℕ} (lk
     operand-of a q = record { value = subst (λ (y : Ty). 2 ≤ y .cls) (sym (arg-type a (omega arith))) q; below = arg-below a (omega arith) }
 
     own-cells : cellsAt A (suc i) ≡ cellsOf false false σ ι B l
-    own-cells = cells-here false false (linesOf t n) σ ι i (omega (arith, lines-many false t n accepted))
+    own-cells = cells-here false false (linesOf false t n) σ ι i (omega (arith, lines-many false t n accepted))
 
     own-type : typeAt Z (suc i) ≡ typeOf false (B .lay) l
     own-type =
@@ -421,12 +421,12 @@ module _ {t : List ℕ} {n : ℕ} {P : List (List ℕ)} {ini S R : List ℕ} (lk
 
     module _ (s : ℕ) (el : l ≡ Line.state s) (c : ℕ) (hc : c < size (typeAt Z (suc i))) where
       abbrev E : Layout
-      E = accAt false true S ι (linesOf t n) i .lay
+      E = accAt false true S ι (linesOf false t n) i .lay
 
       abbrev own : Ty
-      own = typeOf false (accAt false true S ι (linesOf t n) i .lay) (Line.state s)
+      own = typeOf false (accAt false true S ι (linesOf false t n) i .lay) (Line.state s)
 
-      begins : Begun S (step false true (linesOf t n) S ι) (suc i) (E .counts .states) (size own) (own .w) (initOf (suc i) (linesOf t n))
+      begins : Begun S (step false true (linesOf false t n) S ι) (suc i) (E .counts .states) (size own) (own .w) (initOf (suc i) (linesOf false t n))
       begins = begun t n accepted S ι (lk .laid .starts) i h s el
 
       same-lay : B .lay ≡ E
@@ -444,30 +444,30 @@ module _ {t : List ℕ} {n : ℕ} {P : List (List ℕ)} {ini S R : List ℕ} (lk
       hm : c < size own
       hm = subst (λ (y : Ty). c < size y) state-type hc
 
-      state-cells : cellsAt A (suc i) ≡ lows (own .w) (startOf S (E .counts .states) (size own) (own .w) (initOf (suc i) (linesOf t n)) (wordAt (step false true (linesOf t n) S ι) (initOf (suc i) (linesOf t n))))
+      state-cells : cellsAt A (suc i) ≡ lows (own .w) (startOf S (E .counts .states) (size own) (own .w) (initOf (suc i) (linesOf false t n)) (wordAt (step false true (linesOf false t n) S ι) (initOf (suc i) (linesOf false t n))))
       state-cells =
           own-cells ∙ ap (cellsOf false false σ ι B) el
           ∙ ap (λ (Y : Layout). lows (typeOf false Y (Line.state s) .w) (part σ (Y .counts .states) (size (typeOf false Y (Line.state s))))) same-lay ∙ ap (lows (own .w)) (begins .words)
 
-      state-at : getD (cellsAt A (suc i)) c 0 ≡ getD (startOf S (E .counts .states) (size own) (own .w) (initOf (suc i) (linesOf t n)) (wordAt (step false true (linesOf t n) S ι) (initOf (suc i) (linesOf t n)))) c 0 % 2 ^ (own .w)
-      state-at = ap (λ (y : List ℕ). getD y c 0) state-cells ∙ getD-lows (own .w) (startOf S (E .counts .states) (size own) (own .w) (initOf (suc i) (linesOf t n)) (wordAt (step false true (linesOf t n) S ι) (initOf (suc i) (linesOf t n)))) c
+      state-at : getD (cellsAt A (suc i)) c 0 ≡ getD (startOf S (E .counts .states) (size own) (own .w) (initOf (suc i) (linesOf false t n)) (wordAt (step false true (linesOf false t n) S ι) (initOf (suc i) (linesOf false t n)))) c 0 % 2 ^ (own .w)
+      state-at = ap (λ (y : List ℕ). getD y c 0) state-cells ∙ getD-lows (own .w) (startOf S (E .counts .states) (size own) (own .w) (initOf (suc i) (linesOf false t n)) (wordAt (step false true (linesOf false t n) S ι) (initOf (suc i) (linesOf false t n)))) c
 
-      some : (initOf (suc i) (linesOf t n) ≡ 0 → ⊥) → FactInit A Z P ini S R (suc i) c (initOf (suc i) (linesOf t n))
+      some : (initOf (suc i) (linesOf false t n) ≡ 0 → ⊥) → FactInit A Z P ini S R (suc i) c (initOf (suc i) (linesOf false t n))
       some z =
           let k = begins .settled in
           let lz = lay-whole t n accepted S (lk .laid .starts) true ι in
-          let d : ℕ = initOf (suc i) (linesOf t n) in
-          let td : typeAt (step false true (linesOf t n) S ι .lay) d ≡ typeAt Z d = ap (λ (Y : Layout). typeAt Y d) lz in
+          let d : ℕ = initOf (suc i) (linesOf false t n) in
+          let td : typeAt (step false true (linesOf false t n) S ι .lay) d ≡ typeAt Z d = ap (λ (Y : Layout). typeAt Y d) lz in
           let cls : typeAt Z d .cls ≡ 2 = sym (ap (λ (y : Ty). y .cls) td) ∙ k .fixed z in
           let wd : typeAt Z d .w ≡ own .w = sym (ap (λ (y : Ty). y .w) td) ∙ k .same z in
-          let xe : wordAt (step false true (linesOf t n) S ι) d ≡ wordAt A d = ap (λ (y : List ℕ). getD y 0 0) (fixed-alike false true false S σ ι ι (linesOf t n) d cls) in
+          let xe : wordAt (step false true (linesOf false t n) S ι) d ≡ wordAt A d = ap (λ (y : List ℕ). getD y 0 0) (fixed-alike false true false S σ ι ι (linesOf false t n) d cls) in
           record {
             arg = record { word = record { is = omega arith; flat = sym (ap (λ (y : Ty). y .iw) td) ∙ k .flat z }; below = k .below };
             is = sym (state-at ∙ ap (λ (y : List ℕ). getD y c 0 % 2 ^ (own .w)) (yes-choose d _ _ z) ∙ ap (λ (m : ℕ). m % 2 ^ (own .w)) (getD-replicate (size own) c _ 0 hm ∙ xe)
                 ∙ mod-eq-of-lt (subst (λ (m : ℕ). wordAt A d < 2 ^ m) wd (small d (omega arith) 0)));
           }
 
-      none : initOf (suc i) (linesOf t n) ≡ 0 → FactStart A Z P ini S R (suc i) c
+      none : initOf (suc i) (linesOf false t n) ≡ 0 → FactStart A Z P ini S R (suc i) c
       none z =
           let k = begins .settled in
           let lz = lay-whole t n accepted S (lk .laid .starts) true ι in
@@ -477,13 +477,13 @@ module _ {t : List ℕ} {n : ℕ} {P : List (List ℕ)} {ini S R : List ℕ} (lk
             inside = omega (arith, state-place, hm, lk .laid .starts);
             wide = width-of (suc i) (subst (λ (y : Ty). 2 ≤ y .cls) (sym state-type) (omega arith));
             is = ap₂ (λ (m v : ℕ). getD S (m + c) 0 % 2 ^ v) state-place state-wid
-                ∙ sym (state-at ∙ ap (λ (y : List ℕ). getD y c 0 % 2 ^ w) (no-choose (initOf (suc i) (linesOf t n)) _ _ z) ∙ ap (λ (m : ℕ). m % 2 ^ w) (getD-lows w (part S (E .counts .states) (size own)) c)
+                ∙ sym (state-at ∙ ap (λ (y : List ℕ). getD y c 0 % 2 ^ w) (no-choose (initOf (suc i) (linesOf false t n)) _ _ z) ∙ ap (λ (m : ℕ). m % 2 ^ w) (getD-lows w (part S (E .counts .states) (size own)) c)
                 ∙ mod-mod (getD (part S (E .counts .states) (size own)) c 0) (2 ^ w) ∙ ap (λ (m : ℕ). m % 2 ^ w) (laws.part-getD S (E .counts .states) (size own) c hm));
           }
 
       fact-state : FactState A Z P ini S R (suc i) c
       fact-state =
-          let e : getD ini (suc i) 0 ≡ initOf (suc i) (linesOf t n) = lk .inits (suc i) (omega arith) in
+          let e : getD ini (suc i) 0 ≡ initOf (suc i) (linesOf false t n) = lk .inits (suc i) (omega arith) in
           record {
             init = λ z. subst (FactInit A Z P ini S R (suc i) c) (sym e) (some (λ y. z (e ∙ y)));
             none = λ z. none (sym e ∙ z);
@@ -502,21 +502,21 @@ module _ {t : List ℕ} {n : ℕ} {P : List (List ℕ)} {ini S R : List ℕ} (lk
     fact-line (Line.output a) el ok q c hc = omega arith
     fact-line Line.junk el ok q c hc = omega arith
 
-    fact-here : (c : ℕ) → 2 ≤ typeAt Z (suc i) .cls → c < size (typeAt Z (suc i)) → Fact A Z P ini S R (suc i) c (lineOf (recordAt t i))
+    fact-here : (c : ℕ) → 2 ≤ typeAt Z (suc i) .cls → c < size (typeAt Z (suc i)) → Fact A Z P ini S R (suc i) c (lineOf (recordAt false t i))
     fact-here c q hc =
         subst (Fact A Z P ini S R (suc i) c) (line-here false t n accepted i h)
         (fact-line l refl (known .ok) (subst (λ (y : Ty). 2 ≤ y .cls) own-type q) c hc)
 
   -- what the record of the line m says of its cell c
-  pub facts : (m c : ℕ) → 2 ≤ typeAt Z m .cls → c < size (typeAt Z m) → Fact (stepZero (linesOf t n) S R) Z P ini S R m c (lineOf (recordAt t (m - 1)))
+  pub facts : (m c : ℕ) → 2 ≤ typeAt Z m .cls → c < size (typeAt Z m) → Fact (stepZero (linesOf false t n) S R) Z P ini S R m c (lineOf (recordAt false t (m - 1)))
   facts m c q hc =
       let b = number-of m (omega arith) in
       let i : ℕ = m - 1 in
       let e : suc i ≡ m = omega arith in
-      subst (λ (X : Acc). Fact X Z P ini S R m c (lineOf (recordAt t (m - 1)))) (sym zero-is)
-      (subst (λ (k : ℕ). Fact A Z P ini S R k c (lineOf (recordAt t (m - 1)))) e
+      subst (λ (X : Acc). Fact X Z P ini S R m c (lineOf (recordAt false t (m - 1)))) (sym zero-is)
+      (subst (λ (k : ℕ). Fact A Z P ini S R k c (lineOf (recordAt false t (m - 1)))) e
       (fact-here (m - 1) (omega arith) c (subst (λ (k : ℕ). 2 ≤ typeAt Z k .cls) (sym e) q) (subst (λ (k : ℕ). c < size (typeAt Z k)) (sym e) hc)))
 
   -- the number of cells of a value
-  pub cells-of : (a : ℕ) → 2 ≤ typeAt Z a .cls → length (cellsAt (stepZero (linesOf t n) S R) a) ≡ size (typeAt Z a)
+  pub cells-of : (a : ℕ) → 2 ≤ typeAt Z a .cls → length (cellsAt (stepZero (linesOf false t n) S R) a) ≡ size (typeAt Z a)
   cells-of a q = ap (λ (X : Acc). length (cellsAt X a)) zero-is ∙ length-of a q

@@ -10,7 +10,9 @@ use lib.Pow.{pow-pos}
 use lib.ListN.{length, drop, getD, set, length-set, drop-of-length-le}
 use lib.Seq.{getD-set-same, getD-set-other}
 use Rattle.tables.specs.declared.Checked.the-variants.{Accepted}
-use Rattle.tables.specs.Lines.{Shape, isBitvec, isArray, isConst, isInput, isState, isOutput, isOne, isTwo, isIte, isRead, isWrite, isJunk, isGive, isMark, isCmp, shapeOf, build, lineOf, kindIn, sortIn, firstIn, secondIn, thirdIn, recordAt, span}
+use Rattle.tables.specs.Lines.{Shape, isBitvec, isArray, isConst, isInput, isState, isOutput, isOne, isTwo, isIte, isRead, isWrite, isJunk, isGive, isMark, isCmp, shapeOf, build, lineOf, kindIn, sortIn, firstIn, secondIn, thirdIn}
+use Rattle.tables.specs.Layout.{held}
+use Rattle.tables.specs.Layout.{recordAt, linesOf}
 use Rattle.tables.specs.Tables.{checked}
 use Rattle.tables.proofs.Shapes.{KindOf, kind-of, line-as}
 use Rattle.tables.proofs.Showing.{by-place}
@@ -19,7 +21,6 @@ use Rattle.words.specs.Word.{Width}
 use Rattle.circuits.specs.Cells.{choose, same}
 use Rattle.circuits.specs.Layout.{Layout, typeAt, size, layout}
 use Rattle.circuits.specs.Meaning.{Acc, cellsAt, wordAt}
-use Rattle.circuits.specs.Answers.{linesOf}
 use Rattle.circuits.specs.Model.{numIn, posIn, widIn}
 use Rattle.peeks.specs.Peek.{stepZero}
 use Rattle.peeks.specs.Looks.{Looks, Found, WordLine, CellLine, StateLine, Pair}
@@ -64,14 +65,14 @@ pub record Chosen (A : Acc) (Z : Layout) (m c e : ℕ) : Type 0 where
 pub record Number (t : List ℕ) (n m : ℕ) : Type 0 where
   pub least : 1 ≤ m
   pub most : m ≤ 64
-  pub here : span (m - 1 + 1) ≤ length t
+  pub here : m - 1 < held false (length t)
 
 module _ {t : List ℕ} {n : ℕ} {P : List (List ℕ)} {ini S R : List ℕ} (lk : Looks t n P ini S R) where
   abbrev A : Acc
-  A = stepZero (linesOf t n) S R
+  A = stepZero (linesOf false t n) S R
 
   abbrev Z : Layout
-  Z = layout false (linesOf t n)
+  Z = layout false (linesOf false t n)
 
   accepted : checked false t n ≡ Accepted
   accepted = lk .laid .accepted
@@ -103,7 +104,7 @@ module _ {t : List ℕ} {n : ℕ} {P : List (List ℕ)} {ini S R : List ℕ} (lk
 
   -- ---- what a record says of its line, by its shape
 
-  module _ {r : List ℕ} (m c : ℕ) (q : 2 ≤ typeAt Z m .cls) (hc : c < size (typeAt Z m)) (er : r ≡ recordAt t (m - 1)) where
+  module _ {r : List ℕ} (m c : ℕ) (q : 2 ≤ typeAt Z m .cls) (hc : c < size (typeAt Z m)) (er : r ≡ recordAt false t (m - 1)) where
     pub fact : (X : Shape) → shapeOf (kindIn r) ≡ X → Fact A Z P ini S R m c (build X (kindIn r) (sortIn r) (firstIn r) (secondIn r) (thirdIn r))
     fact X e = subst (Fact A Z P ini S R m c) (ap lineOf (sym er) ∙ line-as r X e) (facts lk m c q hc)
 
@@ -220,7 +221,7 @@ module _ {t : List ℕ} {n : ℕ} {P : List (List ℕ)} {ini S R : List ℕ} (lk
   pub first-cell : (m : ℕ) → 0 < size (typeAt Z m)
   first-cell m = pow-pos (typeAt Z m .iw)
 
-  pub state-fact : {m c : ℕ} → StateLine t n m c → Fact A Z P ini S R m c (build isState (kindIn (recordAt t (m - 1))) (sortIn (recordAt t (m - 1))) (firstIn (recordAt t (m - 1))) (secondIn (recordAt t (m - 1))) (thirdIn (recordAt t (m - 1))))
+  pub state-fact : {m c : ℕ} → StateLine t n m c → Fact A Z P ini S R m c (build isState (kindIn (recordAt false t (m - 1))) (sortIn (recordAt false t (m - 1))) (firstIn (recordAt false t (m - 1))) (secondIn (recordAt false t (m - 1))) (thirdIn (recordAt false t (m - 1))))
   state-fact {m} {c} k = fact m c (k .value) (k .inside) refl isState (ap shapeOf (k .state))
 
   -- the line that an ite takes

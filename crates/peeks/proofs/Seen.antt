@@ -20,11 +20,12 @@ use Rattle.tables.proofs.Checking.{not-accepted, zeros-at}
 use Rattle.tables.proofs.Kept.{both}
 use Rattle.tables.proofs.Showing.{earlier}
 use Rattle.circuits.specs.declared.Totals.{Totals}
+use Rattle.peeks.specs.declared.Peeked.{Peeked}
 use Rattle.peeks.specs.declared.Peeked.the-variants.{Value, Refused as RefusedPeek}
 use Rattle.circuits.specs.Layout.{Counts, typeAt, size, layout}
 use Rattle.circuits.specs.Meaning.{Acc, cellsAt, wordAt}
-use Rattle.circuits.specs.Answers.{linesOf}
-use Rattle.peeks.specs.Peek.{stepZero, peekAt, hasCell, mayPeek, seenAs, peeked}
+use Rattle.tables.specs.Layout.{linesOf}
+use Rattle.peeks.specs.Peek.{stepZero, peekAt, hasCell, mayPeek, seenAs, peeked, toldPeek, peeks}
 use Rattle.circuits.specs.Model.{numIn, countsOf, totalsOf, Shows, Noted}
 use Rattle.peeks.specs.Looks.{initOf, Laid, Looks, Found, WordLine, CellLine, HasCell, lentPeek}
 use Rattle.circuits.proofs.Placing.{all-sound, lines-here, noted-types}
@@ -82,31 +83,31 @@ pub found-none : (A : Acc) → Found A (replicate 65 0) (replicate 65 0)
 found-none A = record { long = length-replicate {A = ℕ} 65 0; marks = length-replicate {A = ℕ} 65 0; are = λ a e. absurd (omega (arith, zeros-at 65 a)) }
 
 pub looks-all : {t : List ℕ} {n : ℕ} {P : List (List ℕ)} {ini S R : List ℕ} → Laid t n P S R → length ini ≡ length {A = ℕ} (replicate 65 0)
-    → ((q : ℕ) → q < 65 → getD ini q 0 ≡ initOf q (linesOf t n)) → Looks t n P ini S R
+    → ((q : ℕ) → q < 65 → getD ini q 0 ≡ initOf q (linesOf false t n)) → Looks t n P ini S R
 looks-all l e f = record { laid = l; many = e ∙ length-replicate {A = ℕ} 65 0; inits = λ q h. f q (omega (arith, l .few)) }
 
 module _ {t : List ℕ} {n : ℕ} {P : List (List ℕ)} {S R : List ℕ} (l : Laid t n P S R) (m k : ℕ) (h : HasCell t n m k) where
   few-enough : m ≤ n
-  few-enough = omega (arith, earlier (layout false (linesOf t n) .ctx .tys) m (omega (arith, h .value)), lines-here false t n (l .accepted))
+  few-enough = omega (arith, earlier (layout false (linesOf false t n) .ctx .tys) m (omega (arith, h .value)), lines-here false t n (l .accepted))
 
-  cells : numIn P m ≡ size (typeAt (layout false (linesOf t n)) m)
+  cells : numIn P m ≡ size (typeAt (layout false (linesOf false t n)) m)
   cells = shown l m few-enough .isNum
 
   pub word-here : numIn P m ≡ 1 → WordLine t n m
-  word-here e = record { value = h .value; flat = one-cell (typeAt (layout false (linesOf t n)) m .iw) (sym cells ∙ e) }
+  word-here e = record { value = h .value; flat = one-cell (typeAt (layout false (linesOf false t n)) m .iw) (sym cells ∙ e) }
 
-  pub word-seen : {r : ℕ} → numIn P m ≡ 1 → r ≡ wordAt (stepZero (linesOf t n) S R) m → r ≡ peekAt (linesOf t n) S R m k
+  pub word-seen : {r : ℕ} → numIn P m ≡ 1 → r ≡ wordAt (stepZero (linesOf false t n) S R) m → r ≡ peekAt (linesOf false t n) S R m k
   unfolding peekAt
   word-seen e er =
-      let one : size (typeAt (layout false (linesOf t n)) m) ≡ 1 = sym cells ∙ e in
+      let one : size (typeAt (layout false (linesOf false t n)) m) ≡ 1 = sym cells ∙ e in
       let z : 0 ≡ k = omega (arith, h .inside) in
-      er ∙ ap (λ (c : ℕ). getD (cellsAt (stepZero (linesOf t n) S R) m) c 0) z
+      er ∙ ap (λ (c : ℕ). getD (cellsAt (stepZero (linesOf false t n) S R) m) c 0) z
 
   pub cell-here : (numIn P m ≡ 1 → ⊥) → CellLine t n m k
   cell-here z =
-      record { array = record { value = h .value; deep = more-cells (typeAt (layout false (linesOf t n)) m .iw) (λ e. z (cells ∙ e)) }; inside = h .inside }
+      record { array = record { value = h .value; deep = more-cells (typeAt (layout false (linesOf false t n)) m .iw) (λ e. z (cells ∙ e)) }; inside = h .inside }
 
-  pub cell-seen : {r : ℕ} → r ≡ getD (cellsAt (stepZero (linesOf t n) S R) m) k 0 → r ≡ peekAt (linesOf t n) S R m k
+  pub cell-seen : {r : ℕ} → r ≡ getD (cellsAt (stepZero (linesOf false t n) S R) m) k 0 → r ≡ peekAt (linesOf false t n) S R m k
   unfolding peekAt
   cell-seen er = er
 
@@ -117,32 +118,32 @@ module _ {t : List ℕ} {n : ℕ} {P : List (List ℕ)} {S R : List ℕ} (l : La
 
 module _ {t : List ℕ} {n : ℕ} {xs : List (List ℕ)} (z : Noted false t n xs) (m : ℕ) where
   -- the note of the line peeked at has its type
-  pub type-is : {y : Ty} → y ≡ lookIn xs m → y ≡ typeAt (layout false (linesOf t n)) m
+  pub type-is : {y : Ty} → y ≡ lookIn xs m → y ≡ typeAt (layout false (linesOf false t n)) m
   type-is e = e ∙ noted-types false t n z m
 
   pub type-deep : {y : Ty} → y ≡ lookIn xs m → 2 ≤ y .cls → y .iw ≤ 8
   type-deep e q = let f = type-is e in omega (arith, ap (λ (u : Ty). u .iw) f, all-sound false t n (z .accepted) .wide m (omega (arith, ap (λ (u : Ty). u .cls) f)) .deep)
 
-  pub peek-laid : {P : List (List ℕ)} {S R : List ℕ} (k : ℕ) → Shows P (layout false (linesOf t n))
-      → mayPeek (layout false (linesOf t n) .counts) (typeAt (layout false (linesOf t n)) m) n k (length S) (length R) ≡ Accepted → Laid t n P S R × HasCell t n m k
+  pub peek-laid : {P : List (List ℕ)} {S R : List ℕ} (k : ℕ) → Shows P (layout false (linesOf false t n))
+      → mayPeek (layout false (linesOf false t n) .counts) (typeAt (layout false (linesOf false t n)) m) n k (length S) (length R) ≡ Accepted → Laid t n P S R × HasCell t n m k
   peek-laid {P} {S} {R} k sh e =
-      let f = may-facts (layout false (linesOf t n) .counts) (typeAt (layout false (linesOf t n)) m) n k (length S) (length R) e in (
+      let f = may-facts (layout false (linesOf false t n) .counts) (typeAt (layout false (linesOf false t n)) m) n k (length S) (length R) e in (
         record { accepted = z .accepted; few = f .few; shows = sh; starts = f .starts; row = f .row },
         record { value = f .value; inside = f .inside },
       )
 
 module _ (t : List ℕ) (n m k : ℕ) (S R : List ℕ) where
-  pub lent-refused : (r : Refusal) → mayPeek (layout false (linesOf t n) .counts) (typeAt (layout false (linesOf t n)) m) n k (length S) (length R) ≡ Refused r → RefusedPeek r ≡ lentPeek t n m k S R
-  lent-refused r e = sym (ap (λ (d : Checked). seenAs d (peekAt (linesOf t n) S R m k)) e)
+  pub lent-refused : (r : Refusal) → mayPeek (layout false (linesOf false t n) .counts) (typeAt (layout false (linesOf false t n)) m) n k (length S) (length R) ≡ Refused r → RefusedPeek r ≡ lentPeek t n m k S R
+  lent-refused r e = sym (ap (λ (d : Checked). seenAs d (peekAt (linesOf false t n) S R m k)) e)
 
-  pub lent-value : {v : ℕ} → mayPeek (layout false (linesOf t n) .counts) (typeAt (layout false (linesOf t n)) m) n k (length S) (length R) ≡ Accepted → v ≡ peekAt (linesOf t n) S R m k
+  pub lent-value : {v : ℕ} → mayPeek (layout false (linesOf false t n) .counts) (typeAt (layout false (linesOf false t n)) m) n k (length S) (length R) ≡ Accepted → v ≡ peekAt (linesOf false t n) S R m k
       → Value v ≡ lentPeek t n m k S R
-  lent-value e ev = ap Value ev ∙ sym (ap (λ (d : Checked). seenAs d (peekAt (linesOf t n) S R m k)) e)
+  lent-value e ev = ap Value ev ∙ sym (ap (λ (d : Checked). seenAs d (peekAt (linesOf false t n) S R m k)) e)
 
-  pub peek-refused : (r : Refusal) → checked false t n ≡ Refused r → RefusedPeek r ≡ peeked t n m k S R
-  unfolding peeked
-  peek-refused r e = rw e
+  pub peek-refused : {r : Refusal} → checked false t n ≡ Refused r → toldPeek (RefusedPeek r) ≡ peeks t n m k S R
+  unfolding peeks peeked
+  peek-refused e = rw e refl
 
-  pub peek-lent : checked false t n ≡ Accepted → lentPeek t n m k S R ≡ peeked t n m k S R
-  unfolding peeked
-  peek-lent e = rw e
+  pub peek-lent : {r : Peeked} → checked false t n ≡ Accepted → r ≡ lentPeek t n m k S R → toldPeek r ≡ peeks t n m k S R
+  unfolding peeks peeked
+  peek-lent e q = rw (e, q) refl

@@ -8,14 +8,14 @@ use native.Mathlib.Omega.{arith}
 use lib.ListN.{length, take, getD, List·getD-eq-default}
 use borrow.Author.Tests.{le-leb, lt-leb}
 use Rattle.tables.specs.declared.Checked.the-variants.{Accepted}
-use Rattle.tables.specs.Lines.{Line, Expr, Shape, isBitvec, isArray, isConst, isInput, isState, isOutput, isOne, isTwo, isIte, isRead, isWrite, isJunk, isGive, isMark, isCmp, shapeOf, build, lineOf, kindIn, sortIn, firstIn, secondIn, thirdIn, recordAt}
+use Rattle.tables.specs.Lines.{Line, Expr, Shape, isBitvec, isArray, isConst, isInput, isState, isOutput, isOne, isTwo, isIte, isRead, isWrite, isJunk, isGive, isMark, isCmp, shapeOf, build, lineOf, kindIn, sortIn, firstIn, secondIn, thirdIn}
+use Rattle.tables.specs.Layout.{recordAt, linesOf}
 use Rattle.tables.specs.Types.{isValue, noTy, tyAt, given}
 use Rattle.tables.specs.Tables.{checked}
 use Rattle.tables.proofs.Facts.{Ok}
 use Rattle.tables.proofs.Shapes.{KindOf, kind-of, line-as}
 use Rattle.tables.proofs.Values.{val-value}
 use Rattle.circuits.specs.Layout.{Layout, typeAt, typeOf, lay, noLayout, layAll, layout}
-use Rattle.circuits.specs.Answers.{linesOf}
 use Rattle.peeks.specs.Peek.{valueKind}
 use Rattle.circuits.proofs.Laid.{type-new, more-types, later}
 use Rattle.circuits.proofs.Walked.{line-here, ok-here, sound-at, number-at, later-at}
@@ -65,20 +65,20 @@ module _ (Y : Layout) (r : List ℕ) (ok : Ok false (tyAt (Y .ctx)) (given (Y .c
 
 module _ (t : List ℕ) (n : ℕ) (acc : checked false t n ≡ Accepted) where
   -- the line of the record at the place i
-  pub value-line : (i : ℕ) → i < n → isValue (typeAt (layout false (linesOf t n)) (suc i)) ≡ valueKind (kindIn (recordAt t i))
+  pub value-line : (i : ℕ) → i < n → isValue (typeAt (layout false (linesOf false t n)) (suc i)) ≡ valueKind (kindIn (recordAt false t i))
   value-line i h =
-      let Y = layAll false noLayout (take i (linesOf t n)) in
-      let l = getD (linesOf t n) i Line.junk in
+      let Y = layAll false noLayout (take i (linesOf false t n)) in
+      let l = getD (linesOf false t n) i Line.junk in
       let el = line-here false t n acc i h in
       let q : suc i ≡ length (Y .ctx .tys) = omega (arith, number-at false t n acc i (omega arith)) in
-      let ty : typeAt (layout false (linesOf t n)) (suc i) ≡ typeOf false Y l =
+      let ty : typeAt (layout false (linesOf false t n)) (suc i) ≡ typeOf false Y l =
       later-at false t n acc i h .type (suc i) (omega (arith, more-types false Y l)) ∙ ap (typeAt (lay false Y l)) q ∙ type-new false Y l (sound-at false t n acc i .long) in
-      ap isValue (ty ∙ ap (typeOf false Y) el) ∙ value-of Y (recordAt t i) (subst (Ok false (tyAt (Y .ctx)) (given (Y .ctx))) el (ok-here false t n acc i h))
+      ap isValue (ty ∙ ap (typeOf false Y) el) ∙ value-of Y (recordAt false t i) (subst (Ok false (tyAt (Y .ctx)) (given (Y .ctx))) el (ok-here false t n acc i h))
 
   -- line 0 and the lines past the count
-  pub no-value : isValue (typeAt (layout false (linesOf t n)) 0) ≡ false
+  pub no-value : isValue (typeAt (layout false (linesOf false t n)) 0) ≡ false
   unfolding layout
-  no-value = ap isValue (later false noLayout (linesOf t n) .type 0 (omega arith))
+  no-value = ap isValue (later false noLayout (linesOf false t n) .type 0 (omega arith))
 
-  pub past-value : (a : ℕ) → n < a → isValue (typeAt (layout false (linesOf t n)) a) ≡ false
-  past-value a h = ap isValue (List·getD-eq-default (layout false (linesOf t n) .ctx .tys) noTy {n = a} (omega (arith, lines-here false t n acc)))
+  pub past-value : (a : ℕ) → n < a → isValue (typeAt (layout false (linesOf false t n)) a) ≡ false
+  past-value a h = ap isValue (List·getD-eq-default (layout false (linesOf false t n) .ctx .tys) noTy {n = a} (omega (arith, lines-here false t n acc)))

@@ -15,7 +15,7 @@ use Rattle.tables.specs.Types.{noTy}
 use Rattle.tables.specs.Tables.{checked}
 use Rattle.circuits.specs.Layout.{Place, Layout, noPlace, typeAt, placeAt, size, layAll, noLayout, layout}
 use Rattle.circuits.specs.Meaning.{Acc, cellsAt, evalAll, noAcc, step}
-use Rattle.circuits.specs.Answers.{linesOf}
+use Rattle.tables.specs.Layout.{linesOf}
 use Rattle.circuits.specs.Model.{laidAs, laidIn, workIn, Ready}
 use Rattle.circuits.proofs.Puts as laws
 use Rattle.circuits.proofs.Held.{Held, cells-at}
@@ -46,9 +46,9 @@ pub record HeldBy (all : ℕ) (σ : List ℕ) (A : Acc) : Type 0 where
 
 module _ (t : List ℕ) (n : ℕ) (acc : checked false t n ≡ Accepted) where
   abbrev pub whole : Layout
-  whole = layout false (linesOf t n)
+  whole = layout false (linesOf false t n)
 
-  module _ (σ : List ℕ) (many : length σ ≡ layout false (linesOf t n) .counts .states) where
+  module _ (σ : List ℕ) (many : length σ ≡ layout false (linesOf false t n) .counts .states) where
     pub ready-whole : Ready false t n (laidOf whole) (whole .counts .cells) (length σ) (whole .counts .inputs) (whole .counts .signals)
     ready-whole =
         let long = all-sound false t n acc .long in
@@ -72,16 +72,16 @@ module _ (t : List ℕ) (n : ℕ) (acc : checked false t n ≡ Accepted) where
         }
 
     module _ (f : Bool) (ι : List ℕ) where
-      pub lay-is : (i : ℕ) → accAt false f σ ι (linesOf t n) i .lay ≡ layAll false noLayout (take i (linesOf t n))
-      lay-is i = acc-lay false f σ ι noAcc (take i (linesOf t n))
+      pub lay-is : (i : ℕ) → accAt false f σ ι (linesOf false t n) i .lay ≡ layAll false noLayout (take i (linesOf false t n))
+      lay-is i = acc-lay false f σ ι noAcc (take i (linesOf false t n))
 
       pub facts-of : (i : ℕ) → i < n
-          → Facts false (laidOf whole) (accAt false f σ ι (linesOf t n) i .lay) (getD (linesOf t n) i Line.junk) (whole .counts .cells) (length σ) (whole .counts .inputs) (whole .counts .signals)
+          → Facts false (laidOf whole) (accAt false f σ ι (linesOf false t n) i .lay) (getD (linesOf false t n) i Line.junk) (whole .counts .cells) (length σ) (whole .counts .inputs) (whole .counts .signals)
       facts-of i h =
-          subst (λ (Y : Layout). Facts false (laidOf whole) Y (getD (linesOf t n) i Line.junk) (whole .counts .cells) (length σ) (whole .counts .inputs) (whole .counts .signals))
+          subst (λ (Y : Layout). Facts false (laidOf whole) Y (getD (linesOf false t n) i Line.junk) (whole .counts .cells) (length σ) (whole .counts .inputs) (whole .counts .signals))
           (sym (lay-is i)) (facts-at ready-whole i h)
 
-      pub held-at : (i : ℕ) → i ≤ n → HeldBy (whole .counts .cells) σ (accAt false f σ ι (linesOf t n) i)
+      pub held-at : (i : ℕ) → i ≤ n → HeldBy (whole .counts .cells) σ (accAt false f σ ι (linesOf false t n) i)
       held-at zero h =
           let zeros : List ℕ = replicate (whole .counts .cells) 0 in
           let lz : length zeros ≡ whole .counts .cells = length-replicate (whole .counts .cells) 0 in
@@ -91,29 +91,29 @@ module _ (t : List ℕ) (n : ℕ) (acc : checked false t n ≡ Accepted) where
                 (replicate (whole .counts .signals) 0) (sym (drop-at zeros σ (whole .counts .cells) lz)) (length-append zeros σ ∙ ap (λ (m : ℕ). m + length σ) lz) (length-replicate (whole .counts .signals) 0) .held;
           }
       held-at (suc i) h =
-          let A = accAt false f σ ι (linesOf t n) i in
-          let l = getD (linesOf t n) i Line.junk in
+          let A = accAt false f σ ι (linesOf false t n) i in
+          let l = getD (linesOf false t n) i Line.junk in
           let H = held-at i (omega arith) in
           let k = facts-of i h in
           let w : List ℕ = workIn false f (laidOf whole) (whole .counts .cells) ι (H .work) (length (A .lay .ctx .tys)) l in
           record {
             work = w;
-            held = subst (λ (B : Acc). Held false (whole .counts .cells) σ w B) (sym (acc-suc false f σ ι (linesOf t n) i (omega (arith, lines-many false t n acc))))
+            held = subst (λ (B : Acc). Held false (whole .counts .cells) σ w B) (sym (acc-suc false f σ ι (linesOf false t n) i (omega (arith, lines-many false t n acc))))
                 (sim false f (laidOf whole) (whole .counts .cells) σ ι (H .work) A (H .held) l (k .ok) (k .shows) (k .cells) (k .states));
           }
 
       -- ---- all lines
 
-      pub all-lines : accAt false f σ ι (linesOf t n) n ≡ step false f (linesOf t n) σ ι
+      pub all-lines : accAt false f σ ι (linesOf false t n) n ≡ step false f (linesOf false t n) σ ι
       unfolding step
-      all-lines = ap (evalAll false f σ ι noAcc) (ap (λ (m : ℕ). take m (linesOf t n)) (sym (lines-many false t n acc)) ∙ take-length (linesOf t n))
+      all-lines = ap (evalAll false f σ ι noAcc) (ap (λ (m : ℕ). take m (linesOf false t n)) (sym (lines-many false t n acc)) ∙ take-length (linesOf false t n))
 
-      pub held-whole : HeldBy (whole .counts .cells) σ (step false f (linesOf t n) σ ι)
+      pub held-whole : HeldBy (whole .counts .cells) σ (step false f (linesOf false t n) σ ι)
       held-whole = subst (HeldBy (whole .counts .cells) σ) all-lines (held-at n (omega arith))
 
-      pub lay-whole : step false f (linesOf t n) σ ι .lay ≡ whole
+      pub lay-whole : step false f (linesOf false t n) σ ι .lay ≡ whole
       unfolding step layout
-      lay-whole = acc-lay false f σ ι noAcc (linesOf t n)
+      lay-whole = acc-lay false f σ ι noAcc (linesOf false t n)
 
 -- ---- the cells of a value
 

@@ -7,11 +7,11 @@ use mathlib.Core.List.{List, [], _∷_}
 use lib.Dec.{eqb}
 use lib.ListN.{length, getD}
 use Rattle.tables.specs.Pick.{pick}
-use Rattle.tables.specs.Lines.{Line, kindIn, recordAt}
+use Rattle.tables.specs.Lines.{Line, kindIn}
+use Rattle.tables.specs.Layout.{recordAt, linesOf}
 use Rattle.peeks.specs.declared.Peeked.{Peeked}
 use Rattle.circuits.specs.Layout.{typeAt, size, layout}
 use Rattle.circuits.specs.Meaning.{Acc, wordAt}
-use Rattle.circuits.specs.Answers.{linesOf}
 use Rattle.peeks.specs.Peek.{seenAs, mayPeek, peekAt}
 use Rattle.circuits.specs.Model.{Shows}
 use Rattle.tables.specs.declared.Checked.the-variants.{Accepted}
@@ -42,15 +42,15 @@ initOf q C = initAfter q 0 C
 pub record Laid (t : List ℕ) (n : ℕ) (P : List (List ℕ)) (S R : List ℕ) : Type 0 where
   pub accepted : checked false t n ≡ Accepted
   pub few : n ≤ 64
-  pub shows : Shows P (layout false (linesOf t n))
-  pub starts : length S ≡ layout false (linesOf t n) .counts .states
-  pub row : length R ≡ layout false (linesOf t n) .counts .inputs
+  pub shows : Shows P (layout false (linesOf false t n))
+  pub starts : length S ≡ layout false (linesOf false t n) .counts .states
+  pub row : length R ≡ layout false (linesOf false t n) .counts .inputs
 
 -- the same with the states' inits
 pub record Looks (t : List ℕ) (n : ℕ) (P : List (List ℕ)) (ini S R : List ℕ) : Type 0 where
   pub laid : Laid t n P S R
   pub many : length ini ≡ 65
-  pub inits : (q : ℕ) → q ≤ n → getD ini q 0 ≡ initOf q (linesOf t n)
+  pub inits : (q : ℕ) → q ≤ n → getD ini q 0 ≡ initOf q (linesOf false t n)
 
 -- the words found so far are those of the lines A
 pub record Found (A : Acc) (vals known : List ℕ) : Type 0 where
@@ -60,36 +60,36 @@ pub record Found (A : Acc) (vals known : List ℕ) : Type 0 where
 
 -- the line a is a word, and the line a is an array that has the cell c
 pub record WordLine (t : List ℕ) (n a : ℕ) : Type 0 where
-  pub value : 2 ≤ typeAt (layout false (linesOf t n)) a .cls
-  pub flat : typeAt (layout false (linesOf t n)) a .iw ≡ 0
+  pub value : 2 ≤ typeAt (layout false (linesOf false t n)) a .cls
+  pub flat : typeAt (layout false (linesOf false t n)) a .iw ≡ 0
 
 pub record ArrayLine (t : List ℕ) (n a : ℕ) : Type 0 where
-  pub value : 2 ≤ typeAt (layout false (linesOf t n)) a .cls
-  pub deep : 0 < typeAt (layout false (linesOf t n)) a .iw
+  pub value : 2 ≤ typeAt (layout false (linesOf false t n)) a .cls
+  pub deep : 0 < typeAt (layout false (linesOf false t n)) a .iw
 
 pub record CellLine (t : List ℕ) (n a c : ℕ) : Type 0 where
   pub array : ArrayLine t n a
-  pub inside : c < size (typeAt (layout false (linesOf t n)) a)
+  pub inside : c < size (typeAt (layout false (linesOf false t n)) a)
 
 -- the line a is a state that has the cell c
 pub record StateLine (t : List ℕ) (n a c : ℕ) : Type 0 where
-  pub value : 2 ≤ typeAt (layout false (linesOf t n)) a .cls
-  pub inside : c < size (typeAt (layout false (linesOf t n)) a)
-  pub state : kindIn (recordAt t (a - 1)) ≡ 5
+  pub value : 2 ≤ typeAt (layout false (linesOf false t n)) a .cls
+  pub inside : c < size (typeAt (layout false (linesOf false t n)) a)
+  pub state : kindIn (recordAt false t (a - 1)) ≡ 5
 
 -- the line a is a value that has the cell c
 pub record HasCell (t : List ℕ) (n a c : ℕ) : Type 0 where
-  pub value : 2 ≤ typeAt (layout false (linesOf t n)) a .cls
-  pub inside : c < size (typeAt (layout false (linesOf t n)) a)
+  pub value : 2 ≤ typeAt (layout false (linesOf false t n)) a .cls
+  pub inside : c < size (typeAt (layout false (linesOf false t n)) a)
 
 -- the lines a and b are values of one sort
 pub record Pair (t : List ℕ) (n a b : ℕ) : Type 0 where
-  pub left : 2 ≤ typeAt (layout false (linesOf t n)) a .cls
-  pub right : 2 ≤ typeAt (layout false (linesOf t n)) b .cls
-  pub sorts : typeAt (layout false (linesOf t n)) b .iw ≡ typeAt (layout false (linesOf t n)) a .iw
+  pub left : 2 ≤ typeAt (layout false (linesOf false t n)) a .cls
+  pub right : 2 ≤ typeAt (layout false (linesOf false t n)) b .cls
+  pub sorts : typeAt (layout false (linesOf false t n)) b .iw ≡ typeAt (layout false (linesOf false t n)) a .iw
 
 -- ---- a peek at an accepted table
 
 abbrev pub lentPeek : (t : List ℕ) (n line cell : ℕ) (S R : List ℕ) → Peeked
 lentPeek t n line cell S R =
-    seenAs (mayPeek (layout false (linesOf t n) .counts) (typeAt (layout false (linesOf t n)) line) n cell (length S) (length R)) (peekAt (linesOf t n) S R line cell)
+    seenAs (mayPeek (layout false (linesOf false t n) .counts) (typeAt (layout false (linesOf false t n)) line) n cell (length S) (length R)) (peekAt (linesOf false t n) S R line cell)

@@ -2,7 +2,7 @@
 use Prim.Native.Nat.{ℕ, suc}
 use mathlib.Core.Path.{_≡_, refl, ap}
 use mathlib.Core.Bool.{Bool, true, false, _&&_, _||_}
-use mathlib.Core.List.{List, _∷_}
+use mathlib.Core.List.{List, [], _∷_}
 use lib.Dec.{leb, ltb, eqb}
 use native.Mathlib.Nat.{le-refl}
 use lib.ListN.{length, take, drop, getD}
@@ -15,12 +15,15 @@ use Rattle.tables.specs.Pick.{pick, inside}
 use Rattle.tables.specs.Lines.{Line}
 use Rattle.tables.specs.Types.{isValue}
 use Rattle.tables.specs.Tables.{checked}
+use Rattle.tables.specs.Refusals.{numberOf}
+use Rattle.tables.specs.Answers.{Outcome, outcome}
 use Rattle.peeks.specs.declared.Peeked.{Peeked}
 use Rattle.peeks.specs.declared.Peeked.the-variants.{Value, Refused as RefusedPeek}
 use Rattle.circuits.specs.Layout.{Counts, typeAt, size, layout}
 use Rattle.circuits.specs.Meaning.{Acc, cellsAt, step}
 use Rattle.circuits.specs.Run.{rowOf, start, steps, run}
-use Rattle.circuits.specs.Answers.{linesOf, andThen}
+use Rattle.tables.specs.Layout.{linesOf}
+use Rattle.circuits.specs.Answers.{andThen}
 
 -- all lines at step 0 of a run: from the start words S and the init values, on the first row of I
 unfoldable pub stepZero : List Line → (S I : List ℕ) → Acc
@@ -64,5 +67,14 @@ seenAs (Refused r) v = RefusedPeek r
 -- what peek answers for the table t with its count n
 unfoldable pub peeked : (t : List ℕ) (n line cell : ℕ) (S R : List ℕ) → Peeked
 peeked t n line cell S R =
-    seenAs (andThen (checked false t n) (mayPeek (layout false (linesOf t n) .counts) (typeAt (layout false (linesOf t n)) line) n cell (length S) (length R)))
-    (peekAt (linesOf t n) S R line cell)
+    seenAs (andThen (checked false t n) (mayPeek (layout false (linesOf false t n) .counts) (typeAt (layout false (linesOf false t n)) line) n cell (length S) (length R)))
+    (peekAt (linesOf false t n) S R line cell)
+
+-- the request's number and values for what peek answers: the value
+abbrev pub toldPeek : Peeked → Outcome
+toldPeek (Value v) = outcome 0 v 0 0 []
+toldPeek (RefusedPeek r) = outcome (numberOf r) 0 0 0 []
+
+-- the outcome of a peek
+unfoldable pub peeks : (t : List ℕ) (n line cell : ℕ) (S R : List ℕ) → Outcome
+peeks t n line cell S R = toldPeek (peeked t n line cell S R)

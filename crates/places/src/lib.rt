@@ -14,7 +14,7 @@ ghost use lib.ListN.{length, set, take};
 ghost use Rattle.circuits.specs.Layout.{size, countOf, layout};
 ghost use Rattle.tables.specs.Lines.{lineOf};
 ghost use Rattle.circuits.specs.Model.{countsOf, totalsOf, Small, placeBy, laidAs, Shows, Noted, markOf, marks};
-ghost use Rattle.circuits.specs.Answers.{linesOf};
+ghost use Rattle.tables.specs.Layout.{linesOf};
 ghost use Rattle.tables.specs.Tables.{checked};
 
 // The cells of a line of the type y.
@@ -115,7 +115,8 @@ pub fn lay_out(
     laid: &mut [[u32; LAID]],
 ) -> Totals
     requires { ⌜ Noted program (now table) count (now notes) × (length (now laid) ≡ 16385) ⌝ }
-    ensures { λ r. ⌜ Shows (now (laid .exit)) (layout program (linesOf (now (table .entry)) count)) × (r ≡ totalsOf (layout program (linesOf (now (table .entry)) count) .counts)) ⌝ }
+    ensures { λ r. ⌜ Shows (now (laid .exit)) (layout program (linesOf program (now (table .entry)) count))
+        × (r ≡ totalsOf (layout program (linesOf program (now (table .entry)) count) .counts)) ⌝ }
 {
     let none = Spot { off: 0, at: 0 };
     put_line(laid, 0, none, 1, 0);
@@ -125,9 +126,10 @@ pub fn lay_out(
         inputs: 0,
         signals: 0,
     };
+    let h = records::step(program, table.len());
     let mut i: usize = 0;
     while i < count {
-        let rec = records::record(table, i);
+        let rec = records::record(program, table, h, i);
         let y = notes::look(notes, (i + 1) as u64);
         let m = cells_of(y);
         let s = find_spot(rec, t);
@@ -157,12 +159,13 @@ fn note_mark(rec: [u64; WORDS], g: usize, bad: &mut [u8]) -> usize
 // The classes of all signals, in line order.
 pub fn classes(program: bool, table: &[u64], count: usize, bad: &mut [u8])
     requires { ⌜ (checked program (now table) count ≡ Checked.Accepted) × (length (now bad) ≡ 16385) ⌝ }
-    ensures { λ _. ⌜ take (length (marks (linesOf (now (table .entry)) count))) (now (bad .exit)) ≡ marks (linesOf (now (table .entry)) count) ⌝ }
+    ensures { λ _. ⌜ take (length (marks (linesOf program (now (table .entry)) count))) (now (bad .exit)) ≡ marks (linesOf program (now (table .entry)) count) ⌝ }
 {
+    let h = records::step(program, table.len());
     let mut i: usize = 0;
     let mut g: usize = 0;
     while i < count {
-        let rec = records::record(table, i);
+        let rec = records::record(program, table, h, i);
         g = note_mark(rec, g, bad);
         i += 1;
     }

@@ -3,7 +3,7 @@ use Prim.Native.Nat.{ℕ, _+_, _≤_}
 use mathlib.Core.Path.{_≡_, refl, sym, _∙_, subst}
 use mathlib.Core.Logic.{inl, inr}
 use mathlib.Core.Bool.{Bool, true, false, not}
-use mathlib.Core.List.{List, [], _∷_, _++_}
+use mathlib.Core.List.{List, [], _∷_, _++_, map}
 use native.Mathlib.Nat.{le-refl}
 use native.Mathlib.Omega.{arith}
 use lib.Dec.{eqb}
@@ -12,12 +12,13 @@ use borrow.Author.Tests.{eq-eqb}
 use Rattle.tables.specs.declared.Ty.{Ty}
 use Rattle.tables.specs.declared.Checked.the-variants.{Accepted}
 use Rattle.tables.specs.Kinds.{rowOf}
-use Rattle.tables.specs.Lines.{Line, Expr, bitvec, array, input, state, val, give, mark, output, junk, const, one, two, cmp, ite, read, write, encode}
+use Rattle.tables.specs.Lines.{Line, Expr, bitvec, array, input, state, val, give, mark, output, junk, const, one, two, cmp, ite, read, write, wordsOf}
+use Rattle.tables.specs.Layout.{whole, held, filled}
 use Rattle.tables.specs.Types.{sortAt, tyAt, given, givenBy, Ctx, grow, growAll, noCtx}
-use Rattle.tables.specs.Tables.{whole, checked}
+use Rattle.tables.specs.Tables.{checked}
 use Rattle.tables.proofs.Kept.{no-yes}
 use Rattle.tables.proofs.Facts.{OkOne, OkValue, OkExpr, Ok, AllOk}
-use Rattle.tables.proofs.Encoding.{encoded-accepted}
+use Rattle.tables.proofs.Encoding.{lines-accepted}
 use Rattle.circuits.specs.Layout.{Layout, typeAt, typeOf, placeOf, lay, layAll}
 use Rattle.circuits.proofs.Placing.{lay-ctx}
 use Rattle.programs.specs.Uses.{looseLine, looseExpr, needed}
@@ -151,7 +152,7 @@ pub translated-ok : (F : List Line) → AllOk false noCtx F → hasArray F ≡ f
 unfolding translate
 translated-ok F k f = all-ok (needed F) 1 F laid-start once-start refl k f
 
--- so neither 1 nor 20 holds of its records with their count, whatever lies past them
-pub program-accepted : (F : List Line) (rest : List ℕ) → AllOk false noCtx F → hasArray F ≡ false → length (translate F) ≤ 16384 → whole (length (encode (translate F) ++ rest)) ≡ true
-    → checked true (encode (translate F) ++ rest) (length (translate F)) ≡ Accepted
-program-accepted F rest k f few w = encoded-accepted true (translate F) rest (translated-ok F k f) few w
+-- so neither 1 nor 20 holds of a list that holds its records, with their count
+pub program-accepted : (F : List Line) (len : ℕ) → AllOk false noCtx F → hasArray F ≡ false → length (translate F) ≤ held true len → length (translate F) ≤ 16384 → whole true len ≡ true
+    → checked true (filled true len (map wordsOf (translate F))) (length (translate F)) ≡ Accepted
+program-accepted F len k f fits few w = lines-accepted true (translate F) len fits (translated-ok F k f) few w

@@ -1,78 +1,88 @@
--- The answers of translating, test by test. Assumes nothing.
+-- The outcome of translating, test by test. Assumes nothing.
 use Prim.Native.Nat.{ℕ, _≤_, _<_}
 use mathlib.Core.Path.{_≡_, sym, ap, ap₂, _∙_}
 use mathlib.Core.Bool.{Bool, true, false, _&&_}
-use mathlib.Core.List.{List}
-use native.Mathlib.Omega.{arith}
-use lib.ListN.{length, replicate, length-replicate}
+use mathlib.Core.List.{List, [], _∷_}
+use lib.ListN.{length, replicate}
 use borrow.Author.Tests.{le-leb, lt-leb}
-use Rattle.tables.specs.Lines.{span}
 use Rattle.tables.specs.declared.Refusal.{Refusal}
 use Rattle.tables.specs.declared.Refusal.the-variants.{NotATable, TargetTooSmall, ArrayPresent}
 use Rattle.tables.specs.declared.Checked.{Checked}
-use Rattle.tables.specs.declared.Checked.the-variants.{Accepted, Refused}
+use Rattle.tables.specs.declared.Checked.the-variants.{Accepted, Refused as NotAccepted}
+use Rattle.tables.specs.declared.Answer.{Answer}
+use Rattle.tables.specs.declared.Answer.the-variants.{Done, Refused}
 use Rattle.tables.specs.Pick.{pick}
-use Rattle.tables.specs.Tables.{whole, room, checked}
-use Rattle.circuits.specs.Answers.{linesOf}
-use Rattle.programs.specs.declared.Translated.{Translated}
-use Rattle.programs.specs.declared.Translated.the-variants.{Done, Refused as RefusedTranslation}
+use Rattle.tables.specs.Layout.{whole, room, linesOf}
+use Rattle.tables.specs.Tables.{checked}
+use Rattle.tables.specs.Answers.{Outcome, told}
+use Rattle.tables.proofs.Outcomes.{told-as}
 use Rattle.programs.specs.Translation.{hasArray}
-use Rattle.programs.specs.Answers.{programOf, fitting, flatOnly, answerOf, translated, leftOf, targetLeft}
+use Rattle.programs.specs.Answers.{programOf, fitting, flatOnly, answerOf, translated, targetLeft, translates}
+use Rattle.programs.specs.Records.{programIn, outcomeFor, makes}
+use Rattle.programs.proofs.Keeping.{zeros-count}
 
--- the target's words where the answer is known
-left-is : (t : List ℕ) (n len : ℕ) (x : Translated) → x ≡ translated t n len → leftOf x len (programOf t n) ≡ targetLeft t n len
-unfolding targetLeft
-left-is t n len x e = ap (λ (y : Translated). leftOf y len (programOf t n)) e
+-- zeros, by their own number
+pub zeros-self : {target : List ℕ} (len : ℕ) → target ≡ replicate len 0 → target ≡ replicate (length target) 0
+zeros-self len e = e ∙ ap (λ (k : ℕ). replicate k 0) (sym (zeros-count len e))
 
--- a list of zeros has their number
-pub zeros-count : {target : List ℕ} (len : ℕ) → target ≡ replicate len 0 → length target ≡ len
-zeros-count len e = ap length e ∙ length-replicate {A = ℕ} len 0
+-- a refusal leaves zeros
+zeros-left : (r : Refusal) (t : List ℕ) (n len : ℕ) {target : List ℕ} → target ≡ replicate len 0 → told (Refused r 0) (target ∷ []) ≡ outcomeFor (Refused r 0) t n len
+zeros-left r t n len z = ap (λ (x : List ℕ). told (Refused r 0) (x ∷ [])) z
 
--- an answer, and zeros after a refusal
+-- ---- the tests in their order, where the target is zero
+
 module _ (t : List ℕ) (n len : ℕ) {target : List ℕ} (z : target ≡ replicate len 0) where
-  refused : (r : Refusal) → RefusedTranslation r ≡ translated t n len → (RefusedTranslation r ≡ translated t n len) × (target ≡ targetLeft t n len)
-  refused r e = (e, z ∙ left-is t n len (RefusedTranslation r) e)
+  outcome-is : (a : Answer) → translated t n len ≡ a → outcomeFor a t n len ≡ translates t n len
+  unfolding translates targetLeft
+  outcome-is a e = ap (λ (y : Answer). outcomeFor y t n len) (sym e)
 
-  abbrev rest : Checked → Translated
-  rest c = answerOf c (flatOnly (hasArray (linesOf t n)) (fitting (length (programOf t n)) len))
+  refused : (r : Refusal) → translated t n len ≡ Refused r 0 → told (Refused r 0) (target ∷ []) ≡ translates t n len
+  refused r e = zeros-left r t n len z ∙ outcome-is (Refused r 0) e
 
-  pub no-table : whole (length t) ≡ false → (RefusedTranslation NotATable ≡ translated t n len) × (target ≡ targetLeft t n len)
+  abbrev rest : Checked → Answer
+  rest c = answerOf c (flatOnly (hasArray (linesOf false t n)) (fitting (length (programOf t n)) len))
+
+  abbrev both : Bool → Bool → Answer
+  both b d = pick (b && d) (rest (checked false t n)) (Refused NotATable 0)
+
+  pub no-table : whole false (length t) ≡ false → told (Refused NotATable 0) (target ∷ []) ≡ translates t n len
   unfolding translated
-  no-table e = refused NotATable (sym (ap (λ (b : Bool). pick (b && whole len) (rest (checked false t n)) (RefusedTranslation NotATable)) e))
+  no-table e = refused NotATable (ap (λ (b : Bool). both b (whole true len)) e)
 
-  pub no-target : whole (length t) ≡ true → whole (length target) ≡ false → (RefusedTranslation NotATable ≡ translated t n len) × (target ≡ targetLeft t n len)
+  target-whole : {d : Bool} → whole true (length target) ≡ d → whole true len ≡ d
+  target-whole f = ap (whole true) (sym (zeros-count len z)) ∙ f
+
+  pub no-target : whole false (length t) ≡ true → whole true (length target) ≡ false → told (Refused NotATable 0) (target ∷ []) ≡ translates t n len
   unfolding translated
-  no-target e f = refused NotATable (sym (ap₂ (λ (b d : Bool). pick (b && d) (rest (checked false t n)) (RefusedTranslation NotATable)) e (ap whole (sym (zeros-count len z)) ∙ f)))
+  no-target e f = refused NotATable (ap₂ both e (target-whole f))
 
-  module _ (e : whole (length t) ≡ true) (f : whole (length target) ≡ true) where
+  module _ (e : whole false (length t) ≡ true) (f : whole true (length target) ≡ true) where
     checked-is : (c : Checked) → checked false t n ≡ c → translated t n len ≡ rest c
     unfolding translated
-    checked-is c q = ap₂ (λ (b d : Bool). pick (b && d) (rest (checked false t n)) (RefusedTranslation NotATable)) e (ap whole (sym (zeros-count len z)) ∙ f) ∙ ap rest q
+    checked-is c q = ap₂ both e (target-whole f) ∙ ap rest q
 
-    pub not-accepted : (r : Refusal) → checked false t n ≡ Refused r → (RefusedTranslation r ≡ translated t n len) × (target ≡ targetLeft t n len)
-    not-accepted r q = refused r (sym (checked-is (Refused r) q))
+    pub not-accepted : (r : Refusal) → checked false t n ≡ NotAccepted r → told (Refused r 0) (target ∷ []) ≡ translates t n len
+    not-accepted r q = refused r (checked-is (NotAccepted r) q)
 
-    pub array-there : checked false t n ≡ Accepted → hasArray (linesOf t n) ≡ true → (RefusedTranslation ArrayPresent ≡ translated t n len) × (target ≡ targetLeft t n len)
-    array-there q a = refused ArrayPresent (sym (checked-is Accepted q ∙ ap (λ (b : Bool). flatOnly b (fitting (length (programOf t n)) len)) a))
+    module _ (q : checked false t n ≡ Accepted) where
+      array-is : (b : Bool) → hasArray (linesOf false t n) ≡ b → translated t n len ≡ flatOnly b (fitting (length (programOf t n)) len)
+      array-is b a = checked-is Accepted q ∙ ap (λ (b : Bool). flatOnly b (fitting (length (programOf t n)) len)) a
 
-    pub made-is : checked false t n ≡ Accepted → hasArray (linesOf t n) ≡ false → {x : Translated} {left : List ℕ} → x ≡ fitting (length (programOf t n)) (length target)
-        → left ≡ leftOf x (length target) (programOf t n) → (x ≡ translated t n len) × (left ≡ targetLeft t n len)
-    made-is q a {x} ex el =
-        let l : length target ≡ len = zeros-count len z in
-        let p : x ≡ translated t n len = ex ∙ ap (fitting (length (programOf t n))) l ∙ sym (checked-is Accepted q ∙ ap (λ (b : Bool). flatOnly b (fitting (length (programOf t n)) len)) a) in
-        (p, el ∙ ap (λ (k : ℕ). leftOf x k (programOf t n)) l ∙ left-is t n len x p)
+      pub array-there : hasArray (linesOf false t n) ≡ true → told (Refused ArrayPresent 0) (target ∷ []) ≡ translates t n len
+      array-there a = refused ArrayPresent (array-is true a)
 
--- zeros, by their own length
-pub zeros-self : {target : List ℕ} (len : ℕ) → target ≡ replicate len 0 → target ≡ replicate (length target) 0
-zeros-self len e = e ∙ ap (λ (k : ℕ). replicate k 0) (sym (ap length e ∙ length-replicate {A = ℕ} len 0))
+      pub made-is : hasArray (linesOf false t n) ≡ false → {o : Outcome} → o ≡ makes t n (length target) → o ≡ translates t n len
+      made-is a eo = eo ∙ ap (makes t n) (zeros-count len z) ∙ outcome-is (fitting (length (programOf t n)) len) (array-is false a)
 
 -- ---- the room of the target
 
-pub too-small : (m len : ℕ) → room len < m → RefusedTranslation TargetTooSmall ≡ fitting m len
-too-small m len h = sym (ap (λ (b : Bool). pick b (Done m) (RefusedTranslation TargetTooSmall)) (lt-leb m (room len) h))
+module _ (t : List ℕ) (n len : ℕ) where
+  abbrev roomFor : Bool → Outcome
+  roomFor b = outcomeFor (pick b (Done (length (programOf t n))) (Refused TargetTooSmall 0)) t n len
 
-pub fits-target : (m len : ℕ) → m ≤ room len → Done m ≡ fitting m len
-fits-target m len h = sym (ap (λ (b : Bool). pick b (Done m) (RefusedTranslation TargetTooSmall)) (le-leb m (room len) h))
+  pub too-small : {target : List ℕ} → target ≡ replicate len 0 → room true len < length (programOf t n) → told (Refused TargetTooSmall 0) (target ∷ []) ≡ makes t n len
+  too-small z h = zeros-left TargetTooSmall t n len z ∙ sym (ap roomFor (lt-leb (length (programOf t n)) (room true len) h))
 
-pub room-words : (m len : ℕ) → m ≤ room len → span m ≤ len
-room-words m len h = omega arith
+  pub fits-target : {m : ℕ} {target : List ℕ} → m ≡ length (programOf t n) → length (programOf t n) ≤ room true len → target ≡ programIn t n len → told (Done m) (target ∷ []) ≡ makes t n len
+  fits-target em h et =
+      told-as (ap Done em) (ap (λ (x : List ℕ). x ∷ []) et) ∙ sym (ap roomFor (le-leb (length (programOf t n)) (room true len) h))

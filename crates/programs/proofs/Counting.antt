@@ -6,15 +6,15 @@ use mathlib.Core.List.{List, [], _∷_, _++_, append-assoc, append-nil}
 use native.Mathlib.Omega.{arith}
 use lib.ListN.{length, drop, replicate, length-append}
 use Rattle.tables.specs.declared.Checked.the-variants.{Accepted}
-use Rattle.tables.specs.Lines.{Line, wordsOf, kindIn, recordAt}
+use Rattle.tables.specs.Lines.{Line, wordsOf, kindIn}
+use Rattle.tables.specs.Layout.{recordAt, linesOf}
 use Rattle.tables.specs.Tables.{checked}
-use Rattle.circuits.specs.Answers.{linesOf}
 use Rattle.programs.specs.Uses.{needed}
 use Rattle.programs.specs.Translation.{Info, noInfo, widthOf, numberOf, made, translateFrom, translate}
 use Rattle.programs.specs.Answers.{programOf}
-use Rattle.programs.specs.Records.{numberAt, flagAt, emitted, Marked, Taken, Fresh}
+use Rattle.programs.specs.Records.{numberAt, flagAt, emitted, Taken, Fresh, Prepared}
 use Rattle.programs.proofs.Modelled.{Agrees, agrees}
-use Rattle.programs.proofs.Keeping.{Keeps, keeps-start, keeps-more, line-at, no-line, few-emitted}
+use Rattle.programs.proofs.Keeping.{Keeps, keeps-start, keeps-more, line-at, few-here, no-line, few-emitted}
 
 pub record Walk (z : ℕ) (t : List ℕ) (n i b : ℕ) (wd num lo : List ℕ) : Type 0 where
   pub J : List Info
@@ -27,7 +27,7 @@ pub record Walk (z : ℕ) (t : List ℕ) (n i b : ℕ) (wd num lo : List ℕ) : 
   -- the instructions so far
   pub out : List Line
   pub place : length out + 1 ≡ b
-  pub all : out ++ translateFrom (needed (linesOf t n)) J b (drop i (linesOf t n)) ≡ programOf t n
+  pub all : out ++ translateFrom (needed (linesOf false t n)) J b (drop i (linesOf false t n)) ≡ programOf t n
 
 start-lists : {n : ℕ} {wd num lo : List ℕ} → Fresh n wd num lo → Keeps (length wd) (noInfo ∷ []) wd num lo
 start-lists {n} {wd} {num} {lo} f =
@@ -47,11 +47,11 @@ start-out t n f = refl
 
 module _ {z : ℕ} {t : List ℕ} {n i b : ℕ} {wd num lo : List ℕ} (K : Walk z t n i b wd num lo) (e : checked false t n ≡ Accepted) where
   abbrev N : ℕ → Bool
-  N = needed (linesOf t n)
+  N = needed (linesOf false t n)
 
   -- the line at hand, as the code finds it
   module _ (l : i < n) (nd : Bool) (en : nd ≡ N (i + 1)) where
-    pub at-hand : Agrees (numberAt wd) (numberAt num) (flagAt lo) nd b (recordAt t i) (made N (K .J) b (line-at t n i e l .line))
+    pub at-hand : Agrees (numberAt wd) (numberAt num) (flagAt lo) nd b (recordAt false t i) (made N (K .J) b (line-at t n i e l .line))
     at-hand =
         let x = line-at t n i e l in
         let a = agrees N (K .J) b (K .keeps .none) (x .line) (x .kinded) in
@@ -63,18 +63,18 @@ module _ {z : ℕ} {t : List ℕ} {n i b : ℕ} {wd num lo : List ℕ} (K : Walk
         (subst⁻¹ (λ (L : ℕ → Bool). Agrees (widthOf (K .J)) (numberOf (K .J)) L (N (length (K .J))) b (wordsOf (x .line)) (made N (K .J) b (x .line))) (λ j a. K .keeps .loose a j) a))))
 
     -- the instructions ahead begin with the line's
-    pub ahead : translateFrom N (K .J) b (drop i (linesOf t n))
+    pub ahead : translateFrom N (K .J) b (drop i (linesOf false t n))
         ≡ made N (K .J) b (line-at t n i e l .line) .code
-        ++ translateFrom N (K .J ++ (made N (K .J) b (line-at t n i e l .line) .info ∷ [])) (b + length (made N (K .J) b (line-at t n i e l .line) .code)) (drop (i + 1) (linesOf t n))
+        ++ translateFrom N (K .J ++ (made N (K .J) b (line-at t n i e l .line) .info ∷ [])) (b + length (made N (K .J) b (line-at t n i e l .line) .code)) (drop (i + 1) (linesOf false t n))
     ahead = ap (translateFrom N (K .J) b) (line-at t n i e l .rest)
 
-    module _ {m : Bool} {wd₁ num₁ lo₁ : List ℕ} {r : List ℕ} (er : r ≡ recordAt t i) (T : Taken r (i + 1) nd b wd num lo wd₁ num₁ lo₁ m) where
-      taken : Taken (recordAt t i) (i + 1) nd b wd num lo wd₁ num₁ lo₁ m
+    module _ {m : Bool} {wd₁ num₁ lo₁ : List ℕ} {r : List ℕ} (er : r ≡ recordAt false t i) (T : Taken r (i + 1) nd b wd num lo wd₁ num₁ lo₁ m) where
+      taken : Taken (recordAt false t i) (i + 1) nd b wd num lo wd₁ num₁ lo₁ m
       taken = subst (λ (x : List ℕ). Taken x (i + 1) nd b wd num lo wd₁ num₁ lo₁ m) er T
 
       -- as many as the code counts
       pub count-is : length (made N (K .J) b (line-at t n i e l .line) .code) ≡ emitted (kindIn r) m
-      count-is = at-hand .count ∙ ap (emitted (kindIn (recordAt t i))) (sym (taken .mask)) ∙ ap (λ (x : List ℕ). emitted (kindIn x) m) (sym er)
+      count-is = at-hand .count ∙ ap (emitted (kindIn (recordAt false t i))) (sym (taken .mask)) ∙ ap (λ (x : List ℕ). emitted (kindIn x) m) (sym er)
 
       pub walk-more : Walk z t n (i + 1) (b + emitted (kindIn r) m) wd₁ num₁ lo₁
       walk-more =
@@ -90,7 +90,7 @@ module _ {z : ℕ} {t : List ℕ} {n i b : ℕ} {wd num lo : List ℕ} (K : Walk
             out = K .out ++ c .code;
             place = omega (arith, length-append (K .out) (c .code), K .place, count-is);
             all =
-                ap (λ (x : ℕ). (K .out ++ c .code) ++ translateFrom N (K .J ++ (c .info ∷ [])) (b + x) (drop (i + 1) (linesOf t n))) (sym count-is)
+                ap (λ (x : ℕ). (K .out ++ c .code) ++ translateFrom N (K .J ++ (c .info ∷ [])) (b + x) (drop (i + 1) (linesOf false t n))) (sym count-is)
                 ∙ append-assoc (K .out) (c .code) _
                 ∙ ap (λ (x : List Line). K .out ++ x) (sym ahead) ∙ K .all;
           }
@@ -99,13 +99,21 @@ module _ {z : ℕ} {t : List ℕ} {n i b : ℕ} {wd num lo : List ℕ} (K : Walk
       unfolding walk-more
       more-out = refl
 
-  -- past the last record
-  pub walk-out : n ≤ i → K .out ≡ programOf t n
-  walk-out l = sym (append-nil (K .out)) ∙ ap (λ (x : List Line). K .out ++ translateFrom N (K .J) b x) (sym (no-line t n i e l)) ∙ K .all
+  -- the numbers are small
+  pub small-here : i < n → b < 65536
+  small-here l = omega (arith, K .few, few-here t n i e l)
 
-  pub walk-end : n ≤ i → b ≡ length (programOf t n) + 1
-  walk-end l = sym (K .place) ∙ ap (λ (x : List Line). length x + 1) (walk-out l)
+  pub small-next : i < n → (k : ℕ) (m : Bool) → b + emitted k m < 65536
+  small-next l k m = omega (arith, K .few, few-here t n i e l, few-emitted k m)
 
--- the flag of a line number
-pub need-is : {F : List Line} {ms : List ℕ} → Marked F ms → (j : ℕ) → j < 16385 → {nd : Bool} → nd ≡ flagAt ms j → nd ≡ needed F j
-need-is M j h e = e ∙ M .at j h
+-- past the last record
+module _ {z : ℕ} {t : List ℕ} {n i b : ℕ} {wd num lo : List ℕ} (K : Walk z t n i b wd num lo) (l : n ≤ i) where
+  pub walk-out : K .out ≡ programOf t n
+  walk-out = sym (append-nil (K .out)) ∙ ap (λ (x : List Line). K .out ++ translateFrom (needed (linesOf false t n)) (K .J) b x) (sym (no-line t n i l)) ∙ K .all
+
+  pub walk-end : b ≡ length (programOf t n) + 1
+  walk-end = sym (K .place) ∙ ap (λ (x : List Line). length x + 1) walk-out
+
+-- the mark of the line at hand
+pub need-here : {t : List ℕ} {n : ℕ} {ms : List ℕ} → Prepared t n ms → (i : ℕ) → i < n → {nd : Bool} → nd ≡ flagAt ms (i + 1) → nd ≡ needed (linesOf false t n) (i + 1)
+need-here {t} {n} P i l e = e ∙ P .marked .at (i + 1) (omega (arith, few-here t n i (P .accepted) l))

@@ -8,7 +8,7 @@ use native.Mathlib.Omega.{arith}
 use lib.ListN.{length, getD}
 use lib.Pow.{pow-mono}
 use lib.Seq.{getD-at}
-use Rattle.words.specs.Loose.{atUse}
+use Rattle.words.specs.Model.Loose.{atUse}
 use Rattle.words.proofs.Stands.{Stands}
 use Rattle.tables.specs.declared.Ty.{Ty}
 use Rattle.tables.specs.Lines.{Line}

@@ -4,28 +4,28 @@ use mathlib.Core.Path.{_≡_, refl, sym, ap, ap₂, _∙_, subst, subst⁻¹}
 use mathlib.Core.Bool.{Bool, true, false}
 use mathlib.Core.List.{List, [], _∷_, _++_}
 use native.Mathlib.Omega.{arith}
-use lib.Dec.{eqb, ltb, leb}
-use borrow.Author.Tests.{ltb-true, ltb-false}
-use lib.ListN.{length, getD, set, drop, replicate, length-set, length-replicate, getD-replicate, List·getD-eq-default}
+use lib.Dec.{eqb, leb}
+use lib.ListN.{length, getD, set, drop, replicate, length-set, length-replicate}
 use lib.Seq.{getD-at, drop-cons, getD-set-same, getD-set-other}
 use Rattle.words.specs.Word.{bit}
 use Rattle.tables.specs.declared.Checked.the-variants.{Accepted}
 use Rattle.tables.specs.Pick.{pick}
-use Rattle.tables.specs.Lines.{Line, Expr, lineOf, wordsOf, records, recordAt, counted, kindIn, junk, bitvec, array, input, state, val, give, mark, output, const, one, two, cmp, ite, read, write}
+use Rattle.tables.specs.Lines.{Line, Expr, lineOf, wordsOf, kindIn, junk, bitvec, array, input, state, val, give, mark, output, const, one, two, cmp, ite, read, write}
+use Rattle.tables.specs.Layout.{held, recordAt, recordsOf, linesOf}
 use Rattle.tables.specs.Types.{Ctx, tyAt, given, grow, noCtx}
 use Rattle.tables.specs.Tables.{known, formed, keeps, lawful, checked}
 use Rattle.tables.proofs.Shapes.{range}
 use Rattle.tables.proofs.Kept.{both}
 use Rattle.tables.proofs.Formed.{words-back}
 use Rattle.tables.proofs.Showing.{by-place, snoc-other}
-use Rattle.tables.proofs.Counted.{length-records, record-at, length-record}
+use Rattle.tables.proofs.Places.{length-records, length-record, length-lines, record-at}
+use Rattle.tables.proofs.Checking.{zeros-at}
+use Rattle.tables.proofs.Encoding.{fits-table}
 use Rattle.tables.proofs.Facts.{Ok, OkExpr, AllOk}
 use Rattle.tables.proofs.Sound.{accepted-lawful, accepted-ok}
-use Rattle.tables.proofs.Encoding.{fits-table}
-use Rattle.circuits.specs.Answers.{linesOf}
-use Rattle.circuits.proofs.Walked.{lines-many, line-here}
+use Rattle.circuits.proofs.Walked.{line-here}
 use Rattle.programs.specs.Translation.{Info, noInfo, infoAt, widthOf, numberOf, looseOf}
-use Rattle.programs.specs.Records.{numberAt, flagAt, looseIn, widthIn, numberIn, emitted, Taken, Ample}
+use Rattle.programs.specs.Records.{numberAt, flagAt, looseIn, widthIn, numberIn, emitted, Taken, Ample, Fresh}
 use Rattle.programs.proofs.Modelled.{Kinded, KindedExpr, infoIn}
 
 -- ---- the lists
@@ -37,20 +37,12 @@ pub record Keeps (z : ℕ) (J : List Info) (wd num lo : List ℕ) : Type 0 where
   pub size : Ample z wd num lo
   pub none : widthOf J 0 ≡ 0
 
-pub zero-at : (n a : ℕ) → getD (replicate {A = ℕ} n 0) a 0 ≡ 0
-zero-at n a = go (ltb a n) refl
-  where
-    go : (t : Bool) → ltb a n ≡ t → getD (replicate {A = ℕ} n 0) a 0 ≡ 0
-    go true e = getD-replicate {A = ℕ} n a 0 0 (ltb-true a n e)
-    go false e = List·getD-eq-default (replicate {A = ℕ} n 0) 0 {n = a} (rw (length-replicate {A = ℕ} n 0) (ltb-false a n e))
+-- a list of zeros has their number
+pub zeros-count : {ys : List ℕ} (z : ℕ) → ys ≡ replicate z 0 → length ys ≡ z
+zeros-count z e = ap length e ∙ length-replicate {A = ℕ} z 0
 
--- a list of zeros, with an entry for each line number
 pub zeros-length : (xs ys : List ℕ) {z : ℕ} → ys ≡ replicate z 0 → length xs ≡ z → length xs ≡ length ys
-zeros-length xs ys {z} e l = l ∙ sym (ap length e ∙ length-replicate {A = ℕ} z 0)
-
--- a record's kind, where its table is accepted
-pub kind-of-record : (t : List ℕ) (i : ℕ) → kindIn (recordAt t i) ≤ 55 → {r : List ℕ} → r ≡ recordAt t i → kindIn r ≤ 55
-kind-of-record t i h e = subst⁻¹ (λ (x : List ℕ). kindIn x ≤ 55) e h
+zeros-length xs ys {z} e l = l ∙ sym (zeros-count z e)
 
 pub few-emitted : (k : ℕ) (m : Bool) → emitted k m ≤ 2
 few-emitted k m = go (leb k 2) m
@@ -63,9 +55,9 @@ few-emitted k m = go (leb k 2) m
 pub keeps-start : (z : ℕ) → Keeps z (noInfo ∷ []) (replicate z 0) (replicate z 0) (replicate z 0)
 keeps-start z =
     record {
-      width = λ a. zero-at z a ∙ sym (empty-width a);
-      number = λ a. zero-at z a ∙ sym (empty-number a);
-      loose = λ a. ap (λ (x : ℕ). eqb x 1) (zero-at z a) ∙ sym (empty-loose a);
+      width = λ a. zeros-at z a ∙ sym (empty-width a);
+      number = λ a. zeros-at z a ∙ sym (empty-number a);
+      loose = λ a. ap (λ (x : ℕ). eqb x 1) (zeros-at z a) ∙ sym (empty-loose a);
       size = record { of-wd = length-replicate {A = ℕ} z 0; of-num = length-replicate {A = ℕ} z 0; of-lo = length-replicate {A = ℕ} z 0 };
       none = refl;
     }
@@ -113,10 +105,10 @@ keeps-more {z} {J} {f} {r} {wd} {num} {lo} {n = n} {b} {nd} {m} k t e h l q =
 
 pub record LineAt (t : List ℕ) (n i : ℕ) : Type 0 where
   pub line : Line
-  pub rest : drop i (linesOf t n) ≡ line ∷ drop (i + 1) (linesOf t n)
-  pub words : wordsOf line ≡ recordAt t i
+  pub rest : drop i (linesOf false t n) ≡ line ∷ drop (i + 1) (linesOf false t n)
+  pub words : wordsOf line ≡ recordAt false t i
   pub kinded : Kinded line
-  pub kind : kindIn (recordAt t i) ≤ 55
+  pub kind : kindIn (recordAt false t i) ≤ 55
 
 formed-at : (p : Bool) (c : Ctx) (rs : List (List ℕ)) → lawful p c rs ≡ true → (i : ℕ) → i < length rs → formed p (getD rs i []) ≡ true
 formed-at p c [] h i l = absurd (omega arith)
@@ -150,26 +142,39 @@ kinded-at c (x ∷ ls) k (suc i) l = kinded-at (grow false c x) ls (k .1) i (ome
 
 pub line-at : (t : List ℕ) (n i : ℕ) → checked false t n ≡ Accepted → i < n → LineAt t n i
 line-at t n i e l =
-    let rs = records (counted t n) in
-    let f = fits-table false t n e in
-    let nr : length rs ≡ n = length-records n t (f .1) in
-    let li : i < length rs = omega arith in
-    let ra : getD rs i [] ≡ recordAt t i = record-at n t i (f .1) l in
-    let fo : formed false (recordAt t i) ≡ true = subst (λ (r : List ℕ). formed false r ≡ true) ra (formed-at false noCtx rs (accepted-lawful false t n e) i li) in
-    let x : getD (linesOf t n) i junk ≡ lineOf (recordAt t i) = line-here false t n e i l in
-    let many : i < length (linesOf t n) = omega (arith, lines-many false t n e) in
+    let rs = recordsOf false t n in
+    let li : i < length rs = omega (arith, length-records false t n) in
+    let ra : getD rs i [] ≡ recordAt false t i = record-at false t n i l in
+    let fo : formed false (recordAt false t i) ≡ true = subst (λ (r : List ℕ). formed false r ≡ true) ra (formed-at false noCtx rs (accepted-lawful false t n e) i li) in
+    let x : getD (linesOf false t n) i junk ≡ lineOf (recordAt false t i) = line-here false t n e i l in
+    let many : i < length (linesOf false t n) = omega (arith, length-lines false t n) in
     let s : suc i ≡ i + 1 = omega arith in
     record {
-      line = lineOf (recordAt t i);
-      rest = drop-cons (linesOf t n) i junk many ∙ ap₂ (λ (y : Line) (k : ℕ). y ∷ drop k (linesOf t n)) x s;
-      words = words-back false (recordAt t i) (length-record t i (omega (arith, f .1))) fo;
-      kinded = subst Kinded x (kinded-at noCtx (linesOf t n) (accepted-ok false t n e) i many);
-      kind = range 1 55 (kindIn (recordAt t i)) (both (known false (kindIn (recordAt t i))) _ fo .0) .1;
+      line = lineOf (recordAt false t i);
+      rest = drop-cons (linesOf false t n) i junk many ∙ ap₂ (λ (y : Line) (k : ℕ). y ∷ drop k (linesOf false t n)) x s;
+      words = words-back false (recordAt false t i) (length-record false t i) fo;
+      kinded = subst Kinded x (kinded-at noCtx (linesOf false t n) (accepted-ok false t n e) i many);
+      kind = range 1 55 (kindIn (recordAt false t i)) (both (known false (kindIn (recordAt false t i))) _ fo .0) .1;
     }
 
+-- its record is in the table, its number is at most 16,384, and its kind is a circuit's
+module _ (t : List ℕ) (n i : ℕ) (e : checked false t n ≡ Accepted) (l : i < n) where
+  pub held-here : i < held false (length t)
+  held-here = omega (arith, fits-table false t n e .1)
+
+  pub few-here : i < 16384
+  few-here = omega (arith, fits-table false t n e .0)
+
+  pub kind-here : {r : List ℕ} → r ≡ recordAt false t i → kindIn r ≤ 55
+  kind-here er = subst⁻¹ (λ (x : List ℕ). kindIn x ≤ 55) er (line-at t n i e l .kind)
+
+-- lists of zeros with an entry for each line number that a table can have
+pub fresh-many : (t : List ℕ) (n : ℕ) → checked false t n ≡ Accepted → Fresh n (replicate 16385 0) (replicate 16385 0) (replicate 16385 0)
+fresh-many t n e = record { wide = omega (arith, fits-table false t n e .0, length-replicate {A = ℕ} 16385 0); no-wd = refl; no-num = refl; no-lo = refl }
+
 -- past the last line
-pub no-line : (t : List ℕ) (n i : ℕ) → checked false t n ≡ Accepted → n ≤ i → drop i (linesOf t n) ≡ []
-no-line t n i e l = past (linesOf t n) i (omega (arith, lines-many false t n e))
+pub no-line : (t : List ℕ) (n i : ℕ) → n ≤ i → drop i (linesOf false t n) ≡ []
+no-line t n i l = past (linesOf false t n) i (omega (arith, length-lines false t n))
   where
     past : (ls : List Line) (i : ℕ) → length ls ≤ i → drop i ls ≡ []
     past [] zero h = refl

@@ -5,23 +5,24 @@ use mathlib.Core.Bool.{Bool, true, false, _&&_, _||_}
 use mathlib.Core.List.{List, [], _∷_, _++_}
 use native.Mathlib.Omega.{arith}
 use lib.Dec.{eqb}
-use lib.ListN.{length, getD, set, drop, replicate, length-set, length-replicate}
+use lib.ListN.{length, getD, set, drop, replicate, length-set}
 use lib.Seq.{getD-set-same, getD-set-other}
 use borrow.Author.Tests.{eq-eqb, ne-eqb}
 use Rattle.words.specs.Kinds.{needKind₁, needKind₂}
 use Rattle.tables.specs.declared.Checked.the-variants.{Accepted}
 use Rattle.tables.specs.Pick.{pick, among}
-use Rattle.tables.specs.Lines.{Line, kindIn, firstIn, secondIn, recordAt}
+use Rattle.tables.specs.Lines.{Line, kindIn, firstIn, secondIn}
+use Rattle.tables.specs.Layout.{recordAt, linesOf}
 use Rattle.tables.specs.Tables.{checked}
 use Rattle.tables.proofs.Laws.{or-true, or-false}
+use Rattle.tables.proofs.Checking.{zeros-at}
 use Rattle.tables.proofs.Showing.{by-place}
-use Rattle.circuits.specs.Answers.{linesOf}
 use Rattle.programs.specs.Uses.{when, needs, needed}
 use Rattle.programs.specs.Translation.{isArraySort, hasArray}
 use Rattle.programs.specs.Records.{secondLine, usesOf, markIf, marked, flagAt, Marked}
 use Rattle.programs.proofs.Reading.{need-row₁, need-row₂}
 use Rattle.programs.proofs.Modelled.{needs-words, array-words}
-use Rattle.programs.proofs.Keeping.{zero-at, line-at, no-line}
+use Rattle.programs.proofs.Keeping.{zeros-count, line-at, no-line}
 
 -- ---- one record
 
@@ -66,60 +67,60 @@ marked-law l r ms e k j h =
 pub record Marking (t : List ℕ) (n i : ℕ) (ms : List ℕ) : Type 0 where
   pub size : length ms ≡ 16385
   pub most : i ≤ n
-  pub at : (j : ℕ) → j < 16385 → (flagAt ms j || needed (drop i (linesOf t n)) j) ≡ needed (linesOf t n) j
+  pub at : (j : ℕ) → j < 16385 → (flagAt ms j || needed (drop i (linesOf false t n)) j) ≡ needed (linesOf false t n) j
 
 pub marking-start : (t : List ℕ) (n : ℕ) {ms : List ℕ} → ms ≡ replicate 16385 0 → Marking t n 0 ms
 marking-start t n e =
     record {
-      size = ap length e ∙ length-replicate {A = ℕ} 16385 0;
+      size = zeros-count 16385 e;
       most = omega arith;
-      at = λ j h. ap (λ (x : List ℕ). flagAt x j || needed (linesOf t n) j) e ∙ ap (λ (x : ℕ). eqb x 1 || needed (linesOf t n) j) (zero-at 16385 j);
+      at = λ j h. ap (λ (x : List ℕ). flagAt x j || needed (linesOf false t n) j) e ∙ ap (λ (x : ℕ). eqb x 1 || needed (linesOf false t n) j) (zeros-at 16385 j);
     }
 
 module _ {t : List ℕ} {n i : ℕ} {ms : List ℕ} (M : Marking t n i ms) (e : checked false t n ≡ Accepted) where
-  pub marking-more : {ms₁ : List ℕ} (r : List ℕ) → i < n → r ≡ recordAt t i → ms₁ ≡ marked r ms → Marking t n (i + 1) ms₁
+  pub marking-more : {ms₁ : List ℕ} (r : List ℕ) → i < n → r ≡ recordAt false t i → ms₁ ≡ marked r ms → Marking t n (i + 1) ms₁
   marking-more {ms₁} r l er q =
       let x = line-at t n i e l in
-      let w : needs (x .line) ≡ when (needKind₁ (kindIn (recordAt t i))) (firstIn (recordAt t i)) ++ when (needKind₂ (kindIn (recordAt t i)) && secondLine (kindIn (recordAt t i))) (secondIn (recordAt t i)) =
+      let w : needs (x .line) ≡ when (needKind₁ (kindIn (recordAt false t i))) (firstIn (recordAt false t i)) ++ when (needKind₂ (kindIn (recordAt false t i)) && secondLine (kindIn (recordAt false t i))) (secondIn (recordAt false t i)) =
       subst (λ (y : List ℕ). needs (x .line) ≡ when (needKind₁ (kindIn y)) (firstIn y) ++ when (needKind₂ (kindIn y) && secondLine (kindIn y)) (secondIn y)) (x .words) (needs-words (x .line) (x .kinded)) in
-      let p : ms₁ ≡ marked (recordAt t i) ms = q ∙ ap (λ (y : List ℕ). marked y ms) er in
-      let R = drop (i + 1) (linesOf t n) in
+      let p : ms₁ ≡ marked (recordAt false t i) ms = q ∙ ap (λ (y : List ℕ). marked y ms) er in
+      let R = drop (i + 1) (linesOf false t n) in
       record {
-        size = ap length p ∙ mark-length (getD (usesOf (kindIn (recordAt t i))) 1 0) (secondIn (recordAt t i)) (markIf (getD (usesOf (kindIn (recordAt t i))) 0 0) (firstIn (recordAt t i)) ms) ∙ mark-length (getD (usesOf (kindIn (recordAt t i))) 0 0) (firstIn (recordAt t i)) ms ∙ M .size;
+        size = ap length p ∙ mark-length (getD (usesOf (kindIn (recordAt false t i))) 1 0) (secondIn (recordAt false t i)) (markIf (getD (usesOf (kindIn (recordAt false t i))) 0 0) (firstIn (recordAt false t i)) ms) ∙ mark-length (getD (usesOf (kindIn (recordAt false t i))) 0 0) (firstIn (recordAt false t i)) ms ∙ M .size;
         most = omega arith;
         at = λ j h.
             ap (λ (y : List ℕ). flagAt y j || needed R j) p
-            ∙ ap (λ (b : Bool). b || needed R j) (marked-law (x .line) (recordAt t i) ms w (x .kind) j (omega (arith, M .size)))
+            ∙ ap (λ (b : Bool). b || needed R j) (marked-law (x .line) (recordAt false t i) ms w (x .kind) j (omega (arith, M .size)))
             ∙ or-assoc (flagAt ms j) (among j (needs (x .line))) (needed R j)
             ∙ sym (ap (λ (y : List Line). flagAt ms j || needed y j) (x .rest))
             ∙ M .at j h;
       }
 
-  pub marking-end : n ≤ i → Marked (linesOf t n) ms
-  marking-end l = record { size = M .size; at = λ j h. sym (or-false (flagAt ms j)) ∙ sym (ap (λ (y : List Line). flagAt ms j || needed y j) (no-line t n i e l)) ∙ M .at j h }
+pub marking-end : {t : List ℕ} {n i : ℕ} {ms : List ℕ} → Marking t n i ms → n ≤ i → Marked (linesOf false t n) ms
+marking-end {t} {n} {i} {ms} M l = record { size = M .size; at = λ j h. sym (or-false (flagAt ms j)) ∙ sym (ap (λ (y : List Line). flagAt ms j || needed y j) (no-line t n i l)) ∙ M .at j h }
 
 -- ---- an array sort among the lines
 
 -- none so far: the answer from the start is the answer from here
 pub record NoneYet (t : List ℕ) (n i : ℕ) : Type 0 where
   pub most : i ≤ n
-  pub at : hasArray (linesOf t n) ≡ hasArray (drop i (linesOf t n))
+  pub at : hasArray (linesOf false t n) ≡ hasArray (drop i (linesOf false t n))
 
 pub array-start : (t : List ℕ) (n : ℕ) → NoneYet t n 0
 array-start t n = record { most = omega arith; at = refl }
 
 module _ {t : List ℕ} {n i : ℕ} (Y : NoneYet t n i) (e : checked false t n ≡ Accepted) where
-  here : (l : i < n) → isArraySort (line-at t n i e l .line) ≡ eqb (kindIn (recordAt t i)) 2
+  here : (l : i < n) → isArraySort (line-at t n i e l .line) ≡ eqb (kindIn (recordAt false t i)) 2
   here l = array-words (line-at t n i e l .line) (line-at t n i e l .kinded) ∙ ap (λ (y : List ℕ). eqb (kindIn y) 2) (line-at t n i e l .words)
 
-  from-here : (l : i < n) → hasArray (linesOf t n) ≡ (eqb (kindIn (recordAt t i)) 2 || hasArray (drop (i + 1) (linesOf t n)))
-  from-here l = Y .at ∙ ap hasArray (line-at t n i e l .rest) ∙ ap (λ (b : Bool). b || hasArray (drop (i + 1) (linesOf t n))) (here l)
+  from-here : (l : i < n) → hasArray (linesOf false t n) ≡ (eqb (kindIn (recordAt false t i)) 2 || hasArray (drop (i + 1) (linesOf false t n)))
+  from-here l = Y .at ∙ ap hasArray (line-at t n i e l .rest) ∙ ap (λ (b : Bool). b || hasArray (drop (i + 1) (linesOf false t n))) (here l)
 
-  pub array-found : (r : List ℕ) → i < n → r ≡ recordAt t i → kindIn r ≡ 2 → true ≡ hasArray (linesOf t n)
-  array-found r l er k = sym (from-here l ∙ ap (λ (b : Bool). b || hasArray (drop (i + 1) (linesOf t n))) (eq-eqb (kindIn (recordAt t i)) 2 (ap kindIn (sym er) ∙ k)))
+  pub array-found : (r : List ℕ) → i < n → r ≡ recordAt false t i → kindIn r ≡ 2 → true ≡ hasArray (linesOf false t n)
+  array-found r l er k = sym (from-here l ∙ ap (λ (b : Bool). b || hasArray (drop (i + 1) (linesOf false t n))) (eq-eqb (kindIn (recordAt false t i)) 2 (ap kindIn (sym er) ∙ k)))
 
-  pub array-further : (r : List ℕ) → i < n → r ≡ recordAt t i → (kindIn r ≡ 2 → ⊥) → NoneYet t n (i + 1)
-  array-further r l er k = record { most = omega arith; at = from-here l ∙ ap (λ (b : Bool). b || hasArray (drop (i + 1) (linesOf t n))) (ne-eqb (kindIn (recordAt t i)) 2 (λ z. k (ap kindIn er ∙ z))) }
+  pub array-further : (r : List ℕ) → i < n → r ≡ recordAt false t i → (kindIn r ≡ 2 → ⊥) → NoneYet t n (i + 1)
+  array-further r l er k = record { most = omega arith; at = from-here l ∙ ap (λ (b : Bool). b || hasArray (drop (i + 1) (linesOf false t n))) (ne-eqb (kindIn (recordAt false t i)) 2 (λ z. k (ap kindIn er ∙ z))) }
 
-  pub array-none : n ≤ i → false ≡ hasArray (linesOf t n)
-  array-none l = sym (Y .at ∙ ap hasArray (no-line t n i e l))
+pub array-none : {t : List ℕ} {n i : ℕ} → NoneYet t n i → n ≤ i → false ≡ hasArray (linesOf false t n)
+array-none {t} {n} {i} Y l = sym (Y .at ∙ ap hasArray (no-line t n i l))

@@ -2,14 +2,14 @@
 use Prim.Native.Nat.{ℕ, suc, _≤_}
 use mathlib.Core.Path.{_≡_, refl, sym, ap, _∙_}
 use mathlib.Core.Bool.{Bool, true, false, not, _&&_}
-use mathlib.Core.List.{List, [], _∷_, _++_, append-nil}
+use mathlib.Core.List.{List, [], _∷_, _++_, map, append-nil}
 use native.Mathlib.Omega.{arith}
 use lib.Dec.{eqb, leb}
 use lib.ListN.{length}
 use borrow.Author.Tests.{le-leb, lt-leb, ne-eqb}
 use Rattle.words.specs.Kinds.{needKind₁, needKind₂}
 use Rattle.tables.specs.Pick.{pick, inside}
-use Rattle.tables.specs.Lines.{Line, Expr, bitvec, array, input, state, val, give, mark, output, junk, const, one, two, cmp, ite, read, write, fields, wordsOf, encode, kindIn, sortIn, firstIn, secondIn}
+use Rattle.tables.specs.Lines.{Line, Expr, bitvec, array, input, state, val, give, mark, output, junk, const, one, two, cmp, ite, read, write, fields, wordsOf, kindIn, sortIn, firstIn, secondIn}
 use Rattle.tables.proofs.Laws.{or-true, and-true}
 use Rattle.programs.specs.Uses.{looseLine, when, needs}
 use Rattle.programs.specs.Translation.{isArraySort, Info, info, widthOf, numberOf, looseOf, Made, put, made}
@@ -121,7 +121,7 @@ put-info b w i false n = refl
 put-info b w i true false = refl
 put-info b w i true true = refl
 
-put-code : (b w : ℕ) (i : Line) (lo n : Bool) → encode (put b w i lo n .code) ≡ wordsOf i ++ pick (lo && n) (maskWords w b) []
+put-code : (b w : ℕ) (i : Line) (lo n : Bool) → map wordsOf (put b w i lo n .code) ≡ wordsOf i ∷ pick (lo && n) (maskWords w b ∷ []) []
 put-code b w i false n = refl
 put-code b w i true false = refl
 put-code b w i true true = refl
@@ -138,16 +138,16 @@ module _ (W M : ℕ → ℕ) (L : ℕ → Bool) (nd : Bool) (b : ℕ) (r : List 
   abbrev pub infoIn : Info
   infoIn = info (widthIn W r) (numberIn (kindIn r) b maskIn) (looseIn W L r)
 
-  abbrev pub codeIn : List ℕ
-  codeIn = pick (leb (kindIn r) 2) [] (instruction W M r ++ pick maskIn (maskWords (W (sortIn r)) b) [])
+  abbrev pub codeIn : List (List ℕ)
+  codeIn = pick (leb (kindIn r) 2) [] (instruction W M r ∷ pick maskIn (maskWords (W (sortIn r)) b ∷ []) [])
 
   abbrev pub countIn : ℕ
   countIn = emitted (kindIn r) maskIn
 
--- the same information, words and number of instructions
+-- the same information, records and number of instructions
 pub record Agrees (W M : ℕ → ℕ) (L : ℕ → Bool) (nd : Bool) (b : ℕ) (r : List ℕ) (m : Made) : Type 0 where
   pub info : m .info ≡ infoIn W M L nd b r
-  pub code : encode (m .code) ≡ codeIn W M L nd b r
+  pub code : map wordsOf (m .code) ≡ codeIn W M L nd b r
   pub count : length (m .code) ≡ countIn W M L nd b r
 
 module _ (N : ℕ → Bool) (J : List Info) (b : ℕ) (zero-w : widthOf J 0 ≡ 0) where
@@ -173,7 +173,7 @@ module _ (N : ℕ → Bool) (J : List Info) (b : ℕ) (zero-w : widthOf J 0 ≡ 
       let u = W (sortIn (wordsOf l)) in
       record {
         info = put-info b u i lo nd ∙ sym (rw (v, w, e));
-        code = put-code b u i lo nd ∙ sym (rw (q, e) (ap (λ (x : List ℕ). x ++ pick (lo && nd) (maskWords u b) []) c));
+        code = put-code b u i lo nd ∙ sym (rw (q, e) (ap (λ (x : List ℕ). x ∷ pick (lo && nd) (maskWords u b ∷ []) []) c));
         count = put-count b u i lo nd ∙ sym (rw (q, e));
       }
 
@@ -183,7 +183,7 @@ module _ (N : ℕ → Bool) (J : List Info) (b : ℕ) (zero-w : widthOf J 0 ≡ 
   plain l i v w q e c =
       record {
         info = sym (rw (v, w, e));
-        code = sym (rw (q, e) (ap (λ (x : List ℕ). x ++ []) c));
+        code = sym (rw (q, e) (ap (λ (x : List ℕ). x ∷ []) c));
         count = sym (rw (q, e));
       }
 

@@ -7,9 +7,10 @@ use borrow.Author.Tests.{eqb-true}
 use Rattle.words.specs.Word.{Width}
 use Rattle.words.specs.Op.{opOf}
 use Rattle.words.specs.Circuit.{circ}
-use Rattle.words.specs.Program.{classOf, prog}
-use Rattle.words.specs.Widths.{Widths}
-use Rattle.words.specs.Loose.{loose, need₁, need₂, need₃, atUse}
+use Rattle.words.specs.Program.{prog}
+use Rattle.words.specs.Model.Classes.{classOf}
+use Rattle.words.specs.Model.Widths.{Widths}
+use Rattle.words.specs.Model.Loose.{loose, need₁, need₂, need₃, atUse}
 use Rattle.words.specs.Kinds.{looseKind}
 use Rattle.words.proofs.Stands.{Stands, exact, loosen}
 use Rattle.words.proofs.Agree.{agree-lines}

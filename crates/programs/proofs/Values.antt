@@ -9,8 +9,9 @@ use lib.Pow.{pow-pos, pow-mono}
 use Rattle.words.specs.Word.{Width, bit, choose as chooseWord}
 use Rattle.words.specs.Op.{opOf}
 use Rattle.words.specs.Circuit.{circ}
-use Rattle.words.specs.Program.{classOf, prog}
-use Rattle.words.specs.Loose.{need₁, need₂, need₃, atUse}
+use Rattle.words.specs.Program.{prog}
+use Rattle.words.specs.Model.Classes.{classOf}
+use Rattle.words.specs.Model.Loose.{need₁, need₂, need₃, atUse}
 use Rattle.words.specs.Kinds.{needKind₁, needKind₂}
 use Rattle.words.proofs.Stands.{Stands, itself}
 use Rattle.words.proofs.KindLaws.{need-kind₁, need-kind₂}

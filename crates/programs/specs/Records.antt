@@ -1,14 +1,20 @@
 -- The translation record by record, as the code does it: what is looked up of earlier lines, and what is kept of a line for later ones. Assumes nothing.
-use Prim.Native.Nat.{ℕ, suc, _-_, _<_}
+use Prim.Native.Nat.{ℕ, suc, _-_, _≤_, _<_}
 use mathlib.Core.Path.{_≡_}
 use mathlib.Core.Bool.{Bool, true, false, _&&_, _||_}
-use mathlib.Core.List.{List, [], _∷_}
+use mathlib.Core.List.{List, [], _∷_, map}
 use lib.Dec.{leb, eqb}
 use lib.ListN.{length, getD, set, replicate}
 use Rattle.words.specs.Word.{bit}
+use Rattle.tables.specs.declared.Answer.{Answer}
+use Rattle.tables.specs.declared.Checked.the-variants.{Accepted}
 use Rattle.tables.specs.Pick.{pick, inside}
-use Rattle.tables.specs.Lines.{Line, fields, kindIn, sortIn, firstIn, secondIn, thirdIn, recorded}
+use Rattle.tables.specs.Lines.{Line, fields, kindIn, sortIn, firstIn, secondIn, thirdIn, wordsOf}
+use Rattle.tables.specs.Layout.{held, linesOf, recorded, filled}
+use Rattle.tables.specs.Tables.{checked}
+use Rattle.tables.specs.Answers.{Outcome, told}
 use Rattle.programs.specs.Uses.{looseLine, needed}
+use Rattle.programs.specs.Answers.{programOf, fitting, leftOf}
 
 -- ---- by kind
 
@@ -115,4 +121,28 @@ pub record Fresh (n : ℕ) (wd num lo : List ℕ) : Type 0 where
 
 -- a target with the e instructions of a line in it: the instruction i, of width w, at the number b, and its mask
 abbrev pub written : (e : ℕ) (i : List ℕ) (w b : ℕ) → List ℕ → List ℕ
-written e i w b t = pick (eqb e 0) t (pick (eqb e 2) (recorded (recorded t (b - 1) i) b (maskWords w b)) (recorded t (b - 1) i))
+written e i w b t = pick (eqb e 0) t (pick (eqb e 2) (recorded true (recorded true t (b - 1) i) b (maskWords w b)) (recorded true t (b - 1) i))
+
+-- ---- a table with its marks, and a target
+
+-- the table is accepted, and the marks are those of its lines
+pub record Prepared (t : List ℕ) (n : ℕ) (ms : List ℕ) : Type 0 where
+  pub accepted : checked false t n ≡ Accepted
+  pub marked : Marked (linesOf false t n) ms
+
+-- and the target is zero and holds as many records as the program has
+pub record Ready (t : List ℕ) (n : ℕ) (ms target : List ℕ) : Type 0 where
+  pub prepared : Prepared t n ms
+  pub blank : target ≡ replicate (length target) 0
+  pub fits : length (programOf t n) ≤ held true (length target)
+
+-- a list of len words that holds the program
+abbrev pub programIn : (t : List ℕ) (n len : ℕ) → List ℕ
+programIn t n len = filled true len (map wordsOf (programOf t n))
+
+-- the outcome for an accepted flat circuit
+abbrev pub outcomeFor : Answer → (t : List ℕ) (n len : ℕ) → Outcome
+outcomeFor a t n len = told a (leftOf a len (programOf t n) ∷ [])
+
+abbrev pub makes : (t : List ℕ) (n len : ℕ) → Outcome
+makes t n len = outcomeFor (fitting (length (programOf t n)) len) t n len

@@ -2,22 +2,24 @@
 pub mod lines; // the lines of a text
 
 use records::notes::BYTES;
+use tables::Answer;
 use tables::Refusal;
-use texts::ReadOutcome;
 ghost use mathlib.Core.Path.{_≡_};
+ghost use mathlib.Core.List.{[], _∷_};
 ghost use lib.ListN.{length};
-ghost use Rattle.texts.specs.Reading.{readText, answerOf, tableOf};
+ghost use Rattle.tables.specs.Answers.{told};
+ghost use Rattle.texts.specs.Reading.{reads};
 
 // Reads a text into a table.
-pub fn read(text: &[u8], table: &mut [u64]) -> ReadOutcome
-    ensures { λ r. ⌜ (r ≡ answerOf (readText (length (now (table .entry))) (now (text .entry)))) × (now (table .exit) ≡ tableOf (length (now (table .entry))) (readText (length (now (table .entry))) (now (text .entry)))) ⌝ }
+pub fn read(text: &[u8], table: &mut [u64]) -> Answer
+    ensures { λ r. ⌜ told r (now (table .exit) ∷ []) ≡ reads (length (now (table .entry))) (now (text .entry)) ⌝ }
 {
     records::clear(table);
-    if !records::is_table(table.len()) {
-        return ReadOutcome::Refused(Refusal::NotATable, 0);
+    if !records::is_table(false, table.len()) {
+        return Answer::Refused(Refusal::NotATable, 0);
     }
     if 65536 < text.len() {
-        return ReadOutcome::Refused(Refusal::TextTooLong, 0);
+        return Answer::Refused(Refusal::TextTooLong, 0);
     }
     let mut notes = [[0u8; BYTES]; 16385];
     lines::read_lines(text, table, &mut notes)

@@ -1,21 +1,22 @@
 // The lines of a text, one after the other: 3, 4 and 5, then what stands behind the word.
 use forms::heads;
 use records::notes::BYTES;
+use tables::Answer;
 use tables::Refusal;
 use tables::WORDS;
-use texts::ReadOutcome;
 use texts::Readout;
 ghost use mathlib.Core.Path.{_≡_};
 ghost use mathlib.Core.Bool.{false};
-ghost use mathlib.Core.List.{[]};
+ghost use mathlib.Core.List.{[], _∷_};
 ghost use Prim.Native.Nat.{ℕ, _≤_, _+_, _<_};
 ghost use lib.ListN.{length, replicate};
 ghost use Rattle.tables.specs.Notes.{lookIn, givenIn, noted, Shows};
-ghost use Rattle.texts.specs.Split.{tokens as tokensIn, split};
-ghost use Rattle.texts.specs.Reading.{readLine, readLines, answerOf, tableOf};
+ghost use Rattle.texts.specs.Split.{tokens as tokensIn};
+ghost use Rattle.texts.specs.Reading.{readLine, linesRead, outcomeOf};
 ghost use Rattle.texts.specs.Stages.{asRead};
-ghost use Rattle.tables.specs.Lines.{kindIn, firstIn, recorded};
-ghost use Rattle.tables.specs.Tables.{room as roomOf};
+ghost use Rattle.tables.specs.Lines.{kindIn, firstIn};
+ghost use Rattle.tables.specs.Layout.{room as roomOf, recorded};
+ghost use Rattle.tables.specs.Answers.{told};
 ghost use Rattle.tables.specs.Types.{noCtx};
 
 // A line, after n records, with room for `room` of them.
@@ -48,20 +49,22 @@ pub fn read_line(l: &[u8], n: usize, room: usize, notes: &[[u8; BYTES]]) -> Read
 
 // The record of the line n + 1 goes to the table, and the line is noted.
 fn take(table: &mut [u64], n: usize, rec: [u64; WORDS], notes: &mut [[u8; BYTES]])
-    requires { ⌜ (n < roomOf (length (now table))) × (kindIn rec ≡ 1 → firstIn rec ≤ 64) ⌝ }
-    ensures { λ _. ⌜ (now (table .exit) ≡ recorded (now (table .entry)) n rec) × (now (notes .exit) ≡ noted false rec (n + 1) (now (notes .entry))) ⌝ }
+    requires { ⌜ (n < roomOf false (length (now table))) × (kindIn rec ≡ 1 → firstIn rec ≤ 64) ⌝ }
+    ensures { λ _. ⌜ (now (table .exit) ≡ recorded false (now (table .entry)) n rec)
+        × (now (notes .exit) ≡ noted false rec (n + 1) (now (notes .entry))) ⌝ }
 {
-    records::put(table, n, rec);
+    records::put(false, table, n, rec);
     let id = (n + 1) as u64;
     checks::note(false, rec, id, notes);
 }
 
 // The lines of a text, into a table of zeros.
-pub fn read_lines(text: &[u8], table: &mut [u64], notes: &mut [[u8; BYTES]]) -> ReadOutcome
+pub fn read_lines(text: &[u8], table: &mut [u64], notes: &mut [[u8; BYTES]]) -> Answer
     requires { ⌜ (length (now text) ≤ 65536) × ((now table ≡ replicate (length (now table)) 0) × ((length (now notes) ≡ 16385) × Shows (now notes) noCtx)) ⌝ }
-    ensures { λ r. ⌜ (r ≡ answerOf (readLines (roomOf (length (now (table .entry)))) 1 0 noCtx [] (split 10 (now (text .entry))))) × (now (table .exit) ≡ tableOf (length (now (table .entry))) (readLines (roomOf (length (now (table .entry)))) 1 0 noCtx [] (split 10 (now (text .entry))))) ⌝ }
+    ensures { λ r. ⌜ told r (now (table .exit) ∷ [])
+        ≡ outcomeOf (length (now (table .entry))) (linesRead (length (now (table .entry))) (now (text .entry))) ⌝ }
 {
-    let room = records::room_of(table.len());
+    let room = records::room_of(false, table.len());
     let mut i: usize = 0;
     let mut n: usize = 0;
     let mut line: usize = 1;
@@ -73,7 +76,7 @@ pub fn read_lines(text: &[u8], table: &mut [u64], notes: &mut [[u8; BYTES]]) -> 
         if r.what == 2 {
             let code = r.code;
             records::clear(table);
-            return ReadOutcome::Refused(code, line);
+            return Answer::Refused(code, line);
         }
         line += 1;
         if r.what == 0 {
@@ -83,5 +86,5 @@ pub fn read_lines(text: &[u8], table: &mut [u64], notes: &mut [[u8; BYTES]]) -> 
             continue;
         }
     }
-    ReadOutcome::Done(n)
+    Answer::Done(n)
 }

@@ -1,82 +1,92 @@
 // The kinds: one constant table of their words, operand counts and operand classes, which reader, checker and writer index by kind.
+pub mod letters; // the letters of the words
+
+use letters::*;
 ghost use mathlib.Core.Path.{_≡_};
 ghost use Prim.Native.Nat.{_≤_, _<_};
 ghost use Rattle.tables.specs.Kinds.{placeOf, rows, rowOf};
 
-// A row: the word's length, its letters, the class of the sort, the number of operands, their classes.
+// The class of a place says what may stand as a line's sort, or as an operand of it. NONE: the line has no such place.
+pub const NONE: u8 = 0;
+// a line that is a word
+pub const WORD: u8 = 1;
+// a line that is an array
+pub const ARRAY: u8 = 2;
+// a line that is a word or an array
+pub const VALUE: u8 = 3;
+// a state line
+pub const STATE: u8 = 4;
+// a sort line of words
+pub const WSORT: u8 = 5;
+// a sort line of arrays
+pub const ASORT: u8 = 6;
+// any sort line
+pub const SORT: u8 = 7;
+// no line, but a number that stays as it is written
+pub const NUM: u8 = 8;
+
+// A row: the word's length, its letters in ten places, the class of the sort, the number of operands, their classes in three places.
 pub const KINDS: [[u8; 16]; 55] = [
-    [6, 98, 105, 116, 118, 101, 99, 0, 0, 0, 0, 0, 1, 8, 0, 0],
-    [5, 97, 114, 114, 97, 121, 0, 0, 0, 0, 0, 0, 2, 5, 5, 0],
-    [6, 99, 111, 110, 115, 116, 100, 0, 0, 0, 0, 5, 1, 8, 0, 0],
-    [5, 105, 110, 112, 117, 116, 0, 0, 0, 0, 0, 5, 0, 0, 0, 0],
-    [5, 115, 116, 97, 116, 101, 0, 0, 0, 0, 0, 7, 0, 0, 0, 0],
-    [4, 105, 110, 105, 116, 0, 0, 0, 0, 0, 0, 7, 2, 4, 1, 0],
-    [4, 110, 101, 120, 116, 0, 0, 0, 0, 0, 0, 7, 2, 4, 3, 0],
-    [3, 98, 97, 100, 0, 0, 0, 0, 0, 0, 0, 0, 1, 1, 0, 0],
-    [
-        10,
-        99,
-        111,
-        110,
-        115,
-        116,
-        114,
-        97,
-        105,
-        110,
-        116,
-        0,
-        1,
-        1,
-        0,
-        0,
-    ],
-    [6, 111, 117, 116, 112, 117, 116, 0, 0, 0, 0, 0, 1, 1, 0, 0],
-    [3, 110, 111, 116, 0, 0, 0, 0, 0, 0, 0, 5, 1, 1, 0, 0],
-    [3, 110, 101, 103, 0, 0, 0, 0, 0, 0, 0, 5, 1, 1, 0, 0],
-    [3, 105, 110, 99, 0, 0, 0, 0, 0, 0, 0, 5, 1, 1, 0, 0],
-    [3, 100, 101, 99, 0, 0, 0, 0, 0, 0, 0, 5, 1, 1, 0, 0],
-    [6, 114, 101, 100, 97, 110, 100, 0, 0, 0, 0, 5, 1, 1, 0, 0],
-    [5, 114, 101, 100, 111, 114, 0, 0, 0, 0, 0, 5, 1, 1, 0, 0],
-    [6, 114, 101, 100, 120, 111, 114, 0, 0, 0, 0, 5, 1, 1, 0, 0],
-    [5, 115, 108, 105, 99, 101, 0, 0, 0, 0, 0, 5, 3, 1, 8, 8],
-    [4, 117, 101, 120, 116, 0, 0, 0, 0, 0, 0, 5, 2, 1, 8, 0],
-    [4, 115, 101, 120, 116, 0, 0, 0, 0, 0, 0, 5, 2, 1, 8, 0],
-    [2, 101, 113, 0, 0, 0, 0, 0, 0, 0, 0, 5, 2, 3, 3, 0],
-    [3, 110, 101, 113, 0, 0, 0, 0, 0, 0, 0, 5, 2, 3, 3, 0],
-    [3, 117, 108, 116, 0, 0, 0, 0, 0, 0, 0, 5, 2, 1, 1, 0],
-    [4, 117, 108, 116, 101, 0, 0, 0, 0, 0, 0, 5, 2, 1, 1, 0],
-    [3, 117, 103, 116, 0, 0, 0, 0, 0, 0, 0, 5, 2, 1, 1, 0],
-    [4, 117, 103, 116, 101, 0, 0, 0, 0, 0, 0, 5, 2, 1, 1, 0],
-    [3, 115, 108, 116, 0, 0, 0, 0, 0, 0, 0, 5, 2, 1, 1, 0],
-    [4, 115, 108, 116, 101, 0, 0, 0, 0, 0, 0, 5, 2, 1, 1, 0],
-    [3, 115, 103, 116, 0, 0, 0, 0, 0, 0, 0, 5, 2, 1, 1, 0],
-    [4, 115, 103, 116, 101, 0, 0, 0, 0, 0, 0, 5, 2, 1, 1, 0],
-    [3, 105, 102, 102, 0, 0, 0, 0, 0, 0, 0, 5, 2, 1, 1, 0],
-    [7, 105, 109, 112, 108, 105, 101, 115, 0, 0, 0, 5, 2, 1, 1, 0],
-    [3, 97, 110, 100, 0, 0, 0, 0, 0, 0, 0, 5, 2, 1, 1, 0],
-    [2, 111, 114, 0, 0, 0, 0, 0, 0, 0, 0, 5, 2, 1, 1, 0],
-    [3, 120, 111, 114, 0, 0, 0, 0, 0, 0, 0, 5, 2, 1, 1, 0],
-    [4, 110, 97, 110, 100, 0, 0, 0, 0, 0, 0, 5, 2, 1, 1, 0],
-    [3, 110, 111, 114, 0, 0, 0, 0, 0, 0, 0, 5, 2, 1, 1, 0],
-    [4, 120, 110, 111, 114, 0, 0, 0, 0, 0, 0, 5, 2, 1, 1, 0],
-    [3, 97, 100, 100, 0, 0, 0, 0, 0, 0, 0, 5, 2, 1, 1, 0],
-    [3, 115, 117, 98, 0, 0, 0, 0, 0, 0, 0, 5, 2, 1, 1, 0],
-    [3, 109, 117, 108, 0, 0, 0, 0, 0, 0, 0, 5, 2, 1, 1, 0],
-    [4, 117, 100, 105, 118, 0, 0, 0, 0, 0, 0, 5, 2, 1, 1, 0],
-    [4, 117, 114, 101, 109, 0, 0, 0, 0, 0, 0, 5, 2, 1, 1, 0],
-    [4, 115, 100, 105, 118, 0, 0, 0, 0, 0, 0, 5, 2, 1, 1, 0],
-    [4, 115, 114, 101, 109, 0, 0, 0, 0, 0, 0, 5, 2, 1, 1, 0],
-    [4, 115, 109, 111, 100, 0, 0, 0, 0, 0, 0, 5, 2, 1, 1, 0],
-    [3, 115, 108, 108, 0, 0, 0, 0, 0, 0, 0, 5, 2, 1, 1, 0],
-    [3, 115, 114, 108, 0, 0, 0, 0, 0, 0, 0, 5, 2, 1, 1, 0],
-    [3, 115, 114, 97, 0, 0, 0, 0, 0, 0, 0, 5, 2, 1, 1, 0],
-    [3, 114, 111, 108, 0, 0, 0, 0, 0, 0, 0, 5, 2, 1, 1, 0],
-    [3, 114, 111, 114, 0, 0, 0, 0, 0, 0, 0, 5, 2, 1, 1, 0],
-    [6, 99, 111, 110, 99, 97, 116, 0, 0, 0, 0, 5, 2, 1, 1, 0],
-    [3, 105, 116, 101, 0, 0, 0, 0, 0, 0, 0, 7, 3, 1, 3, 3],
-    [4, 114, 101, 97, 100, 0, 0, 0, 0, 0, 0, 5, 2, 2, 1, 0],
-    [5, 119, 114, 105, 116, 101, 0, 0, 0, 0, 0, 6, 3, 2, 1, 1],
+    // 1 to 5: sorts, constants, inputs, states
+    [6, B, I, T, V, E, C, 0, 0, 0, 0, NONE, 1, NUM, 0, 0],
+    [5, A, R, R, A, Y, 0, 0, 0, 0, 0, NONE, 2, WSORT, WSORT, 0],
+    [6, C, O, N, S, T, D, 0, 0, 0, 0, WSORT, 1, NUM, 0, 0],
+    [5, I, N, P, U, T, 0, 0, 0, 0, 0, WSORT, 0, 0, 0, 0],
+    [5, S, T, A, T, E, 0, 0, 0, 0, 0, SORT, 0, 0, 0, 0],
+    // 6 to 10: what states start with and take next, signals, outputs
+    [4, I, N, I, T, 0, 0, 0, 0, 0, 0, SORT, 2, STATE, WORD, 0],
+    [4, N, E, X, T, 0, 0, 0, 0, 0, 0, SORT, 2, STATE, VALUE, 0],
+    [3, B, A, D, 0, 0, 0, 0, 0, 0, 0, NONE, 1, WORD, 0, 0],
+    [10, C, O, N, S, T, R, A, I, N, T, NONE, 1, WORD, 0, 0],
+    [6, O, U, T, P, U, T, 0, 0, 0, 0, NONE, 1, WORD, 0, 0],
+    // 11 to 20: operators of one word
+    [3, N, O, T, 0, 0, 0, 0, 0, 0, 0, WSORT, 1, WORD, 0, 0],
+    [3, N, E, G, 0, 0, 0, 0, 0, 0, 0, WSORT, 1, WORD, 0, 0],
+    [3, I, N, C, 0, 0, 0, 0, 0, 0, 0, WSORT, 1, WORD, 0, 0],
+    [3, D, E, C, 0, 0, 0, 0, 0, 0, 0, WSORT, 1, WORD, 0, 0],
+    [6, R, E, D, A, N, D, 0, 0, 0, 0, WSORT, 1, WORD, 0, 0],
+    [5, R, E, D, O, R, 0, 0, 0, 0, 0, WSORT, 1, WORD, 0, 0],
+    [6, R, E, D, X, O, R, 0, 0, 0, 0, WSORT, 1, WORD, 0, 0],
+    [5, S, L, I, C, E, 0, 0, 0, 0, 0, WSORT, 3, WORD, NUM, NUM],
+    [4, U, E, X, T, 0, 0, 0, 0, 0, 0, WSORT, 2, WORD, NUM, 0],
+    [4, S, E, X, T, 0, 0, 0, 0, 0, 0, WSORT, 2, WORD, NUM, 0],
+    // 21 to 52: operators of two; eq and neq take arrays as well
+    [2, E, Q, 0, 0, 0, 0, 0, 0, 0, 0, WSORT, 2, VALUE, VALUE, 0],
+    [3, N, E, Q, 0, 0, 0, 0, 0, 0, 0, WSORT, 2, VALUE, VALUE, 0],
+    [3, U, L, T, 0, 0, 0, 0, 0, 0, 0, WSORT, 2, WORD, WORD, 0],
+    [4, U, L, T, E, 0, 0, 0, 0, 0, 0, WSORT, 2, WORD, WORD, 0],
+    [3, U, G, T, 0, 0, 0, 0, 0, 0, 0, WSORT, 2, WORD, WORD, 0],
+    [4, U, G, T, E, 0, 0, 0, 0, 0, 0, WSORT, 2, WORD, WORD, 0],
+    [3, S, L, T, 0, 0, 0, 0, 0, 0, 0, WSORT, 2, WORD, WORD, 0],
+    [4, S, L, T, E, 0, 0, 0, 0, 0, 0, WSORT, 2, WORD, WORD, 0],
+    [3, S, G, T, 0, 0, 0, 0, 0, 0, 0, WSORT, 2, WORD, WORD, 0],
+    [4, S, G, T, E, 0, 0, 0, 0, 0, 0, WSORT, 2, WORD, WORD, 0],
+    [3, I, F, F, 0, 0, 0, 0, 0, 0, 0, WSORT, 2, WORD, WORD, 0],
+    [7, I, M, P, L, I, E, S, 0, 0, 0, WSORT, 2, WORD, WORD, 0],
+    [3, A, N, D, 0, 0, 0, 0, 0, 0, 0, WSORT, 2, WORD, WORD, 0],
+    [2, O, R, 0, 0, 0, 0, 0, 0, 0, 0, WSORT, 2, WORD, WORD, 0],
+    [3, X, O, R, 0, 0, 0, 0, 0, 0, 0, WSORT, 2, WORD, WORD, 0],
+    [4, N, A, N, D, 0, 0, 0, 0, 0, 0, WSORT, 2, WORD, WORD, 0],
+    [3, N, O, R, 0, 0, 0, 0, 0, 0, 0, WSORT, 2, WORD, WORD, 0],
+    [4, X, N, O, R, 0, 0, 0, 0, 0, 0, WSORT, 2, WORD, WORD, 0],
+    [3, A, D, D, 0, 0, 0, 0, 0, 0, 0, WSORT, 2, WORD, WORD, 0],
+    [3, S, U, B, 0, 0, 0, 0, 0, 0, 0, WSORT, 2, WORD, WORD, 0],
+    [3, M, U, L, 0, 0, 0, 0, 0, 0, 0, WSORT, 2, WORD, WORD, 0],
+    [4, U, D, I, V, 0, 0, 0, 0, 0, 0, WSORT, 2, WORD, WORD, 0],
+    [4, U, R, E, M, 0, 0, 0, 0, 0, 0, WSORT, 2, WORD, WORD, 0],
+    [4, S, D, I, V, 0, 0, 0, 0, 0, 0, WSORT, 2, WORD, WORD, 0],
+    [4, S, R, E, M, 0, 0, 0, 0, 0, 0, WSORT, 2, WORD, WORD, 0],
+    [4, S, M, O, D, 0, 0, 0, 0, 0, 0, WSORT, 2, WORD, WORD, 0],
+    [3, S, L, L, 0, 0, 0, 0, 0, 0, 0, WSORT, 2, WORD, WORD, 0],
+    [3, S, R, L, 0, 0, 0, 0, 0, 0, 0, WSORT, 2, WORD, WORD, 0],
+    [3, S, R, A, 0, 0, 0, 0, 0, 0, 0, WSORT, 2, WORD, WORD, 0],
+    [3, R, O, L, 0, 0, 0, 0, 0, 0, 0, WSORT, 2, WORD, WORD, 0],
+    [3, R, O, R, 0, 0, 0, 0, 0, 0, 0, WSORT, 2, WORD, WORD, 0],
+    [6, C, O, N, C, A, T, 0, 0, 0, 0, WSORT, 2, WORD, WORD, 0],
+    // 53 to 55: choice, and the operators of arrays
+    [3, I, T, E, 0, 0, 0, 0, 0, 0, 0, SORT, 3, WORD, VALUE, VALUE],
+    [4, R, E, A, D, 0, 0, 0, 0, 0, 0, WSORT, 2, ARRAY, WORD, 0],
+    [5, W, R, I, T, E, 0, 0, 0, 0, 0, ASORT, 3, ARRAY, WORD, WORD],
 ];
 
 // Where the row of a kind stands; a mask has that of not.

@@ -5,10 +5,10 @@ pub mod notes; // what a check keeps of each line
 
 use tables::WORDS;
 ghost use mathlib.Core.Path.{_≡_};
-ghost use Prim.Native.Nat.{_+_, _≤_};
+ghost use Prim.Native.Nat.{_<_};
 ghost use lib.ListN.{length, replicate};
-ghost use Rattle.tables.specs.Lines.{fields, span, recordAt, recorded};
-ghost use Rattle.tables.specs.Tables.{room, whole};
+ghost use Rattle.tables.specs.Lines.{fields};
+ghost use Rattle.tables.specs.Layout.{recordSize, whole, held, room, stepOf, recordAt, recorded};
 
 // The record of the kind k, the sort line s and the operands a, b and c.
 pub fn of(k: u64, s: u64, a: u64, b: u64, c: u64) -> [u64; WORDS]
@@ -17,12 +17,47 @@ pub fn of(k: u64, s: u64, a: u64, b: u64, c: u64) -> [u64; WORDS]
     [k, s, a, b, c]
 }
 
-// The record at the place i, from 0.
-pub fn record(table: &[u64], i: usize) -> [u64; WORDS]
-    requires { ⌜ span (i + 1) ≤ length (now table) ⌝ }
-    ensures { λ r. ⌜ r ≡ recordAt (now (table .entry)) i ⌝ }
+// The words of a record in a list.
+fn size(program: bool) -> usize
+    ensures { λ r. ⌜ r ≡ recordSize program ⌝ }
 {
-    let at = WORDS * i;
+    if program {
+        return WORDS;
+    }
+    WORDS
+}
+
+// A list of so many words holds a whole number of records.
+pub fn is_table(program: bool, len: usize) -> bool
+    ensures { λ r. ⌜ r ≡ whole program len ⌝ }
+{
+    len % size(program) == 0
+}
+
+// The records that a list of so many words holds, and that may count.
+pub fn room_of(program: bool, len: usize) -> usize
+    ensures { λ r. ⌜ r ≡ room program len ⌝ }
+{
+    let n = len / size(program);
+    if 16384 < n {
+        return 16384;
+    }
+    n
+}
+
+// What a pass over a list of so many words works out once, for `record`.
+pub fn step(program: bool, len: usize) -> usize
+    ensures { λ r. ⌜ r ≡ stepOf program len ⌝ }
+{
+    size(program)
+}
+
+// The record at the place i, from 0; h is the list's step.
+pub fn record(program: bool, table: &[u64], h: usize, i: usize) -> [u64; WORDS]
+    requires { ⌜ (i < held program (length (now table))) × (h ≡ stepOf program (length (now table))) ⌝ }
+    ensures { λ r. ⌜ r ≡ recordAt program (now (table .entry)) i ⌝ }
+{
+    let at = h * i;
     [
         table[at],
         table[at + 1],
@@ -32,23 +67,12 @@ pub fn record(table: &[u64], i: usize) -> [u64; WORDS]
     ]
 }
 
-// The records that a list of so many words holds.
-pub fn room_of(len: usize) -> usize
-    ensures { λ r. ⌜ r ≡ room len ⌝ }
-{
-    let n = len / WORDS;
-    if 16384 < n {
-        return 16384;
-    }
-    n
-}
-
 // A record goes to the place i.
-pub fn put(table: &mut [u64], i: usize, rec: [u64; WORDS])
-    requires { ⌜ span (i + 1) ≤ length (now table) ⌝ }
-    ensures { λ _. ⌜ now (table .exit) ≡ recorded (now (table .entry)) i rec ⌝ }
+pub fn put(program: bool, table: &mut [u64], i: usize, rec: [u64; WORDS])
+    requires { ⌜ i < held program (length (now table)) ⌝ }
+    ensures { λ _. ⌜ now (table .exit) ≡ recorded program (now (table .entry)) i rec ⌝ }
 {
-    let at = WORDS * i;
+    let at = size(program) * i;
     let mut j: usize = 0;
     while j < WORDS {
         let v = rec[j];
@@ -66,11 +90,4 @@ pub fn clear(table: &mut [u64])
         table[i] = 0;
         i += 1;
     }
-}
-
-// A list of so many words holds a whole number of records.
-pub fn is_table(len: usize) -> bool
-    ensures { λ r. ⌜ r ≡ whole len ⌝ }
-{
-    len % WORDS == 0
 }

@@ -5,8 +5,9 @@ use records::notes::BYTES;
 use tables::Checked;
 ghost use mathlib.Core.Path.{_≡_};
 ghost use mathlib.Core.Bool.{false, true};
-ghost use lib.ListN.{length, replicate};
-ghost use Rattle.circuits.specs.Answers.{ran, signalsLeft};
+ghost use mathlib.Core.List.{[], _∷_};
+ghost use lib.ListN.{length};
+ghost use Rattle.circuits.specs.Answers.{toldRun, runs};
 
 // A run of a circuit (program is false) or of a program, of k steps: 1, 11 (20 for a program), 13 to 17; else the first counted bad.
 pub fn run_table(
@@ -19,7 +20,8 @@ pub fn run_table(
     signals: &mut [u8],
     work: &mut [u64],
 ) -> Ran
-    ensures { λ r. ⌜ (r ≡ ran program (now (table .entry)) count k (now (starts .entry)) (now (inputs .entry)) (length (now (signals .entry))) (length (now (work .entry)))) × ((now (signals .exit) ≡ signalsLeft program (now (table .entry)) count k (now (starts .entry)) (now (inputs .entry)) (length (now (signals .entry))) (length (now (work .entry)))) × (now (work .exit) ≡ replicate (length (now (work .entry))) 0)) ⌝ }
+    ensures { λ r. ⌜ toldRun r (now (signals .exit) ∷ now (work .exit) ∷ []) ≡ runs program (now (table .entry)) count k
+        (now (starts .entry)) (now (inputs .entry)) (length (now (signals .entry))) (length (now (work .entry))) ⌝ }
 {
     bytes::clear(signals);
     records::clear(work);
@@ -53,7 +55,8 @@ pub fn run_circuit(
     signals: &mut [u8],
     work: &mut [u64],
 ) -> Ran
-    ensures { λ r. ⌜ (r ≡ ran false (now (table .entry)) count k (now (starts .entry)) (now (inputs .entry)) (length (now (signals .entry))) (length (now (work .entry)))) × ((now (signals .exit) ≡ signalsLeft false (now (table .entry)) count k (now (starts .entry)) (now (inputs .entry)) (length (now (signals .entry))) (length (now (work .entry)))) × (now (work .exit) ≡ replicate (length (now (work .entry))) 0)) ⌝ }
+    ensures { λ r. ⌜ toldRun r (now (signals .exit) ∷ now (work .exit) ∷ []) ≡ runs false (now (table .entry)) count k
+        (now (starts .entry)) (now (inputs .entry)) (length (now (signals .entry))) (length (now (work .entry))) ⌝ }
 {
     run_table(false, table, count, k, starts, inputs, signals, work)
 }
@@ -68,7 +71,8 @@ pub fn run_program(
     signals: &mut [u8],
     work: &mut [u64],
 ) -> Ran
-    ensures { λ r. ⌜ (r ≡ ran true (now (table .entry)) count k (now (starts .entry)) (now (inputs .entry)) (length (now (signals .entry))) (length (now (work .entry)))) × ((now (signals .exit) ≡ signalsLeft true (now (table .entry)) count k (now (starts .entry)) (now (inputs .entry)) (length (now (signals .entry))) (length (now (work .entry)))) × (now (work .exit) ≡ replicate (length (now (work .entry))) 0)) ⌝ }
+    ensures { λ r. ⌜ toldRun r (now (signals .exit) ∷ now (work .exit) ∷ []) ≡ runs true (now (table .entry)) count k
+        (now (starts .entry)) (now (inputs .entry)) (length (now (signals .entry))) (length (now (work .entry))) ⌝ }
 {
     run_table(true, table, count, k, starts, inputs, signals, work)
 }

@@ -1,11 +1,11 @@
 // Lines of a step that begin, set or show: states, init and next lines, bad and constraint lines. `first` is true as the run starts, where init lines store and no line signals.
 use area::LAID;
 ghost use mathlib.Core.Path.{_≡_};
-ghost use mathlib.Core.Bool.{not, _||_};
+ghost use mathlib.Core.Bool.{true, false, not, _||_};
 ghost use Prim.Native.Nat.{_+_};
-ghost use lib.ListN.{length, replicate, set};
+ghost use lib.ListN.{length, set};
 ghost use Rattle.circuits.specs.Cells.{put, choose};
-ghost use Rattle.circuits.specs.Model.{stateIn, FitState, offIn, posIn, wordIn, FitInit, numIn, runIn, FitNext, FitMark};
+ghost use Rattle.circuits.specs.Model.{stateIn, givenIn, FitState, offIn, posIn, wordIn, FitInit, FitNext, FitMark};
 ghost use Rattle.tables.specs.Pick.{pick};
 
 // State words are masked: start words, and a circuit's at every step.
@@ -27,7 +27,8 @@ pub fn line_state(
     work: &mut [u64],
 )
     requires { ⌜ FitState (now laid) all (length (now work)) n ⌝ }
-    ensures { λ _. ⌜ now (work .exit) ≡ put (put (now (work .entry)) (all + posIn (now (laid .entry)) n) (stateIn program first (now (laid .entry)) all (now (work .entry)) n)) (offIn (now (laid .entry)) n) (stateIn program first (now (laid .entry)) all (now (work .entry)) n) ⌝ }
+    ensures { λ _. ⌜ now (work .exit) ≡ put (put (now (work .entry)) (all + posIn (now (laid .entry)) n) (stateIn program first (now (laid .entry)) all (now (work .entry)) n))
+        (offIn (now (laid .entry)) n) (stateIn program first (now (laid .entry)) all (now (work .entry)) n) ⌝ }
 {
     let o = area::off(laid, n);
     let m = area::cells(laid, n);
@@ -46,7 +47,8 @@ pub fn line_init(
     work: &mut [u64],
 )
     requires { ⌜ FitInit (now laid) all (length (now work)) q v ⌝ }
-    ensures { λ _. ⌜ now (work .exit) ≡ pick first (put (now (work .entry)) (all + posIn (now (laid .entry)) q) (replicate (numIn (now (laid .entry)) q) (wordIn (now (laid .entry)) (now (work .entry)) v))) (now (work .entry)) ⌝ }
+    ensures { λ _. ⌜ now (work .exit)
+        ≡ pick first (put (now (work .entry)) (all + posIn (now (laid .entry)) q) (givenIn (now (laid .entry)) (now (work .entry)) true q v)) (now (work .entry)) ⌝ }
 {
     if !first {
         return;
@@ -67,7 +69,8 @@ pub fn line_next(
     work: &mut [u64],
 )
     requires { ⌜ FitNext (now laid) all (length (now work)) q v ⌝ }
-    ensures { λ _. ⌜ now (work .exit) ≡ pick (not first) (put (now (work .entry)) (all + posIn (now (laid .entry)) q) (runIn (now (laid .entry)) (now (work .entry)) v)) (now (work .entry)) ⌝ }
+    ensures { λ _. ⌜ now (work .exit)
+        ≡ pick (not first) (put (now (work .entry)) (all + posIn (now (laid .entry)) q) (givenIn (now (laid .entry)) (now (work .entry)) false q v)) (now (work .entry)) ⌝ }
 {
     if first {
         return;

@@ -19,7 +19,8 @@ pub fn line(
     work: &mut [u64],
 )
     requires { ⌜ FitL program (now laid) all (length (now row)) (length (now sig)) (now work) n (lineOf rec) ⌝ }
-    ensures { λ _. ⌜ (now (work .exit) ≡ workIn program first (now (laid .entry)) all (now (row .entry)) (now (work .entry)) n (lineOf rec)) × (now (sig .exit) ≡ sigsIn first (now (laid .entry)) (now (sig .entry)) (now (work .entry)) n (lineOf rec)) ⌝ }
+    ensures { λ _. ⌜ (now (work .exit) ≡ workIn program first (now (laid .entry)) all (now (row .entry)) (now (work .entry)) n (lineOf rec))
+        × (now (sig .exit) ≡ sigsIn first (now (laid .entry)) (now (sig .entry)) (now (work .entry)) n (lineOf rec)) ⌝ }
 {
     let k = rec[0];
     let a = rec[2] as usize;

@@ -6,7 +6,7 @@ ghost use Prim.Native.Nat.{_≤_, _*_, _+_, _<_};
 ghost use lib.ListN.{length, drop, replicate};
 ghost use Rattle.circuits.specs.Meaning.{step};
 ghost use Rattle.circuits.specs.Run.{bytesOf, bytes, steps as stepsOf, run};
-ghost use Rattle.circuits.specs.Answers.{linesOf};
+ghost use Rattle.tables.specs.Layout.{linesOf};
 ghost use Rattle.circuits.specs.Model.{Ready};
 
 // All lines, in order. A state line reads its state words and a next line stores there, while other lines read the cells: all next values are set together.
@@ -22,11 +22,13 @@ pub fn walk(
     work: &mut [u64],
 )
     requires { ⌜ (all ≤ length (now work)) × Ready program (now table) count (now laid) all (length (drop all (now work))) (length (now row)) (length (now sig)) ⌝ }
-    ensures { λ _. ⌜ (drop all (now (work .exit)) ≡ step program first (linesOf (now (table .entry)) count) (drop all (now (work .entry))) (now (row .entry)) .sts) × (first ≡ false → now (sig .exit) ≡ bytesOf (step program first (linesOf (now (table .entry)) count) (drop all (now (work .entry))) (now (row .entry)) .sigs)) ⌝ }
+    ensures { λ _. ⌜ (drop all (now (work .exit)) ≡ step program first (linesOf program (now (table .entry)) count) (drop all (now (work .entry))) (now (row .entry)) .sts)
+        × (first ≡ false → now (sig .exit) ≡ bytesOf (step program first (linesOf program (now (table .entry)) count) (drop all (now (work .entry))) (now (row .entry)) .sigs)) ⌝ }
 {
+    let h = records::step(program, table.len());
     let mut i: usize = 0;
     while i < count {
-        let rec = records::record(table, i);
+        let rec = records::record(program, table, h, i);
         step_dispatch::line(program, first, rec, i + 1, laid, all, row, sig, work);
         i += 1;
     }
@@ -46,8 +48,9 @@ pub fn steps(
     signals: &mut [u8],
     work: &mut [u64],
 )
-    requires { ⌜ (all ≤ length (now work)) × (Ready program (now table) count (now laid) all (length (drop all (now work))) ins sigs × ((k * ins ≤ length (now inputs)) × (length (now signals) ≡ k * sigs))) ⌝ }
-    ensures { λ _. ⌜ now (signals .exit) ≡ bytes (stepsOf program (linesOf (now (table .entry)) count) k (drop all (now (work .entry))) (now (inputs .entry))) ⌝ }
+    requires { ⌜ (all ≤ length (now work)) × (Ready program (now table) count (now laid) all (length (drop all (now work))) ins sigs
+        × ((k * ins ≤ length (now inputs)) × (length (now signals) ≡ k * sigs))) ⌝ }
+    ensures { λ _. ⌜ now (signals .exit) ≡ bytes (stepsOf program (linesOf program (now (table .entry)) count) k (drop all (now (work .entry))) (now (inputs .entry))) ⌝ }
 {
     let mut i: usize = 0;
     let mut r: usize = 0;
@@ -85,7 +88,7 @@ pub fn begin(
     work: &mut [u64],
 )
     requires { ⌜ (length (now work) ≡ all + length (now starts)) × Ready program (now table) count (now laid) all (length (now starts)) (length (now row)) (length (now sig)) ⌝ }
-    ensures { λ _. ⌜ drop all (now (work .exit)) ≡ step program true (linesOf (now (table .entry)) count) (now (starts .entry)) (now (row .entry)) .sts ⌝ }
+    ensures { λ _. ⌜ drop all (now (work .exit)) ≡ step program true (linesOf program (now (table .entry)) count) (now (starts .entry)) (now (row .entry)) .sts ⌝ }
 {
     area::load_at(work, all, starts);
     walk(program, true, table, count, laid, all, row, sig, work);
@@ -106,8 +109,10 @@ pub fn run_laid(
     signals: &mut [u8],
     work: &mut [u64],
 )
-    requires { ⌜ (length (now work) ≡ all + length (now starts)) × (Ready program (now table) count (now laid) all (length (now starts)) ins sigs × ((k * ins ≤ length (now inputs)) × ((length (now signals) ≡ k * sigs) × (0 < k)))) ⌝ }
-    ensures { λ _. ⌜ (now (signals .exit) ≡ bytes (run program (linesOf (now (table .entry)) count) k (now (starts .entry)) (now (inputs .entry)))) × (now (work .exit) ≡ replicate (length (now (work .entry))) 0) ⌝ }
+    requires { ⌜ (length (now work) ≡ all + length (now starts)) × (Ready program (now table) count (now laid) all (length (now starts)) ins sigs
+        × ((k * ins ≤ length (now inputs)) × ((length (now signals) ≡ k * sigs) × (0 < k)))) ⌝ }
+    ensures { λ _. ⌜ (now (signals .exit) ≡ bytes (run program (linesOf program (now (table .entry)) count) k (now (starts .entry)) (now (inputs .entry))))
+        × (now (work .exit) ≡ replicate (length (now (work .entry))) 0) ⌝ }
 {
     begin(
         program,

@@ -10,33 +10,33 @@ use borrow.Author.Tests.{le-leb, lt-leb}
 use Rattle.tables.specs.declared.Refusal.{Refusal}
 use Rattle.tables.specs.declared.Refusal.the-variants.{NotATable}
 use Rattle.tables.specs.declared.Checked.the-variants.{Accepted, Refused}
-use Rattle.tables.specs.Lines.{records, counted, span}
+use Rattle.tables.specs.Layout.{whole, held, room, recordsOf}
 use Rattle.tables.specs.Types.{ty, noTy, noCtx, tyAt, given}
-use Rattle.tables.specs.Tables.{whole, room, lawful, broken, checked}
+use Rattle.tables.specs.Tables.{lawful, broken, checked}
 use Rattle.tables.specs.Notes.{blank, noteAt, markIn, givenIn, Shows, Fresh}
 
 module _ (p : Bool) (t : List ℕ) (n : ℕ) where
-  pub no-table : whole (length t) ≡ false → Refused NotATable ≡ checked p t n
+  pub no-table : whole p (length t) ≡ false → Refused NotATable ≡ checked p t n
   unfolding checked
   no-table e = rw e
 
-  pub too-many : whole (length t) ≡ true → room (length t) < n → Refused (broken p) ≡ checked p t n
+  pub too-many : whole p (length t) ≡ true → room p (length t) < n → Refused (broken p) ≡ checked p t n
   unfolding checked
-  too-many e h = rw (e, lt-leb n (room (length t)) h)
+  too-many e h = rw (e, lt-leb n (room p (length t)) h)
 
-  pub unlawful : whole (length t) ≡ true → n ≤ room (length t) → false ≡ lawful p noCtx (records (counted t n)) → Refused (broken p) ≡ checked p t n
+  pub unlawful : whole p (length t) ≡ true → n ≤ room p (length t) → false ≡ lawful p noCtx (recordsOf p t n) → Refused (broken p) ≡ checked p t n
   unfolding checked
-  unlawful e h l = rw (e, le-leb n (room (length t)) h, sym l)
+  unlawful e h l = rw (e, le-leb n (room p (length t)) h, sym l)
 
-  pub is-lawful : whole (length t) ≡ true → n ≤ room (length t) → true ≡ lawful p noCtx (records (counted t n)) → Accepted ≡ checked p t n
+  pub is-lawful : whole p (length t) ≡ true → n ≤ room p (length t) → true ≡ lawful p noCtx (recordsOf p t n) → Accepted ≡ checked p t n
   unfolding checked
-  is-lawful e h l = rw (e, le-leb n (room (length t)) h, sym l)
+  is-lawful e h l = rw (e, le-leb n (room p (length t)) h, sym l)
 
 pub not-accepted : (r : Refusal) → Refused r ≡ Accepted → ⊥
 not-accepted r e = let z : _≡_ {A = ℕ} 0 1 = cc in omega arith
 
-pub roomy : (len n : ℕ) → n ≤ room len → (n ≤ 16384) × (span n ≤ len)
-roomy len n h = (omega arith, omega arith)
+pub roomy : (p : Bool) (len n : ℕ) → n ≤ room p len → (n ≤ 16384) × (n ≤ held p len)
+roomy p len n h = (omega arith, omega arith)
 
 -- ---- lists of zeros and blank notes
 

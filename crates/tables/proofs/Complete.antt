@@ -11,7 +11,8 @@ use borrow.Author.Tests.{eq-eqb, lt-ltb, le-leb, eqb-true}
 use Rattle.tables.specs.declared.Ty.{Ty}
 use Rattle.tables.specs.Pick.{all}
 use Rattle.tables.specs.Kinds.{rowOf, sortClass, firstClass, secondClass, thirdClass}
-use Rattle.tables.specs.Lines.{Line, Expr, isOne, isTwo, shapeOf, fields, lineOf, wordsOf, records, decode, encode, kindIn, span, recordSize}
+use Rattle.tables.specs.Lines.{Line, Expr, isOne, isTwo, shapeOf, fields, lineOf, wordsOf, kindIn}
+use Rattle.tables.specs.Layout.{recordWords}
 use Rattle.tables.specs.Types.{isSort, isValue, isWord, isArray, isWordSort, isArraySort, sortAt, Ctx, tyAt, given, grow}
 use Rattle.tables.specs.Rules.{suits, fits, same}
 use Rattle.tables.specs.Tables.{known, unused, tidy, keeps, lawful}
@@ -21,7 +22,7 @@ use Rattle.tables.proofs.Answers.{Passed, all-passed}
 use Rattle.tables.proofs.Kept.{both, either}
 use Rattle.tables.proofs.Facts.{IsValue, IsWord, IsArray, IsSort, IsWordSort, IsArraySort, Same, OneKind, OkExpr, Ok, AllOk}
 use Rattle.tables.proofs.Laws.{or-true}
-use Rattle.tables.proofs.Places.{records-front}
+use Rattle.tables.proofs.Places.{Sized}
 use Rattle.tables.proofs.Sound.{from-to, one-row, two-row}
 
 -- ---- classes
@@ -231,8 +232,8 @@ module _ (p : Bool) (L : ℕ → Ty) (G : Bool → ℕ → Bool) where
 
 -- ---- all lines
 
--- a line's record has the size of a record
-pub line-size : (l : Line) → length (wordsOf l) ≡ recordSize
+-- a line's record has the words of a record
+pub line-size : (l : Line) → length (wordsOf l) ≡ recordWords
 line-size (Line.bitvec w) = refl
 line-size (Line.array i e) = refl
 line-size (Line.input s) = refl
@@ -249,26 +250,18 @@ line-size (Line.mark m a) = refl
 line-size (Line.output a) = refl
 line-size Line.junk = refl
 
-pub length-encode : (ls : List Line) → length (encode ls) ≡ span (length ls)
-length-encode [] = refl
-length-encode (l ∷ ls) = length-append (wordsOf l) (encode ls) ∙ omega (arith, line-size l, length-encode ls)
+pub lines-sized : (ls : List Line) → Sized (map wordsOf ls)
+lines-sized [] = tt
+lines-sized (l ∷ ls) = (line-size l, lines-sized ls)
 
-all-again : (p : Bool) (c : Ctx) (ls : List Line) → AllOk p c ls → map lineOf (map wordsOf ls) ≡ ls
+-- lines that break no rule are read back from their records
+pub all-again : (p : Bool) (c : Ctx) (ls : List Line) → AllOk p c ls → map lineOf (map wordsOf ls) ≡ ls
 all-again p c [] k = refl
 all-again p c (l ∷ ls) k = ap₂ (λ (x : Line) (xs : List Line). x ∷ xs) (again p (tyAt c) (given c) l (k .0)) (all-again p (grow p c l) ls (k .1))
 
-pub records-encode : (ls : List Line) → records (encode ls) ≡ map wordsOf ls
-records-encode [] = refl
-records-encode (l ∷ ls) = records-front (wordsOf l) (encode ls) (line-size l) ∙ ap (λ (rs : List (List ℕ)). wordsOf l ∷ rs) (records-encode ls)
-
-pub decode-encode : (p : Bool) (c : Ctx) (ls : List Line) → AllOk p c ls → decode (encode ls) ≡ ls
-decode-encode p c ls k = ap (map lineOf) (records-encode ls) ∙ all-again p c ls k
-
-pub all-kept : (p : Bool) (c : Ctx) (ls : List Line) → AllOk p c ls → lawful p c (records (encode ls)) ≡ true
-all-kept p c ls k = ap (lawful p c) (records-encode ls) ∙ go p c ls k
-  where
-    go : (p : Bool) (c : Ctx) (ls : List Line) → AllOk p c ls → lawful p c (map wordsOf ls) ≡ true
-    go p c [] k = refl
-    go p c (l ∷ ls) k =
-        and₂ (complete p (tyAt c) (given c) l (k .0))
-        (subst (λ (x : Line). lawful p (grow p c x) (map wordsOf ls) ≡ true) (sym (again p (tyAt c) (given c) l (k .0))) (go p (grow p c l) ls (k .1)))
+-- which break no rule
+pub all-kept : (p : Bool) (c : Ctx) (ls : List Line) → AllOk p c ls → lawful p c (map wordsOf ls) ≡ true
+all-kept p c [] k = refl
+all-kept p c (l ∷ ls) k =
+    and₂ (complete p (tyAt c) (given c) l (k .0))
+    (subst (λ (x : Line). lawful p (grow p c x) (map wordsOf ls) ≡ true) (sym (again p (tyAt c) (given c) l (k .0))) (all-kept p (grow p c l) ls (k .1)))

@@ -1,40 +1,13 @@
--- The records of a table by their places, and the context that grows over them. Assumes nothing.
-use Prim.Native.Nat.{ℕ, zero, suc, _+_, _≤_, _<_}
+-- The context after the first lines of a table. Assumes nothing.
+use Prim.Native.Nat.{ℕ, suc, _<_}
 use mathlib.Core.Path.{_≡_, refl, ap, _∙_}
 use mathlib.Core.Bool.{Bool, _&&_}
 use mathlib.Core.List.{List, [], _∷_, _++_, map}
-use native.Mathlib.Omega.{arith}
-use lib.ListN.{length, getD, take, drop, length-drop}
-use lib.Seq.{drop-cons, take-suc, drop-drop, length-take-le}
-use Rattle.tables.specs.Lines.{Line, lineOf, records, recordAt, counted, span, recordSize}
+use lib.ListN.{length, getD, take, drop}
+use lib.Seq.{drop-cons, take-suc}
+use Rattle.tables.specs.Lines.{Line, lineOf}
 use Rattle.tables.specs.Types.{Ctx, tyAt, given, grow, growAll, noCtx}
 use Rattle.tables.specs.Tables.{keeps, lawful}
-
-records-cons : (n : ℕ) (t : List ℕ) → span (suc n) ≤ length t → records (counted t (suc n)) ≡ take 5 t ∷ records (counted (drop 5 t) n)
-records-cons n [] h = absurd (omega arith)
-records-cons n (k ∷ []) h = absurd (omega arith)
-records-cons n (k ∷ s ∷ []) h = absurd (omega arith)
-records-cons n (k ∷ s ∷ a ∷ []) h = absurd (omega arith)
-records-cons n (k ∷ s ∷ a ∷ b ∷ []) h = absurd (omega arith)
-records-cons n (k ∷ s ∷ a ∷ b ∷ c ∷ t) h =
-    let e : span (suc n) ≡ suc (suc (suc (suc (suc (span n))))) = omega arith in ap (λ (m : ℕ). records (take m (k ∷ s ∷ a ∷ b ∷ c ∷ t))) e
-
-pub length-records : (n : ℕ) (t : List ℕ) → span n ≤ length t → length (records (counted t n)) ≡ n
-length-records zero t h = refl
-length-records (suc n) t h = ap length (records-cons n t h) ∙ ap suc (length-records n (drop 5 t) (omega (arith, length-drop 5 t)))
-
-pub record-at : (n : ℕ) (t : List ℕ) (i : ℕ) → span n ≤ length t → i < n → getD (records (counted t n)) i [] ≡ recordAt t i
-record-at zero t i h l = absurd (omega arith)
-record-at (suc n) t zero h l = ap (λ (rs : List (List ℕ)). getD rs 0 []) (records-cons n t h)
-record-at (suc n) t (suc i) h l =
-    let e : 5 + span i ≡ span (suc i) = omega arith in
-    ap (λ (rs : List (List ℕ)). getD rs (suc i) []) (records-cons n t h) ∙ record-at n (drop 5 t) i (omega (arith, length-drop 5 t)) (omega arith)
-    ∙ ap (take 5) (drop-drop (span i) 5 t ∙ ap (λ (m : ℕ). drop m t) e)
-
-pub length-record : (t : List ℕ) (i : ℕ) → span (i + 1) ≤ length t → length (recordAt t i) ≡ recordSize
-length-record t i h = length-take-le 5 (drop (span i) t) (omega (arith, length-drop (span i) t))
-
--- ---- the context after the first lines
 
 pub grow-snoc : (p : Bool) (c : Ctx) (ls : List Line) (l : Line) → growAll p c (ls ++ (l ∷ [])) ≡ grow p (growAll p c ls) l
 grow-snoc p c [] l = refl

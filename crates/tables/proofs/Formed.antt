@@ -9,7 +9,8 @@ use lib.ListN.{length}
 use borrow.Author.Tests.{eqb-true}
 use Rattle.tables.specs.Pick.{all}
 use Rattle.tables.specs.Kinds.{rowOf, sortClass, firstClass, secondClass, thirdClass}
-use Rattle.tables.specs.Lines.{Shape, isBitvec, isArray, isConst, isInput, isState, isOutput, isOne, isTwo, isIte, isRead, isWrite, isJunk, isGive, isMark, isCmp, shapeOf, build, lineOf, fields, wordsOf, kindIn, sortIn, firstIn, secondIn, thirdIn, recordSize}
+use Rattle.tables.specs.Lines.{Shape, isBitvec, isArray, isConst, isInput, isState, isOutput, isOne, isTwo, isIte, isRead, isWrite, isJunk, isGive, isMark, isCmp, shapeOf, build, lineOf, fields, wordsOf, kindIn, sortIn, firstIn, secondIn, thirdIn}
+use Rattle.tables.specs.Layout.{recordWords}
 use Rattle.tables.specs.Tables.{known, unused, tidy, formed}
 use Rattle.tables.proofs.Every.{at-each}
 use Rattle.tables.proofs.Shapes.{KindOf, kind-of, line-as, no-junk}
@@ -83,5 +84,5 @@ module _ (p : Bool) (k s a b c : ℕ) (h : formed p (fields k s a b c) ≡ true)
   fields-back = ap wordsOf (line-as (fields k s a b c) (shapeOf k) refl) ∙ back (shapeOf k) refl (kind-of k)
 
 -- the record of a formed record's line is that record
-pub words-back : (p : Bool) (r : List ℕ) → length r ≡ recordSize → formed p r ≡ true → wordsOf (lineOf r) ≡ r
+pub words-back : (p : Bool) (r : List ℕ) → length r ≡ recordWords → formed p r ≡ true → wordsOf (lineOf r) ≡ r
 words-back p r l h = fields-back p (kindIn r) (sortIn r) (firstIn r) (secondIn r) (thirdIn r) h ∙ sym (fields-of r l)

@@ -34,20 +34,6 @@ shifted-out v m h = go (ltb v m) refl
     go true e = eq-eqb (v / m) 0 (div-eq-of-lt (ltb-true v m e))
     go false e = ne-eqb (v / m) 0 (λ z. omega (arith, ltb-false v m e, empty z))
 
--- ---- the words of a record
-
-part-cons : (t : List ℕ) (k n m : ℕ) → suc n ≡ m → n < length t → take (suc k) (drop n t) ≡ getD t n 0 ∷ take k (drop m t)
-part-cons t k n m e h = ap (take (suc k)) (drop-cons t n 0 h) ∙ ap (λ (j : ℕ). getD t n 0 ∷ take k (drop j t)) e
-
-pub five-at : (t : List ℕ) (n : ℕ) → n + 5 ≤ length t
-    → take 5 (drop n t) ≡ getD t n 0 ∷ getD t (n + 1) 0 ∷ getD t (n + 2) 0 ∷ getD t (n + 3) 0 ∷ getD t (n + 4) 0 ∷ []
-five-at t n h =
-    part-cons t 4 n (n + 1) (omega arith) (omega arith) ∙ ap (λ (l : List ℕ). getD t n 0 ∷ l)
-    (part-cons t 3 (n + 1) (n + 2) (omega arith) (omega arith) ∙ ap (λ (l : List ℕ). getD t (n + 1) 0 ∷ l)
-    (part-cons t 2 (n + 2) (n + 3) (omega arith) (omega arith) ∙ ap (λ (l : List ℕ). getD t (n + 2) 0 ∷ l)
-    (part-cons t 1 (n + 3) (n + 4) (omega arith) (omega arith) ∙ ap (λ (l : List ℕ). getD t (n + 3) 0 ∷ l)
-    (part-cons t 0 (n + 4) (n + 5) (omega arith) (omega arith)))))
-
 -- past one number more
 pub past : {n k : ℕ} → n ≤ k → (k ≡ n → ⊥) → suc n ≤ k
 past h f = lt-of-le-ne h (λ e. f (sym e))

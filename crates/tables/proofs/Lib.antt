@@ -2,7 +2,11 @@ pub mod Laws
 pub mod Every
 pub mod Shapes
 pub mod Answers
+pub mod Outcomes
 pub mod Kept
+pub mod Layouts
+pub mod Spread
+pub mod Putting
 pub mod Places
 pub mod Formed
 pub mod Showing

@@ -1,15 +1,20 @@
--- How records lie in a table, by their size alone: a record is its fields, a table is its records one after the other, and a record is put behind others. Assumes nothing.
-use Prim.Native.Nat.{ℕ, zero, suc, _+_, _-_, _%_}
-use mathlib.Core.Path.{_≡_, refl, sym, ap, ap₂, _∙_}
-use mathlib.Core.List.{List, [], _∷_, _++_, append-assoc}
+-- Records in the layout in use: the laws that other files cite. Assumes nothing.
+use Prim.Native.Nat.{ℕ, zero, suc, _+_, _<_, _≤_}
+use mathlib.Core.Path.{_≡_, refl, sym, ap, _∙_}
+use mathlib.Core.Bool.{Bool}
+use mathlib.Core.List.{List, [], _∷_, _++_, map}
 use native.Mathlib.Omega.{arith}
-use lib.ListN.{length, take, drop, replicate, length-append}
-use lib.Seq.{take-at, take-all, drop-append-add}
-use Rattle.tables.specs.Lines.{Line, wordsOf, fields, kindIn, sortIn, firstIn, secondIn, thirdIn, recordSize, span, records, encode, recorded}
+use lib.ListN.{length, getD, take, replicate, length-replicate}
+use Rattle.tables.specs.Lines.{Line, lineOf, wordsOf, fields, kindIn, sortIn, firstIn, secondIn, thirdIn}
+use Rattle.tables.specs.Layout.{recordWords, held, placeAt, rowsFrom, filledBy, recordAt, recordsOf, linesOf, recorded, putAll, filled}
+use Rattle.tables.proofs.Layouts.{placed, words-in}
+use Rattle.tables.proofs.Spread.{length-from}
+use Rattle.tables.proofs.Putting as laws
+use Rattle.tables.proofs.Putting.{SizedBy}
 
 -- ---- a record is its fields
 
-pub fields-of : (r : List ℕ) → length r ≡ recordSize → r ≡ fields (kindIn r) (sortIn r) (firstIn r) (secondIn r) (thirdIn r)
+pub fields-of : (r : List ℕ) → length r ≡ recordWords → r ≡ fields (kindIn r) (sortIn r) (firstIn r) (secondIn r) (thirdIn r)
 fields-of [] l = absurd (omega arith)
 fields-of (k ∷ []) l = absurd (omega arith)
 fields-of (k ∷ s ∷ []) l = absurd (omega arith)
@@ -21,70 +26,82 @@ fields-of (k ∷ s ∷ a ∷ b ∷ c ∷ x ∷ r) l = absurd (omega arith)
 pub fields-eq : {k s a b c k₁ s₁ a₁ b₁ c₁ : ℕ} → k₁ ≡ k → s₁ ≡ s → a₁ ≡ a → b₁ ≡ b → c₁ ≡ c → fields k₁ s₁ a₁ b₁ c₁ ≡ fields k s a b c
 fields-eq ek es ea eb ec = λ i. fields (ek i) (es i) (ea i) (eb i) (ec i)
 
--- ---- a table is its records
-
+-- every record has its words
 abbrev pub Sized : List (List ℕ) → Type 0
-Sized [] = Unit {0}
-Sized (r ∷ rs) = (length r ≡ recordSize) × Sized rs
+Sized rs = SizedBy recordWords rs
 
-pub records-sized : (t : List ℕ) → Sized (records t)
-records-sized [] = tt
-records-sized (k ∷ []) = tt
-records-sized (k ∷ s ∷ []) = tt
-records-sized (k ∷ s ∷ a ∷ []) = tt
-records-sized (k ∷ s ∷ a ∷ b ∷ []) = tt
-records-sized (k ∷ s ∷ a ∷ b ∷ c ∷ t) = (refl, records-sized t)
+pub sized-append : (rs ss : List (List ℕ)) → Sized rs → Sized ss → Sized (rs ++ ss)
+sized-append [] ss a b = b
+sized-append (r ∷ rs) ss a b = (a .0, sized-append rs ss (a .1) b)
 
-pub records-front : (r t : List ℕ) → length r ≡ recordSize → records (r ++ t) ≡ r ∷ records t
-records-front r t l =
-    let f = fields (kindIn r) (sortIn r) (firstIn r) (secondIn r) (thirdIn r) in
-    ap (λ (x : List ℕ). records (x ++ t)) (fields-of r l) ∙ ap (λ (x : List ℕ). x ∷ records t) (sym (fields-of r l))
+-- ---- the records of a list, by their places
 
--- records, one after the other
-abbrev pub concat : List (List ℕ) → List ℕ
-concat [] = []
-concat (r ∷ rs) = r ++ concat rs
+pub length-record : (p : Bool) (t : List ℕ) (i : ℕ) → length (recordAt p t i) ≡ recordWords
+length-record p t i = length-from (placeAt p (length t) i) t 0 recordWords
 
-pub records-concat : (rs : List (List ℕ)) → Sized rs → records (concat rs) ≡ rs
-records-concat [] f = refl
-records-concat (r ∷ rs) f = records-front r (concat rs) (f .0) ∙ ap (λ (x : List (List ℕ)). r ∷ x) (records-concat rs (f .1))
+pub length-records : (p : Bool) (t : List ℕ) (n : ℕ) → length (recordsOf p t n) ≡ n
+length-records p t n = laws.length-rows (placeAt p) recordWords t 0 n
 
-pub length-concat : (rs : List (List ℕ)) → Sized rs → length (concat rs) ≡ span (length rs)
-length-concat [] f = refl
-length-concat (r ∷ rs) f = length-append r (concat rs) ∙ omega (arith, length-concat rs (f .1))
+pub length-lines : (p : Bool) (t : List ℕ) (n : ℕ) → length (linesOf p t n) ≡ n
+length-lines p t n = length-mapped (recordsOf p t n) ∙ length-records p t n
+  where
+    length-mapped : (rs : List (List ℕ)) → length (map lineOf rs) ≡ length rs
+    length-mapped [] = refl
+    length-mapped (r ∷ rs) = ap suc (length-mapped rs)
 
-even-concat : (t : List ℕ) → length t % recordSize ≡ 0 → concat (records t) ≡ t
-even-concat [] h = refl
-even-concat (k ∷ []) h = absurd (omega arith)
-even-concat (k ∷ s ∷ []) h = absurd (omega arith)
-even-concat (k ∷ s ∷ a ∷ []) h = absurd (omega arith)
-even-concat (k ∷ s ∷ a ∷ b ∷ []) h = absurd (omega arith)
-even-concat (k ∷ s ∷ a ∷ b ∷ c ∷ t) h = ap (λ (x : List ℕ). fields k s a b c ++ x) (even-concat t (omega arith))
+pub record-at : (p : Bool) (t : List ℕ) (n i : ℕ) → i < n → getD (recordsOf p t n) i [] ≡ recordAt p t i
+record-at p t n i h = laws.row-at (placeAt p) recordWords t n i h
 
-pub concat-records : (t : List ℕ) (n : ℕ) → length t ≡ span n → concat (records t) ≡ t
-concat-records t n h = even-concat t (omega arith)
+pub records-more : (p : Bool) (t : List ℕ) (n : ℕ) → recordsOf p t (suc n) ≡ recordsOf p t n ++ (recordAt p t n ∷ [])
+records-more p t n = laws.rows-more (placeAt p) recordWords t n
 
-pub encode-append : (xs ys : List Line) → encode (xs ++ ys) ≡ encode xs ++ encode ys
-encode-append [] ys = refl
-encode-append (l ∷ xs) ys = ap (λ (w : List ℕ). wordsOf l ++ w) (encode-append xs ys) ∙ sym (append-assoc (wordsOf l) (encode xs) (encode ys))
+pub take-records : (p : Bool) (t : List ℕ) (i n : ℕ) → i ≤ n → take i (recordsOf p t n) ≡ recordsOf p t i
+take-records p t i n h = laws.take-rows (placeAt p) recordWords t 0 i n h
 
--- ---- a record is put
+pub records-sized : (p : Bool) (t : List ℕ) (n : ℕ) → Sized (recordsOf p t n)
+records-sized p t n = go 0 n
+  where
+    go : (i m : ℕ) → Sized (rowsFrom (placeAt p) recordWords t i m)
+    go i zero = tt
+    go i (suc m) = (length-record p t i, go (suc i) m)
 
-pub recorded-is : (t : List ℕ) (i : ℕ) (r : List ℕ) → length r ≡ recordSize → recorded t i r ≡ take (span i) t ++ (r ++ drop (span i + length r) t)
-recorded-is t i r h =
-    ap (λ (x : List ℕ). (take (span i) t ++ x) ++ drop (span i + recordSize) t) (take-all recordSize r (omega arith))
-    ∙ append-assoc (take (span i) t) r (drop (span i + recordSize) t) ∙ ap (λ (n : ℕ). take (span i) t ++ (r ++ drop (span i + n) t)) (sym h)
+-- ---- records are put, one after the other; the place k of what comes next is handed over with its equation
 
-pub drop-zeros : (k z : ℕ) → drop {A = ℕ} k (replicate z 0) ≡ replicate (z - k) 0
-drop-zeros zero z = let q : z ≡ z - 0 = omega arith in ap (λ (j : ℕ). replicate {A = ℕ} j 0) q
-drop-zeros (suc k) zero = let q : 0 ≡ 0 - suc k = omega arith in ap (λ (j : ℕ). replicate {A = ℕ} j 0) q
-drop-zeros (suc k) (suc z) = let q : z - k ≡ suc z - suc k = omega arith in drop-zeros k z ∙ ap (λ (j : ℕ). replicate {A = ℕ} j 0) q
+pub length-recorded : (p : Bool) (t : List ℕ) (i : ℕ) (r : List ℕ) → length (recorded p t i r) ≡ length t
+length-recorded p t i r = laws.length-row (placeAt p) t i r
 
--- behind n others, where zeros are left
-pub record-more : (xs r : List ℕ) (z n : ℕ) → length xs ≡ span n → length r ≡ recordSize → recorded (xs ++ replicate z 0) n r ≡ (xs ++ r) ++ replicate (z - length r) 0
-record-more xs r z n e l =
-    let t : List ℕ = xs ++ replicate z 0 in
-    let q : span n + length r ≡ length xs + length r = omega arith in
-    recorded-is t n r l
-    ∙ ap₂ (λ (x y : List ℕ). x ++ (r ++ y)) (take-at xs (replicate z 0) (span n) e) (ap (λ (k : ℕ). drop k t) q ∙ (drop-append-add xs (replicate z 0) (length r) ∙ drop-zeros (length r) z))
-    ∙ sym (append-assoc xs r (replicate (z - length r) 0))
+pub recorded-same : (p : Bool) (t : List ℕ) (i : ℕ) (r : List ℕ) → i < held p (length t) → length r ≡ recordWords → recordAt p (recorded p t i r) i ≡ r
+recorded-same p t i r h e = laws.row-same (placed p) (words-in p) t i r h e
+
+pub recorded-other : (p : Bool) (t : List ℕ) (i : ℕ) (r : List ℕ) (k : ℕ) → i < held p (length t) → k < held p (length t) → (k ≡ i → ⊥) → length r ≡ recordWords
+    → recordAt p (recorded p t i r) k ≡ recordAt p t k
+recorded-other p t i r k h l n e = laws.row-other (placed p) (words-in p) t i k r h l n e
+
+pub put-append : (p : Bool) (t : List ℕ) (i : ℕ) (rs : List (List ℕ)) (k : ℕ) (ss : List (List ℕ)) → k ≡ i + length rs → putAll p (putAll p t i rs) k ss ≡ putAll p t i (rs ++ ss)
+put-append p t i rs k ss q = ap (λ (n : ℕ). putAll p (putAll p t i rs) n ss) q ∙ laws.put-append (placeAt p) t i rs ss
+
+pub put-more : (p : Bool) (t : List ℕ) (i : ℕ) (rs : List (List ℕ)) (k : ℕ) (r : List ℕ) → k ≡ i + length rs → recorded p (putAll p t i rs) k r ≡ putAll p t i (rs ++ (r ∷ []))
+put-more p t i rs k r q = put-append p t i rs k (r ∷ []) q
+
+pub length-put : (p : Bool) (t : List ℕ) (i : ℕ) (rs : List (List ℕ)) → length (putAll p t i rs) ≡ length t
+length-put p t i rs = laws.length-put (placeAt p) t i rs
+
+-- ---- a list that holds these records and zeros
+
+pub filled-none : (p : Bool) (len : ℕ) → filled p len [] ≡ replicate len 0
+unfolding filledBy
+filled-none p len = refl
+
+pub length-filled : (p : Bool) (len : ℕ) (rs : List (List ℕ)) → length (filled p len rs) ≡ len
+unfolding filledBy
+length-filled p len rs = length-put p (replicate len 0) 0 rs ∙ length-replicate len 0
+
+pub put-filled : (p : Bool) (len : ℕ) (rs : List (List ℕ)) (k : ℕ) (ss : List (List ℕ)) → k ≡ length rs → putAll p (filled p len rs) k ss ≡ filled p len (rs ++ ss)
+unfolding filledBy
+put-filled p len rs k ss q = put-append p (replicate len 0) 0 rs k ss (omega arith)
+
+pub record-filled : (p : Bool) (len : ℕ) (rs : List (List ℕ)) (k : ℕ) (r : List ℕ) → k ≡ length rs → recorded p (filled p len rs) k r ≡ filled p len (rs ++ (r ∷ []))
+record-filled p len rs k r q = put-filled p len rs k (r ∷ []) q
+
+pub records-filled : (p : Bool) (len : ℕ) (rs : List (List ℕ)) → Sized rs → length rs ≤ held p len → recordsOf p (filled p len rs) (length rs) ≡ rs
+records-filled p len rs z h = laws.rows-filled (placed p) (words-in p) len rs h z

@@ -12,7 +12,8 @@ use borrow.Author.Tests.{eqb-true, eqb-false, eq-eqb, ne-eqb, leb-true, leb-fals
 use Rattle.tables.specs.declared.Ty.{Ty}
 use Rattle.tables.specs.Pick.{pick, all, among, alike}
 use Rattle.tables.specs.Kinds.{rowOf, sortClass, firstClass}
-use Rattle.tables.specs.Lines.{Shape, isBitvec, isArray, isConst, isInput, isState as stateShape, isOutput, isOne, isTwo, isIte, isRead, isWrite, isJunk, isGive, isMark, isCmp, giveKind, shapeOf, build, lineOf, kindIn, sortIn, firstIn, secondIn, thirdIn, recordSize}
+use Rattle.tables.specs.Lines.{Shape, isBitvec, isArray, isConst, isInput, isState as stateShape, isOutput, isOne, isTwo, isIte, isRead, isWrite, isJunk, isGive, isMark, isCmp, giveKind, shapeOf, build, lineOf, kindIn, sortIn, firstIn, secondIn, thirdIn}
+use Rattle.tables.specs.Layout.{recordWords}
 use Rattle.tables.specs.Types.{ty, noTy, isState, sortAt, recordType, lineType, Ctx, tyAt, givenBy, given, givenAfter, grow}
 use Rattle.tables.specs.Rules.{suits, classes, fault}
 use Rattle.tables.specs.Tables.{formed, keeps}
@@ -196,7 +197,7 @@ length-noted p r n notes =
 
 -- ---- one line more
 
-module _ {notes : List (List ℕ)} {c : Ctx} (p : Bool) (r : List ℕ) {n : ℕ} (sh : Shows notes c) (ln : length (c .tys) ≡ n) (hn : n < length notes) (lr : length r ≡ recordSize)
+module _ {notes : List (List ℕ)} {c : Ctx} (p : Bool) (r : List ℕ) {n : ℕ} (sh : Shows notes c) (ln : length (c .tys) ≡ n) (hn : n < length notes) (lr : length r ≡ recordWords)
     (kp : keeps p (tyAt c) (given c) r ≡ true) where
   lookups : lookIn notes ≡ tyAt c
   lookups = λ i a. sh .types a i

@@ -13,10 +13,11 @@ use Rattle.tables.specs.declared.Refusal.the-variants.{NotATable}
 use Rattle.tables.specs.declared.Checked.the-variants.{Accepted, Refused}
 use Rattle.tables.specs.Pick.{pick, all, inside}
 use Rattle.tables.specs.Kinds.{rowOf, sortClass, firstClass, secondClass, thirdClass}
-use Rattle.tables.specs.Lines.{Line, Shape, isBitvec, isArray as arrayShape, isConst, isInput, isState as stateShape, isOutput, isOne, isTwo, isIte, isRead, isWrite, isJunk, isGive, isMark, isCmp, giveKind, shapeOf, build, lineOf, records, decode, counted, kindIn, sortIn, firstIn, secondIn, thirdIn}
+use Rattle.tables.specs.Lines.{Line, Shape, isBitvec, isArray as arrayShape, isConst, isInput, isState as stateShape, isOutput, isOne, isTwo, isIte, isRead, isWrite, isJunk, isGive, isMark, isCmp, giveKind, shapeOf, build, lineOf, kindIn, sortIn, firstIn, secondIn, thirdIn}
 use Rattle.tables.specs.Types.{isSort, isValue, isFixed, isWord, isArray, isWordSort, isArraySort, sortAt, Ctx, tyAt, given, grow, noCtx}
 use Rattle.tables.specs.Rules.{suits, classes, fits, same, onceRules, fault}
-use Rattle.tables.specs.Tables.{whole, room, known, unused, tidy, formed, keeps, lawful, broken, checked}
+use Rattle.tables.specs.Layout.{whole, room, recordsOf, linesOf}
+use Rattle.tables.specs.Tables.{known, unused, tidy, formed, keeps, lawful, broken, checked}
 use Rattle.tables.proofs.Every.{at-each}
 use Rattle.tables.proofs.Shapes.{KindOf, kind-of, range}
 use Rattle.tables.proofs.Answers.{passed}
@@ -264,35 +265,31 @@ sound p L G r h =
     let g = passed p L G r (eqb-true (fault p L G r) 0 (h₁ .1)) in
     shape-ok p L G k (sortIn r) (firstIn r) (secondIn r) (thirdIn r) (h₂ .0) (h₂ .1) (g .class) (shapeOf k) refl (kind-of k) (g .width) (g .once)
 
--- ---- all records
+-- ---- all records, and the lines of an accepted table
 
-all-sound : (p : Bool) (c : Ctx) (rs : List (List ℕ)) → lawful p c rs ≡ true → AllOk p c (map lineOf rs)
+pub all-sound : (p : Bool) (c : Ctx) (rs : List (List ℕ)) → lawful p c rs ≡ true → AllOk p c (map lineOf rs)
 all-sound p c [] h = tt
 all-sound p c (r ∷ rs) h = let e = both (keeps p (tyAt c) (given c) r) _ h in (sound p (tyAt c) (given c) r (e .0), all-sound p (grow p c (lineOf r)) rs (e .1))
 
--- the lines of an accepted table
-pub lawful-ok : (p : Bool) (t : List ℕ) → lawful p noCtx (records t) ≡ true → AllOk p noCtx (decode t)
-lawful-ok p t h = all-sound p noCtx (records t) h
-
-pub accepted-lawful : (p : Bool) (t : List ℕ) (n : ℕ) → checked p t n ≡ Accepted → lawful p noCtx (records (counted t n)) ≡ true
+pub accepted-lawful : (p : Bool) (t : List ℕ) (n : ℕ) → checked p t n ≡ Accepted → lawful p noCtx (recordsOf p t n) ≡ true
 unfolding checked
-accepted-lawful p t n e = go (whole (length t)) (leb n (room (length t)) && lawful p noCtx (records (counted t n))) refl refl e
+accepted-lawful p t n e = go (whole p (length t)) (leb n (room p (length t)) && lawful p noCtx (recordsOf p t n)) refl refl e
   where
-    go : (a b : Bool) → whole (length t) ≡ a → (leb n (room (length t)) && lawful p noCtx (records (counted t n))) ≡ b
-        → pick a (pick b Accepted (Refused (broken p))) (Refused NotATable) ≡ Accepted → lawful p noCtx (records (counted t n)) ≡ true
-    go true true q r z = both (leb n (room (length t))) _ r .1
+    go : (a b : Bool) → whole p (length t) ≡ a → (leb n (room p (length t)) && lawful p noCtx (recordsOf p t n)) ≡ b
+        → pick a (pick b Accepted (Refused (broken p))) (Refused NotATable) ≡ Accepted → lawful p noCtx (recordsOf p t n) ≡ true
+    go true true q r z = both (leb n (room p (length t))) _ r .1
     go true false q r z = absurd (not-accepted (broken p) z)
     go false b q r z = absurd (not-accepted NotATable z)
 
-pub accepted-room : (p : Bool) (t : List ℕ) (n : ℕ) → checked p t n ≡ Accepted → (whole (length t) ≡ true) × (n ≤ room (length t))
+pub accepted-room : (p : Bool) (t : List ℕ) (n : ℕ) → checked p t n ≡ Accepted → (whole p (length t) ≡ true) × (n ≤ room p (length t))
 unfolding checked
-accepted-room p t n e = go (whole (length t)) (leb n (room (length t)) && lawful p noCtx (records (counted t n))) refl refl e
+accepted-room p t n e = go (whole p (length t)) (leb n (room p (length t)) && lawful p noCtx (recordsOf p t n)) refl refl e
   where
-    go : (a b : Bool) → whole (length t) ≡ a → (leb n (room (length t)) && lawful p noCtx (records (counted t n))) ≡ b
-        → pick a (pick b Accepted (Refused (broken p))) (Refused NotATable) ≡ Accepted → (whole (length t) ≡ true) × (n ≤ room (length t))
-    go true true q r z = (q, leb-true n (room (length t)) (both (leb n (room (length t))) _ r .0))
+    go : (a b : Bool) → whole p (length t) ≡ a → (leb n (room p (length t)) && lawful p noCtx (recordsOf p t n)) ≡ b
+        → pick a (pick b Accepted (Refused (broken p))) (Refused NotATable) ≡ Accepted → (whole p (length t) ≡ true) × (n ≤ room p (length t))
+    go true true q r z = (q, leb-true n (room p (length t)) (both (leb n (room p (length t))) _ r .0))
     go true false q r z = absurd (not-accepted (broken p) z)
     go false b q r z = absurd (not-accepted NotATable z)
 
-pub accepted-ok : (p : Bool) (t : List ℕ) (n : ℕ) → checked p t n ≡ Accepted → AllOk p noCtx (decode (counted t n))
-accepted-ok p t n e = lawful-ok p (counted t n) (accepted-lawful p t n e)
+pub accepted-ok : (p : Bool) (t : List ℕ) (n : ℕ) → checked p t n ≡ Accepted → AllOk p noCtx (linesOf p t n)
+accepted-ok p t n e = all-sound p noCtx (recordsOf p t n) (accepted-lawful p t n e)

@@ -2,23 +2,24 @@
 use Prim.Native.Nat.{ℕ}
 use mathlib.Core.Path.{_≡_, refl}
 use mathlib.Core.Bool.{true, false}
-use mathlib.Core.List.{List, [], _∷_, _++_, map}
+use mathlib.Core.List.{List, [], _∷_, map}
 use Rattle.tables.specs.declared.Checked.the-variants.{Accepted, Refused}
 use Rattle.tables.specs.declared.Refusal.the-variants.{NotATable, BadTable, BadProgram}
 use Rattle.tables.specs.Kinds.{rowOf}
-use Rattle.tables.specs.Lines.{fields, decode}
+use Rattle.tables.specs.Lines.{fields, lineOf}
+use Rattle.tables.specs.Layout.{filledBy, recordsOf, filled}
 use Rattle.tables.specs.Types.{tyAt, given, context}
 use Rattle.tables.specs.Rules.{suits, fault}
 use Rattle.tables.specs.Tables.{checked}
 
 -- 1 sort bitvec 1, 2 sort bitvec 3, 3 sort array 1 2, 4 state 3, 5 input 1, 6 constd 2 5, 7 write 3 4 5 6, 8 next 3 4 7, 9 read 2 4 5, 10 eq 1 9 6, 11 bad 10
-abbrev request : List ℕ
+abbrev request : List (List ℕ)
 request =
-    fields 1 0 1 0 0 ++ fields 1 0 3 0 0 ++ fields 2 0 1 2 0 ++ fields 5 3 0 0 0 ++ fields 4 1 0 0 0 ++ fields 3 2 5 0 0 ++ fields 55 3 4 5 6 ++ fields 7 3 4 7 0 ++ fields 54 2 4 5 0 ++ fields 21 1 9 6 0
-    ++ fields 8 0 10 0 0
+    fields 1 0 1 0 0 ∷ fields 1 0 3 0 0 ∷ fields 2 0 1 2 0 ∷ fields 5 3 0 0 0 ∷ fields 4 1 0 0 0 ∷ fields 3 2 5 0 0 ∷ fields 55 3 4 5 6 ∷ fields 7 3 4 7 0 ∷ fields 54 2 4 5 0 ∷ fields 21 1 9 6 0
+    ∷ fields 8 0 10 0 0 ∷ []
 
-abbrev judged : List ℕ → List ℕ → ℕ
-judged t r = fault false (tyAt (context false (decode t))) (given (context false (decode t))) r
+abbrev judged : List (List ℕ) → List ℕ → ℕ
+judged rs r = fault false (tyAt (context false (map lineOf rs))) (given (context false (map lineOf rs))) r
 
 -- after the request's lines: a read of a word, an operand that is no line (8); an eq of two widths, an eq of an array and a word (9); a second next, an init
 -- whose value stands behind its state (10); an output, which breaks no rule
@@ -29,22 +30,32 @@ unfolding fault suits rowOf context
 judged-after = refl
 
 -- 1 sort bitvec 9, 2 sort bitvec 8, 3 input 2, 4 constd 2 7, 5 state 2: an array by 9 bits (9) and by 8 (0); an init by the input (10), by the constant (0), by 256 (8: no line)
-abbrev small : List ℕ
-small = fields 1 0 9 0 0 ++ fields 1 0 8 0 0 ++ fields 4 2 0 0 0 ++ fields 3 2 7 0 0 ++ fields 5 2 0 0 0
+abbrev small : List (List ℕ)
+small = fields 1 0 9 0 0 ∷ fields 1 0 8 0 0 ∷ fields 4 2 0 0 0 ∷ fields 3 2 7 0 0 ∷ fields 5 2 0 0 0 ∷ []
 
 judged-small : map (judged small) (fields 2 0 1 1 0 ∷ fields 2 0 2 1 0 ∷ fields 6 2 5 3 0 ∷ fields 6 2 5 4 0 ∷ fields 6 2 5 256 0 ∷ fields 3 2 256 0 0 ∷ fields 3 2 255 0 0 ∷ [])
     ≡ 9 ∷ 0 ∷ 10 ∷ 0 ∷ 8 ∷ 9 ∷ 0 ∷ []
 unfolding fault suits rowOf context
 judged-small = refl
 
--- the request's table with its count; fewer records; too many; a word that is not used; a length that is no multiple of five
-answers : checked false request 11 ∷ checked false request 4 ∷ checked false request 12 ∷ checked false (fields 4 1 0 0 0) 1 ∷ checked false (fields 1 0 8 0 1) 1 ∷ checked false (1 ∷ []) 0 ∷ []
+-- the request's table, of 55 words, with its count; fewer records; too many; a sort that is no line; a word that is not used; a length that is no multiple of five
+answers : checked false (filled false 55 request) 11 ∷ checked false (filled false 55 request) 4 ∷ checked false (filled false 55 request) 12
+    ∷ checked false (filled false 5 (fields 4 1 0 0 0 ∷ [])) 1 ∷ checked false (filled false 5 (fields 1 0 8 0 1 ∷ [])) 1 ∷ checked false (1 ∷ []) 0 ∷ []
     ≡ Accepted ∷ Accepted ∷ Refused BadTable ∷ Refused BadTable ∷ Refused BadTable ∷ Refused NotATable ∷ []
-unfolding checked fault suits rowOf
+unfolding checked fault suits rowOf filledBy
 answers = refl
 
 -- 1 input, 2 its mask, both of width 3: a program; with a mask of another width, or with a sort record, it is none
-programs : checked true (fields 4 3 0 0 0 ++ fields 56 3 1 0 0) 2 ∷ checked true (fields 4 3 0 0 0 ++ fields 56 4 1 0 0) 2 ∷ checked true (fields 1 0 3 0 0) 1 ∷ []
+programs : checked true (filled true 10 (fields 4 3 0 0 0 ∷ fields 56 3 1 0 0 ∷ [])) 2 ∷ checked true (filled true 10 (fields 4 3 0 0 0 ∷ fields 56 4 1 0 0 ∷ [])) 2
+    ∷ checked true (filled true 5 (fields 1 0 3 0 0 ∷ [])) 1 ∷ []
     ≡ Accepted ∷ Refused BadProgram ∷ Refused BadProgram ∷ []
-unfolding checked fault suits rowOf
+unfolding checked fault suits rowOf filledBy
 programs = refl
+
+-- records lie one behind the other, and words past them are 0
+laid : filled false 15 (fields 1 0 8 0 0 ∷ fields 4 1 0 0 0 ∷ []) ≡ 1 ∷ 0 ∷ 8 ∷ 0 ∷ 0 ∷ 4 ∷ 1 ∷ 0 ∷ 0 ∷ 0 ∷ 0 ∷ 0 ∷ 0 ∷ 0 ∷ 0 ∷ []
+unfolding filledBy
+laid = refl
+
+read-back : recordsOf true (4 ∷ 3 ∷ 0 ∷ 0 ∷ 0 ∷ 56 ∷ 3 ∷ 1 ∷ 0 ∷ 0 ∷ []) 2 ≡ fields 4 3 0 0 0 ∷ fields 56 3 1 0 0 ∷ []
+read-back = refl

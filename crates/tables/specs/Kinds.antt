@@ -1,70 +1,135 @@
--- The one constant table of the kinds: a row for each of the kinds 1 to 55, in order. A row has the word's length, the word's letters in ten places, and then the
--- class of the line's sort, the number of its operands and the classes of up to three operands. The five other words for a constant are the reader's. Assumes nothing.
-use Prim.Native.Nat.{ℕ, _-_}
-use mathlib.Core.List.{List, [], _∷_}
+-- The one constant table of the kinds: for each of the kinds 1 to 55, in order, its word, the class of its sort and those of its operands. Five more words for a
+-- constant, kind 3, are known to the reader alone: texts/specs/Forms has them. Assumes nothing.
+use Prim.Native.Nat.{ℕ, zero, suc, _-_}
+use Prim.Native.Char.{code}
+use Prim.Native.String.{String, [] as []ˢ, _∷_ as _∷ˢ_}
+use mathlib.Core.List.{List, [], _∷_, _++_}
 use lib.Dec.{eqb}
-use lib.ListN.{getD, take, drop}
+use lib.ListN.{length, getD, take, drop}
 use Rattle.tables.specs.Pick.{pick}
 
--- Classes: 0 no such place in the line, 1 a word, 2 an array, 3 a word or an array, 4 a state, 5 the sort of a word, 6 the sort of an array, 7 either sort,
--- 8 a number that stays as it is written (a width, a constant, a bound, a count of extra bits).
+-- ---- the class of a place: what may stand as a line's sort, or as an operand of it
+
+-- the line has no such place
+abbrev pub none : ℕ
+none = 0
+
+-- a line that is a word
+abbrev pub word : ℕ
+word = 1
+
+-- a line that is an array
+abbrev pub array : ℕ
+array = 2
+
+-- a line that is a word or an array
+abbrev pub value : ℕ
+value = 3
+
+-- a state line
+abbrev pub state : ℕ
+state = 4
+
+-- a sort line of words
+abbrev pub wordSort : ℕ
+wordSort = 5
+
+-- a sort line of arrays
+abbrev pub arraySort : ℕ
+arraySort = 6
+
+-- any sort line
+abbrev pub anySort : ℕ
+anySort = 7
+
+-- no line, but a number that stays as it is written: a width, a constant, a bound, a count of extra bits
+abbrev pub number : ℕ
+number = 8
+
+-- ---- a row: sixteen numbers, as the code keeps it
+
+-- the letters of a word, by their codes
+abbrev pub letters : String → List ℕ
+letters []ˢ = []
+letters (c ∷ˢ s) = code c ∷ letters s
+
+-- n numbers: those of a list, then zeros
+abbrev padded : ℕ → List ℕ → List ℕ
+padded zero xs = []
+padded (suc n) [] = 0 ∷ padded n []
+padded (suc n) (x ∷ xs) = x ∷ padded n xs
+
+-- the word's length, its letters in ten places, the class of the sort, the number of operands, their classes in three places
+abbrev pub row : String → ℕ → List ℕ → List ℕ
+row w s os = length (letters w) ∷ padded 10 (letters w) ++ (s ∷ length os ∷ padded 3 os)
+
+-- ---- the table
+
+-- "Array sorts take word sorts; state, init, next and ite have any sort, write an array sort, other lines a word sort. read and write take an array first; eq,
+-- neq, the last two of ite and a next's value may be arrays; init and next take a state first; all else are words." Sort lines, bad, constraint and output have
+-- no sort.
 abbrev pub rows : List (List ℕ)
 rows =
-    (6 ∷ 98 ∷ 105 ∷ 116 ∷ 118 ∷ 101 ∷ 99 ∷ 0 ∷ 0 ∷ 0 ∷ 0 ∷ 0 ∷ 1 ∷ 8 ∷ 0 ∷ 0 ∷ [])
-    ∷ (5 ∷ 97 ∷ 114 ∷ 114 ∷ 97 ∷ 121 ∷ 0 ∷ 0 ∷ 0 ∷ 0 ∷ 0 ∷ 0 ∷ 2 ∷ 5 ∷ 5 ∷ 0 ∷ [])
-    ∷ (6 ∷ 99 ∷ 111 ∷ 110 ∷ 115 ∷ 116 ∷ 100 ∷ 0 ∷ 0 ∷ 0 ∷ 0 ∷ 5 ∷ 1 ∷ 8 ∷ 0 ∷ 0 ∷ [])
-    ∷ (5 ∷ 105 ∷ 110 ∷ 112 ∷ 117 ∷ 116 ∷ 0 ∷ 0 ∷ 0 ∷ 0 ∷ 0 ∷ 5 ∷ 0 ∷ 0 ∷ 0 ∷ 0 ∷ [])
-    ∷ (5 ∷ 115 ∷ 116 ∷ 97 ∷ 116 ∷ 101 ∷ 0 ∷ 0 ∷ 0 ∷ 0 ∷ 0 ∷ 7 ∷ 0 ∷ 0 ∷ 0 ∷ 0 ∷ [])
-    ∷ (4 ∷ 105 ∷ 110 ∷ 105 ∷ 116 ∷ 0 ∷ 0 ∷ 0 ∷ 0 ∷ 0 ∷ 0 ∷ 7 ∷ 2 ∷ 4 ∷ 1 ∷ 0 ∷ [])
-    ∷ (4 ∷ 110 ∷ 101 ∷ 120 ∷ 116 ∷ 0 ∷ 0 ∷ 0 ∷ 0 ∷ 0 ∷ 0 ∷ 7 ∷ 2 ∷ 4 ∷ 3 ∷ 0 ∷ [])
-    ∷ (3 ∷ 98 ∷ 97 ∷ 100 ∷ 0 ∷ 0 ∷ 0 ∷ 0 ∷ 0 ∷ 0 ∷ 0 ∷ 0 ∷ 1 ∷ 1 ∷ 0 ∷ 0 ∷ [])
-    ∷ (10 ∷ 99 ∷ 111 ∷ 110 ∷ 115 ∷ 116 ∷ 114 ∷ 97 ∷ 105 ∷ 110 ∷ 116 ∷ 0 ∷ 1 ∷ 1 ∷ 0 ∷ 0 ∷ [])
-    ∷ (6 ∷ 111 ∷ 117 ∷ 116 ∷ 112 ∷ 117 ∷ 116 ∷ 0 ∷ 0 ∷ 0 ∷ 0 ∷ 0 ∷ 1 ∷ 1 ∷ 0 ∷ 0 ∷ [])
-    ∷ (3 ∷ 110 ∷ 111 ∷ 116 ∷ 0 ∷ 0 ∷ 0 ∷ 0 ∷ 0 ∷ 0 ∷ 0 ∷ 5 ∷ 1 ∷ 1 ∷ 0 ∷ 0 ∷ [])
-    ∷ (3 ∷ 110 ∷ 101 ∷ 103 ∷ 0 ∷ 0 ∷ 0 ∷ 0 ∷ 0 ∷ 0 ∷ 0 ∷ 5 ∷ 1 ∷ 1 ∷ 0 ∷ 0 ∷ [])
-    ∷ (3 ∷ 105 ∷ 110 ∷ 99 ∷ 0 ∷ 0 ∷ 0 ∷ 0 ∷ 0 ∷ 0 ∷ 0 ∷ 5 ∷ 1 ∷ 1 ∷ 0 ∷ 0 ∷ [])
-    ∷ (3 ∷ 100 ∷ 101 ∷ 99 ∷ 0 ∷ 0 ∷ 0 ∷ 0 ∷ 0 ∷ 0 ∷ 0 ∷ 5 ∷ 1 ∷ 1 ∷ 0 ∷ 0 ∷ [])
-    ∷ (6 ∷ 114 ∷ 101 ∷ 100 ∷ 97 ∷ 110 ∷ 100 ∷ 0 ∷ 0 ∷ 0 ∷ 0 ∷ 5 ∷ 1 ∷ 1 ∷ 0 ∷ 0 ∷ [])
-    ∷ (5 ∷ 114 ∷ 101 ∷ 100 ∷ 111 ∷ 114 ∷ 0 ∷ 0 ∷ 0 ∷ 0 ∷ 0 ∷ 5 ∷ 1 ∷ 1 ∷ 0 ∷ 0 ∷ [])
-    ∷ (6 ∷ 114 ∷ 101 ∷ 100 ∷ 120 ∷ 111 ∷ 114 ∷ 0 ∷ 0 ∷ 0 ∷ 0 ∷ 5 ∷ 1 ∷ 1 ∷ 0 ∷ 0 ∷ [])
-    ∷ (5 ∷ 115 ∷ 108 ∷ 105 ∷ 99 ∷ 101 ∷ 0 ∷ 0 ∷ 0 ∷ 0 ∷ 0 ∷ 5 ∷ 3 ∷ 1 ∷ 8 ∷ 8 ∷ [])
-    ∷ (4 ∷ 117 ∷ 101 ∷ 120 ∷ 116 ∷ 0 ∷ 0 ∷ 0 ∷ 0 ∷ 0 ∷ 0 ∷ 5 ∷ 2 ∷ 1 ∷ 8 ∷ 0 ∷ [])
-    ∷ (4 ∷ 115 ∷ 101 ∷ 120 ∷ 116 ∷ 0 ∷ 0 ∷ 0 ∷ 0 ∷ 0 ∷ 0 ∷ 5 ∷ 2 ∷ 1 ∷ 8 ∷ 0 ∷ [])
-    ∷ (2 ∷ 101 ∷ 113 ∷ 0 ∷ 0 ∷ 0 ∷ 0 ∷ 0 ∷ 0 ∷ 0 ∷ 0 ∷ 5 ∷ 2 ∷ 3 ∷ 3 ∷ 0 ∷ [])
-    ∷ (3 ∷ 110 ∷ 101 ∷ 113 ∷ 0 ∷ 0 ∷ 0 ∷ 0 ∷ 0 ∷ 0 ∷ 0 ∷ 5 ∷ 2 ∷ 3 ∷ 3 ∷ 0 ∷ [])
-    ∷ (3 ∷ 117 ∷ 108 ∷ 116 ∷ 0 ∷ 0 ∷ 0 ∷ 0 ∷ 0 ∷ 0 ∷ 0 ∷ 5 ∷ 2 ∷ 1 ∷ 1 ∷ 0 ∷ [])
-    ∷ (4 ∷ 117 ∷ 108 ∷ 116 ∷ 101 ∷ 0 ∷ 0 ∷ 0 ∷ 0 ∷ 0 ∷ 0 ∷ 5 ∷ 2 ∷ 1 ∷ 1 ∷ 0 ∷ [])
-    ∷ (3 ∷ 117 ∷ 103 ∷ 116 ∷ 0 ∷ 0 ∷ 0 ∷ 0 ∷ 0 ∷ 0 ∷ 0 ∷ 5 ∷ 2 ∷ 1 ∷ 1 ∷ 0 ∷ [])
-    ∷ (4 ∷ 117 ∷ 103 ∷ 116 ∷ 101 ∷ 0 ∷ 0 ∷ 0 ∷ 0 ∷ 0 ∷ 0 ∷ 5 ∷ 2 ∷ 1 ∷ 1 ∷ 0 ∷ [])
-    ∷ (3 ∷ 115 ∷ 108 ∷ 116 ∷ 0 ∷ 0 ∷ 0 ∷ 0 ∷ 0 ∷ 0 ∷ 0 ∷ 5 ∷ 2 ∷ 1 ∷ 1 ∷ 0 ∷ [])
-    ∷ (4 ∷ 115 ∷ 108 ∷ 116 ∷ 101 ∷ 0 ∷ 0 ∷ 0 ∷ 0 ∷ 0 ∷ 0 ∷ 5 ∷ 2 ∷ 1 ∷ 1 ∷ 0 ∷ [])
-    ∷ (3 ∷ 115 ∷ 103 ∷ 116 ∷ 0 ∷ 0 ∷ 0 ∷ 0 ∷ 0 ∷ 0 ∷ 0 ∷ 5 ∷ 2 ∷ 1 ∷ 1 ∷ 0 ∷ [])
-    ∷ (4 ∷ 115 ∷ 103 ∷ 116 ∷ 101 ∷ 0 ∷ 0 ∷ 0 ∷ 0 ∷ 0 ∷ 0 ∷ 5 ∷ 2 ∷ 1 ∷ 1 ∷ 0 ∷ [])
-    ∷ (3 ∷ 105 ∷ 102 ∷ 102 ∷ 0 ∷ 0 ∷ 0 ∷ 0 ∷ 0 ∷ 0 ∷ 0 ∷ 5 ∷ 2 ∷ 1 ∷ 1 ∷ 0 ∷ [])
-    ∷ (7 ∷ 105 ∷ 109 ∷ 112 ∷ 108 ∷ 105 ∷ 101 ∷ 115 ∷ 0 ∷ 0 ∷ 0 ∷ 5 ∷ 2 ∷ 1 ∷ 1 ∷ 0 ∷ [])
-    ∷ (3 ∷ 97 ∷ 110 ∷ 100 ∷ 0 ∷ 0 ∷ 0 ∷ 0 ∷ 0 ∷ 0 ∷ 0 ∷ 5 ∷ 2 ∷ 1 ∷ 1 ∷ 0 ∷ [])
-    ∷ (2 ∷ 111 ∷ 114 ∷ 0 ∷ 0 ∷ 0 ∷ 0 ∷ 0 ∷ 0 ∷ 0 ∷ 0 ∷ 5 ∷ 2 ∷ 1 ∷ 1 ∷ 0 ∷ [])
-    ∷ (3 ∷ 120 ∷ 111 ∷ 114 ∷ 0 ∷ 0 ∷ 0 ∷ 0 ∷ 0 ∷ 0 ∷ 0 ∷ 5 ∷ 2 ∷ 1 ∷ 1 ∷ 0 ∷ [])
-    ∷ (4 ∷ 110 ∷ 97 ∷ 110 ∷ 100 ∷ 0 ∷ 0 ∷ 0 ∷ 0 ∷ 0 ∷ 0 ∷ 5 ∷ 2 ∷ 1 ∷ 1 ∷ 0 ∷ [])
-    ∷ (3 ∷ 110 ∷ 111 ∷ 114 ∷ 0 ∷ 0 ∷ 0 ∷ 0 ∷ 0 ∷ 0 ∷ 0 ∷ 5 ∷ 2 ∷ 1 ∷ 1 ∷ 0 ∷ [])
-    ∷ (4 ∷ 120 ∷ 110 ∷ 111 ∷ 114 ∷ 0 ∷ 0 ∷ 0 ∷ 0 ∷ 0 ∷ 0 ∷ 5 ∷ 2 ∷ 1 ∷ 1 ∷ 0 ∷ [])
-    ∷ (3 ∷ 97 ∷ 100 ∷ 100 ∷ 0 ∷ 0 ∷ 0 ∷ 0 ∷ 0 ∷ 0 ∷ 0 ∷ 5 ∷ 2 ∷ 1 ∷ 1 ∷ 0 ∷ [])
-    ∷ (3 ∷ 115 ∷ 117 ∷ 98 ∷ 0 ∷ 0 ∷ 0 ∷ 0 ∷ 0 ∷ 0 ∷ 0 ∷ 5 ∷ 2 ∷ 1 ∷ 1 ∷ 0 ∷ [])
-    ∷ (3 ∷ 109 ∷ 117 ∷ 108 ∷ 0 ∷ 0 ∷ 0 ∷ 0 ∷ 0 ∷ 0 ∷ 0 ∷ 5 ∷ 2 ∷ 1 ∷ 1 ∷ 0 ∷ [])
-    ∷ (4 ∷ 117 ∷ 100 ∷ 105 ∷ 118 ∷ 0 ∷ 0 ∷ 0 ∷ 0 ∷ 0 ∷ 0 ∷ 5 ∷ 2 ∷ 1 ∷ 1 ∷ 0 ∷ [])
-    ∷ (4 ∷ 117 ∷ 114 ∷ 101 ∷ 109 ∷ 0 ∷ 0 ∷ 0 ∷ 0 ∷ 0 ∷ 0 ∷ 5 ∷ 2 ∷ 1 ∷ 1 ∷ 0 ∷ [])
-    ∷ (4 ∷ 115 ∷ 100 ∷ 105 ∷ 118 ∷ 0 ∷ 0 ∷ 0 ∷ 0 ∷ 0 ∷ 0 ∷ 5 ∷ 2 ∷ 1 ∷ 1 ∷ 0 ∷ [])
-    ∷ (4 ∷ 115 ∷ 114 ∷ 101 ∷ 109 ∷ 0 ∷ 0 ∷ 0 ∷ 0 ∷ 0 ∷ 0 ∷ 5 ∷ 2 ∷ 1 ∷ 1 ∷ 0 ∷ [])
-    ∷ (4 ∷ 115 ∷ 109 ∷ 111 ∷ 100 ∷ 0 ∷ 0 ∷ 0 ∷ 0 ∷ 0 ∷ 0 ∷ 5 ∷ 2 ∷ 1 ∷ 1 ∷ 0 ∷ [])
-    ∷ (3 ∷ 115 ∷ 108 ∷ 108 ∷ 0 ∷ 0 ∷ 0 ∷ 0 ∷ 0 ∷ 0 ∷ 0 ∷ 5 ∷ 2 ∷ 1 ∷ 1 ∷ 0 ∷ [])
-    ∷ (3 ∷ 115 ∷ 114 ∷ 108 ∷ 0 ∷ 0 ∷ 0 ∷ 0 ∷ 0 ∷ 0 ∷ 0 ∷ 5 ∷ 2 ∷ 1 ∷ 1 ∷ 0 ∷ [])
-    ∷ (3 ∷ 115 ∷ 114 ∷ 97 ∷ 0 ∷ 0 ∷ 0 ∷ 0 ∷ 0 ∷ 0 ∷ 0 ∷ 5 ∷ 2 ∷ 1 ∷ 1 ∷ 0 ∷ [])
-    ∷ (3 ∷ 114 ∷ 111 ∷ 108 ∷ 0 ∷ 0 ∷ 0 ∷ 0 ∷ 0 ∷ 0 ∷ 0 ∷ 5 ∷ 2 ∷ 1 ∷ 1 ∷ 0 ∷ [])
-    ∷ (3 ∷ 114 ∷ 111 ∷ 114 ∷ 0 ∷ 0 ∷ 0 ∷ 0 ∷ 0 ∷ 0 ∷ 0 ∷ 5 ∷ 2 ∷ 1 ∷ 1 ∷ 0 ∷ [])
-    ∷ (6 ∷ 99 ∷ 111 ∷ 110 ∷ 99 ∷ 97 ∷ 116 ∷ 0 ∷ 0 ∷ 0 ∷ 0 ∷ 5 ∷ 2 ∷ 1 ∷ 1 ∷ 0 ∷ [])
-    ∷ (3 ∷ 105 ∷ 116 ∷ 101 ∷ 0 ∷ 0 ∷ 0 ∷ 0 ∷ 0 ∷ 0 ∷ 0 ∷ 7 ∷ 3 ∷ 1 ∷ 3 ∷ 3 ∷ [])
-    ∷ (4 ∷ 114 ∷ 101 ∷ 97 ∷ 100 ∷ 0 ∷ 0 ∷ 0 ∷ 0 ∷ 0 ∷ 0 ∷ 5 ∷ 2 ∷ 2 ∷ 1 ∷ 0 ∷ [])
-    ∷ (5 ∷ 119 ∷ 114 ∷ 105 ∷ 116 ∷ 101 ∷ 0 ∷ 0 ∷ 0 ∷ 0 ∷ 0 ∷ 6 ∷ 3 ∷ 2 ∷ 1 ∷ 1 ∷ [])
+    -- 1 to 5: sorts, constants, inputs, states
+    row "bitvec" none (number ∷ [])
+    ∷ row "array" none (wordSort ∷ wordSort ∷ [])
+    ∷ row "constd" wordSort (number ∷ [])
+    ∷ row "input" wordSort []
+    ∷ row "state" anySort []
+    -- 6 to 10: what states start with and take next, signals, outputs
+    ∷ row "init" anySort (state ∷ word ∷ [])
+    ∷ row "next" anySort (state ∷ value ∷ [])
+    ∷ row "bad" none (word ∷ [])
+    ∷ row "constraint" none (word ∷ [])
+    ∷ row "output" none (word ∷ [])
+    -- 11 to 20: operators of one word
+    ∷ row "not" wordSort (word ∷ [])
+    ∷ row "neg" wordSort (word ∷ [])
+    ∷ row "inc" wordSort (word ∷ [])
+    ∷ row "dec" wordSort (word ∷ [])
+    ∷ row "redand" wordSort (word ∷ [])
+    ∷ row "redor" wordSort (word ∷ [])
+    ∷ row "redxor" wordSort (word ∷ [])
+    ∷ row "slice" wordSort (word ∷ number ∷ number ∷ [])
+    ∷ row "uext" wordSort (word ∷ number ∷ [])
+    ∷ row "sext" wordSort (word ∷ number ∷ [])
+    -- 21 to 52: operators of two; eq and neq take arrays as well
+    ∷ row "eq" wordSort (value ∷ value ∷ [])
+    ∷ row "neq" wordSort (value ∷ value ∷ [])
+    ∷ row "ult" wordSort (word ∷ word ∷ [])
+    ∷ row "ulte" wordSort (word ∷ word ∷ [])
+    ∷ row "ugt" wordSort (word ∷ word ∷ [])
+    ∷ row "ugte" wordSort (word ∷ word ∷ [])
+    ∷ row "slt" wordSort (word ∷ word ∷ [])
+    ∷ row "slte" wordSort (word ∷ word ∷ [])
+    ∷ row "sgt" wordSort (word ∷ word ∷ [])
+    ∷ row "sgte" wordSort (word ∷ word ∷ [])
+    ∷ row "iff" wordSort (word ∷ word ∷ [])
+    ∷ row "implies" wordSort (word ∷ word ∷ [])
+    ∷ row "and" wordSort (word ∷ word ∷ [])
+    ∷ row "or" wordSort (word ∷ word ∷ [])
+    ∷ row "xor" wordSort (word ∷ word ∷ [])
+    ∷ row "nand" wordSort (word ∷ word ∷ [])
+    ∷ row "nor" wordSort (word ∷ word ∷ [])
+    ∷ row "xnor" wordSort (word ∷ word ∷ [])
+    ∷ row "add" wordSort (word ∷ word ∷ [])
+    ∷ row "sub" wordSort (word ∷ word ∷ [])
+    ∷ row "mul" wordSort (word ∷ word ∷ [])
+    ∷ row "udiv" wordSort (word ∷ word ∷ [])
+    ∷ row "urem" wordSort (word ∷ word ∷ [])
+    ∷ row "sdiv" wordSort (word ∷ word ∷ [])
+    ∷ row "srem" wordSort (word ∷ word ∷ [])
+    ∷ row "smod" wordSort (word ∷ word ∷ [])
+    ∷ row "sll" wordSort (word ∷ word ∷ [])
+    ∷ row "srl" wordSort (word ∷ word ∷ [])
+    ∷ row "sra" wordSort (word ∷ word ∷ [])
+    ∷ row "rol" wordSort (word ∷ word ∷ [])
+    ∷ row "ror" wordSort (word ∷ word ∷ [])
+    ∷ row "concat" wordSort (word ∷ word ∷ [])
+    -- 53 to 55: choice, and the operators of arrays
+    ∷ row "ite" anySort (word ∷ value ∷ value ∷ [])
+    ∷ row "read" wordSort (array ∷ word ∷ [])
+    ∷ row "write" arraySort (array ∷ word ∷ word ∷ [])
     ∷ []
 
 -- A kind's row. A mask, kind 56, stands in programs alone and has no word; it takes what `not`, kind 11, takes.

@@ -1,10 +1,12 @@
 pub mod Pick
 pub mod Kinds
 pub mod Lines
+pub mod Layout
 pub mod Types
 pub mod Cone
 pub mod Rules
 pub mod Notes
 pub mod Tables
 pub mod Refusals
+pub mod Answers
 pub mod Examples

@@ -1,12 +1,10 @@
--- A circuit, or a program, is a list of lines. A table holds a record of five words for each: kind, sort line (in a program the width), and three operands.
--- `decode` reads the lines of a table and `encode` writes them back: nothing else knows how a table is laid out. A line is named by its number, from 1.
--- Assumes nothing.
-use Prim.Native.Nat.{ℕ, _+_, _*_}
+-- A circuit, or a program, is a list of lines; a line is named by its number, from 1. A record of five words stands for a line: kind, sort line (in a program the width),
+-- and three operands. Assumes nothing.
+use Prim.Native.Nat.{ℕ}
 use mathlib.Core.Bool.{Bool, true, false}
-use mathlib.Core.List.{List, [], _∷_, _++_, map}
+use mathlib.Core.List.{List, [], _∷_}
 use lib.Dec.{eqb}
-use lib.ListN.{getD, take, drop}
-use lib.Seq.{paste}
+use lib.ListN.{getD}
 use Rattle.tables.specs.Pick.{pick, inside}
 
 -- what the lines that only have a value compute
@@ -138,39 +136,3 @@ wordsOf (Line.give m s q v) = fields (giveKind m) s q v 0
 wordsOf (Line.mark m a) = fields (markKind m) 0 a 0 0
 wordsOf (Line.output a) = fields 10 0 a 0 0
 wordsOf Line.junk = fields 0 0 0 0 0
-
--- ---- tables
-
--- the words of a record, and of n records
-abbrev pub recordSize : ℕ
-recordSize = 5
-
-abbrev pub span : ℕ → ℕ
-span n = recordSize * n
-
--- the records of a table
-abbrev pub records : List ℕ → List (List ℕ)
-records [] = []
-records (k ∷ []) = []
-records (k ∷ s ∷ []) = []
-records (k ∷ s ∷ a ∷ []) = []
-records (k ∷ s ∷ a ∷ b ∷ []) = []
-records (k ∷ s ∷ a ∷ b ∷ c ∷ t) = fields k s a b c ∷ records t
-
-abbrev pub decode : List ℕ → List Line
-decode t = map lineOf (records t)
-
-abbrev pub encode : List Line → List ℕ
-encode [] = []
-encode (l ∷ ls) = wordsOf l ++ encode ls
-
--- the record at the place i, from 0, and the first n records
-abbrev pub recordAt : List ℕ → ℕ → List ℕ
-recordAt t i = take recordSize (drop (span i) t)
-
-abbrev pub counted : List ℕ → ℕ → List ℕ
-counted t n = take (span n) t
-
--- a table with the record r at the place i
-abbrev pub recorded : List ℕ → ℕ → List ℕ → List ℕ
-recorded t i r = paste t (span i) r recordSize

@@ -6,22 +6,22 @@ use mathlib.Core.List.{List, [], _∷_}
 use lib.Dec.{leb, ltb, eqb}
 use Rattle.tables.specs.declared.Ty.{Ty}
 use Rattle.tables.specs.Pick.{pick, inside, all}
-use Rattle.tables.specs.Kinds.{rowOf, sortClass, firstClass, secondClass, thirdClass}
+use Rattle.tables.specs.Kinds.{word, array, value, state, wordSort, arraySort, anySort, rowOf, sortClass, firstClass, secondClass, thirdClass}
 use Rattle.tables.specs.Lines.{Line, Expr, lineOf, kindIn, sortIn, firstIn, secondIn, thirdIn}
 use Rattle.tables.specs.Types.{isSort, isValue, isFixed, isState, isWord, isArray, isWordSort, isArraySort, sortAt}
 
 -- ---- 8: an operand is not an earlier line of the right class
 
--- a line of the type t may stand where the class k is asked for
+-- A line of the type t may stand in a place of the class k. Where the class is none or a number, nothing is asked.
 unfoldable pub suits : ℕ → Ty → Bool
 suits k t =
-    pick (eqb k 1) (isWord t) (
-    pick (eqb k 2) (isArray t) (
-    pick (eqb k 3) (isValue t) (
-    pick (eqb k 4) (isState t) (
-    pick (eqb k 5) (isWordSort t) (
-    pick (eqb k 6) (isArraySort t) (
-    pick (eqb k 7) (isSort t) true))))))
+    pick (eqb k word) (isWord t) (
+    pick (eqb k array) (isArray t) (
+    pick (eqb k value) (isValue t) (
+    pick (eqb k state) (isState t) (
+    pick (eqb k wordSort) (isWordSort t) (
+    pick (eqb k arraySort) (isArraySort t) (
+    pick (eqb k anySort) (isSort t) true))))))
 
 -- the sort and the operands, each by its class in the row of the kind
 abbrev pub classes : List ℕ → (t a b c : Ty) → List Bool

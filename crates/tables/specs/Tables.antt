@@ -1,5 +1,5 @@
 -- When a table with its count is accepted: circuits (1, 11) and programs (1, 20). Assumes nothing.
-use Prim.Native.Nat.{ℕ, _/_, _%_, min}
+use Prim.Native.Nat.{ℕ}
 use mathlib.Core.Bool.{Bool, true, false, not, _&&_, _||_}
 use mathlib.Core.List.{List, [], _∷_}
 use lib.Dec.{leb, eqb}
@@ -11,17 +11,10 @@ use Rattle.tables.specs.declared.Checked.{Checked}
 use Rattle.tables.specs.declared.Checked.the-variants.{Accepted, Refused}
 use Rattle.tables.specs.Pick.{pick, inside, all}
 use Rattle.tables.specs.Kinds.{rowOf, sortClass, firstClass, secondClass, thirdClass}
-use Rattle.tables.specs.Lines.{lineOf, recordSize, records, counted, kindIn, sortIn, firstIn, secondIn, thirdIn}
+use Rattle.tables.specs.Lines.{lineOf, kindIn, sortIn, firstIn, secondIn, thirdIn}
+use Rattle.tables.specs.Layout.{whole, room, recordsOf}
 use Rattle.tables.specs.Types.{Ctx, tyAt, given, grow, noCtx}
 use Rattle.tables.specs.Rules.{fault}
-
--- a list that holds no whole number of records is no table
-abbrev pub whole : ℕ → Bool
-whole len = eqb (len % recordSize) 0
-
--- the records that a list of so many words holds; at most 16,384 count
-abbrev pub room : ℕ → ℕ
-room len = min (len / recordSize) 16384
 
 -- the kinds of a circuit, 1 to 55, and of a program, 3 to 53 and 56
 abbrev pub known : Bool → ℕ → Bool
@@ -56,6 +49,6 @@ broken true = BadProgram
 
 unfoldable pub checked : Bool → List ℕ → ℕ → Checked
 checked p t n =
-    pick (whole (length t))
-    (pick (leb n (room (length t)) && lawful p noCtx (records (counted t n))) Accepted (Refused (broken p)))
+    pick (whole p (length t))
+    (pick (leb n (room p (length t)) && lawful p noCtx (recordsOf p t n)) Accepted (Refused (broken p)))
     (Refused NotATable)

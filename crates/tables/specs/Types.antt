@@ -10,25 +10,44 @@ use Rattle.tables.specs.declared.Ty.{Ty}
 use Rattle.tables.specs.Pick.{pick, inside, among, alike}
 use Rattle.tables.specs.Lines.{Line, Expr, wordsOf, sortIn, firstIn, secondIn, thirdIn}
 
--- A type is a class, an index width and a width. A word's index width is 0, so that a value of any sort has 2 ^ iw cells of w bits.
--- Classes: 0 none, 1 a sort, 2 a value whose cone holds no input and no state, 3 any other value but 4 a state.
+-- A type is the line's class, an index width and a width. A word's index width is 0, so that a value of any sort has 2 ^ iw cells of w bits. (The classes in
+-- the table of kinds are those of places, and have their own numbers.)
 abbrev pub ty : ℕ → ℕ → ℕ → Ty
 ty c i w = record { cls = c; iw = i; w = w }
 
+-- no sort and no value
+abbrev pub noCls : ℕ
+noCls = 0
+
+abbrev pub sortCls : ℕ
+sortCls = 1
+
+-- a value whose cone holds no input and no state
+abbrev pub fixedCls : ℕ
+fixedCls = 2
+
+-- any other value but a state
+abbrev pub valueCls : ℕ
+valueCls = 3
+
+abbrev pub stateCls : ℕ
+stateCls = 4
+
 abbrev pub noTy : Ty
-noTy = ty 0 0 0
+noTy = ty noCls 0 0
 
 abbrev pub isSort : Ty → Bool
-isSort t = eqb (t .cls) 1
+isSort t = eqb (t .cls) sortCls
 
+-- the last three
 abbrev pub isValue : Ty → Bool
-isValue t = leb 2 (t .cls)
+isValue t = leb fixedCls (t .cls)
 
 abbrev pub isFixed : Ty → Bool
-isFixed t = eqb (t .cls) 2
+isFixed t = eqb (t .cls) fixedCls
 
 abbrev pub isState : Ty → Bool
-isState t = eqb (t .cls) 4
+isState t = eqb (t .cls) stateCls
 
 abbrev pub isWord : Ty → Bool
 isWord t = isValue t && eqb (t .iw) 0
@@ -45,7 +64,7 @@ isArraySort t = isSort t && ltb 0 (t .iw)
 -- the sort that a line's second word names: a circuit's line names a sort line, a program's (p) holds the width itself
 abbrev pub sortAt : Bool → (ℕ → Ty) → ℕ → Ty
 sortAt false L s = L s
-sortAt true L s = pick (inside 1 64 s) (ty 1 0 s) noTy
+sortAt true L s = pick (inside 1 64 s) (ty sortCls 0 s) noTy
 
 -- The cone of a value holds no input and no state: those of its operands don't. a, b and c are the types of the operands as they are written.
 abbrev pub fixedExpr : Expr → (a b c : Ty) → Bool
@@ -59,11 +78,11 @@ fixedExpr (Expr.write x i v) a b c = isFixed a && (isFixed b && isFixed c)
 
 -- the type of a line, from the types of its sort, t, and of its operands
 abbrev pub typeOf : Line → (t a b c : Ty) → Ty
-typeOf (Line.bitvec w) t a b c = ty 1 0 w
-typeOf (Line.array i e) t a b c = ty 1 (a .w) (b .w)
-typeOf (Line.input s) t a b c = ty 3 (t .iw) (t .w)
-typeOf (Line.state s) t a b c = ty 4 (t .iw) (t .w)
-typeOf (Line.val s e) t a b c = ty (pick (fixedExpr e a b c) 2 3) (t .iw) (t .w)
+typeOf (Line.bitvec w) t a b c = ty sortCls 0 w
+typeOf (Line.array i e) t a b c = ty sortCls (a .w) (b .w)
+typeOf (Line.input s) t a b c = ty valueCls (t .iw) (t .w)
+typeOf (Line.state s) t a b c = ty stateCls (t .iw) (t .w)
+typeOf (Line.val s e) t a b c = ty (pick (fixedExpr e a b c) fixedCls valueCls) (t .iw) (t .w)
 typeOf (Line.give m s q v) t a b c = noTy
 typeOf (Line.mark m x) t a b c = noTy
 typeOf (Line.output x) t a b c = noTy

@@ -1,6 +1,6 @@
 // Tables: what a record and a line are, the kinds, the rules, when a table is accepted, and the laws of these. The code is in `records`, `types`, `widths`, `rules` and `checks`.
 
-// The words of a record.
+// The words of a record that is handed about.
 pub const WORDS: usize = 5;
 
 // Why an operation refuses; `checks::number` has the numbers.
@@ -26,6 +26,12 @@ pub enum Refusal {
     ArrayPresent,
     BadProgram,
     TextBuffer,
+}
+
+// What an operation answers that counts what it leaves: how much, or the refusal with its text line, 0 where it has none.
+pub enum Answer {
+    Done(usize),
+    Refused(Refusal, usize),
 }
 
 // What the check of a table answers.

@@ -11,7 +11,8 @@ use borrow.Author.Tests.{eqb-true, eqb-false, leb-true, leb-false, ltb-true, lt-
 use mir.Facts.{and-yes}
 use Rattle.tables.specs.declared.Ty.{Ty}
 use Rattle.tables.specs.Kinds.{rowOf, secondClass, thirdClass}
-use Rattle.tables.specs.Lines.{Line, Expr, lineOf, wordsOf, fields, records, recordSize}
+use Rattle.tables.specs.Lines.{Line, Expr, lineOf, wordsOf, fields}
+use Rattle.tables.specs.Layout.{recordWords, recordsOf}
 use Rattle.tables.specs.Types.{Ctx, noCtx, tyAt, given, grow}
 use Rattle.tables.specs.Tables.{unused, formed, keeps, lawful}
 use Rattle.tables.proofs.Every.{every, at-each}
@@ -19,7 +20,7 @@ use Rattle.tables.proofs.Kept.{both}
 use Rattle.tables.proofs.Formed.{words-back}
 use Rattle.tables.proofs.Facts.{Ok, OkExpr, OkOne}
 use Rattle.tables.proofs.Wide.{AllWide, grow-wide}
-use Rattle.tables.proofs.Places.{Sized, records-sized}
+use Rattle.tables.proofs.Places.{Sized, length-records, records-sized}
 use Rattle.tables.proofs.Sound.{sound}
 use Rattle.tables.proofs.Showing.{earlier}
 
@@ -139,7 +140,7 @@ module _ (c : Ctx) (w : AllWide (tyAt c)) (few : length (c .tys) ≤ 16385) wher
 
 abbrev pub Good : List (List ℕ) → Type 0
 Good [] = Unit {0}
-Good (r ∷ rs) = ((length r ≡ recordSize) × Words r) × Good rs
+Good (r ∷ rs) = ((length r ≡ recordWords) × Words r) × Good rs
 
 good-from : (c : Ctx) (rs : List (List ℕ)) → Sized rs → AllWide (tyAt c) → length (c .tys) + length rs ≤ 16385 → lawful false c rs ≡ true → Good rs
 good-from c [] z w h e = tt
@@ -150,8 +151,8 @@ good-from c (r ∷ rs) z w h e =
     let g : length (grow false c (lineOf r) .tys) ≡ length (c .tys) + 1 = length-append (c .tys) _ in
     ((z .0, subst Words x (line-words c w (omega arith) (lineOf r) o)), good-from (grow false c (lineOf r)) rs (z .1) (grow-wide false c (lineOf r) w o) (omega arith) (f .1))
 
-pub good-lawful : (t : List ℕ) → length (records t) ≤ 16384 → lawful false noCtx (records t) ≡ true → Good (records t)
-good-lawful t h e = good-from noCtx (records t) (records-sized t) none-wide (omega arith) e
+pub good-lawful : (t : List ℕ) (n : ℕ) → n ≤ 16384 → lawful false noCtx (recordsOf false t n) ≡ true → Good (recordsOf false t n)
+good-lawful t n h e = good-from noCtx (recordsOf false t n) (records-sized false t n) none-wide (omega (arith, length-records false t n)) e
   where
     none-wide : AllWide (tyAt noCtx)
     none-wide zero q = absurd (omega arith)

@@ -10,7 +10,8 @@ use lib.ListN.{length}
 use Rattle.tables.specs.declared.Refusal.the-variants.{WrongId, NoRecordLeft, UnknownWord, BadOperand, NumberTooLarge, WrongClass, Misfit, InitOrNext}
 use Rattle.tables.specs.declared.Checked.the-variants.{Accepted}
 use Rattle.tables.specs.Kinds.{rowOf}
-use Rattle.tables.specs.Lines.{counted}
+use Rattle.tables.specs.Lines.{fields}
+use Rattle.tables.specs.Layout.{recordsOf, filledBy, filled}
 use Rattle.tables.specs.Rules.{suits, fault}
 use Rattle.tables.specs.Tables.{checked}
 use Rattle.texts.specs.Forms.{formRow}
@@ -30,28 +31,33 @@ bytes (c then s) = code c ∷ bytes s
 abbrev sample : String
 sample = "1 sort bitvec 1\n2 sort bitvec 3\n3 sort array 1 2\n4 state 3\n5 input 1\n6 constd 2 5\n7 write 3 4 5 6\n8 next 3 4 7\n9 read 2 4 5\n10 eq 1 9 6\n11 bad 10\n"
 
-abbrev table : List ℕ
-table = 1 ∷ 0 ∷ 1 ∷ 0 ∷ 0 ∷ 1 ∷ 0 ∷ 3 ∷ 0 ∷ 0 ∷ 2 ∷ 0 ∷ 1 ∷ 2 ∷ 0 ∷ 5 ∷ 3 ∷ 0 ∷ 0 ∷ 0 ∷ 4 ∷ 1 ∷ 0 ∷ 0 ∷ 0 ∷ 3 ∷ 2 ∷ 5 ∷ 0 ∷ 0 ∷ 55 ∷ 3 ∷ 4 ∷ 5 ∷ 6 ∷ 7 ∷ 3 ∷ 4 ∷ 7 ∷ 0 ∷ 54 ∷ 2 ∷ 4 ∷ 5 ∷ 0 ∷ 21 ∷ 1 ∷ 9 ∷ 6 ∷ 0 ∷ 8 ∷ 0 ∷ 10 ∷ 0 ∷ 0 ∷ []
+abbrev records : List (List ℕ)
+records =
+    fields 1 0 1 0 0 ∷ fields 1 0 3 0 0 ∷ fields 2 0 1 2 0 ∷ fields 5 3 0 0 0 ∷ fields 4 1 0 0 0 ∷ fields 3 2 5 0 0 ∷ fields 55 3 4 5 6 ∷ fields 7 3 4 7 0 ∷ fields 54 2 4 5 0 ∷ fields 21 1 9 6 0
+    ∷ fields 8 0 10 0 0 ∷ []
 
-pub sample-read : readText 100 (bytes sample) ≡ done 11 table
+pub sample-read : readText 100 (bytes sample) ≡ done records
 unfolding bytes readText readLines readLine large ruled judged settled operands wordIn findIn formRow rowOf fault suits split upTo tokens decimal scanned valued digitsIn allIn valueFrom digit
 sample-read = refl
 
-pub sample-written : writeText table ≡ bytes sample
+pub sample-written : writeText records ≡ bytes sample
 unfolding bytes writeText writeFrom digits digitsF rowOf
 sample-written = refl
 
--- it meets the premises of the round trip
+-- a table that holds it meets the premises of the round trip
+abbrev table : List ℕ
+table = filled false 55 records
+
 pub sample-accepted : checked false table 11 ≡ Accepted
-unfolding checked fault suits rowOf
+unfolding checked fault suits rowOf filledBy
 sample-accepted = refl
 
-sample-short : T (leb (length (writeText table)) 65536)
-unfolding writeText writeFrom digits digitsF rowOf
+sample-short : T (leb (length (writeText (recordsOf false table 11))) 65536)
+unfolding writeText writeFrom digits digitsF rowOf filledBy
 sample-short = tt
 
-pub sample-trip : readText 100 (writeText (counted table 11)) ≡ done 11 (counted table 11)
-sample-trip = round-trip table 11 100 sample-accepted (leb→le (length (writeText table)) 65536 sample-short) refl (leb→le 11 20 tt)
+pub sample-trip : readText 100 (writeText (recordsOf false table 11)) ≡ done (recordsOf false table 11)
+sample-trip = round-trip table 11 100 sample-accepted (leb→le (length (writeText (recordsOf false table 11))) 65536 sample-short) refl (leb→le 11 20 tt)
 
 -- ---- a text for each refusal, with its text line; there is room for five records
 

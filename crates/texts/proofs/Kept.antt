@@ -13,7 +13,8 @@ use Rattle.tables.specs.declared.Ty.{Ty}
 use Rattle.tables.specs.declared.Refusal.the-variants.{WrongId, NoRecordLeft}
 use Rattle.tables.specs.Pick.{pick, all, inside}
 use Rattle.tables.specs.Kinds.{rowOf, sortClass, firstClass, secondClass, thirdClass}
-use Rattle.tables.specs.Lines.{kindIn, sortIn, firstIn, secondIn, thirdIn, recordSize}
+use Rattle.tables.specs.Lines.{kindIn, sortIn, firstIn, secondIn, thirdIn}
+use Rattle.tables.specs.Layout.{recordWords}
 use Rattle.tables.specs.Rules.{fault}
 use Rattle.tables.specs.Tables.{known, unused, tidy, formed, keeps}
 use Rattle.tables.proofs.Every.{every, at-each}
@@ -133,10 +134,10 @@ module _ (w f : ℕ) (one-up : 1 ≤ f) (most : f ≤ 60) (rec : List ℕ) (l : 
       go false true x y = ap (λ (r : List ℕ). getD r p 0) (settled-ones w f rec (eqb-true f 60 y)) ∙ getD-set-other rec 2 p _ 0 n
       go false false x y = ap (λ (r : List ℕ). getD r p 0) (settled-other w f rec (eqb-false f 59 x) (eqb-false f 60 y))
 
-  settled-length : length (settled w f rec) ≡ recordSize
+  settled-length : length (settled w f rec) ≡ recordWords
   settled-length = go (eqb f 59) (eqb f 60) refl refl
     where
-      go : (a b : Bool) → eqb f 59 ≡ a → eqb f 60 ≡ b → length (settled w f rec) ≡ recordSize
+      go : (a b : Bool) → eqb f 59 ≡ a → eqb f 60 ≡ b → length (settled w f rec) ≡ recordWords
       go true b x y = ap length (settled-one w f rec (eqb-true f 59 x)) ∙ (length-set rec 2 _ ∙ l .same-length)
       go false true x y = ap length (settled-ones w f rec (eqb-true f 60 y)) ∙ (length-set rec 2 _ ∙ l .same-length)
       go false false x y = ap length (settled-other w f rec (eqb-false f 59 x) (eqb-false f 60 y)) ∙ l .same-length
@@ -186,13 +187,13 @@ module _ (w f : ℕ) (one-up : 1 ≤ f) (most : f ≤ 60) (rec : List ℕ) (l : 
 abbrev pub Fine : (ℕ → Ty) → (Bool → ℕ → Bool) → Reply → Type 0
 Fine L G skip = Unit {0}
 Fine L G (no r) = Unit {0}
-Fine L G (got rec) = (keeps false L G rec ≡ true) × (length rec ≡ recordSize)
+Fine L G (got rec) = (keeps false L G rec ≡ true) × (length rec ≡ recordWords)
 
 module _ (L : ℕ → Ty) (G : Bool → ℕ → Bool) where
   fine-as : {x y : Reply} → x ≡ y → Fine L G y → Fine L G x
   fine-as e h = subst (Fine L G) (sym e) h
 
-  fine-ruled : (rec : List ℕ) → formed false rec ≡ true → length rec ≡ recordSize → Fine L G (ruled (fault false L G rec) rec)
+  fine-ruled : (rec : List ℕ) → formed false rec ≡ true → length rec ≡ recordWords → Fine L G (ruled (fault false L G rec) rec)
   fine-ruled rec h l = go (eqb (fault false L G rec) 0) (eqb (fault false L G rec) 9) refl refl
     where
       go : (p q : Bool) → eqb (fault false L G rec) 0 ≡ p → eqb (fault false L G rec) 9 ≡ q → Fine L G (ruled (fault false L G rec) rec)
@@ -200,7 +201,7 @@ module _ (L : ℕ → Ty) (G : Bool → ℕ → Bool) where
       go false true x y = fine-as (ruled-9 (fault false L G rec) rec (eqb-true _ 9 y)) tt
       go false false x y = fine-as (ruled-10 (fault false L G rec) rec (eqb-false _ 0 x) (eqb-false _ 9 y)) tt
 
-  fine-judged : (f len : ℕ) (rec : List ℕ) → formed false rec ≡ true → length rec ≡ recordSize → Fine L G (judged L G f len rec)
+  fine-judged : (f len : ℕ) (rec : List ℕ) → formed false rec ≡ true → length rec ≡ recordWords → Fine L G (judged L G f len rec)
   fine-judged f len rec h l = go (eqb (fault false L G rec) 8) (eqb f 56) (eqb len (L (sortIn rec) .w)) refl refl refl
     where
       go : (p q r : Bool) → eqb (fault false L G rec) 8 ≡ p → eqb f 56 ≡ q → eqb len (L (sortIn rec) .w) ≡ r → Fine L G (judged L G f len rec)
@@ -209,7 +210,7 @@ module _ (L : ℕ → Ty) (G : Bool → ℕ → Bool) where
       go false true true x y z = fine-as (judged-const L G f rec len (eqb-false _ 8 x) (eqb-true f 56 y) (eqb-true len _ z)) (fine-ruled rec h l)
       go false true false x y z = fine-as (judged-9 L G f rec len (eqb-false _ 8 x) (eqb-true f 56 y) (eqb-false len _ z)) tt
 
-  fine-large : (f len : ℕ) (rec : List ℕ) (big : Bool) → formed false (settled (L (sortIn rec) .w) f rec) ≡ true → length (settled (L (sortIn rec) .w) f rec) ≡ recordSize
+  fine-large : (f len : ℕ) (rec : List ℕ) (big : Bool) → formed false (settled (L (sortIn rec) .w) f rec) ≡ true → length (settled (L (sortIn rec) .w) f rec) ≡ recordWords
       → Fine L G (large L G f rec big len)
   fine-large f len rec true h l = fine-as (large-big L G f rec len true refl) tt
   fine-large f len rec false h l = go (eqb f 1) (inside 1 64 (firstIn rec)) refl refl
@@ -283,7 +284,7 @@ module _ (L : ℕ → Ty) (G : Bool → ℕ → Bool) where
       go false q e = tt
 
   module _ (m n : ℕ) (ts : List (List ℕ)) (rec : List ℕ) (e : readLine L G m n ts ≡ got rec) where
-    pub got-keeps : (keeps false L G rec ≡ true) × (length rec ≡ recordSize)
+    pub got-keeps : (keeps false L G rec ≡ true) × (length rec ≡ recordWords)
     got-keeps = subst (Fine L G) e (fine-line m n ts)
 
     pub got-room : n < m

@@ -13,22 +13,25 @@ use borrow.Author.Tests.{lt-ltb, le-ltb, ltb-false, le-leb, lt-leb, leb-true, le
 use Rattle.tables.specs.declared.Refusal.{Refusal}
 use Rattle.tables.specs.declared.Refusal.the-variants.{TextBuffer}
 use Rattle.tables.specs.declared.Checked.{Checked}
-use Rattle.tables.specs.declared.Checked.the-variants.{Accepted, Refused}
+use Rattle.tables.specs.declared.Checked.the-variants.{Accepted, Refused as RefusedTable}
+use Rattle.tables.specs.declared.Answer.{Answer}
+use Rattle.tables.specs.declared.Answer.the-variants.{Done, Refused}
 use Rattle.tables.specs.Kinds.{rowOf, wordOf, countOf}
-use Rattle.tables.specs.Lines.{lineOf, kindIn, records, counted, recordAt, span}
+use Rattle.tables.specs.Lines.{lineOf, kindIn}
+use Rattle.tables.specs.Layout.{room, recordAt, recordsOf}
 use Rattle.tables.specs.Types.{Ctx, noCtx, tyAt, given, grow}
-use Rattle.tables.specs.Tables.{room, known, formed, keeps, lawful, checked}
+use Rattle.tables.specs.Tables.{known, formed, keeps, lawful, checked}
+use Rattle.tables.specs.Answers.{told}
+use Rattle.tables.proofs.Outcomes.{told-as, told-answer, told-left}
 use Rattle.tables.proofs.Kept.{both}
 use Rattle.tables.proofs.Shapes.{range}
-use Rattle.tables.proofs.Counted.{length-records, record-at}
+use Rattle.tables.proofs.Places.{length-records, record-at}
 use Rattle.tables.proofs.Checking.{roomy}
-use Rattle.texts.specs.declared.WriteOutcome.the-variants.{Done as Wrote, Refused as WriteRefused}
 use Rattle.texts.specs.Forms.{sorted, firstOf, numbersOf}
 use Rattle.texts.specs.Split.{spaced, join}
 use Rattle.texts.specs.Decimal.{digits, digitsF}
-use Rattle.texts.specs.Writing.{numbers, kindTokens, tokensOf, writeFrom, writeText, fitted, writeTable, writeAnswer, bufferOf}
+use Rattle.texts.specs.Writing.{numbers, kindTokens, tokensOf, writeFrom, writeText, Out, wrote, refuse, fitted, writeTable, writeAnswer, bufferOf, writes}
 use Rattle.texts.proofs.Words.{row-shape, row-kind, sorted-most}
-use Rattle.tables.proofs.Places.{drop-zeros}
 use Rattle.texts.proofs.Bounded.{Good, good-lawful}
 
 -- ---- digits printed
@@ -257,83 +260,97 @@ lines-none rs p h = ap (writeFrom (p + 1)) (drop-of-length-le rs h)
 pub record Before (t : List ℕ) (n : ℕ) (out₀ out : List ℕ) (at p : ℕ) : Type 0 where
   pub most : p ≤ n
   pub size : length out ≡ length out₀
-  pub short : length (writeFrom 1 (records (counted t n))) < 2 ^ 63
-  pub rest : length (writeFrom 1 (records (counted t n))) ≡ at + length (writeFrom (p + 1) (drop p (records (counted t n))))
-  pub stored : sets out₀ 0 (writeFrom 1 (records (counted t n))) ≡ sets out at (writeFrom (p + 1) (drop p (records (counted t n))))
+  pub short : length (writeFrom 1 (recordsOf false t n)) < 2 ^ 63
+  pub rest : length (writeFrom 1 (recordsOf false t n)) ≡ at + length (writeFrom (p + 1) (drop p (recordsOf false t n)))
+  pub stored : sets out₀ 0 (writeFrom 1 (recordsOf false t n)) ≡ sets out at (writeFrom (p + 1) (drop p (recordsOf false t n)))
 
-pub before-all : (t : List ℕ) (n : ℕ) (out : List ℕ) → n ≤ room (length t) → lawful false noCtx (records (counted t n)) ≡ true → Before t n out out 0 0
+pub before-all : (t : List ℕ) (n : ℕ) (out : List ℕ) → n ≤ room false (length t) → lawful false noCtx (recordsOf false t n) ≡ true → Before t n out out 0 0
 before-all t n out few law =
-    let fits : span n ≤ length t = roomy (length t) n few .1 in
-    let m = text-most noCtx (records (counted t n)) 1 (good-lawful (counted t n) (omega (arith, length-records n t fits, roomy (length t) n few .0)) law) law (omega (arith, length-records n t fits)) in
+    let m = text-most noCtx (recordsOf false t n) 1 (good-lawful t n (roomy false (length t) n few .0) law) law (omega (arith, length-records false t n)) in
     record {
       most = zero-le;
       size = refl;
-      short = omega (arith, m, length-records n t fits);
+      short = omega (arith, m, length-records false t n);
       rest = omega arith;
       stored = refl;
     }
 
-module _ {t : List ℕ} {n : ℕ} {out₀ out : List ℕ} {at p : ℕ} (B : Before t n out₀ out at p) (few : n ≤ room (length t)) where
-  fits : span n ≤ length t
-  fits = roomy (length t) n few .1
-
-  pub after-all : n ≤ p → (at ≡ length (writeText (counted t n))) × (out ≡ sets out₀ 0 (writeText (counted t n)))
+module _ {t : List ℕ} {n : ℕ} {out₀ out : List ℕ} {at p : ℕ} (B : Before t n out₀ out at p) where
+  pub after-all : n ≤ p → (at ≡ length (writeText (recordsOf false t n))) × (out ≡ sets out₀ 0 (writeText (recordsOf false t n)))
   unfolding writeText
   after-all h =
-      let q = lines-none (records (counted t n)) p (omega (arith, length-records n t fits)) in
+      let q = lines-none (recordsOf false t n) p (omega (arith, length-records false t n)) in
       (omega (arith, B .rest, ap length q), sym (B .stored ∙ ap (sets out at) q))
 
-  module _ (law : lawful false noCtx (records (counted t n)) ≡ true) (l : p < n) (r : List ℕ) (er : r ≡ recordAt t p) where
-    inside : p < length (records (counted t n))
-    inside = omega (arith, length-records n t fits)
+  module _ (law : lawful false noCtx (recordsOf false t n) ≡ true) (l : p < n) (r : List ℕ) (er : r ≡ recordAt false t p) where
+    inside : p < length (recordsOf false t n)
+    inside = omega (arith, length-records false t n)
 
-    this : r ≡ getD (records (counted t n)) p []
-    this = er ∙ sym (record-at n t p fits l)
+    this : r ≡ getD (recordsOf false t n) p []
+    this = er ∙ sym (record-at false t n p l)
 
     pub this-kind : (1 ≤ kindIn r) × (kindIn r ≤ 55)
-    this-kind = subst (λ (x : List ℕ). (1 ≤ kindIn x) × (kindIn x ≤ 55)) (sym this) (lawful-kind noCtx (records (counted t n)) p law inside)
+    this-kind = subst (λ (x : List ℕ). (1 ≤ kindIn x) × (kindIn x ≤ 55)) (sym this) (lawful-kind noCtx (recordsOf false t n) p law inside)
 
     pub this-fits : at + length (join (tokensOf (p + 1) r) ++ (10 ∷ [])) < 2 ^ 63
-    this-fits = omega (arith, B .short, B .rest, lines-less (records (counted t n)) p inside r this at)
+    this-fits = omega (arith, B .short, B .rest, lines-less (recordsOf false t n) p inside r this at)
 
     pub next-record : (at₁ : ℕ) (out₁ : List ℕ) → (at₁ ≡ at + length (join (tokensOf (p + 1) r) ++ (10 ∷ []))) × (out₁ ≡ sets out at (join (tokensOf (p + 1) r) ++ (10 ∷ [])))
         → Before t n out₀ out₁ at₁ (p + 1)
     next-record at₁ out₁ o =
-        let later : List ℕ = writeFrom (p + 1 + 1) (drop (p + 1) (records (counted t n))) in
+        let later : List ℕ = writeFrom (p + 1 + 1) (drop (p + 1) (recordsOf false t n)) in
         let bytes : List ℕ = join (tokensOf (p + 1) r) ++ (10 ∷ []) in
         record {
           most = omega arith;
           size = ap length (o .1) ∙ (length-sets out at bytes ∙ B .size);
           short = B .short;
-          rest = omega (arith, B .rest, lines-less (records (counted t n)) p inside r this at, o .0);
+          rest = omega (arith, B .rest, lines-less (recordsOf false t n) p inside r this at, o .0);
           stored =
               B .stored
-              ∙ (lines-out (records (counted t n)) p inside r this out at
+              ∙ (lines-out (recordsOf false t n) p inside r this out at
               ∙ (ap (λ (x : List ℕ). sets x (at + length bytes) later) (sym (o .1)) ∙ ap (λ (k : ℕ). sets out₁ k later) (sym (o .0))));
         }
 
 -- ---- the answers
 
+drop-zeros : (k z : ℕ) → drop {A = ℕ} k (replicate z 0) ≡ replicate (z - k) 0
+drop-zeros zero z = let q : z ≡ z - 0 = omega arith in ap (λ (j : ℕ). replicate {A = ℕ} j 0) q
+drop-zeros (suc k) zero = let q : 0 ≡ 0 - suc k = omega arith in ap (λ (j : ℕ). replicate {A = ℕ} j 0) q
+drop-zeros (suc k) (suc z) = let q : z - k ≡ suc z - suc k = omega arith in drop-zeros k z ∙ ap (λ (j : ℕ). replicate {A = ℕ} j 0) q
+
+-- bytes that are stored in zeros
+sets-zeros : (s : List ℕ) (len : ℕ) → length s ≤ len → sets (replicate len 0) 0 s ≡ s ++ replicate (len - length s) 0
+sets-zeros s len h =
+    let z : 0 + length s ≤ length (replicate {A = ℕ} len 0) = omega (arith, length-replicate {A = ℕ} len 0) in
+    let j : 0 + length s ≡ length s = omega arith in
+    sets-eq s (replicate len 0) 0 z ∙ (ap (λ (i : ℕ). s ++ drop i (replicate len 0)) j ∙ ap (λ (y : List ℕ). s ++ y) (drop-zeros (length s) len))
+
 module _ (t : List ℕ) (n len : ℕ) where
-  pub out-not : {c : Checked} {r : Refusal} {x : List ℕ} → c ≡ checked false t n → c ≡ Refused r → x ≡ replicate len 0
-      → (WriteRefused r ≡ writeAnswer (writeTable t n len)) × (x ≡ bufferOf len (writeTable t n len))
-  unfolding writeTable
-  out-not a b e = rw (sym a ∙ b) (refl, e)
+  out-as : {a : Answer} {x : List ℕ} (o : Out) → writeTable t n len ≡ o → a ≡ writeAnswer o → x ≡ bufferOf len o → told a (x ∷ []) ≡ writes t n len
+  unfolding writes
+  out-as o e h k = told-as h (ap (λ (y : List ℕ). y ∷ []) k) ∙ ap (λ (o : Out). told (writeAnswer o) (bufferOf len o ∷ [])) (sym e)
 
-  pub out-short : {c : Checked} {x : List ℕ} → c ≡ checked false t n → c ≡ Accepted → len < length (writeText (counted t n)) → x ≡ replicate len 0
-      → (WriteRefused TextBuffer ≡ writeAnswer (writeTable t n len)) × (x ≡ bufferOf len (writeTable t n len))
+  pub out-not : {c : Checked} {r : Refusal} {x : List ℕ} → c ≡ checked false t n → c ≡ RefusedTable r → x ≡ replicate len 0 → told (Refused r 0) (x ∷ []) ≡ writes t n len
   unfolding writeTable
-  out-short a b h e = rw (sym a ∙ b, lt-leb (length (writeText (counted t n))) len h, fitted) (refl, e)
+  out-not {r = r} a b e = out-as (refuse r) (rw (sym a ∙ b) refl) refl e
 
-  pub out-written : {c : Checked} (m : ℕ) {x : List ℕ} → c ≡ checked false t n → c ≡ Accepted → m ≡ length (writeText (counted t n)) → m ≤ len
-      → x ≡ sets (replicate len 0) 0 (writeText (counted t n)) → (Wrote m ≡ writeAnswer (writeTable t n len)) × (x ≡ bufferOf len (writeTable t n len))
+  pub out-short : {c : Checked} {x : List ℕ} → c ≡ checked false t n → c ≡ Accepted → len < length (writeText (recordsOf false t n)) → x ≡ replicate len 0
+      → told (Refused TextBuffer 0) (x ∷ []) ≡ writes t n len
+  unfolding writeTable
+  out-short a b h e = out-as (refuse TextBuffer) (rw (sym a ∙ b, lt-leb (length (writeText (recordsOf false t n))) len h, fitted) refl) refl e
+
+  pub out-written : {c : Checked} (m : ℕ) {x : List ℕ} → c ≡ checked false t n → c ≡ Accepted → m ≡ length (writeText (recordsOf false t n)) → m ≤ len
+      → x ≡ sets (replicate len 0) 0 (writeText (recordsOf false t n)) → told (Done m) (x ∷ []) ≡ writes t n len
   unfolding writeTable
   out-written m a b q h e =
-      let s : List ℕ = writeText (counted t n) in
-      let k : length (writeText (counted t n)) ≤ len = omega arith in
-      let z : 0 + length (writeText (counted t n)) ≤ length (replicate {A = ℕ} len 0) = omega (arith, length-replicate {A = ℕ} len 0) in
-      let j : 0 + length (writeText (counted t n)) ≡ length (writeText (counted t n)) = omega arith in
-      rw (sym a ∙ b, le-leb (length (writeText (counted t n))) len k, fitted) (
-        ap Wrote q,
-        e ∙ (sets-eq (writeText (counted t n)) (replicate len 0) 0 z ∙ (ap (λ (i : ℕ). writeText (counted t n) ++ drop i (replicate len 0)) j ∙ ap (λ (y : List ℕ). writeText (counted t n) ++ y) (drop-zeros (length (writeText (counted t n))) len))),
+      let k : length (writeText (recordsOf false t n)) ≤ len = omega arith in
+      out-as (wrote (writeText (recordsOf false t n))) (rw (sym a ∙ b, le-leb (length (writeText (recordsOf false t n))) len k, fitted) refl) (ap Done q) (e ∙ sets-zeros (writeText (recordsOf false t n)) len k)
+
+  -- what was told of a writing, taken apart
+  pub write-told : (r : Answer) (x : List ℕ) → told r (x ∷ []) ≡ writes t n len → (r ≡ writeAnswer (writeTable t n len)) × (x ≡ bufferOf len (writeTable t n len))
+  unfolding writes
+  write-told r x e =
+      let o : Out = writeTable t n len in (
+        told-answer r (writeAnswer o) (x ∷ []) (bufferOf len o ∷ []) e,
+        ap (λ (y : List (List ℕ)). getD y 0 []) {x = x ∷ []} {y = bufferOf len o ∷ []} (told-left r (writeAnswer o) (x ∷ []) (bufferOf len o ∷ []) e),
       )

@@ -6,70 +6,74 @@ use Prim.Native.Nat.{ℕ, zero, suc, _+_, _-_, _≤_, _<_, min, zero-le}
 use native.Mathlib.Omega.{arith}
 use native.Mathlib.Numerals.{add-one}
 use lib.Dec.{ltb}
-use lib.ListN.{length, take, drop, getD, replicate, drop-of-length-le, length-append, length-replicate}
+use lib.ListN.{length, take, drop, getD, replicate, drop-of-length-le, length-append}
 use lib.Seq.{drop-cons}
 use borrow.Author.Tests.{eqb-true, ltb-true, ltb-false, le-leb, lt-leb}
 use Rattle.tables.specs.declared.Ty.{Ty}
 use Rattle.tables.specs.declared.Refusal.{Refusal}
 use Rattle.tables.specs.declared.Refusal.the-variants.{NotATable, TextTooLong}
+use Rattle.tables.specs.declared.Answer.{Answer}
+use Rattle.tables.specs.declared.Answer.the-variants.{Done, Refused}
 use Rattle.tables.specs.Pick.{inside, all}
-use Rattle.tables.specs.Lines.{Line, exprWords, lineOf, kindIn, sortIn, firstIn, secondIn, thirdIn, recorded, span, recordSize}
+use Rattle.tables.specs.Lines.{Line, exprWords, lineOf, kindIn, sortIn, firstIn, secondIn, thirdIn}
+use Rattle.tables.specs.Layout.{recordWords, whole, room, recorded, filled}
 use Rattle.tables.specs.Types.{noTy, lineType, Ctx, noCtx, tyAt, given, grow}
 use Rattle.tables.specs.Notes.{lookIn, givenIn, Shows, noted}
-use Rattle.tables.specs.Tables.{whole, room, formed, keeps}
+use Rattle.tables.specs.Tables.{formed, keeps}
 use Rattle.tables.specs.Rules.{fits, fault}
+use Rattle.tables.specs.Answers.{Outcome, told}
 use Rattle.tables.proofs.Kept.{both}
-use Rattle.tables.proofs.Places.{record-more}
+use Rattle.tables.proofs.Places.{filled-none, length-filled, record-filled}
 use Rattle.tables.proofs.Answers.{passed, sort-width}
+use Rattle.tables.proofs.Outcomes.{told-answer, told-left}
 use Rattle.tables.proofs.Shapes.{range}
 use Rattle.tables.proofs.Showing.{length-noted, shows-more, length-more}
-use Rattle.texts.specs.declared.ReadOutcome.{ReadOutcome}
-use Rattle.texts.specs.declared.ReadOutcome.the-variants.{Done, Refused}
 use Rattle.texts.specs.declared.Readout.{Readout}
 use Rattle.texts.specs.Split.{split, upTo, tokens}
-use Rattle.texts.specs.Reading.{Reply, skip, no, got, lineTokens, readLine, Text, done, refused, readLines, readText, answerOf, tableOf}
+use Rattle.texts.specs.Reading.{Reply, skip, no, got, lineTokens, readLine, Text, done, refused, readLines, linesRead, readText, answerOf, tableOf, outcomeOf, reads}
 use Rattle.texts.specs.Stages.{asRead}
 use Rattle.texts.proofs.Places.{tail, line-first}
 use Rattle.texts.proofs.Kept.{got-keeps, got-room}
 
 -- ---- one line, and the lines behind it
 
-module _ (m l n : ℕ) (c : Ctx) (e x : List ℕ) (xs : List (List ℕ)) where
-  pub step-got : (r : List ℕ) → readLine (tyAt c) (given c) m n (lineTokens x) ≡ got r → readLines m l n c e (x ∷ xs) ≡ readLines m (suc l) (suc n) (grow false c (lineOf r)) (e ++ r) xs
+module _ (m l : ℕ) (c : Ctx) (rs : List (List ℕ)) (x : List ℕ) (xs : List (List ℕ)) where
+  pub step-got : (r : List ℕ) → readLine (tyAt c) (given c) m (length rs) (lineTokens x) ≡ got r
+      → readLines m l c rs (x ∷ xs) ≡ readLines m (suc l) (grow false c (lineOf r)) (rs ++ (r ∷ [])) xs
   unfolding readLines
   step-got r h = rw (h, readLines) refl
 
-  pub step-skip : readLine (tyAt c) (given c) m n (lineTokens x) ≡ skip → readLines m l n c e (x ∷ xs) ≡ readLines m (suc l) n c e xs
+  pub step-skip : readLine (tyAt c) (given c) m (length rs) (lineTokens x) ≡ skip → readLines m l c rs (x ∷ xs) ≡ readLines m (suc l) c rs xs
   unfolding readLines
   step-skip h = rw (h, readLines) refl
 
-  pub step-no : (r : Refusal) → readLine (tyAt c) (given c) m n (lineTokens x) ≡ no r → readLines m l n c e (x ∷ xs) ≡ refused r l
+  pub step-no : (r : Refusal) → readLine (tyAt c) (given c) m (length rs) (lineTokens x) ≡ no r → readLines m l c rs (x ∷ xs) ≡ refused r l
   unfolding readLines
   step-no r h = rw (h, readLines) refl
 
-module _ (m l n : ℕ) (c : Ctx) (e : List ℕ) where
-  pub lines-end : readLines m l n c e (split 10 []) ≡ done n e
+module _ (m l : ℕ) (c : Ctx) (rs : List (List ℕ)) where
+  pub lines-end : readLines m l c rs (split 10 []) ≡ done rs
   unfolding readLines readLine split upTo tokens
   lines-end = refl
 
-  none : readLines m l n c e [] ≡ done n e
+  none : readLines m l c rs [] ≡ done rs
   unfolding readLines
   none = refl
 
   -- behind a line that ends at z
-  tail-lines : (s : List ℕ) (z i : ℕ) → z ≤ length s → i ≡ min (z + 1) (length s) → readLines m l n c e (tail 10 (drop z s)) ≡ readLines m l n c e (split 10 (drop i s))
+  tail-lines : (s : List ℕ) (z i : ℕ) → z ≤ length s → i ≡ min (z + 1) (length s) → readLines m l c rs (tail 10 (drop z s)) ≡ readLines m l c rs (split 10 (drop i s))
   tail-lines s z i h q = go (ltb z (length s)) refl
     where
-      go : (p : Bool) → ltb z (length s) ≡ p → readLines m l n c e (tail 10 (drop z s)) ≡ readLines m l n c e (split 10 (drop i s))
+      go : (p : Bool) → ltb z (length s) ≡ p → readLines m l c rs (tail 10 (drop z s)) ≡ readLines m l c rs (split 10 (drop i s))
       go true x =
           let k : z < length s = ltb-true z (length s) x in
           let j : i ≡ suc z = omega arith in
-          ap (λ (y : List ℕ). readLines m l n c e (tail 10 y)) (drop-cons s z 0 k) ∙ ap (λ (y : ℕ). readLines m l n c e (split 10 (drop y s))) (sym j)
+          ap (λ (y : List ℕ). readLines m l c rs (tail 10 y)) (drop-cons s z 0 k) ∙ ap (λ (y : ℕ). readLines m l c rs (split 10 (drop y s))) (sym j)
       go false x =
           let k : length s ≤ z = ltb-false z (length s) x in
           let j : length s ≤ i = omega arith in
-          ap (λ (y : List ℕ). readLines m l n c e (tail 10 y)) (drop-of-length-le s k)
-          ∙ (none ∙ (sym lines-end ∙ ap (λ (y : List ℕ). readLines m l n c e (split 10 y)) (sym (drop-of-length-le s j))))
+          ap (λ (y : List ℕ). readLines m l c rs (tail 10 y)) (drop-of-length-le s k)
+          ∙ (none ∙ (sym lines-end ∙ ap (λ (y : List ℕ). readLines m l c rs (split 10 y)) (sym (drop-of-length-le s j))))
 
 -- ---- what a line's answer tells
 
@@ -123,32 +127,20 @@ narrow-kept c r h k =
     let q = subst (λ (l : Line). all (fits l (tyAt c (sortIn r)) (tyAt c (firstIn r)) (tyAt c (secondIn r)) (tyAt c (thirdIn r))) ≡ true) e (passed false (tyAt c) (given c) r f .width) in
     range 1 64 w (both (inside 1 64 w) true q .0) .1))
 
--- ---- the table
-
--- a record is put behind n others
-module _ (len n : ℕ) (e r : List ℕ) (le : length e ≡ span n) (lr : length r ≡ recordSize) where
-  pub put-next : recorded (tableOf len (done n e)) n r ≡ tableOf len (done (n + 1) (e ++ r))
-  put-next =
-      let q : len - length e - length r ≡ len - length (e ++ r) = omega (arith, length-append e r) in
-      record-more e r (len - length e) n le lr ∙ ap (λ (k : ℕ). (e ++ r) ++ replicate {A = ℕ} k 0) q
-
-  pub next-size : length (e ++ r) ≡ span (n + 1)
-  next-size = length-append e r ∙ omega arith
-
 -- ---- before a line
 
--- s is the text, i the place in it, n the number of records so far, e their words, c their context
-pub record Reached (s : List ℕ) (len i n line : ℕ) (table : List ℕ) (notes : List (List ℕ)) (e : List ℕ) (c : Ctx) : Type 0 where
+-- s is the text, i the place in it, rs are the records so far, n of them, and c is their context
+pub record Reached (s : List ℕ) (len i n line : ℕ) (table : List ℕ) (notes : List (List ℕ)) (rs : List (List ℕ)) (c : Ctx) : Type 0 where
   pub within : i ≤ length s
   pub early : line ≤ i + 1
-  pub most : n ≤ room len
-  pub size : length e ≡ span n
-  pub filled : table ≡ tableOf len (done n e)
+  pub most : n ≤ room false len
+  pub size : n ≡ length rs
+  pub holds : table ≡ filled false len rs
   pub shows : Shows notes c
   pub ample : length notes ≡ 16385
   pub count : length (c .tys) ≡ n + 1
   pub narrow : (a : ℕ) → tyAt c a .w ≤ 64
-  pub answer : readLines (room len) 1 0 noCtx [] (split 10 s) ≡ readLines (room len) line n c e (split 10 (drop i s))
+  pub answer : linesRead len s ≡ readLines (room false len) line c rs (split 10 (drop i s))
 
 pub at-start : {s table : List ℕ} {notes : List (List ℕ)} {len : ℕ} → length table ≡ len → table ≡ replicate (length table) 0 → length notes ≡ 16385 → Shows notes noCtx
     → Reached s len 0 0 1 table notes [] noCtx
@@ -158,7 +150,7 @@ at-start {table = table} {len = len} l z a h =
       early = omega arith;
       most = zero-le;
       size = refl;
-      filled = z ∙ (ap (λ (k : ℕ). replicate {A = ℕ} k 0) l ∙ (let q : len ≡ len - 0 = omega arith in ap (λ (k : ℕ). replicate {A = ℕ} k 0) q));
+      holds = z ∙ (ap (λ (k : ℕ). replicate {A = ℕ} k 0) l ∙ sym (filled-none false len));
       shows = h;
       ample = a;
       count = refl;
@@ -166,118 +158,132 @@ at-start {table = table} {len = len} l z a h =
       answer = refl;
     }
 
-module _ {s table e : List ℕ} {notes : List (List ℕ)} {len i n line : ℕ} {c : Ctx} (R : Reached s len i n line table notes e c) where
+module _ {s table : List ℕ} {notes rs : List (List ℕ)} {len i n line : ℕ} {c : Ctx} (R : Reached s len i n line table notes rs c) where
   pub table-size : length table ≡ len
-  table-size =
-      let q : length table ≡ length e + length (replicate {A = ℕ} (len - length e) 0) = ap length (R .filled) ∙ length-append e (replicate (len - length e) 0) in
-      omega (arith, length-replicate {A = ℕ} (len - length e) 0, R .size, R .most)
+  table-size = ap length (R .holds) ∙ length-filled false len rs
 
   -- the widths noted
   pub narrow-noted : (a : ℕ) → lookIn notes a .w ≤ 64
   narrow-noted a = subst (λ (t : Ty). t .w ≤ 64) (sym (R .shows .types a)) (R .narrow a)
 
-  as-noted : (ts : List (List ℕ)) → readLine (lookIn notes) (givenIn notes) (room len) n ts ≡ readLine (tyAt c) (given c) (room len) n ts
+  as-noted : (ts : List (List ℕ)) → readLine (lookIn notes) (givenIn notes) (room false len) n ts ≡ readLine (tyAt c) (given c) (room false len) (length rs) ts
   as-noted ts =
-      ap₂ (λ (L : ℕ → Ty) (G : Bool → ℕ → Bool). readLine L G (room len) n ts) (λ j a. R .shows .types a j) (λ j m q. R .shows .marks m q j)
+      ap₂ (λ (L : ℕ → Ty) (G : Bool → ℕ → Bool). readLine L G (room false len) n ts) (λ j a. R .shows .types a j) (λ j m q. R .shows .marks m q j)
+      ∙ ap (λ (k : ℕ). readLine (tyAt c) (given c) (room false len) k ts) (R .size)
 
-  pub at-end : length s ≤ i → readLines (room len) 1 0 noCtx [] (split 10 s) ≡ done n e
-  at-end h = R .answer ∙ (ap (λ (y : List ℕ). readLines (room len) line n c e (split 10 y)) (drop-of-length-le s h) ∙ lines-end (room len) line n c e)
+  pub at-end : length s ≤ i → linesRead len s ≡ done rs
+  at-end h =
+      R .answer ∙ (ap (λ (y : List ℕ). readLines (room false len) line c rs (split 10 y)) (drop-of-length-le s h) ∙ lines-end (room false len) line c rs)
 
   -- the line from i to f, without its comment from i to z; the next one starts at i′
-  module _ (m f z i′ : ℕ) (em : m ≡ room len) (on : i < length s) (hf : f ≡ i + length (upTo 10 (drop i s))) (hz : take (z - i) (drop i s) ≡ upTo 59 (take (f - i) (drop i s))) (lf : f ≤ length s) (hi : i′ ≡ min (f + 1) (length s))
+  module _ (m f z i′ : ℕ) (em : m ≡ room false len) (on : i < length s) (hf : f ≡ i + length (upTo 10 (drop i s))) (hz : take (z - i) (drop i s) ≡ upTo 59 (take (f - i) (drop i s))) (lf : f ≤ length s) (hi : i′ ≡ min (f + 1) (length s))
       (r : Readout) (er : r ≡ asRead (readLine (lookIn notes) (givenIn notes) m n (tokens (take (z - i) (drop i s))))) where
-    as-line : readLine (lookIn notes) (givenIn notes) m n (tokens (take (z - i) (drop i s))) ≡ readLine (tyAt c) (given c) (room len) n (lineTokens (take (f - i) (drop i s)))
+    abbrev this : List ℕ
+    this = take (f - i) (drop i s)
+
+    abbrev later : List (List ℕ)
+    later = tail 10 (drop f s)
+
+    as-line : readLine (lookIn notes) (givenIn notes) m n (tokens (take (z - i) (drop i s))) ≡ readLine (tyAt c) (given c) (room false len) (length rs) (lineTokens this)
     as-line =
         ap (λ (k : ℕ). readLine (lookIn notes) (givenIn notes) k n (tokens (take (z - i) (drop i s)))) em
-        ∙ as-noted (tokens (take (z - i) (drop i s))) ∙ ap (λ (x : List ℕ). readLine (tyAt c) (given c) (room len) n (tokens x)) hz
+        ∙ as-noted (tokens (take (z - i) (drop i s))) ∙ ap (λ (x : List ℕ). readLine (tyAt c) (given c) (room false len) (length rs) (tokens x)) hz
 
-    begun : readLines (room len) 1 0 noCtx [] (split 10 s) ≡ readLines (room len) line n c e (take (f - i) (drop i s) ∷ tail 10 (drop f s))
-    begun = R .answer ∙ ap (readLines (room len) line n c e) (line-first s i f hf)
+    begun : linesRead len s ≡ readLines (room false len) line c rs (this ∷ later)
+    begun = R .answer ∙ ap (readLines (room false len) line c rs) (line-first s i f hf)
 
-    pub at-no : r .what ≡ 2 → readLines (room len) 1 0 noCtx [] (split 10 s) ≡ refused (r .code) line
-    at-no h =
-        begun ∙ step-no (room len) line n c e (take (f - i) (drop i s)) (tail 10 (drop f s)) (r .code) (sym as-line ∙ told-no (readLine (lookIn notes) (givenIn notes) m n (tokens (take (z - i) (drop i s)))) r er h)
+    pub at-no : r .what ≡ 2 → linesRead len s ≡ refused (r .code) line
+    at-no h = begun ∙ step-no (room false len) line c rs this later (r .code) (sym as-line ∙ told-no _ r er h)
 
-    pub at-skip : (r .what ≡ 0 → ⊥) → (r .what ≡ 2 → ⊥) → Reached s len i′ n (line + 1) table notes e c
+    pub at-skip : (r .what ≡ 0 → ⊥) → (r .what ≡ 2 → ⊥) → Reached s len i′ n (line + 1) table notes rs c
     at-skip h k =
         record {
           within = omega arith;
           early = omega (arith, R .early, R .within);
           most = R .most;
           size = R .size;
-          filled = R .filled;
+          holds = R .holds;
           shows = R .shows;
           ample = R .ample;
           count = R .count;
           narrow = R .narrow;
           answer =
               begun
-              ∙ (step-skip (room len) line n c e (take (f - i) (drop i s)) (tail 10 (drop f s)) (sym as-line ∙ told-skip (readLine (lookIn notes) (givenIn notes) m n (tokens (take (z - i) (drop i s)))) r er h k)
-              ∙ (ap (λ (m : ℕ). readLines (room len) m n c e (tail 10 (drop f s))) (sym (add-one line)) ∙ tail-lines (room len) (line + 1) n c e s f i′ lf hi));
+              ∙ (step-skip (room false len) line c rs this later (sym as-line ∙ told-skip _ r er h k)
+              ∙ (ap (λ (m : ℕ). readLines (room false len) m c rs later) (sym (add-one line)) ∙ tail-lines (room false len) (line + 1) c rs s f i′ lf hi));
         }
 
     module _ (h : r .what ≡ 0) where
-      is-got : readLine (tyAt c) (given c) (room len) n (lineTokens (take (f - i) (drop i s))) ≡ got (r .rec)
-      is-got = sym as-line ∙ told-got (readLine (lookIn notes) (givenIn notes) m n (tokens (take (z - i) (drop i s)))) r er h
+      is-got : readLine (tyAt c) (given c) (room false len) (length rs) (lineTokens this) ≡ got (r .rec)
+      is-got = sym as-line ∙ told-got _ r er h
 
-      kept : (keeps false (tyAt c) (given c) (r .rec) ≡ true) × (length (r .rec) ≡ recordSize)
-      kept = got-keeps (tyAt c) (given c) (room len) n (lineTokens (take (f - i) (drop i s))) (r .rec) is-got
+      kept : (keeps false (tyAt c) (given c) (r .rec) ≡ true) × (length (r .rec) ≡ recordWords)
+      kept = got-keeps (tyAt c) (given c) (room false len) (length rs) (lineTokens this) (r .rec) is-got
 
-      pub has-room : n < room len
-      has-room = got-room (tyAt c) (given c) (room len) n (lineTokens (take (f - i) (drop i s))) (r .rec) is-got
+      pub has-room : n < room false len
+      has-room = omega (arith, R .size, got-room (tyAt c) (given c) (room false len) (length rs) (lineTokens this) (r .rec) is-got)
 
-      pub fits-record : n < room (length table)
-      fits-record = subst (λ (k : ℕ). n < room k) (sym table-size) has-room
+      pub fits-record : n < room false (length table)
+      fits-record = subst (λ (k : ℕ). n < room false k) (sym table-size) has-room
 
       pub sort-fits : kindIn (r .rec) ≡ 1 → firstIn (r .rec) ≤ 64
       sort-fits = sort-width false (tyAt c) (given c) (r .rec) (eqb-true (fault false (tyAt c) (given c) (r .rec)) 0 (both (formed false (r .rec)) _ (kept .0) .1))
 
-      pub at-got : {table₁ : List ℕ} {notes₁ : List (List ℕ)} → table₁ ≡ recorded table n (r .rec) → notes₁ ≡ noted false (r .rec) (n + 1) notes
-          → Reached s len i′ (n + 1) (line + 1) table₁ notes₁ (e ++ r .rec) (grow false c (lineOf (r .rec)))
+      pub at-got : {table₁ : List ℕ} {notes₁ : List (List ℕ)} → table₁ ≡ recorded false table n (r .rec) → notes₁ ≡ noted false (r .rec) (n + 1) notes
+          → Reached s len i′ (n + 1) (line + 1) table₁ notes₁ (rs ++ (r .rec ∷ [])) (grow false c (lineOf (r .rec)))
       at-got t₁ nt =
           let few : n + 1 < length notes = omega (arith, has-room, R .ample) in
           record {
             within = omega arith;
             early = omega (arith, R .early, R .within);
             most = omega (arith, has-room);
-            size = next-size len n e (r .rec) (R .size) (kept .1);
-            filled = t₁ ∙ (ap (λ (x : List ℕ). recorded x n (r .rec)) (R .filled) ∙ put-next len n e (r .rec) (R .size) (kept .1));
+            size = omega (arith, R .size, length-append rs (r .rec ∷ []));
+            holds = t₁ ∙ (ap (λ (x : List ℕ). recorded false x n (r .rec)) (R .holds) ∙ record-filled false len rs n (r .rec) (R .size));
             shows = subst (λ (x : List (List ℕ)). Shows x (grow false c (lineOf (r .rec)))) (sym nt) (shows-more false (r .rec) (R .shows) (R .count) few (kept .1) (kept .0));
             ample = ap length nt ∙ length-noted false (r .rec) (n + 1) notes ∙ R .ample;
             count = length-more false (r .rec) (R .shows) (R .count) few (kept .1) (kept .0) ∙ sym (add-one (n + 1));
             narrow = narrow-kept c (r .rec) (R .narrow) (kept .0);
             answer =
                 begun
-                ∙ (step-got (room len) line n c e (take (f - i) (drop i s)) (tail 10 (drop f s)) (r .rec) is-got
-                ∙ (ap (λ (m : ℕ). readLines (room len) m (suc n) (grow false c (lineOf (r .rec))) (e ++ r .rec) (tail 10 (drop f s))) (sym (add-one line))
-                ∙ (ap (λ (m : ℕ). readLines (room len) (line + 1) m (grow false c (lineOf (r .rec))) (e ++ r .rec) (tail 10 (drop f s))) (sym (add-one n))
-                ∙ tail-lines (room len) (line + 1) (n + 1) (grow false c (lineOf (r .rec))) (e ++ r .rec) s f i′ lf hi)));
+                ∙ (step-got (room false len) line c rs this later (r .rec) is-got
+                ∙ (ap (λ (m : ℕ). readLines (room false len) m (grow false c (lineOf (r .rec))) (rs ++ (r .rec ∷ [])) later) (sym (add-one line))
+                ∙ tail-lines (room false len) (line + 1) (grow false c (lineOf (r .rec))) (rs ++ (r .rec ∷ [])) s f i′ lf hi));
           }
 
 -- ---- the answers
 
-pub out-refused : (len : ℕ) {l : ℕ} {r : Refusal} {t : List ℕ} {x : Text} → x ≡ refused r l → t ≡ replicate len 0 → (Refused r l ≡ answerOf x) × (t ≡ tableOf len x)
-out-refused len h k = rw h (refl, k)
+pub out-refused : (len : ℕ) {l : ℕ} {r : Refusal} {t : List ℕ} {x : Text} → x ≡ refused r l → t ≡ replicate len 0 → told (Refused r l) (t ∷ []) ≡ outcomeOf len x
+out-refused len h k = rw (h, k) refl
 
-pub out-done : (len n : ℕ) (e : List ℕ) {t : List ℕ} {x : Text} → x ≡ done n e → t ≡ tableOf len (done n e) → (Done n ≡ answerOf x) × (t ≡ tableOf len x)
-out-done len n e h k = rw h (refl, k)
+pub out-done : (len n : ℕ) (rs : List (List ℕ)) {t : List ℕ} {x : Text} → n ≡ length rs → x ≡ done rs → t ≡ filled false len rs → told (Done n) (t ∷ []) ≡ outcomeOf len x
+out-done len n rs e h k = rw (e, h, k) refl
 
 module _ (len : ℕ) (s : List ℕ) where
-  pub text-1 : whole len ≡ false → readText len s ≡ refused NotATable 0
+  pub text-1 : whole false len ≡ false → readText len s ≡ refused NotATable 0
   unfolding readText
   text-1 h = rw (h, readText) refl
 
-  pub text-2 : whole len ≡ true → 65536 < length s → readText len s ≡ refused TextTooLong 0
+  pub text-2 : whole false len ≡ true → 65536 < length s → readText len s ≡ refused TextTooLong 0
   unfolding readText
   text-2 h k = rw (h, lt-leb (length s) 65536 k, readText) refl
 
-  pub text-lines : whole len ≡ true → length s ≤ 65536 → readText len s ≡ readLines (room len) 1 0 noCtx [] (split 10 s)
+  pub text-lines : whole false len ≡ true → length s ≤ 65536 → readText len s ≡ linesRead len s
   unfolding readText
   text-lines h k = rw (h, le-leb (length s) 65536 k, readText) refl
 
-pub out-lines : (len k : ℕ) (s : List ℕ) {x : ReadOutcome} {t : List ℕ} → k ≡ len → whole k ≡ true → length s ≤ 65536
-    → (x ≡ answerOf (readLines (room k) 1 0 noCtx [] (split 10 s))) × (t ≡ tableOf k (readLines (room k) 1 0 noCtx [] (split 10 s)))
-    → (x ≡ answerOf (readText len s)) × (t ≡ tableOf len (readText len s))
-out-lines len k s {x} {t} q w h o =
-    let e = text-lines len s (ap whole (sym q) ∙ w) h in
-    rw e (subst (λ (m : ℕ). (x ≡ answerOf (readLines (room m) 1 0 noCtx [] (split 10 s))) × (t ≡ tableOf m (readLines (room m) 1 0 noCtx [] (split 10 s)))) q o)
+-- what reading leaves
+pub out-text : (len : ℕ) (s : List ℕ) {o : Outcome} → o ≡ outcomeOf len (readText len s) → o ≡ reads len s
+unfolding reads
+out-text len s h = h
+
+pub out-lines : (len k : ℕ) (s : List ℕ) {o : Outcome} → k ≡ len → whole false k ≡ true → length s ≤ 65536 → o ≡ outcomeOf k (linesRead k s) → o ≡ reads len s
+out-lines len k s {o} q w h e = subst (λ (m : ℕ). o ≡ reads m s) q (out-text k s (e ∙ ap (outcomeOf k) (sym (text-lines k s w h))))
+
+-- what was told of a reading, taken apart
+pub read-told : (len : ℕ) (s : List ℕ) (r : Answer) (t : List ℕ) → told r (t ∷ []) ≡ reads len s → (r ≡ answerOf (readText len s)) × (t ≡ tableOf len (readText len s))
+unfolding reads
+read-told len s r t e =
+    let x : Text = readText len s in (
+      told-answer r (answerOf x) (t ∷ []) (tableOf len x ∷ []) e,
+      ap (λ (y : List (List ℕ)). getD y 0 []) {x = t ∷ []} {y = tableOf len x ∷ []} (told-left r (answerOf x) (t ∷ []) (tableOf len x ∷ []) e),
+    )

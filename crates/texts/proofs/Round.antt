@@ -5,8 +5,7 @@ use mathlib.Core.Bool.{Bool, true, false, _&&_, _||_}
 use mathlib.Core.List.{List, [], _∷_, _++_, append-nil, append-assoc}
 use native.Mathlib.Omega.{arith}
 use lib.Dec.{T, eqb, leb, ltb, eqb→eq, leb→le}
-use lib.ListN.{length, getD, set}
-use lib.Seq.{length-take-le}
+use lib.ListN.{length, getD, set, length-append}
 use mir.Facts.{and-yes}
 use borrow.Author.Tests.{eqb-true, eqb-false, eq-eqb, lt-ltb, ltb-true}
 use Rattle.tables.specs.declared.Ty.{Ty}
@@ -15,18 +14,18 @@ use Rattle.tables.specs.declared.Checked.{Checked}
 use Rattle.tables.specs.declared.Checked.the-variants.{Accepted, Refused}
 use Rattle.tables.specs.Pick.{pick, inside}
 use Rattle.tables.specs.Kinds.{rowOf, sortClass, countOf, firstClass, secondClass, thirdClass}
-use Rattle.tables.specs.Lines.{isBitvec, shapeOf, lineOf, fields, kindIn, sortIn, firstIn, secondIn, thirdIn, records, counted, span, recordSize}
+use Rattle.tables.specs.Lines.{isBitvec, shapeOf, lineOf, fields, kindIn, sortIn, firstIn, secondIn, thirdIn}
+use Rattle.tables.specs.Layout.{recordWords, whole, room, recordsOf}
 use Rattle.tables.specs.Types.{Ctx, noCtx, tyAt, given, grow}
 use Rattle.tables.specs.Rules.{fault}
-use Rattle.tables.specs.Tables.{whole, room, known, unused, formed, keeps, lawful, checked}
+use Rattle.tables.specs.Tables.{known, unused, formed, keeps, lawful, checked}
 use Rattle.tables.proofs.Every.{every, at-each}
 use Rattle.tables.proofs.Laws.{and-true}
 use Rattle.tables.proofs.Shapes.{fits-as, range}
 use Rattle.tables.proofs.Answers.{passed}
 use Rattle.tables.proofs.Kept.{both}
-use Rattle.tables.proofs.Counted.{length-records}
 use Rattle.tables.proofs.Checking.{roomy}
-use Rattle.tables.proofs.Places.{fields-of, fields-eq, concat, concat-records}
+use Rattle.tables.proofs.Places.{fields-of, fields-eq, length-records}
 use Rattle.tables.proofs.Sound.{accepted-room, accepted-lawful}
 use Rattle.texts.specs.declared.Num.the-variants.{Is}
 use Rattle.texts.specs.Forms.{firstOf, numbersOf}
@@ -117,7 +116,7 @@ copied-fields k s a b c h =
     (no-class (countOf (rowOf k)) 1 (secondClass (rowOf k)) b (t₃ .0) (u₃ .0))
     (no-class (countOf (rowOf k)) 2 (thirdClass (rowOf k)) c (t₃ .1) (u₄ .0))
 
-copied-back : (r : List ℕ) → length r ≡ recordSize → formed false r ≡ true → copied (numbersOf (rowOf (kindIn r))) (firstOf (rowOf (kindIn r))) r (fresh (kindIn r)) ≡ r
+copied-back : (r : List ℕ) → length r ≡ recordWords → formed false r ≡ true → copied (numbersOf (rowOf (kindIn r))) (firstOf (rowOf (kindIn r))) r (fresh (kindIn r)) ≡ r
 copied-back r l h =
     let e = fields-of r l in
     ap (λ (x : List ℕ). copied (numbersOf (rowOf (kindIn r))) (firstOf (rowOf (kindIn r))) x (fresh (kindIn r))) e
@@ -137,7 +136,7 @@ kind-toks : (k : ℕ) → 1 ≤ k → k ≤ 55 → Toks (kindTokens k)
 kind-toks zero a b = absurd (omega arith)
 kind-toks (suc i) a b = word-toks i (omega arith)
 
-module _ (L : ℕ → Ty) (G : Bool → ℕ → Bool) (r : List ℕ) (sized : length r ≡ recordSize) (words : (j : ℕ) → getD r j 0 < 2 ^ 64) (kp : keeps false L G r ≡ true) where
+module _ (L : ℕ → Ty) (G : Bool → ℕ → Bool) (r : List ℕ) (sized : length r ≡ recordWords) (words : (j : ℕ) → getD r j 0 < 2 ^ 64) (kp : keeps false L G r ≡ true) where
   well : formed false r ≡ true
   well = both (formed false r) _ kp .0
 
@@ -182,51 +181,48 @@ module _ (L : ℕ → Ty) (G : Bool → ℕ → Bool) (r : List ℕ) (sized : le
 
 -- ---- the lines, the text
 
-lines-read : (m l n : ℕ) (c : Ctx) (e : List ℕ) (rs : List (List ℕ)) → n + length rs ≤ m → m ≤ 16384 → Good rs → lawful false c rs ≡ true
-    → readLines m l n c e (split 10 (writeFrom (suc n) rs)) ≡ done (n + length rs) (e ++ concat rs)
+lines-read : (m l n : ℕ) (c : Ctx) (es rs : List (List ℕ)) → n ≡ length es → n + length rs ≤ m → m ≤ 16384 → Good rs → lawful false c rs ≡ true
+    → readLines m l c es (split 10 (writeFrom (suc n) rs)) ≡ done (es ++ rs)
 unfolding writeFrom
-lines-read m l n c e [] h b g w = lines-end m l n c e ∙ rw (append-nil e) (ap (λ (x : ℕ). done x e) (omega arith))
-lines-read m l n c e (r ∷ rs) h b g w =
+lines-read m l n c es [] q h b g w = lines-end m l c es ∙ rw (append-nil es) refl
+lines-read m l n c es (r ∷ rs) q h b g w =
     let k = both (keeps false (tyAt c) (given c) r) _ w in
     let ts = line-toks (tyAt c) (given c) r (g .0 .0) (g .0 .1) (k .0) (suc n) in
-    let q : lineTokens (join (tokensOf (suc n) r)) ≡ tokensOf (suc n) r = tokens-join (digits (suc n)) _ (ts .0) (ts .1) in
+    let j : lineTokens (join (tokensOf (suc n) r)) ≡ tokensOf (suc n) r = tokens-join (digits (suc n)) _ (ts .0) (ts .1) in
     let big : suc n < 2 ^ 64 = omega arith in
-    ap (readLines m l n c e) (lines-join (tokensOf (suc n) r) (writeFrom (suc (suc n)) rs) ts)
-    ∙ (step-got m l n c e (join (tokensOf (suc n) r)) (split 10 (writeFrom (suc (suc n)) rs)) r (rw q (line-read (tyAt c) (given c) r (g .0 .0) (g .0 .1) (k .0) m n (omega arith) big))
-    ∙ (lines-read m (suc l) (suc n) (grow false c (lineOf r)) (e ++ r) rs (omega arith) b (g .1) (k .1)
-    ∙ rw (append-assoc e r (concat rs)) (ap (λ (x : ℕ). done x (e ++ (r ++ concat rs))) (omega arith))))
+    ap (readLines m l c es) (lines-join (tokensOf (suc n) r) (writeFrom (suc (suc n)) rs) ts)
+    ∙ (step-got m l c es (join (tokensOf (suc n) r)) (split 10 (writeFrom (suc (suc n)) rs)) r (rw (j, sym q) (line-read (tyAt c) (given c) r (g .0 .0) (g .0 .1) (k .0) m n (omega arith) big))
+    ∙ (lines-read m (suc l) (suc n) (grow false c (lineOf r)) (es ++ (r ∷ [])) rs (omega (arith, length-append es (r ∷ []))) (omega arith) b (g .1) (k .1)
+    ∙ ap done (append-assoc es (r ∷ []) rs)))
 
 -- what is known of an accepted table
 pub record Held (t : List ℕ) (n : ℕ) : Type 0 where
-  pub fits : n ≤ room (length t)
-  pub law : lawful false noCtx (records (counted t n)) ≡ true
+  pub fits : n ≤ room false (length t)
+  pub law : lawful false noCtx (recordsOf false t n) ≡ true
 
 pub held : (t : List ℕ) (n : ℕ) → checked false t n ≡ Accepted → Held t n
 held t n e = record { fits = accepted-room false t n e .1; law = accepted-lawful false t n e }
 
 -- For every accepted table and count whose written text has at most 65,536 bytes: reading that text into any table with room gives the same records and the same count.
-pub round-trip : (t : List ℕ) (n len : ℕ) → checked false t n ≡ Accepted → length (writeText (counted t n)) ≤ 65536 → whole len ≡ true → n ≤ room len
-    → readText len (writeText (counted t n)) ≡ done n (counted t n)
+pub round-trip : (t : List ℕ) (n len : ℕ) → checked false t n ≡ Accepted → length (writeText (recordsOf false t n)) ≤ 65536 → whole false len ≡ true → n ≤ room false len
+    → readText len (writeText (recordsOf false t n)) ≡ done (recordsOf false t n)
 unfolding writeText
 round-trip t n len a b d l =
     let k = held t n a in
-    let f = roomy (length t) n (k .fits) in
-    let c : length (counted t n) ≡ span n = length-take-le (span n) t (f .1) in
-    let z : length (records (counted t n)) ≡ n = length-records n t (f .1) in
-    text-lines len (writeFrom 1 (records (counted t n))) d b
-    ∙ (lines-read (room len) 1 0 noCtx [] (records (counted t n)) (omega arith) (omega arith) (good-lawful (counted t n) (omega arith) (k .law)) (k .law)
-    ∙ (rw (concat-records (counted t n) n c) (ap (λ (x : ℕ). done x (counted t n)) (omega arith))))
+    let rs : List (List ℕ) = recordsOf false t n in
+    text-lines len (writeFrom 1 rs) d b
+    ∙ lines-read (room false len) 1 0 noCtx [] rs refl (omega (arith, length-records false t n)) (omega arith) (good-lawful t n (roomy false (length t) n (k .fits) .0) (k .law)) (k .law)
 
 -- what writing leaves, reading takes
-pub written-read : (t : List ℕ) (n size len : ℕ) (s : List ℕ) → writeTable t n size ≡ wrote s → length s ≤ 65536 → whole len ≡ true → n ≤ room len
-    → readText len s ≡ done n (counted t n)
+pub written-read : (t : List ℕ) (n size len : ℕ) (s : List ℕ) → writeTable t n size ≡ wrote s → length s ≤ 65536 → whole false len ≡ true → n ≤ room false len
+    → readText len s ≡ done (recordsOf false t n)
 unfolding writeTable
-written-read t n size len s e b d l = go (checked false t n) refl (leb (length (writeText (counted t n))) size) refl
+written-read t n size len s e b d l = go (checked false t n) refl (leb (length (writeText (recordsOf false t n))) size) refl
   where
-    go : (x : Checked) → checked false t n ≡ x → (y : Bool) → leb (length (writeText (counted t n))) size ≡ y → readText len s ≡ done n (counted t n)
+    go : (x : Checked) → checked false t n ≡ x → (y : Bool) → leb (length (writeText (recordsOf false t n))) size ≡ y → readText len s ≡ done (recordsOf false t n)
     go Accepted p true q =
-        let z : wrote (writeText (counted t n)) ≡ wrote s = sym (rw (p, q, fitted) refl) ∙ e in
-        let v : writeText (counted t n) ≡ s = cc in
-        subst (λ (u : List ℕ). readText len u ≡ done n (counted t n)) v (round-trip t n len p (subst (λ (u : List ℕ). length u ≤ 65536) (sym v) b) d l)
+        let z : wrote (writeText (recordsOf false t n)) ≡ wrote s = sym (rw (p, q, fitted) refl) ∙ e in
+        let v : writeText (recordsOf false t n) ≡ s = cc in
+        subst (λ (u : List ℕ). readText len u ≡ done (recordsOf false t n)) v (round-trip t n len p (subst (λ (u : List ℕ). length u ≤ 65536) (sym v) b) d l)
     go Accepted p false q = let z : refuse TextBuffer ≡ wrote s = sym (rw (p, q, fitted) refl) ∙ e in let y : _≡_ {A = ℕ} 0 1 = cc in absurd (omega arith)
     go (Refused r) p y q = let z : refuse r ≡ wrote s = sym (rw p refl) ∙ e in let y : _≡_ {A = ℕ} 0 1 = cc in absurd (omega arith)

@@ -8,16 +8,17 @@ use lib.ListN.{length, set, replicate}
 use Rattle.tables.specs.declared.Ty.{Ty}
 use Rattle.tables.specs.declared.Refusal.{Refusal}
 use Rattle.tables.specs.declared.Refusal.the-variants.{NotATable, TextTooLong, WrongId, NoRecordLeft, UnknownWord, BadOperand, NumberTooLarge, WrongClass, Misfit, InitOrNext}
+use Rattle.tables.specs.declared.Answer.{Answer}
+use Rattle.tables.specs.declared.Answer.the-variants.{Done, Refused}
 use Rattle.tables.specs.Pick.{inside}
 use Rattle.tables.specs.Kinds.{wordOf}
 use Rattle.tables.specs.Lines.{lineOf, fields, sortIn, firstIn}
 use Rattle.tables.specs.Types.{Ctx, noCtx, tyAt, given, grow}
 use Rattle.tables.specs.Rules.{fault}
-use Rattle.tables.specs.Tables.{whole, room}
+use Rattle.tables.specs.Layout.{whole, room, filled}
+use Rattle.tables.specs.Answers.{Outcome, told}
 use Rattle.texts.specs.declared.Num.{Num}
 use Rattle.texts.specs.declared.Num.the-variants.{Bad, Big, Is}
-use Rattle.texts.specs.declared.ReadOutcome.{ReadOutcome}
-use Rattle.texts.specs.declared.ReadOutcome.the-variants.{Done, Refused}
 use Rattle.texts.specs.Forms.{formRow, kindOf, firstOf, numbersOf, sortWord}
 use Rattle.texts.specs.Split.{split, upTo, tokens, same}
 use Rattle.texts.specs.Decimal.{decimal, digitsIn}
@@ -152,34 +153,45 @@ module _ (L : ℕ → Ty) (G : Bool → ℕ → Bool) where
 
 -- ---- a text
 
--- n records, whose words are t; or a refusal with the number of its text line
+-- the records; or a refusal with the number of its text line
 pub data Text : Type 0 where
-  done : (n : ℕ) (t : List ℕ) → Text
+  done : (rs : List (List ℕ)) → Text
   refused : (r : Refusal) (l : ℕ) → Text
 
--- the lines from the line l on, after n records, whose words are e and whose context is c
-unfoldable pub readLines : (m l n : ℕ) (c : Ctx) (e : List ℕ) → List (List ℕ) → Text
-readLines m l n c e [] = done n e
-readLines m l n c e (x ∷ xs) =
-    elim (readLine (tyAt c) (given c) m n (lineTokens x)) [
-      | skip ↦ readLines m (suc l) n c e xs
+-- the lines from the line l on, after the records rs, whose context is c
+unfoldable pub readLines : (m l : ℕ) (c : Ctx) (rs : List (List ℕ)) → List (List ℕ) → Text
+readLines m l c rs [] = done rs
+readLines m l c rs (x ∷ xs) =
+    elim (readLine (tyAt c) (given c) m (length rs) (lineTokens x)) [
+      | skip ↦ readLines m (suc l) c rs xs
       | no r ↦ refused r l
-      | got rec ↦ readLines m (suc l) (suc n) (grow false c (lineOf rec)) (e ++ rec) xs
+      | got rec ↦ readLines m (suc l) (grow false c (lineOf rec)) (rs ++ (rec ∷ [])) xs
     ]
+
+-- all lines of the text s, into a table of len words
+abbrev pub linesRead : (len : ℕ) → List ℕ → Text
+linesRead len s = readLines (room false len) 1 noCtx [] (split 10 s)
 
 -- the text s read into a table of len words: 1, 2, and then line by line
 unfoldable pub readText : (len : ℕ) → List ℕ → Text
 readText len s =
-    elim (whole len) [
+    elim (whole false len) [
       | false ↦ refused NotATable 0
-      | true ↦ elim (leb (length s) 65536) [ true ↦ readLines (room len) 1 0 noCtx [] (split 10 s) | false ↦ refused TextTooLong 0 ]
+      | true ↦ elim (leb (length s) 65536) [ true ↦ linesRead len s | false ↦ refused TextTooLong 0 ]
     ]
 
 -- what is answered, and the words of the table afterwards: zero past the records, and zero after a refusal
-abbrev pub answerOf : Text → ReadOutcome
-answerOf (done n t) = Done n
+abbrev pub answerOf : Text → Answer
+answerOf (done rs) = Done (length rs)
 answerOf (refused r l) = Refused r l
 
-abbrev pub tableOf : ℕ → Text → List ℕ
-tableOf len (done n t) = t ++ replicate (len - length t) 0
+abbrev pub tableOf : (len : ℕ) → Text → List ℕ
+tableOf len (done rs) = filled false len rs
 tableOf len (refused r l) = replicate len 0
+
+abbrev pub outcomeOf : (len : ℕ) → Text → Outcome
+outcomeOf len x = told (answerOf x) (tableOf len x ∷ [])
+
+-- the outcome of reading the text s into a table of len words
+unfoldable pub reads : (len : ℕ) → List ℕ → Outcome
+reads len s = outcomeOf len (readText len s)

@@ -7,12 +7,14 @@ use lib.ListN.{length, getD, replicate}
 use Rattle.tables.specs.declared.Refusal.{Refusal}
 use Rattle.tables.specs.declared.Refusal.the-variants.{TextBuffer}
 use Rattle.tables.specs.declared.Checked.{Checked}
-use Rattle.tables.specs.declared.Checked.the-variants.{Accepted, Refused}
+use Rattle.tables.specs.declared.Checked.the-variants.{Accepted, Refused as RefusedTable}
+use Rattle.tables.specs.declared.Answer.{Answer}
+use Rattle.tables.specs.declared.Answer.the-variants.{Done, Refused}
 use Rattle.tables.specs.Kinds.{rowOf, wordOf}
-use Rattle.tables.specs.Lines.{kindIn, records, counted}
+use Rattle.tables.specs.Lines.{kindIn}
+use Rattle.tables.specs.Layout.{recordsOf}
 use Rattle.tables.specs.Tables.{checked}
-use Rattle.texts.specs.declared.WriteOutcome.{WriteOutcome}
-use Rattle.texts.specs.declared.WriteOutcome.the-variants.{Done as Wrote, Refused as WriteRefused}
+use Rattle.tables.specs.Answers.{Outcome, told}
 use Rattle.texts.specs.Forms.{firstOf, numbersOf, sortWord}
 use Rattle.texts.specs.Split.{join}
 use Rattle.texts.specs.Decimal.{digits}
@@ -39,9 +41,9 @@ unfoldable pub writeFrom : ℕ → List (List ℕ) → List ℕ
 writeFrom n [] = []
 writeFrom n (rec ∷ rs) = join (tokensOf n rec) ++ 10 ∷ writeFrom (suc n) rs
 
--- the text of a table
-unfoldable pub writeText : List ℕ → List ℕ
-writeText t = writeFrom 1 (records t)
+-- the text of a table's records
+unfoldable pub writeText : List (List ℕ) → List ℕ
+writeText rs = writeFrom 1 rs
 
 -- ---- a table with its count, into a text buffer of len bytes: 1, 11, 21
 
@@ -54,16 +56,20 @@ fitted len s = elim (leb (length s) len) [ true ↦ wrote s | false ↦ refuse T
 
 abbrev pub writtenBy : Checked → ℕ → List ℕ → Out
 writtenBy Accepted len s = fitted len s
-writtenBy (Refused r) len s = refuse r
+writtenBy (RefusedTable r) len s = refuse r
 
-unfoldable pub writeTable : List ℕ → ℕ → ℕ → Out
-writeTable t n len = writtenBy (checked false t n) len (writeText (counted t n))
+unfoldable pub writeTable : (t : List ℕ) (n len : ℕ) → Out
+writeTable t n len = writtenBy (checked false t n) len (writeText (recordsOf false t n))
 
 -- what is answered, and the bytes of the buffer afterwards: zero past the text, and zero after a refusal
-abbrev pub writeAnswer : Out → WriteOutcome
-writeAnswer (wrote s) = Wrote (length s)
-writeAnswer (refuse r) = WriteRefused r
+abbrev pub writeAnswer : Out → Answer
+writeAnswer (wrote s) = Done (length s)
+writeAnswer (refuse r) = Refused r 0
 
-abbrev pub bufferOf : ℕ → Out → List ℕ
+abbrev pub bufferOf : (len : ℕ) → Out → List ℕ
 bufferOf len (wrote s) = s ++ replicate (len - length s) 0
 bufferOf len (refuse r) = replicate len 0
+
+-- the outcome of writing the first n records of the table t into a buffer of len bytes
+unfoldable pub writes : (t : List ℕ) (n len : ℕ) → Outcome
+writes t n len = told (writeAnswer (writeTable t n len)) (bufferOf len (writeTable t n len) ∷ [])

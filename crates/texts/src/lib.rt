@@ -9,18 +9,6 @@ pub enum Num {
     Is(u64),
 }
 
-// What reading answers: the number of records, or the refusal with its text line, 0 for none.
-pub enum ReadOutcome {
-    Done(usize),
-    Refused(Refusal, usize),
-}
-
-// What writing answers: the number of bytes, or the refusal.
-pub enum WriteOutcome {
-    Done(usize),
-    Refused(Refusal),
-}
-
 // A line's form, 0 for an unknown word, and the place behind its word.
 pub struct Form {
     pub form: usize,

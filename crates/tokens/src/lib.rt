@@ -25,7 +25,10 @@ pub fn find_byte(s: &[u8], i: usize, b: u8) -> usize
 // The first place from i on that holds no space, or the length of s.
 pub fn skip(s: &[u8], i: usize) -> usize
     requires { do ⌜ i ≤ (← ⟦s.len()⟧) ⌝ }
-    ensures { λ r. do ⌜ (i ≤ r) × ((r ≤ (← ⟦s.len()⟧ .entry)) × ((tokens (drop r (now (s .entry))) ≡ tokens (drop i (now (s .entry)))) × (r < (← ⟦s.len()⟧ .entry) → getD (now (s .entry)) r 0 ≡ 32 → ⊥))) ⌝ }
+    ensures { λ r. do
+      ⌜ (i ≤ r) × ((r ≤ (← ⟦s.len()⟧ .entry))
+          × ((tokens (drop r (now (s .entry))) ≡ tokens (drop i (now (s .entry))))
+          × (r < (← ⟦s.len()⟧ .entry) → getD (now (s .entry)) r 0 ≡ 32 → ⊥))) ⌝ }
 {
     let mut j = i;
     while j < s.len() {

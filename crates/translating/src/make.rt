@@ -1,21 +1,20 @@
 // The program of an accepted table, where it fits.
-use programs::Translated;
+use tables::Answer;
 use tables::Refusal;
 ghost use mathlib.Core.Path.{_≡_};
 ghost use mathlib.Core.Bool.{false};
-ghost use mathlib.Core.List.{_++_};
-ghost use Prim.Native.Nat.{_<_, _-_, _≤_};
+ghost use mathlib.Core.List.{[], _∷_};
+ghost use Prim.Native.Nat.{_<_};
 ghost use lib.ListN.{length, replicate};
 ghost use Rattle.tables.specs.declared.Checked.the-variants.{Accepted};
 ghost use Rattle.tables.specs.Tables.{checked};
-ghost use Rattle.circuits.specs.Answers.{linesOf};
-ghost use Rattle.programs.specs.Answers.{programOf, fitting, leftOf};
-ghost use Rattle.programs.specs.Records.{Marked};
-ghost use Rattle.tables.specs.Lines.{encode, span};
+ghost use Rattle.tables.specs.Answers.{told};
+ghost use Rattle.programs.specs.Answers.{programOf};
+ghost use Rattle.programs.specs.Records.{Prepared, Ready, programIn, makes};
 
 // How many instructions the program has. A small circuit takes small lists, which are sooner zero.
 fn counting(table: &[u64], count: usize, marks: &[u8]) -> usize
-    requires { ⌜ (checked false (now table) count ≡ Accepted) × Marked (linesOf (now table) count) (now marks) ⌝ }
+    requires { ⌜ Prepared (now table) count (now marks) ⌝ }
     ensures { λ r. ⌜ r ≡ length (programOf (now (table .entry)) count) ⌝ }
 {
     if count < 512 {
@@ -25,7 +24,7 @@ fn counting(table: &[u64], count: usize, marks: &[u8]) -> usize
 }
 
 fn count_few(table: &[u64], count: usize, marks: &[u8]) -> usize
-    requires { ⌜ (checked false (now table) count ≡ Accepted) × (Marked (linesOf (now table) count) (now marks) × (count < 512)) ⌝ }
+    requires { ⌜ Prepared (now table) count (now marks) × (count < 512) ⌝ }
     ensures { λ r. ⌜ r ≡ length (programOf (now (table .entry)) count) ⌝ }
 {
     let mut wd = [0u64; 512];
@@ -35,7 +34,7 @@ fn count_few(table: &[u64], count: usize, marks: &[u8]) -> usize
 }
 
 fn count_many(table: &[u64], count: usize, marks: &[u8]) -> usize
-    requires { ⌜ (checked false (now table) count ≡ Accepted) × Marked (linesOf (now table) count) (now marks) ⌝ }
+    requires { ⌜ Prepared (now table) count (now marks) ⌝ }
     ensures { λ r. ⌜ r ≡ length (programOf (now (table .entry)) count) ⌝ }
 {
     let mut wd = [0u64; 16385];
@@ -44,10 +43,10 @@ fn count_many(table: &[u64], count: usize, marks: &[u8]) -> usize
     passes::count_all(table, count, marks, &mut wd, &mut num, &mut lo)
 }
 
-// The instructions go to the target, which is zero.
+// The instructions go to the target.
 fn writing(table: &[u64], count: usize, marks: &[u8], target: &mut [u64])
-    requires { ⌜ (checked false (now table) count ≡ Accepted) × (Marked (linesOf (now table) count) (now marks) × ((now target ≡ replicate (length (now target)) 0) × (span (length (programOf (now table) count)) ≤ length (now target)))) ⌝ }
-    ensures { λ _. ⌜ now (target .exit) ≡ encode (programOf (now (table .entry)) count) ++ replicate (length (now (target .entry)) - span (length (programOf (now (table .entry)) count))) 0 ⌝ }
+    requires { ⌜ Ready (now table) count (now marks) (now target) ⌝ }
+    ensures { λ _. ⌜ now (target .exit) ≡ programIn (now (table .entry)) count (length (now (target .entry))) ⌝ }
 {
     if count < 512 {
         write_few(table, count, marks, target);
@@ -57,8 +56,8 @@ fn writing(table: &[u64], count: usize, marks: &[u8], target: &mut [u64])
 }
 
 fn write_few(table: &[u64], count: usize, marks: &[u8], target: &mut [u64])
-    requires { ⌜ (count < 512) × ((checked false (now table) count ≡ Accepted) × (Marked (linesOf (now table) count) (now marks) × ((now target ≡ replicate (length (now target)) 0) × (span (length (programOf (now table) count)) ≤ length (now target))))) ⌝ }
-    ensures { λ _. ⌜ now (target .exit) ≡ encode (programOf (now (table .entry)) count) ++ replicate (length (now (target .entry)) - span (length (programOf (now (table .entry)) count))) 0 ⌝ }
+    requires { ⌜ Ready (now table) count (now marks) (now target) × (count < 512) ⌝ }
+    ensures { λ _. ⌜ now (target .exit) ≡ programIn (now (table .entry)) count (length (now (target .entry))) ⌝ }
 {
     let mut wd = [0u64; 512];
     let mut num = [0u64; 512];
@@ -67,8 +66,8 @@ fn write_few(table: &[u64], count: usize, marks: &[u8], target: &mut [u64])
 }
 
 fn write_many(table: &[u64], count: usize, marks: &[u8], target: &mut [u64])
-    requires { ⌜ (checked false (now table) count ≡ Accepted) × (Marked (linesOf (now table) count) (now marks) × ((now target ≡ replicate (length (now target)) 0) × (span (length (programOf (now table) count)) ≤ length (now target)))) ⌝ }
-    ensures { λ _. ⌜ now (target .exit) ≡ encode (programOf (now (table .entry)) count) ++ replicate (length (now (target .entry)) - span (length (programOf (now (table .entry)) count))) 0 ⌝ }
+    requires { ⌜ Ready (now table) count (now marks) (now target) ⌝ }
+    ensures { λ _. ⌜ now (target .exit) ≡ programIn (now (table .entry)) count (length (now (target .entry))) ⌝ }
 {
     let mut wd = [0u64; 16385];
     let mut num = [0u64; 16385];
@@ -77,16 +76,16 @@ fn write_many(table: &[u64], count: usize, marks: &[u8], target: &mut [u64])
 }
 
 // The program of an accepted table, where it fits into the target, which is zero.
-pub fn make(table: &[u64], count: usize, target: &mut [u64]) -> Translated
+pub fn make(table: &[u64], count: usize, target: &mut [u64]) -> Answer
     requires { ⌜ (checked false (now table) count ≡ Accepted) × (now target ≡ replicate (length (now target)) 0) ⌝ }
-    ensures { λ r. ⌜ (r ≡ fitting (length (programOf (now (table .entry)) count)) (length (now (target .entry)))) × (now (target .exit) ≡ leftOf r (length (now (target .entry))) (programOf (now (table .entry)) count)) ⌝ }
+    ensures { λ r. ⌜ told r (now (target .exit) ∷ []) ≡ makes (now (table .entry)) count (length (now (target .entry))) ⌝ }
 {
     let mut marks = [0u8; 16385];
     passes::needing(table, count, &mut marks);
     let m = counting(table, count, &marks);
-    if records::room_of(target.len()) < m {
-        return Translated::Refused(Refusal::TargetTooSmall);
+    if records::room_of(true, target.len()) < m {
+        return Answer::Refused(Refusal::TargetTooSmall, 0);
     }
     writing(table, count, &marks, target);
-    Translated::Done(m)
+    Answer::Done(m)
 }

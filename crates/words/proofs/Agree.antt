@@ -11,9 +11,10 @@ use lib.Bits.{bitAnd, bitOr, and-le-l, and-le-r, or-shifted}
 use Rattle.words.specs.Word.{shl, choose}
 use Rattle.words.specs.Op.{Op, not, neg, inc, dec, redand, redor, redxor, slice, uext, sext, eq, neq, ult, ulte, ugt, ugte, slt, slte, sgt, sgte, iff, implies, and, or, xor, nand, nor, xnor, add, sub, mul, udiv, urem, sdiv, srem, smod, sll, srl, sra, rol, ror, concat, ite, mask}
 use Rattle.words.specs.Circuit.{circ}
-use Rattle.words.specs.Program.{classOf, prog}
-use Rattle.words.specs.Widths.{Widths, widthOf}
-use Rattle.words.specs.Loose.{loose, need₁, need₂, need₃, atUse}
+use Rattle.words.specs.Program.{prog}
+use Rattle.words.specs.Model.Classes.{classOf}
+use Rattle.words.specs.Model.Widths.{Widths, widthOf}
+use Rattle.words.specs.Model.Loose.{loose, need₁, need₂, need₃, atUse}
 use Rattle.words.proofs.Mod.{mul-mod-l, mod-narrow, shl-mod}
 use Rattle.words.proofs.Whole.{Narrows, not-narrows, neg-narrows, inc-narrows, dec-narrows, iff-narrows, implies-narrows, and-narrows, or-narrows, xor-narrows, nand-narrows, nor-narrows, xnor-narrows, add-narrows, sub-narrows, mul-narrows}
 use Rattle.words.proofs.Stands.{Stands, low-bits, exact}
@@ -86,8 +87,8 @@ module _ (u v a b c x y z : ℕ) (h : u ≤ 64) (ha : a < 2 ^ u) (hb : b < 2 ^ v
   plainly : (op : Op) → x ≡ a → y ≡ b → circ op u v x y 0 ≡ circ op u v a b 0
   plainly op e₁ e₂ = ap₂ (λ (p q : ℕ). circ op u v p q 0) e₁ e₂
 
-  lowered : (op : Op) → u ≡ v → x ≡ a → y ≡ b → circ op u v (x % 2 ^ u) (y % 2 ^ u) 0 ≡ circ op u v a b 0
-  lowered op g e₁ e₂ = ap₂ (λ (p q : ℕ). circ op u v p q 0) (low₁ false e₁) (low₂ false g e₂)
+  lowered : (op : Op) → x ≡ a → y ≡ b → circ op u v (x % 2 ^ u) (y % 2 ^ v) 0 ≡ circ op u v a b 0
+  lowered op e₁ e₂ = ap₂ (λ (p q : ℕ). circ op u v p q 0) (low₁ false e₁) (low-bits false v y hb e₂)
 
   module _ (l₁ l₂ l₃ : Bool) where
     pub agree-lines : (op : Op) → Widths (classOf op) u v b c
@@ -109,10 +110,10 @@ module _ (u v a b c x y z : ℕ) (h : u ≤ 64) (ha : a < 2 ^ u) (hb : b < 2 ^ v
     agree-lines ulte g e₁ e₂ e₃ = plainly ulte e₁ e₂
     agree-lines ugt g e₁ e₂ e₃ = plainly ugt e₁ e₂
     agree-lines ugte g e₁ e₂ e₃ = plainly ugte e₁ e₂
-    agree-lines slt g e₁ e₂ e₃ = lowered slt g e₁ e₂
-    agree-lines slte g e₁ e₂ e₃ = lowered slte g e₁ e₂
-    agree-lines sgt g e₁ e₂ e₃ = lowered sgt g e₁ e₂
-    agree-lines sgte g e₁ e₂ e₃ = lowered sgte g e₁ e₂
+    agree-lines slt g e₁ e₂ e₃ = lowered slt e₁ e₂
+    agree-lines slte g e₁ e₂ e₃ = lowered slte e₁ e₂
+    agree-lines sgt g e₁ e₂ e₃ = lowered sgt e₁ e₂
+    agree-lines sgte g e₁ e₂ e₃ = lowered sgte e₁ e₂
     agree-lines iff g e₁ e₂ e₃ = wrapped iff (iff-narrows 64 u h) l₁ l₂ g e₁ e₂
     agree-lines implies g e₁ e₂ e₃ = wrapped implies (implies-narrows 64 u h) l₁ l₂ g e₁ e₂
     agree-lines and g e₁ e₂ e₃ = met l₁ l₂ g e₁ e₂
@@ -126,14 +127,14 @@ module _ (u v a b c x y z : ℕ) (h : u ≤ 64) (ha : a < 2 ^ u) (hb : b < 2 ^ v
     agree-lines mul g e₁ e₂ e₃ = wrapped mul (mul-narrows 64 u h) l₁ l₂ g e₁ e₂
     agree-lines udiv g e₁ e₂ e₃ = plainly udiv e₁ e₂
     agree-lines urem g e₁ e₂ e₃ = plainly urem e₁ e₂
-    agree-lines sdiv g e₁ e₂ e₃ = lowered sdiv g e₁ e₂
-    agree-lines srem g e₁ e₂ e₃ = lowered srem g e₁ e₂
-    agree-lines smod g e₁ e₂ e₃ = lowered smod g e₁ e₂
+    agree-lines sdiv g e₁ e₂ e₃ = lowered sdiv e₁ e₂
+    agree-lines srem g e₁ e₂ e₃ = lowered srem e₁ e₂
+    agree-lines smod g e₁ e₂ e₃ = lowered smod e₁ e₂
     agree-lines sll g e₁ e₂ e₃ = ap (λ (n : ℕ). shl (ltb n u) 64 x n % 2 ^ u) e₂ ∙ shl-law (ltb b u) l₁ u x a b h ha e₁
     agree-lines srl g e₁ e₂ e₃ = plainly srl e₁ e₂
-    agree-lines sra g e₁ e₂ e₃ = lowered sra g e₁ e₂
-    agree-lines rol g e₁ e₂ e₃ = lowered rol g e₁ e₂
-    agree-lines ror g e₁ e₂ e₃ = lowered ror g e₁ e₂
+    agree-lines sra g e₁ e₂ e₃ = lowered sra e₁ e₂
+    agree-lines rol g e₁ e₂ e₃ = lowered rol e₁ e₂
+    agree-lines ror g e₁ e₂ e₃ = lowered ror e₁ e₂
     agree-lines concat g e₁ e₂ e₃ =
         subst (λ (n : ℕ). Stands l₁ (u + v) (bitOr (x * 2 ^ v % 2 ^ 64) n) (a * 2 ^ v + b)) (sym e₂) (join-law l₁ u v x a b g ha hb e₁)
     agree-lines ite g e₁ e₂ e₃ = subst (λ (n : ℕ). Stands (l₂ || l₃) v (choose n y z) (choose a b c)) (sym e₁) (pick-law l₂ l₃ v a b c y z hb hc e₂ e₃)

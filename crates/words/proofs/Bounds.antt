@@ -12,12 +12,13 @@ use lib.Pow.{pow-pos, pow-mono, pow-add, ones-lt, ones-sub-lt, shr-lt}
 use lib.Bits.{bitAnd, bitOr, bitXor, and-lt, or-lt, xor-lt}
 use lib.IntN.{ℤ, pos, negsuc}
 use lib.Signed.{shrZ, ltZ, leZ}
-use Rattle.words.specs.Word.{Width, bit, flip, word, signed, sdivZ, sremZ, smodZ, divided, shl, shr, sar, rotl, rotr, choose}
+use Rattle.words.specs.Word.{Width, bit, flip, twosComplement, signedValue, sdivZ, sremZ, smodZ, quotient, shl, shr, sar, rotl, rotr, choose}
 use Rattle.words.specs.Op.{Op, not, neg, inc, dec, redand, redor, redxor, slice, uext, sext, eq, neq, ult, ulte, ugt, ugte, slt, slte, sgt, sgte, iff, implies, and, or, xor, nand, nor, xnor, add, sub, mul, udiv, urem, sdiv, srem, smod, sll, srl, sra, rol, ror, concat, ite, mask}
 use Rattle.words.specs.Circuit.{circ}
-use Rattle.words.specs.Program.{Class, turn, wrap, meet, merge, test, plain, copy, compare, low, extend, cut, left, join, pick, clear, classOf, prog}
-use Rattle.words.specs.Widths.{Widths, widthOf}
-use Rattle.words.specs.Loose.{loose, need₁, need₂, need₃}
+use Rattle.words.specs.Program.{prog}
+use Rattle.words.specs.Model.Classes.{Class, turn, wrap, meet, merge, test, plain, copy, compare, low, extend, cut, left, join, pick, clear, classOf}
+use Rattle.words.specs.Model.Widths.{Widths, widthOf}
+use Rattle.words.specs.Model.Loose.{loose, need₁, need₂, need₃}
 use Rattle.words.proofs.Stands.{low-bits, itself}
 use Rattle.words.proofs.Mod.{shl-mod}
 use Rattle.words.proofs.Agree.{agree-lines}
@@ -28,13 +29,13 @@ bit-lt : (t : Bool) → bit t < 2
 bit-lt true = lit< tt
 bit-lt false = lit< tt
 
-word-lt : (w : ℕ) (z : ℤ) → word w z < 2 ^ w
-word-lt w (pos n) = mod-lt n (pow-pos w)
-word-lt w (negsuc n) = ones-sub-lt w (n % 2 ^ w)
+complement-lt : (w : ℕ) (z : ℤ) → twosComplement w z < 2 ^ w
+complement-lt w (pos n) = mod-lt n (pow-pos w)
+complement-lt w (negsuc n) = ones-sub-lt w (n % 2 ^ w)
 
-divided-lt : (w a b : ℕ) → a < 2 ^ w → divided w a b < 2 ^ w
-divided-lt w a zero h = ones-lt w
-divided-lt w a (suc b) h = lt-of-le-of-lt (div-le-self a (suc b)) h
+quotient-lt : (w a b : ℕ) → a < 2 ^ w → quotient w a b < 2 ^ w
+quotient-lt w a zero h = ones-lt w
+quotient-lt w a (suc b) h = lt-of-le-of-lt (div-le-self a (suc b)) h
 
 shl-lt : (t : Bool) (w a b : ℕ) → shl t w a b < 2 ^ w
 shl-lt true w a b = mod-lt (a * 2 ^ b) (pow-pos w)
@@ -45,8 +46,8 @@ shifted-lt true w a b h = lt-of-le-of-lt (div-le-self a (2 ^ b)) h
 shifted-lt false w a b h = pow-pos w
 
 sar-lt : (t : Bool) (w a b : ℕ) → sar t w a b < 2 ^ w
-sar-lt true w a b = word-lt w (shrZ (signed w a) (2 ^ b))
-sar-lt false w a b = word-lt w (shrZ (signed w a) (2 ^ w))
+sar-lt true w a b = complement-lt w (shrZ (signedValue w a) (2 ^ b))
+sar-lt false w a b = complement-lt w (shrZ (signedValue w a) (2 ^ w))
 
 -- two runs of bits, side by side
 cat-lt : (j k w x y : ℕ) → j + k ≡ w → x < 2 ^ j → y < 2 ^ k → x * 2 ^ k + y < 2 ^ w
@@ -110,17 +111,17 @@ module _ (u v a b c : ℕ) (k : Width u) (ha : a < 2 ^ u) (hb : b < 2 ^ v) (hc :
   circ-lt redxor g = mod-lt (onesIn 64 a) (zero-lt-suc 1)
   circ-lt slice g = mod-lt (a / 2 ^ c) (pow-pos (suc b - c))
   circ-lt uext g = lt-of-lt-of-le ha (pow-mono (le-add-right u b))
-  circ-lt sext g = word-lt (u + b) (signed u a)
+  circ-lt sext g = complement-lt (u + b) (signedValue u a)
   circ-lt eq g = bit-lt (eqb a b)
   circ-lt neq g = bit-lt (isNot (eqb a b))
   circ-lt ult g = bit-lt (ltb a b)
   circ-lt ulte g = bit-lt (leb a b)
   circ-lt ugt g = bit-lt (ltb b a)
   circ-lt ugte g = bit-lt (leb b a)
-  circ-lt slt g = bit-lt (ltZ (signed u a) (signed u b))
-  circ-lt slte g = bit-lt (leZ (signed u a) (signed u b))
-  circ-lt sgt g = bit-lt (ltZ (signed u b) (signed u a))
-  circ-lt sgte g = bit-lt (leZ (signed u b) (signed u a))
+  circ-lt slt g = bit-lt (ltZ (signedValue u a) (signedValue u b))
+  circ-lt slte g = bit-lt (leZ (signedValue u a) (signedValue u b))
+  circ-lt sgt g = bit-lt (ltZ (signedValue u b) (signedValue u a))
+  circ-lt sgte g = bit-lt (leZ (signedValue u b) (signedValue u a))
   circ-lt iff g = ones-sub-lt u (bitXor a b)
   circ-lt implies g = or-lt u (flip u a) b (ones-sub-lt u a) (same g)
   circ-lt and g = and-lt u a b ha (same g)
@@ -132,11 +133,11 @@ module _ (u v a b c : ℕ) (k : Width u) (ha : a < 2 ^ u) (hb : b < 2 ^ v) (hc :
   circ-lt add g = mod-lt (a + b) (pow-pos u)
   circ-lt sub g = mod-lt (a + (2 ^ u - b)) (pow-pos u)
   circ-lt mul g = mod-lt (a * b) (pow-pos u)
-  circ-lt udiv g = divided-lt u a b ha
+  circ-lt udiv g = quotient-lt u a b ha
   circ-lt urem g = lt-of-le-of-lt (mod-le a b) ha
-  circ-lt sdiv g = word-lt u (sdivZ (signed u a) (signed u b))
-  circ-lt srem g = word-lt u (sremZ (signed u a) (signed u b))
-  circ-lt smod g = word-lt u (smodZ (signed u a) (signed u b))
+  circ-lt sdiv g = complement-lt u (sdivZ (signedValue u a) (signedValue u b))
+  circ-lt srem g = complement-lt u (sremZ (signedValue u a) (signedValue u b))
+  circ-lt smod g = complement-lt u (smodZ (signedValue u a) (signedValue u b))
   circ-lt sll g = shl-lt (ltb b u) u a b
   circ-lt srl g = shifted-lt (ltb b u) u a b ha
   circ-lt sra g = sar-lt (ltb b u) u a b
@@ -167,7 +168,7 @@ module _ (u v a b c : ℕ) (k : Width u) (ha : a < 2 ^ 64) (hb : b < 2 ^ 64) (hc
   wrapped : (op : Op) → Widths (classOf op) 64 64 b c → widthOf (classOf op) 64 64 b c ≡ 64 → circ op 64 64 a b c < 2 ^ 64
   wrapped op g e = subst (λ (n : ℕ). circ op 64 64 a b c < 2 ^ n) e (circ-lt 64 64 a b c sixty-four ha hb hc op g)
 
-  div64 : (n : ℕ) → divided u a n < 2 ^ 64
+  div64 : (n : ℕ) → quotient u a n < 2 ^ 64
   div64 zero = wide (k .most) (ones-lt u)
   div64 (suc n) = lt-of-le-of-lt (div-le-self a (suc n)) ha
 
@@ -181,17 +182,17 @@ module _ (u v a b c : ℕ) (k : Width u) (ha : a < 2 ^ 64) (hb : b < 2 ^ 64) (hc
   prog-lt redxor g = lt-of-lt-of-le (mod-lt (onesIn 64 a) (zero-lt-suc 1)) (lit≤ tt)
   prog-lt slice g = lt-of-le-of-lt (div-le-self a (2 ^ c)) ha
   prog-lt uext g = ha
-  prog-lt sext g = wide g (word-lt (u + b) (signed u (a % 2 ^ u)))
+  prog-lt sext g = wide g (complement-lt (u + b) (signedValue u (a % 2 ^ u)))
   prog-lt eq g = bit64 (eqb a b)
   prog-lt neq g = bit64 (isNot (eqb a b))
   prog-lt ult g = bit64 (ltb a b)
   prog-lt ulte g = bit64 (leb a b)
   prog-lt ugt g = bit64 (ltb b a)
   prog-lt ugte g = bit64 (leb b a)
-  prog-lt slt g = bit64 (ltZ (signed u (a % 2 ^ u)) (signed u (b % 2 ^ u)))
-  prog-lt slte g = bit64 (leZ (signed u (a % 2 ^ u)) (signed u (b % 2 ^ u)))
-  prog-lt sgt g = bit64 (ltZ (signed u (b % 2 ^ u)) (signed u (a % 2 ^ u)))
-  prog-lt sgte g = bit64 (leZ (signed u (b % 2 ^ u)) (signed u (a % 2 ^ u)))
+  prog-lt slt g = bit64 (ltZ (signedValue u (a % 2 ^ u)) (signedValue u (b % 2 ^ v)))
+  prog-lt slte g = bit64 (leZ (signedValue u (a % 2 ^ u)) (signedValue u (b % 2 ^ v)))
+  prog-lt sgt g = bit64 (ltZ (signedValue u (b % 2 ^ v)) (signedValue u (a % 2 ^ u)))
+  prog-lt sgte g = bit64 (leZ (signedValue u (b % 2 ^ v)) (signedValue u (a % 2 ^ u)))
   prog-lt iff g = wrapped iff refl refl
   prog-lt implies g = wrapped implies refl refl
   prog-lt and g = wrapped and refl refl
@@ -205,14 +206,14 @@ module _ (u v a b c : ℕ) (k : Width u) (ha : a < 2 ^ 64) (hb : b < 2 ^ 64) (hc
   prog-lt mul g = wrapped mul refl refl
   prog-lt udiv g = div64 b
   prog-lt urem g = lt-of-le-of-lt (mod-le a b) ha
-  prog-lt sdiv g = wide (k .most) (word-lt u (sdivZ (signed u (a % 2 ^ u)) (signed u (b % 2 ^ u))))
-  prog-lt srem g = wide (k .most) (word-lt u (sremZ (signed u (a % 2 ^ u)) (signed u (b % 2 ^ u))))
-  prog-lt smod g = wide (k .most) (word-lt u (smodZ (signed u (a % 2 ^ u)) (signed u (b % 2 ^ u))))
+  prog-lt sdiv g = wide (k .most) (complement-lt u (sdivZ (signedValue u (a % 2 ^ u)) (signedValue u (b % 2 ^ v))))
+  prog-lt srem g = wide (k .most) (complement-lt u (sremZ (signedValue u (a % 2 ^ u)) (signedValue u (b % 2 ^ v))))
+  prog-lt smod g = wide (k .most) (complement-lt u (smodZ (signedValue u (a % 2 ^ u)) (signedValue u (b % 2 ^ v))))
   prog-lt sll g = shl-lt (ltb b u) 64 a b
   prog-lt srl g = shifted-lt (ltb b u) 64 a b ha
-  prog-lt sra g = wide (k .most) (sar-lt (ltb (b % 2 ^ u) u) u (a % 2 ^ u) (b % 2 ^ u))
-  prog-lt rol g = wide (k .most) (rotl-lt u (a % 2 ^ u) (b % 2 ^ u % u) (mod-lt a (pow-pos u)) (le-of-lt (mod-lt (b % 2 ^ u) (k .least))))
-  prog-lt ror g = wide (k .most) (rotr-lt u (a % 2 ^ u) (b % 2 ^ u % u) (mod-lt a (pow-pos u)) (le-of-lt (mod-lt (b % 2 ^ u) (k .least))))
+  prog-lt sra g = wide (k .most) (sar-lt (ltb (b % 2 ^ v) u) u (a % 2 ^ u) (b % 2 ^ v))
+  prog-lt rol g = wide (k .most) (rotl-lt u (a % 2 ^ u) (b % 2 ^ v % u) (mod-lt a (pow-pos u)) (le-of-lt (mod-lt (b % 2 ^ v) (k .least))))
+  prog-lt ror g = wide (k .most) (rotr-lt u (a % 2 ^ u) (b % 2 ^ v % u) (mod-lt a (pow-pos u)) (le-of-lt (mod-lt (b % 2 ^ v) (k .least))))
   prog-lt concat g = or-lt 64 (a * 2 ^ v % 2 ^ 64) b (mod-lt (a * 2 ^ v) (pow-pos 64)) hb
   prog-lt ite g = choose-lt 64 a b c hb hc
   prog-lt mask g = wide (k .most) (mod-lt a (pow-pos u))

@@ -9,8 +9,8 @@ use lib.Dec.{leb}
 use borrow.Author.Tests.{le-leb}
 use lib.ListN.{getD}
 use Rattle.words.specs.Op.{opOf}
-use Rattle.words.specs.Program.{classOf}
-use Rattle.words.specs.Loose.{loose, need₁, need₂}
+use Rattle.words.specs.Model.Classes.{classOf}
+use Rattle.words.specs.Model.Loose.{loose, need₁, need₂}
 use Rattle.words.specs.Kinds.{looseKind, needKind₁, needKind₂}
 use Rattle.words.proofs.Table.{table, at}
 

@@ -1,11 +1,12 @@
 -- The laws of the word operators. For other crates: `Stands` and `Agree` (program and circuit agree), `Bounds` (results fit their widths),
--- `KindLaws` (the request's lists of kinds are the classes' rules), `Table` (tables compared by computing). The rest serves these and the
--- functions' proofs.
+-- `Classes` (a program's operators by class), `KindLaws` (the request's lists of kinds are the classes' rules), `Table` (tables compared by
+-- computing). The rest serves these and the functions' proofs.
 pub mod Mod
 pub mod Whole
 pub mod Stands
 pub mod Agree
 pub mod Bounds
+pub mod Classes
 pub mod Table
 pub mod KindLaws
 pub mod Words

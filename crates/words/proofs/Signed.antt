@@ -13,7 +13,7 @@ use lib.Signed.{leZ, nonNeg}
 use mir.Syntax.{w64}
 use mir.Val.{Fits, SFits, toZ, ofZ}
 use mir.Facts.{toZ-pos, toZ-ofZ, fits-natAbs}
-use Rattle.words.specs.Word.{Width, flip, signed, signedAs, word}
+use Rattle.words.specs.Word.{Width, flip, signedValue, twosComplement}
 
 -- ---- the sign bit
 
@@ -31,11 +31,11 @@ sign-clear w a e = subst (λ (n : ℕ). a < n) (one-mul (2 ^ (w - 1))) (div-lt-i
 pub sign-set : (w a : ℕ) → (a / 2 ^ (w - 1) ≡ 0 → ⊥) → 2 ^ (w - 1) ≤ a
 sign-set w a f = let g : ¬ (a < 2 ^ (w - 1)) = λ l. f (div-eq-of-lt l) in omega arith
 
-pub signed-low : (w a : ℕ) → a < 2 ^ (w - 1) → signed w a ≡ pos a
-signed-low w a h = ap (λ (t : Bool). signedAs t w a) (lt-ltb a (2 ^ (w - 1)) h)
+pub signed-low : (w a : ℕ) → a < 2 ^ (w - 1) → signedValue w a ≡ pos a
+signed-low w a h = ap (λ (t : Bool). cond t (pos a) (negsuc (2 ^ w - suc a))) (lt-ltb a (2 ^ (w - 1)) h)
 
-pub signed-high : (w a : ℕ) → 2 ^ (w - 1) ≤ a → signed w a ≡ negsuc (2 ^ w - suc a)
-signed-high w a h = ap (λ (t : Bool). signedAs t w a) (le-ltb a (2 ^ (w - 1)) h)
+pub signed-high : (w a : ℕ) → 2 ^ (w - 1) ≤ a → signedValue w a ≡ negsuc (2 ^ w - suc a)
+signed-high w a h = ap (λ (t : Bool). cond t (pos a) (negsuc (2 ^ w - suc a))) (le-ltb a (2 ^ (w - 1)) h)
 
 -- ---- `-1 - z`
 
@@ -66,13 +66,13 @@ pub down-test : (z : ℤ) → leZ (pos 0) z ≡ false → leZ (pos 0) (negsuc 0 
 down-test (pos n) e = absurd (true≢false (sym (le-leb 0 n zero-le) ∙ e))
 down-test (negsuc n) e = ap (λ (y : ℤ). leZ (pos 0) y) (down-neg n) ∙ le-leb 0 n zero-le
 
-pub word-up : (w : ℕ) (z : ℤ) → leZ (pos 0) z ≡ true → natAbs z % 2 ^ w ≡ word w z
-word-up w (pos n) e = refl
-word-up w (negsuc n) e = absurd (false≢true e)
+pub complement-up : (w : ℕ) (z : ℤ) → leZ (pos 0) z ≡ true → natAbs z % 2 ^ w ≡ twosComplement w z
+complement-up w (pos n) e = refl
+complement-up w (negsuc n) e = absurd (false≢true e)
 
-pub word-down : (w : ℕ) (z : ℤ) → leZ (pos 0) z ≡ false → flip w (natAbs (negsuc 0 -ℤ z) % 2 ^ w) ≡ word w z
-word-down w (pos n) e = absurd (true≢false (sym (le-leb 0 n zero-le) ∙ e))
-word-down w (negsuc n) e = ap (λ (y : ℤ). flip w (natAbs y % 2 ^ w)) (down-neg n)
+pub complement-down : (w : ℕ) (z : ℤ) → leZ (pos 0) z ≡ false → flip w (natAbs (negsuc 0 -ℤ z) % 2 ^ w) ≡ twosComplement w z
+complement-down w (pos n) e = absurd (true≢false (sym (le-leb 0 n zero-le) ∙ e))
+complement-down w (negsuc n) e = ap (λ (y : ℤ). flip w (natAbs y % 2 ^ w)) (down-neg n)
 
 -- ---- `to_signed` and `from_signed`, as laws of numbers
 
@@ -80,7 +80,7 @@ word-down w (negsuc n) e = ap (λ (y : ℤ). flip w (natAbs y % 2 ^ w)) (down-ne
 pub clear-fits : (w a : ℕ) → Width w → a / 2 ^ (w - 1) ≡ 0 → a < 2 ^ 63
 clear-fits w a k e = lt-of-lt-of-le (sign-clear w a e) (half-le k)
 
-pub clear-law : (w a : ℕ) → Width w → a / 2 ^ (w - 1) ≡ 0 → toZ w64 a ≡ signed w a
+pub clear-law : (w a : ℕ) → Width w → a / 2 ^ (w - 1) ≡ 0 → toZ w64 a ≡ signedValue w a
 clear-law w a k e = toZ-pos w64 (clear-fits w a k e) ∙ sym (signed-low w a (sign-clear w a e))
 
 -- the sign bit is set; m is the mask
@@ -93,7 +93,7 @@ set-fits w a m k e f = lt-of-lt-of-le below (half-le k)
 pub set-down : (w a m : ℕ) → Width w → m ≡ 2 ^ w - 1 → (a / 2 ^ (w - 1) ≡ 0 → ⊥) → SFits w64 (negsuc 0 -ℤ toZ w64 (m - a))
 set-down w a m k e f = subst (λ (z : ℤ). SFits w64 z) (sym (minus (m - a) (set-fits w a m k e f))) (record { sfits = set-fits w a m k e f })
 
-pub set-law : (w a m : ℕ) → Width w → a < 2 ^ w → m ≡ 2 ^ w - 1 → (a / 2 ^ (w - 1) ≡ 0 → ⊥) → toZ w64 (ofZ w64 (negsuc 0 -ℤ toZ w64 (m - a))) ≡ signed w a
+pub set-law : (w a m : ℕ) → Width w → a < 2 ^ w → m ≡ 2 ^ w - 1 → (a / 2 ^ (w - 1) ≡ 0 → ⊥) → toZ w64 (ofZ w64 (negsuc 0 -ℤ toZ w64 (m - a))) ≡ signedValue w a
 set-law w a m k h e f =
     toZ-ofZ (set-down w a m k e f) ∙ minus (m - a) (set-fits w a m k e f) ∙ ap negsuc same ∙ sym (signed-high w a (sign-set w a f))
   where

@@ -4,7 +4,7 @@ use mathlib.Core.Bool.{Bool, true, false, not, _||_}
 use Prim.Native.Nat.{ℕ, _%_, _^_, _<_}
 use native.Mathlib.Nat.{mod-eq-of-lt}
 use lib.Dec.{T}
-use Rattle.words.specs.Loose.{atUse}
+use Rattle.words.specs.Model.Loose.{atUse}
 
 -- x stands for a, a word of width w; the flag says whether x is loose
 abbrev pub Stands : Bool → ℕ → ℕ → ℕ → Type 0

@@ -1,11 +1,11 @@
--- Loose kinds, and kinds that need clean operands, by their numbers: the two lists of the request. That they say what the classes say
--- is `loose-kind`, `need-kind₁` and `need-kind₂` of `proofs/KindLaws.antt`. Assumes nothing.
+-- Loose kinds, and kinds that need clean operands, by their numbers: the two lists of the request. That `Model/Loose.antt`, by class,
+-- says the same is `loose-kind`, `need-kind₁` and `need-kind₂` of `proofs/KindLaws.antt`. Assumes nothing.
 use Prim.Native.Nat.{ℕ}
 use mathlib.Core.Bool.{Bool, _&&_, _||_}
 use lib.Dec.{leb, eqb}
 
 -- k from i to j
-abbrev pub from : ℕ → ℕ → ℕ → Bool
+abbrev pub from : (i j k : ℕ) → Bool
 from i j k = leb i k && leb k j
 
 -- loose whatever its operands are: input, 11 to 14, 18, 31, 32, 36 to 41, 47

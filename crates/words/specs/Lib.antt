@@ -1,9 +1,9 @@
--- The word operators' meaning, in circuits and in programs, the width rules behind it, and which words of a program are loose.
+-- What the word operators mean, in circuits and in programs, and which kinds of a program are loose or need clean operands. `Model` is
+-- the code's and the proofs' view of them.
 pub mod Word
 pub mod Op
 pub mod Circuit
 pub mod Program
-pub mod Widths
-pub mod Loose
 pub mod Kinds
 pub mod Values
+pub mod Model

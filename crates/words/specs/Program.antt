@@ -1,94 +1,66 @@
 -- The operators in a program, on words of 64 bits: `prog op u v a b c`, with operands and widths as in a circuit. A word may have
--- bits past its width. How a program reads its operands is the operator's class; what else is said of programs goes by the
--- class too. Assumes nothing.
-use Prim.Native.Nat.{ℕ, _*_, _/_, _%_, _^_}
-use lib.Dec.{ltb}
-use lib.Bits.{bitOr}
-use Rattle.words.specs.Word.{shl}
+-- bits past its width. One clause an operator, under the request's sentences in their order; where these say w, the width is u, the
+-- first operand's. Assumes nothing.
+use Prim.Native.Nat.{ℕ, _+_, _-_, _*_, _/_, _%_, _^_}
+use mathlib.Core.Bool.{not as isNot}
+use lib.Dec.{ltb, eqb}
+use lib.Bits.{bitAnd, bitOr, bitXor}
+use Rattle.words.specs.Word.{bit, flip, shl, choose}
 use Rattle.words.specs.Op.{Op, not, neg, inc, dec, redand, redor, redxor, slice, uext, sext, eq, neq, ult, ulte, ugt, ugte, slt, slte, sgt, sgte, iff, implies, and, or, xor, nand, nor, xnor, add, sub, mul, udiv, urem, sdiv, srem, smod, sll, srl, sra, rol, ror, concat, ite, mask}
 use Rattle.words.specs.Circuit.{circ}
 
-pub data Class : Type 0 where
-  turn : Class  -- one operand, on all 64 bits
-  wrap : Class  -- two operands, on all 64 bits
-  meet : Class  -- and, on all 64 bits
-  merge : Class  -- or and xor, on all 64 bits
-  test : Class  -- whole words, as in a circuit; the result is one bit
-  plain : Class  -- whole words, as in a circuit
-  copy : Class  -- uext
-  compare : Class  -- each operand's low bits, to its width; the result is one bit
-  low : Class  -- each operand's low bits, to its width
-  extend : Class  -- sext: the operand's low bits, to its width
-  cut : Class  -- slice
-  left : Class  -- sll
-  join : Class  -- concat
-  pick : Class  -- ite
-  clear : Class  -- the mask
-
-abbrev pub classOf : Op → Class
-classOf not = turn
-classOf neg = turn
-classOf inc = turn
-classOf dec = turn
-classOf redand = test
-classOf redor = test
-classOf redxor = test
-classOf slice = cut
-classOf uext = copy
-classOf sext = extend
-classOf eq = test
-classOf neq = test
-classOf ult = test
-classOf ulte = test
-classOf ugt = test
-classOf ugte = test
-classOf slt = compare
-classOf slte = compare
-classOf sgt = compare
-classOf sgte = compare
-classOf iff = wrap
-classOf implies = wrap
-classOf and = meet
-classOf or = merge
-classOf xor = merge
-classOf nand = wrap
-classOf nor = wrap
-classOf xnor = wrap
-classOf add = wrap
-classOf sub = wrap
-classOf mul = wrap
-classOf udiv = plain
-classOf urem = plain
-classOf sdiv = low
-classOf srem = low
-classOf smod = low
-classOf sll = left
-classOf srl = plain
-classOf sra = low
-classOf rol = low
-classOf ror = low
-classOf concat = join
-classOf ite = pick
-classOf mask = clear
-
--- a program's add is a circuit's add at width 64, and so on; slice only shifts; sll and concat drop what passes bit 63; the limit
--- of sll stays at its width; concat ors its low operand in. Where two operands are read by their low bits they have one width, u
-abbrev pub progBy : Class → Op → ℕ → ℕ → ℕ → ℕ → ℕ → ℕ
-progBy turn op u v a b c = circ op 64 64 a b c
-progBy wrap op u v a b c = circ op 64 64 a b c
-progBy meet op u v a b c = circ op 64 64 a b c
-progBy merge op u v a b c = circ op 64 64 a b c
-progBy test op u v a b c = circ op u v a b c
-progBy plain op u v a b c = circ op u v a b c
-progBy copy op u v a b c = circ op u v a b c
-progBy compare op u v a b c = circ op u v (a % 2 ^ u) (b % 2 ^ u) c
-progBy low op u v a b c = circ op u v (a % 2 ^ u) (b % 2 ^ u) c
-progBy extend op u v a extra c = circ op u v (a % 2 ^ u) extra c
-progBy cut op u v a upper lower = a / 2 ^ lower
-progBy left op u v a b c = shl (ltb b u) 64 a b
-progBy join op u v a b c = bitOr (a * 2 ^ v % 2 ^ 64) b
-progBy pick op u v a b c = circ op u v a b c
-progBy clear op u v a b c = circ op u v a b c
-
-abbrev pub prog : Op → ℕ → ℕ → ℕ → ℕ → ℕ → ℕ
-prog op = progBy (classOf op) op
+abbrev pub prog : Op → (u v a b c : ℕ) → ℕ
+-- "All arithmetic is on 64-bit words: add, sub, mul, neg, inc and dec work on whole words modulo 2^64;"
+prog add u v a b c = (a + b) % 2 ^ 64
+prog sub u v a b c = (a + (2 ^ 64 - b)) % 2 ^ 64
+prog mul u v a b c = a * b % 2 ^ 64
+prog neg u v a b c = (2 ^ 64 - a) % 2 ^ 64
+prog inc u v a b c = (a + 1) % 2 ^ 64
+prog dec u v a b c = (a + (2 ^ 64 - 1)) % 2 ^ 64
+-- "not, nand, nor, xnor, iff and implies flip all 64 bits;"
+prog not u v a b c = flip 64 a
+prog nand u v a b c = flip 64 (bitAnd a b)
+prog nor u v a b c = flip 64 (bitOr a b)
+prog xnor u v a b c = flip 64 (bitXor a b)
+prog iff u v a b c = flip 64 (bitXor a b)
+prog implies u v a b c = bitOr (flip 64 a) b
+-- "slice only shifts;"
+prog slice u v a upper lower = a / 2 ^ lower
+-- "sll and concat drop what passes bit 63;", with "Shift limits stay at w; concat ors its low operand in."
+prog sll u v a b c = shl (ltb b u) 64 a b
+prog concat u v a b c = bitOr (a * 2 ^ v % 2 ^ 64) b
+-- "uext copies."
+prog uext u v a extra c = a
+-- "sext, signed operations (sra too) and rotations read each operand's low bits, to its width, and give a result modulo 2^w;": what
+-- they give in a circuit on these low bits. The count of extra bits is a plain number; the result of sext has u + extra bits
+prog sext u v a extra c = circ sext u v (a % 2 ^ u) extra c
+prog slt u v a b c = circ slt u v (a % 2 ^ u) (b % 2 ^ v) c
+prog slte u v a b c = circ slte u v (a % 2 ^ u) (b % 2 ^ v) c
+prog sgt u v a b c = circ sgt u v (a % 2 ^ u) (b % 2 ^ v) c
+prog sgte u v a b c = circ sgte u v (a % 2 ^ u) (b % 2 ^ v) c
+prog sdiv u v a b c = circ sdiv u v (a % 2 ^ u) (b % 2 ^ v) c
+prog srem u v a b c = circ srem u v (a % 2 ^ u) (b % 2 ^ v) c
+prog smod u v a b c = circ smod u v (a % 2 ^ u) (b % 2 ^ v) c
+prog sra u v a b c = circ sra u v (a % 2 ^ u) (b % 2 ^ v) c
+prog rol u v a b c = circ rol u v (a % 2 ^ u) (b % 2 ^ v) c
+prog ror u v a b c = circ ror u v (a % 2 ^ u) (b % 2 ^ v) c
+-- "the rest read whole words.": what they give in a circuit on the whole words
+prog redxor u v a b c = circ redxor u v a b c
+prog eq u v a b c = circ eq u v a b c
+prog neq u v a b c = circ neq u v a b c
+prog ult u v a b c = circ ult u v a b c
+prog ulte u v a b c = circ ulte u v a b c
+prog ugt u v a b c = circ ugt u v a b c
+prog ugte u v a b c = circ ugte u v a b c
+prog and u v a b c = circ and u v a b c
+prog or u v a b c = circ or u v a b c
+prog xor u v a b c = circ xor u v a b c
+prog udiv u v a b c = circ udiv u v a b c
+prog urem u v a b c = circ urem u v a b c
+prog srl u v a b c = circ srl u v a b c
+-- "A signal byte, redor and an ite condition count as 1 when the whole word is not 0; redand is 1 when it is 2^w - 1."
+prog redor u v a b c = bit (isNot (eqb a 0))
+prog ite u v a b c = choose a b c
+prog redand u v a b c = bit (eqb a (2 ^ u - 1))
+-- "kind 56 masks its operand to its width"
+prog mask u v a b c = a % 2 ^ u

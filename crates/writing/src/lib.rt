@@ -1,10 +1,10 @@
 // Writing: bytes go to a text one after the other. A byte past the end of the text is counted and dropped.
 use records::bytes;
 use records::kinds;
+use tables::Answer;
 use tables::Checked;
 use tables::Refusal;
 use tables::WORDS;
-use texts::WriteOutcome;
 ghost use mathlib.Core.Path.{_≡_};
 ghost use mathlib.Core.List.{[], _∷_, _++_};
 ghost use mathlib.Core.Bool.{true, false};
@@ -14,10 +14,12 @@ ghost use lib.Seq.{sets};
 ghost use Rattle.texts.specs.Decimal.{digits};
 ghost use Rattle.tables.specs.Kinds.{wordOf, rowOf, rows};
 ghost use Rattle.texts.specs.Split.{spaced, join};
-ghost use Rattle.texts.specs.Writing.{kindTokens, numbers, tokensOf, writeText, writeTable, writeAnswer, bufferOf};
-ghost use Rattle.tables.specs.Lines.{recordSize, kindIn, records as recordsOf, counted};
+ghost use Rattle.texts.specs.Writing.{kindTokens, numbers, tokensOf, writeText, writes};
+ghost use Rattle.tables.specs.Lines.{kindIn};
+ghost use Rattle.tables.specs.Layout.{recordWords, room, recordsOf};
 ghost use Rattle.tables.specs.Types.{noCtx};
-ghost use Rattle.tables.specs.Tables.{room, lawful};
+ghost use Rattle.tables.specs.Tables.{lawful};
+ghost use Rattle.tables.specs.Answers.{told};
 
 // One byte at a place of the text, where there is room.
 pub fn put(out: &mut [u8], at: usize, b: u8) -> usize
@@ -80,7 +82,7 @@ pub fn put_kind(out: &mut [u8], at: usize, k: u64, r: [u8; 16]) -> usize
 
 // m numbers of a record from the place j on, with a space before each.
 pub fn put_numbers(out: &mut [u8], at: usize, m: usize, j: usize, rec: [u64; WORDS]) -> usize
-    requires { ⌜ (j + m ≤ recordSize) × (at + length (spaced (numbers m j rec)) < 2 ^ 63) ⌝ }
+    requires { ⌜ (j + m ≤ recordWords) × (at + length (spaced (numbers m j rec)) < 2 ^ 63) ⌝ }
     ensures { λ x. ⌜ (x ≡ at + length (spaced (numbers m j rec))) × (now (out .exit) ≡ sets (now (out .entry)) at (spaced (numbers m j rec))) ⌝ }
 {
     let e = j + m;
@@ -118,14 +120,16 @@ pub fn put_line(
 
 // The lines of the first `count` records, which keep the rules.
 pub fn put_lines(out: &mut [u8], table: &[u64], count: usize) -> usize
-    requires { ⌜ (count ≤ room (length (now table))) × (lawful false noCtx (recordsOf (counted (now table) count)) ≡ true) ⌝ }
-    ensures { λ x. ⌜ (x ≡ length (writeText (counted (now (table .entry)) count))) × (now (out .exit) ≡ sets (now (out .entry)) 0 (writeText (counted (now (table .entry)) count))) ⌝ }
+    requires { ⌜ (count ≤ room false (length (now table))) × (lawful false noCtx (recordsOf false (now table) count) ≡ true) ⌝ }
+    ensures { λ x. ⌜ (x ≡ length (writeText (recordsOf false (now (table .entry)) count)))
+        × (now (out .exit) ≡ sets (now (out .entry)) 0 (writeText (recordsOf false (now (table .entry)) count))) ⌝ }
 {
     let kinds = kinds::all();
+    let h = records::step(false, table.len());
     let mut at: usize = 0;
     let mut p: usize = 0;
     while p < count {
-        let rec = records::record(table, p);
+        let rec = records::record(false, table, h, p);
         p += 1;
         at = put_line(&kinds, out, at, p as u64, rec);
     }
@@ -133,20 +137,20 @@ pub fn put_lines(out: &mut [u8], table: &[u64], count: usize) -> usize
 }
 
 // Writes the first `count` records of a table as text.
-pub fn write(table: &[u64], count: usize, text: &mut [u8]) -> WriteOutcome
-    ensures { λ r. ⌜ (r ≡ writeAnswer (writeTable (now (table .entry)) count (length (now (text .entry))))) × (now (text .exit) ≡ bufferOf (length (now (text .entry))) (writeTable (now (table .entry)) count (length (now (text .entry))))) ⌝ }
+pub fn write(table: &[u64], count: usize, text: &mut [u8]) -> Answer
+    ensures { λ r. ⌜ told r (now (text .exit) ∷ []) ≡ writes (now (table .entry)) count (length (now (text .entry))) ⌝ }
 {
     bytes::clear(text);
     let c = checks::accept(false, table, count);
     match c {
-        Checked::Refused(r) => WriteOutcome::Refused(r),
+        Checked::Refused(r) => Answer::Refused(r, 0),
         Checked::Accepted => {
             let n = put_lines(text, table, count);
             if text.len() < n {
                 bytes::clear(text);
-                return WriteOutcome::Refused(Refusal::TextBuffer);
+                return Answer::Refused(Refusal::TextBuffer, 0);
             }
-            WriteOutcome::Done(n)
+            Answer::Done(n)
         }
     }
 }

@@ -1,13 +1,12 @@
--- By the outcome. Assumes nothing.
-use mathlib.Core.Path.{sym, ap, _∙_}
-use Rattle.answers.specs.Answers.{peekNumber, peekWords}
+-- By the answer. Assumes nothing.
+use Prim.Native.Nat.{ℕ}
+use mathlib.Core.Path.{sym, ap, ap₂, _∙_}
+use mathlib.Core.List.{List, []}
+use Rattle.peeks.specs.Peek.{toldPeek}
+use Rattle.answers.specs.Answers.{tells}
 use borrow.Author.Needs.{needs}
 use Rattle.answers.proofs.tell_peek.Statement.{statement}
 use Rattle.answers.proofs.tell_peek.Tie as tie
-use Rattle.answers.proofs.tell_peek.Reads as reads
-use Rattle.answers.proofs.tell_peek.Lts as lts
-use Rattle.answers.proofs.tell.Reads as tell-reads
-use Rattle.checks.proofs.number.Reads as number-reads
 
 enum-known-r : tie.Need-enum-known-r
 enum-known-r c = search needs
@@ -28,13 +27,13 @@ same-length : tie.Need-same-length
 same-length c = search needs
 
 returns : tie.Need-returns
-returns c = (ap peekNumber (sym (c .before .before .before .before .before .r .given .1)), c .before .before .tell .ensures ∙ ap peekWords (sym (c .before .before .before .before .before .r .given .1)))
+returns c = ap (λ (x : List ℕ). tells 0 x []) (c .before .before .tell .ensures) ∙ ap toldPeek (sym (c .before .before .before .before .before .r .given .1))
 
 same-length-2 : tie.Need-same-length-2
 same-length-2 c = search needs
 
 returns-2 : tie.Need-returns-2
-returns-2 c = (c .number .ensures ∙ ap peekNumber (sym (c .before .before .before .before .before .before .r2 .given .1)), c .before .before .before .tell2 .ensures ∙ ap peekWords (sym (c .before .before .before .before .before .before .r2 .given .1)))
+returns-2 c = ap₂ (λ (n : ℕ) (x : List ℕ). tells n x []) (c .number .ensures) (c .before .before .before .tell2 .ensures) ∙ ap toldPeek (sym (c .before .before .before .before .before .before .r2 .given .1))
 
 pub tell-peek-spec : {M : Type 1} → statement M
 tell-peek-spec =

@@ -1,13 +1,13 @@
--- By the outcome. Assumes nothing.
-use mathlib.Core.Path.{sym, ap, _∙_}
-use Rattle.answers.specs.Answers.{runNumber, runWords}
+-- By the answer. Assumes nothing.
+use Prim.Native.Nat.{ℕ}
+use mathlib.Core.Path.{sym, ap, ap₂, _∙_}
+use mathlib.Core.List.{List}
+use Rattle.circuits.specs.declared.Ran.{Ran}
+use Rattle.circuits.specs.Answers.{toldRun}
+use Rattle.answers.specs.Answers.{tells}
 use borrow.Author.Needs.{needs}
 use Rattle.answers.proofs.tell_run.Statement.{statement}
 use Rattle.answers.proofs.tell_run.Tie as tie
-use Rattle.answers.proofs.tell_run.Reads as reads
-use Rattle.answers.proofs.tell_run.Lts as lts
-use Rattle.answers.proofs.tell.Reads as tell-reads
-use Rattle.checks.proofs.number.Reads as number-reads
 
 enum-told : tie.Need-enum-told
 enum-told c = search needs
@@ -34,19 +34,19 @@ same-length : tie.Need-same-length
 same-length c = search needs
 
 returns : tie.Need-returns
-returns c = (ap runNumber (sym (c .before .before .before .before .enum-told .given .1)), c .before .before .tell .ensures ∙ ap runWords (sym (c .before .before .before .before .enum-told .given .1)))
+returns c = λ left. ap (λ (x : List ℕ). tells 0 x left) (c .before .before .tell .ensures) ∙ ap (λ (a : Ran). toldRun a left) (sym (c .before .before .before .before .enum-told .given .1))
 
 same-length-2 : tie.Need-same-length-2
 same-length-2 c = search needs
 
 returns-2 : tie.Need-returns-2
-returns-2 c = (ap runNumber (sym (c .before .before .before .before .before .r .given .1)), c .before .before .tell2 .ensures ∙ ap runWords (sym (c .before .before .before .before .before .r .given .1)))
+returns-2 c = λ left. ap (λ (x : List ℕ). tells 0 x left) (c .before .before .tell2 .ensures) ∙ ap (λ (a : Ran). toldRun a left) (sym (c .before .before .before .before .before .r .given .1))
 
 same-length-3 : tie.Need-same-length-3
 same-length-3 c = search needs
 
 returns-3 : tie.Need-returns-3
-returns-3 c = (c .number .ensures ∙ ap runNumber (sym (c .before .before .before .before .before .before .r2 .given .1)), c .before .before .before .tell3 .ensures ∙ ap runWords (sym (c .before .before .before .before .before .before .r2 .given .1)))
+returns-3 c = λ left. ap₂ (λ (n : ℕ) (x : List ℕ). tells n x left) (c .number .ensures) (c .before .before .before .tell3 .ensures) ∙ ap (λ (a : Ran). toldRun a left) (sym (c .before .before .before .before .before .before .r2 .given .1))
 
 pub tell-run-spec : {M : Type 1} → statement M
 tell-run-spec =

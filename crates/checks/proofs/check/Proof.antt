@@ -34,7 +34,7 @@ all-requires c κs = tt
 
 lines-requires : tie.Need-lines-requires
 lines-requires c κs = let s = c .before .before .before .before .before .before .before .before .args in
-    let h = roomy (length (s .table .now)) (s .count) (subst (λ (m : ℕ). s .count ≤ m) (c .before .before .before .before .room-of .ensures) (c .before .before .before .if2 .left)) in
+    let h = roomy (s .program) (length (s .table .now)) (s .count) (subst (λ (m : ℕ). s .count ≤ m) (c .before .before .before .before .room-of .ensures) (c .before .before .before .if2 .left)) in
     (c .before .before .all .ensures, (h .0, (h .1, (c .before .before .before .before .before .before .before .before .pre .enough (h .0), shows-none (c .before .before .before .before .before .before .before .before .pre)))))
 
 refused-requires-2 : tie.Need-refused-requires-2

@@ -4,7 +4,7 @@ use mathlib.Core.List.{List}
 use mathlib.Core.Path.{sym, _∙_}
 use lib.ListN.{length, length-replicate}
 use Rattle.circuits.specs.Layout.{layout}
-use Rattle.circuits.specs.Answers.{linesOf}
+use Rattle.tables.specs.Layout.{linesOf}
 use Rattle.circuits.specs.Model.{laidAs}
 use Rattle.circuits.proofs.Placing.{ready-laid, lent-small}
 use Rattle.circuits.proofs.Answering.{lent-on, lent-refused, lent-runs}
@@ -25,7 +25,7 @@ enum-known-r : tie.Need-enum-known-r
 enum-known-r c = search needs
 
 returns : tie.Need-returns
-returns c = let a = c .before .before .before .before .before .before .before .before .before .before .before .before .args in let e = lent-refused (a .program) (a .table .now) (a .count) (a .k) (a .starts .now) (a .inputs .now) (length (a .signals .now)) (length (a .work .now)) _ (lent-on (layout (a .program) (linesOf (a .table .now) (a .count)) .counts) (a .k) (length (a .starts .now)) (length (a .inputs .now)) (length (a .signals .now)) (length (a .work .now)) (c .before .before .before .before .before .lay-out .ensures .1) (c .before .before .before .lent .ensures) (c .before .r .given .1)) in (e .0, (c .before .before .before .before .before .before .before .before .before .before .before .before .pre .1 .0 ∙ e .1, c .before .before .before .before .before .before .before .before .before .before .before .before .pre .1 .1))
+returns c = let a = c .before .before .before .before .before .before .before .before .before .before .before .before .args in lent-refused (a .program) (a .table .now) (a .count) (a .k) (a .starts .now) (a .inputs .now) (length (a .signals .now)) (length (a .work .now)) (lent-on (layout (a .program) (linesOf (a .program) (a .table .now) (a .count)) .counts) (a .k) (length (a .starts .now)) (length (a .inputs .now)) (length (a .signals .now)) (length (a .work .now)) (c .before .before .before .before .before .lay-out .ensures .1) (c .before .before .before .lent .ensures) (c .before .r .given .1)) (c .before .before .before .before .before .before .before .before .before .before .before .before .pre .1 .0) (c .before .before .before .before .before .before .before .before .before .before .before .before .pre .1 .1)
 
 enum-told : tie.Need-enum-told
 enum-told c = search needs
@@ -40,7 +40,7 @@ same-length-2 : tie.Need-same-length-2
 same-length-2 c = c .before .before .before .before .run-lent .kept .1 .1 .1 .1 .1 .1 .1 .1 .1 .0
 
 returns-2 : tie.Need-returns-2
-returns-2 c = let a = c .before .before .before .before .before .before .before .before .before .before .before .before .before .before .before .before .before .before .before .args in let e = lent-runs (a .program) (a .table .now) (a .count) (a .k) (a .starts .now) (a .inputs .now) (length (a .signals .now)) (length (a .work .now)) (lent-on (layout (a .program) (linesOf (a .table .now) (a .count)) .counts) (a .k) (length (a .starts .now)) (length (a .inputs .now)) (length (a .signals .now)) (length (a .work .now)) (c .before .before .before .before .before .before .before .before .before .before .before .before .lay-out .ensures .1) (c .before .before .before .before .before .before .before .before .before .before .lent .ensures) (c .before .before .before .before .before .before .before .before .enum-told .given .1)) in (c .before .before .before .before .run-lent .ensures .0 ∙ e .0, (c .before .before .before .before .run-lent .ensures .1 .0 ∙ e .1, c .before .before .before .before .run-lent .ensures .1 .1))
+returns-2 c = let a = c .before .before .before .before .before .before .before .before .before .before .before .before .before .before .before .before .before .before .before .args in let e = lent-runs (a .program) (a .table .now) (a .count) (a .k) (a .starts .now) (a .inputs .now) (length (a .signals .now)) (length (a .work .now)) (lent-on (layout (a .program) (linesOf (a .program) (a .table .now) (a .count)) .counts) (a .k) (length (a .starts .now)) (length (a .inputs .now)) (length (a .signals .now)) (length (a .work .now)) (c .before .before .before .before .before .before .before .before .before .before .before .before .lay-out .ensures .1) (c .before .before .before .before .before .before .before .before .before .before .lent .ensures) (c .before .before .before .before .before .before .before .before .enum-told .given .1)) in c .before .before .before .before .run-lent .ensures ∙ e
 
 pub run-checked-spec : {M : Type 1} → statement M
 run-checked-spec =

@@ -4,10 +4,10 @@ use mathlib.Core.Path.{_≡_, refl, sym, _∙_, ap}
 use native.Mathlib.Omega.{arith}
 use lib.ListN.{length, take, replicate, length-replicate}
 use lib.Seq.{length-take-le}
-use Rattle.circuits.specs.Answers.{linesOf}
+use Rattle.tables.specs.Layout.{linesOf}
 use Rattle.circuits.specs.Model.{countsOf, marks}
 use Rattle.circuits.proofs.Repeated.{ready-as}
-use Rattle.circuits.proofs.Answering.{nonzero, lent-facts, none-ran, none-signals, bad-found, signals-many, zero-front}
+use Rattle.circuits.proofs.Answering.{told-run, nonzero, lent-facts, none-ran, none-signals, bad-found, signals-many, zero-front}
 use Rattle.circuits.proofs.Placing.{signals-few, words-few}
 use borrow.Author.Needs.{needs}
 use Rattle.engine.proofs.run_lent.Statement.{statement}
@@ -16,7 +16,7 @@ use Rattle.engine.proofs.run_lent.Tie as tie
 returns : tie.Need-returns
 returns c = let a = c .before .before .before .before .before .before .args in
     let f = lent-facts (countsOf (a .t)) (a .k) (length (a .starts .now)) (length (a .inputs .now)) (length (a .signals .now)) (length (a .work .now)) (c .before .before .before .before .before .before .pre .1 .0) in
-    (none-ran (a .program) (linesOf (a .table .now) (a .count)) (a .k) (a .starts .now) (a .inputs .now) (c .if1 .taken), (none-signals (a .program) (linesOf (a .table .now) (a .count)) (a .k) (a .t .signals) (a .starts .now) (a .inputs .now) (a .signals .now) (c .if1 .taken) (f .signals), c .before .before .before .before .before .before .pre .1 .1))
+    told-run (none-ran (a .program) (linesOf (a .program) (a .table .now) (a .count)) (a .k) (a .starts .now) (a .inputs .now) (c .if1 .taken)) (none-signals (a .program) (linesOf (a .program) (a .table .now) (a .count)) (a .k) (a .t .signals) (a .starts .now) (a .inputs .now) (a .signals .now) (c .if1 .taken) (f .signals)) (c .before .before .before .before .before .before .pre .1 .1)
 
 add-used : tie.Need-add-used
 add-used c = let a = c .before .before .before .before .before .before .before .args in let w = words-few (a .program) (a .table .now) (a .count) (c .before .before .before .before .before .before .before .pre .0 .accepted) in omega (arith, w, c .before .before .before .before .before .before .before .pre .0 .cells, c .before .before .before .before .before .before .before .pre .0 .states)
@@ -76,8 +76,8 @@ returns-2 c = let a = c .before .before .before .before .before .before .before 
     let f = lent-facts (countsOf (a .t)) (a .k) (length (a .starts .now)) (length (a .inputs .now)) (length (a .signals .now)) (length (a .work .now)) (c .before .before .before .before .before .before .before .before .before .before .before .before .before .before .before .before .before .before .before .before .pre .1 .0) in
     let lm : length (c .before .before .before .before .classes .last .1 .1 .1 .0) ≡ 16385 = c .before .before .before .before .classes .kept .1 .1 .1 .0 ∙ length-replicate {A = ℕ} 16385 0 in
     let few : a .t .signals ≤ 16384 = omega (arith, signals-few (a .program) (a .table .now) (a .count) (c .before .before .before .before .before .before .before .before .before .before .before .before .before .before .before .before .before .before .before .before .pre .0 .accepted), c .before .before .before .before .before .before .before .before .before .before .before .before .before .before .before .before .before .before .before .before .pre .0 .signals) in
-    let eq : a .t .signals ≡ length (marks (linesOf (a .table .now) (a .count))) = sym (c .before .before .before .before .before .before .before .before .before .before .before .before .before .before .before .before .before .before .before .before .pre .0 .signals) ∙ signals-many (a .program) (linesOf (a .table .now) (a .count)) in
-    (c .first-bad .ensures ∙ bad-found (a .program) (linesOf (a .table .now) (a .count)) (a .k) (a .starts .now) (a .inputs .now) (ap (λ (n : ℕ). take n (c .before .before .before .before .classes .last .1 .1 .1 .0)) eq ∙ c .before .before .before .before .classes .ensures) (c .before .before .before .before .before .before .before .before .before .before .run-laid .ensures .0), (c .before .before .before .before .before .before .before .before .before .before .run-laid .ensures .0, zero-front (a .work .now) (c .before .before .before .before .before .before .before .before .before .before .run-laid .last .1 .1 .1 .1 .1 .1 .1 .1 .1 .1 .1 .0) (a .t .cells + a .t .states) (c .before .before .before .before .before .before .before .before .before .before .before .before .before .before .before .before .before .before .before .before .pre .1 .1) (f .work) (c .before .before .before .before .before .before .before .before .before .before .run-laid .ensures .1 ∙ ap (λ (n : ℕ). replicate n 0) (length-take-le (a .t .cells + a .t .states) (a .work .now) (f .work)))))
+    let eq : a .t .signals ≡ length (marks (linesOf (a .program) (a .table .now) (a .count))) = sym (c .before .before .before .before .before .before .before .before .before .before .before .before .before .before .before .before .before .before .before .before .pre .0 .signals) ∙ signals-many (a .program) (linesOf (a .program) (a .table .now) (a .count)) in
+    told-run (c .first-bad .ensures ∙ bad-found (a .program) (linesOf (a .program) (a .table .now) (a .count)) (a .k) (a .starts .now) (a .inputs .now) (ap (λ (n : ℕ). take n (c .before .before .before .before .classes .last .1 .1 .1 .0)) eq ∙ c .before .before .before .before .classes .ensures) (c .before .before .before .before .before .before .before .before .before .before .run-laid .ensures .0)) (c .before .before .before .before .before .before .before .before .before .before .run-laid .ensures .0) (zero-front (a .work .now) (c .before .before .before .before .before .before .before .before .before .before .run-laid .last .1 .1 .1 .1 .1 .1 .1 .1 .1 .1 .1 .0) (a .t .cells + a .t .states) (c .before .before .before .before .before .before .before .before .before .before .before .before .before .before .before .before .before .before .before .before .pre .1 .1) (f .work) (c .before .before .before .before .before .before .before .before .before .before .run-laid .ensures .1 ∙ ap (λ (n : ℕ). replicate n 0) (length-take-le (a .t .cells + a .t .states) (a .work .now) (f .work))))
 
 pub run-lent-spec : {M : Type 1} → statement M
 run-lent-spec =

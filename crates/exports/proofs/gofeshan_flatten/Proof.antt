@@ -1,17 +1,10 @@
 -- The answer list first, then the operation. Assumes nothing.
-use mathlib.Core.Path.{sym, ap, _∙_}
+use mathlib.Core.Path.{sym, _∙_}
 use borrow.Author.Tests.{not-true, not-false}
-use Rattle.answers.proofs.Told.{three-length, is-told, is-refused}
-use Rattle.answers.specs.Answers.{flatNumber, flatWords}
+use Rattle.answers.proofs.Told.{three-length, is-told, is-refused, leaves, one-list}
 use borrow.Author.Needs.{needs}
 use Rattle.exports.proofs.gofeshan_flatten.Statement.{statement}
 use Rattle.exports.proofs.gofeshan_flatten.Tie as tie
-use Rattle.exports.proofs.gofeshan_flatten.Reads as reads
-use Rattle.exports.proofs.gofeshan_flatten.Lts as lts
-use Rattle.answers.proofs.take.Reads as take-reads
-use Rattle.answers.proofs.tell_flat.Reads as tell-flat-reads
-use Rattle.flatten.proofs.flatten.Reads as flatten-reads
-use Rattle.records.proofs.clear.Reads as clear-reads
 
 take-requires : tie.Need-take-requires
 take-requires c κs = search needs
@@ -26,13 +19,15 @@ same-length-2 : tie.Need-same-length-2
 same-length-2 c = search needs
 
 returns : tie.Need-returns
-returns c = let h = sym (c .before .before .before .before .before .before .before .take .ensures .0) ∙ not-true _ (c .before .before .before .before .if1 .taken) in (is-refused _ _ h, (c .before .before .before .before .before .before .before .take .ensures .1 ∙ is-refused _ _ h, c .before .before .clear .ensures ∙ is-refused _ _ h))
+returns c =
+    let h = sym (c .before .before .before .before .before .before .before .take .ensures .0) ∙ not-true _ (c .before .before .before .before .if1 .taken) in
+    leaves 1 (c .before .before .before .before .before .before .before .take .ensures .1) (one-list (c .before .before .clear .ensures)) ∙ is-refused _ _ h
 
 flatten-requires : tie.Need-flatten-requires
 flatten-requires c κs = search needs
 
-tell-flat-requires : tie.Need-tell-flat-requires
-tell-flat-requires c κs = three-length (c .before .before .before .before .before .before .before .before .before .before .before .before .before .args .answer .now) (c .before .before .before .before .before .before .before .before .take .last .0) (sym (c .before .before .before .before .before .before .before .before .take .ensures .0) ∙ not-false _ (c .before .before .before .before .before .if1 .left)) (c .before .before .before .before .before .before .before .before .take .ensures .1)
+tell-count-requires : tie.Need-tell-count-requires
+tell-count-requires c κs = three-length (c .before .before .before .before .before .before .before .before .before .before .before .before .before .args .answer .now) (c .before .before .before .before .before .before .before .before .take .last .0) (sym (c .before .before .before .before .before .before .before .before .take .ensures .0) ∙ not-false _ (c .before .before .before .before .before .if1 .left)) (c .before .before .before .before .before .before .before .before .take .ensures .1)
 
 same-length-3 : tie.Need-same-length-3
 same-length-3 c = search needs
@@ -41,7 +36,9 @@ same-length-4 : tie.Need-same-length-4
 same-length-4 c = search needs
 
 returns-2 : tie.Need-returns-2
-returns-2 c = let h = sym (c .before .before .before .before .before .before .before .before .before .before .before .take .ensures .0) ∙ not-false _ (c .before .before .before .before .before .before .before .before .if1 .left) in (c .before .before .tell-flat .ensures .0 ∙ (ap flatNumber (c .before .before .before .before .before .before .flatten .ensures .0) ∙ is-told _ _ h), (c .before .before .tell-flat .ensures .1 ∙ (ap flatWords (c .before .before .before .before .before .before .flatten .ensures .0) ∙ is-told _ _ h), c .before .before .before .before .before .before .flatten .ensures .1 ∙ is-told _ _ h))
+returns-2 c =
+    let h = sym (c .before .before .before .before .before .before .before .before .before .before .before .take .ensures .0) ∙ not-false _ (c .before .before .before .before .before .before .before .before .if1 .left) in
+    c .before .before .tell-count .ensures _ ∙ c .before .before .before .before .before .before .flatten .ensures ∙ is-told _ _ h
 
 pub gofeshan-flatten-spec : {M : Type 1} → statement M
 gofeshan-flatten-spec =
@@ -53,7 +50,7 @@ gofeshan-flatten-spec =
     same-length-2
     returns
     flatten-requires
-    tell-flat-requires
+    tell-count-requires
     same-length-3
     same-length-4
     returns-2)

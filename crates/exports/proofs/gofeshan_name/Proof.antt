@@ -5,11 +5,6 @@ use Rattle.answers.proofs.Told.{three-length, is-told, is-refused, not-both, na
 use borrow.Author.Needs.{needs}
 use Rattle.exports.proofs.gofeshan_name.Statement.{statement}
 use Rattle.exports.proofs.gofeshan_name.Tie as tie
-use Rattle.exports.proofs.gofeshan_name.Reads as reads
-use Rattle.exports.proofs.gofeshan_name.Lts as lts
-use Rattle.answers.proofs.take.Reads as take-reads
-use Rattle.answers.proofs.tell.Reads as tell-reads
-use Rattle.naming.proofs.find.Reads as find-reads
 
 take-requires : tie.Need-take-requires
 take-requires c κs = search needs

@@ -1,16 +1,10 @@
 -- The answer list first, then the peek. Assumes nothing.
-use mathlib.Core.Path.{sym, ap, _∙_}
+use mathlib.Core.Path.{refl, sym, _∙_}
 use borrow.Author.Tests.{not-true, not-false}
-use Rattle.answers.specs.Answers.{peekNumber, peekWords}
-use Rattle.answers.proofs.Told.{three-length, is-told, is-refused}
+use Rattle.answers.proofs.Told.{three-length, is-told, is-refused, leaves}
 use borrow.Author.Needs.{needs}
 use Rattle.exports.proofs.gofeshan_peek.Statement.{statement}
 use Rattle.exports.proofs.gofeshan_peek.Tie as tie
-use Rattle.exports.proofs.gofeshan_peek.Reads as reads
-use Rattle.exports.proofs.gofeshan_peek.Lts as lts
-use Rattle.peeking.proofs.peek.Reads as peek-reads
-use Rattle.answers.proofs.take.Reads as take-reads
-use Rattle.answers.proofs.tell_peek.Reads as tell-peek-reads
 
 take-requires : tie.Need-take-requires
 take-requires c κs = search needs
@@ -19,7 +13,9 @@ same-length : tie.Need-same-length
 same-length c = search needs
 
 returns : tie.Need-returns
-returns c = let h = sym (c .before .before .before .take .ensures .0) ∙ not-true _ (c .if1 .taken) in (is-refused _ _ h, c .before .before .before .take .ensures .1 ∙ is-refused _ _ h)
+returns c =
+    let h = sym (c .before .before .before .take .ensures .0) ∙ not-true _ (c .if1 .taken) in
+    leaves 1 (c .before .before .before .take .ensures .1) refl ∙ is-refused _ _ h
 
 peek-requires : tie.Need-peek-requires
 peek-requires c κs = search needs
@@ -31,8 +27,9 @@ same-length-2 : tie.Need-same-length-2
 same-length-2 c = search needs
 
 returns-2 : tie.Need-returns-2
-returns-2 c = let h = sym (c .before .before .before .before .before .before .before .before .take .ensures .0) ∙ not-false _ (c .before .before .before .before .before .if1 .left) in
-    (c .before .before .tell-peek .ensures .0 ∙ (ap peekNumber (c .before .before .before .before .peek .ensures) ∙ is-told _ _ h), c .before .before .tell-peek .ensures .1 ∙ (ap peekWords (c .before .before .before .before .peek .ensures) ∙ is-told _ _ h))
+returns-2 c =
+    let h = sym (c .before .before .before .before .before .before .before .before .take .ensures .0) ∙ not-false _ (c .before .before .before .before .before .if1 .left) in
+    c .before .before .tell-peek .ensures ∙ c .before .before .before .before .peek .ensures ∙ is-told _ _ h
 
 pub gofeshan-peek-spec : {M : Type 1} → statement M
 gofeshan-peek-spec =

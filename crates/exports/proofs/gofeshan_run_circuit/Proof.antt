@@ -1,18 +1,10 @@
 -- The answer list first, then the operation. Assumes nothing.
-use mathlib.Core.Path.{sym, ap, _∙_}
+use mathlib.Core.Path.{sym, _∙_}
 use borrow.Author.Tests.{not-true, not-false}
-use Rattle.answers.proofs.Told.{three-length, is-told, is-refused}
-use Rattle.answers.specs.Answers.{runNumber, runWords}
+use Rattle.answers.proofs.Told.{three-length, is-told, is-refused, leaves, two-lists}
 use borrow.Author.Needs.{needs}
 use Rattle.exports.proofs.gofeshan_run_circuit.Statement.{statement}
 use Rattle.exports.proofs.gofeshan_run_circuit.Tie as tie
-use Rattle.exports.proofs.gofeshan_run_circuit.Reads as reads
-use Rattle.exports.proofs.gofeshan_run_circuit.Lts as lts
-use Rattle.runs.proofs.run_circuit.Reads as run-circuit-reads
-use Rattle.answers.proofs.take.Reads as take-reads
-use Rattle.answers.proofs.tell_run.Reads as tell-run-reads
-use Rattle.records.proofs.bytes.clear.Reads as check-clear-reads
-use Rattle.records.proofs.clear.Reads as records-clear-reads
 
 take-requires : tie.Need-take-requires
 take-requires c κs = search needs
@@ -33,7 +25,9 @@ same-length-3 : tie.Need-same-length-3
 same-length-3 c = search needs
 
 returns : tie.Need-returns
-returns c = let h = sym (c .before .before .before .before .before .before .before .before .before .before .before .take .ensures .0) ∙ not-true _ (c .before .before .before .before .before .before .before .before .if1 .taken) in (is-refused _ _ h, (c .before .before .before .before .before .before .before .before .before .before .before .take .ensures .1 ∙ is-refused _ _ h, (c .before .before .before .before .before .before .clear .ensures ∙ is-refused _ _ h, c .before .before .clear2 .ensures)))
+returns c =
+    let h = sym (c .before .before .before .before .before .before .before .before .before .before .before .take .ensures .0) ∙ not-true _ (c .before .before .before .before .before .before .before .before .if1 .taken) in
+    leaves 1 (c .before .before .before .before .before .before .before .before .before .before .before .take .ensures .1) (two-lists (c .before .before .before .before .before .before .clear .ensures) (c .before .before .clear2 .ensures)) ∙ is-refused _ _ h
 
 run-circuit-requires : tie.Need-run-circuit-requires
 run-circuit-requires c κs = search needs
@@ -51,7 +45,9 @@ same-length-6 : tie.Need-same-length-6
 same-length-6 c = search needs
 
 returns-2 : tie.Need-returns-2
-returns-2 c = let h = sym (c .before .before .before .before .before .before .before .before .before .before .before .before .before .before .take .ensures .0) ∙ not-false _ (c .before .before .before .before .before .before .before .before .before .before .before .if1 .left) in (c .before .before .tell-run .ensures .0 ∙ (ap runNumber (c .before .before .before .before .before .before .before .before .run-circuit .ensures .0) ∙ is-told _ _ h), (c .before .before .tell-run .ensures .1 ∙ (ap runWords (c .before .before .before .before .before .before .before .before .run-circuit .ensures .0) ∙ is-told _ _ h), (c .before .before .before .before .before .before .before .before .run-circuit .ensures .1 .0 ∙ is-told _ _ h, c .before .before .before .before .before .before .before .before .run-circuit .ensures .1 .1)))
+returns-2 c =
+    let h = sym (c .before .before .before .before .before .before .before .before .before .before .before .before .before .before .take .ensures .0) ∙ not-false _ (c .before .before .before .before .before .before .before .before .before .before .before .if1 .left) in
+    c .before .before .tell-run .ensures _ ∙ c .before .before .before .before .before .before .before .before .run-circuit .ensures ∙ is-told _ _ h
 
 pub gofeshan-run-circuit-spec : {M : Type 1} → statement M
 gofeshan-run-circuit-spec =

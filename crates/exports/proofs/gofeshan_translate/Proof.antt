@@ -1,17 +1,10 @@
 -- The answer list first, then the operation. Assumes nothing.
-use mathlib.Core.Path.{sym, ap, _∙_}
+use mathlib.Core.Path.{sym, _∙_}
 use borrow.Author.Tests.{not-true, not-false}
-use Rattle.answers.proofs.Told.{three-length, is-told, is-refused}
-use Rattle.answers.specs.Answers.{programNumber, programWords}
+use Rattle.answers.proofs.Told.{three-length, is-told, is-refused, leaves, one-list}
 use borrow.Author.Needs.{needs}
 use Rattle.exports.proofs.gofeshan_translate.Statement.{statement}
 use Rattle.exports.proofs.gofeshan_translate.Tie as tie
-use Rattle.exports.proofs.gofeshan_translate.Reads as reads
-use Rattle.exports.proofs.gofeshan_translate.Lts as lts
-use Rattle.answers.proofs.take.Reads as take-reads
-use Rattle.answers.proofs.tell_program.Reads as tell-program-reads
-use Rattle.translating.proofs.translate.Reads as translate-reads
-use Rattle.records.proofs.clear.Reads as clear-reads
 
 take-requires : tie.Need-take-requires
 take-requires c κs = search needs
@@ -26,13 +19,15 @@ same-length-2 : tie.Need-same-length-2
 same-length-2 c = search needs
 
 returns : tie.Need-returns
-returns c = let h = sym (c .before .before .before .before .before .before .before .take .ensures .0) ∙ not-true _ (c .before .before .before .before .if1 .taken) in (is-refused _ _ h, (c .before .before .before .before .before .before .before .take .ensures .1 ∙ is-refused _ _ h, c .before .before .clear .ensures ∙ is-refused _ _ h))
+returns c =
+    let h = sym (c .before .before .before .before .before .before .before .take .ensures .0) ∙ not-true _ (c .before .before .before .before .if1 .taken) in
+    leaves 1 (c .before .before .before .before .before .before .before .take .ensures .1) (one-list (c .before .before .clear .ensures)) ∙ is-refused _ _ h
 
 translate-requires : tie.Need-translate-requires
 translate-requires c κs = search needs
 
-tell-program-requires : tie.Need-tell-program-requires
-tell-program-requires c κs = three-length (c .before .before .before .before .before .before .before .before .before .before .before .before .before .args .answer .now) (c .before .before .before .before .before .before .before .before .take .last .0) (sym (c .before .before .before .before .before .before .before .before .take .ensures .0) ∙ not-false _ (c .before .before .before .before .before .if1 .left)) (c .before .before .before .before .before .before .before .before .take .ensures .1)
+tell-count-requires : tie.Need-tell-count-requires
+tell-count-requires c κs = three-length (c .before .before .before .before .before .before .before .before .before .before .before .before .before .args .answer .now) (c .before .before .before .before .before .before .before .before .take .last .0) (sym (c .before .before .before .before .before .before .before .before .take .ensures .0) ∙ not-false _ (c .before .before .before .before .before .if1 .left)) (c .before .before .before .before .before .before .before .before .take .ensures .1)
 
 same-length-3 : tie.Need-same-length-3
 same-length-3 c = search needs
@@ -41,7 +36,9 @@ same-length-4 : tie.Need-same-length-4
 same-length-4 c = search needs
 
 returns-2 : tie.Need-returns-2
-returns-2 c = let h = sym (c .before .before .before .before .before .before .before .before .before .before .before .take .ensures .0) ∙ not-false _ (c .before .before .before .before .before .before .before .before .if1 .left) in (c .before .before .tell-program .ensures .0 ∙ (ap programNumber (c .before .before .before .before .before .before .translate .ensures .0) ∙ is-told _ _ h), (c .before .before .tell-program .ensures .1 ∙ (ap programWords (c .before .before .before .before .before .before .translate .ensures .0) ∙ is-told _ _ h), c .before .before .before .before .before .before .translate .ensures .1 ∙ is-told _ _ h))
+returns-2 c =
+    let h = sym (c .before .before .before .before .before .before .before .before .before .before .before .take .ensures .0) ∙ not-false _ (c .before .before .before .before .before .before .before .before .if1 .left) in
+    c .before .before .tell-count .ensures _ ∙ c .before .before .before .before .before .before .translate .ensures ∙ is-told _ _ h
 
 pub gofeshan-translate-spec : {M : Type 1} → statement M
 gofeshan-translate-spec =
@@ -53,7 +50,7 @@ gofeshan-translate-spec =
     same-length-2
     returns
     translate-requires
-    tell-program-requires
+    tell-count-requires
     same-length-3
     same-length-4
     returns-2)

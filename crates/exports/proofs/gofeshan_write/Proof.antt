@@ -1,17 +1,10 @@
 -- The answer list first, then writing. Assumes nothing.
-use mathlib.Core.Path.{sym, ap, _∙_}
+use mathlib.Core.Path.{sym, _∙_}
 use borrow.Author.Tests.{not-true, not-false}
-use Rattle.answers.specs.Answers.{writeNumber, writeWords}
-use Rattle.answers.proofs.Told.{three-length, is-told, is-refused}
+use Rattle.answers.proofs.Told.{three-length, is-told, is-refused, leaves, one-list}
 use borrow.Author.Needs.{needs}
 use Rattle.exports.proofs.gofeshan_write.Statement.{statement}
 use Rattle.exports.proofs.gofeshan_write.Tie as tie
-use Rattle.exports.proofs.gofeshan_write.Reads as reads
-use Rattle.exports.proofs.gofeshan_write.Lts as lts
-use Rattle.answers.proofs.take.Reads as take-reads
-use Rattle.answers.proofs.tell_write.Reads as tell-write-reads
-use Rattle.records.proofs.bytes.clear.Reads as clear-reads
-use Rattle.writing.proofs.write.Reads as write-reads
 
 take-requires : tie.Need-take-requires
 take-requires c κs = search needs
@@ -26,13 +19,15 @@ same-length-2 : tie.Need-same-length-2
 same-length-2 c = search needs
 
 returns : tie.Need-returns
-returns c = let h = sym (c .before .before .before .before .before .before .before .take .ensures .0) ∙ not-true _ (c .before .before .before .before .if1 .taken) in (is-refused _ _ h, (c .before .before .before .before .before .before .before .take .ensures .1 ∙ is-refused _ _ h, c .before .before .clear .ensures ∙ is-refused _ _ h))
+returns c =
+    let h = sym (c .before .before .before .before .before .before .before .take .ensures .0) ∙ not-true _ (c .before .before .before .before .if1 .taken) in
+    leaves 1 (c .before .before .before .before .before .before .before .take .ensures .1) (one-list (c .before .before .clear .ensures)) ∙ is-refused _ _ h
 
 write-requires : tie.Need-write-requires
 write-requires c κs = search needs
 
-tell-write-requires : tie.Need-tell-write-requires
-tell-write-requires c κs = three-length (c .before .before .before .before .before .before .before .before .before .before .before .before .before .args .answer .now) (c .before .before .before .before .before .before .before .before .take .last .0) (sym (c .before .before .before .before .before .before .before .before .take .ensures .0) ∙ not-false _ (c .before .before .before .before .before .if1 .left)) (c .before .before .before .before .before .before .before .before .take .ensures .1)
+tell-count-requires : tie.Need-tell-count-requires
+tell-count-requires c κs = three-length (c .before .before .before .before .before .before .before .before .before .before .before .before .before .args .answer .now) (c .before .before .before .before .before .before .before .before .take .last .0) (sym (c .before .before .before .before .before .before .before .before .take .ensures .0) ∙ not-false _ (c .before .before .before .before .before .if1 .left)) (c .before .before .before .before .before .before .before .before .take .ensures .1)
 
 same-length-3 : tie.Need-same-length-3
 same-length-3 c = search needs
@@ -41,8 +36,9 @@ same-length-4 : tie.Need-same-length-4
 same-length-4 c = search needs
 
 returns-2 : tie.Need-returns-2
-returns-2 c = let h = sym (c .before .before .before .before .before .before .before .before .before .before .before .take .ensures .0) ∙ not-false _ (c .before .before .before .before .before .before .before .before .if1 .left) in
-    (c .before .before .tell-write .ensures .0 ∙ (ap writeNumber (c .before .before .before .before .before .before .write .ensures .0) ∙ is-told _ _ h), (c .before .before .tell-write .ensures .1 ∙ (ap writeWords (c .before .before .before .before .before .before .write .ensures .0) ∙ is-told _ _ h), c .before .before .before .before .before .before .write .ensures .1 ∙ is-told _ _ h))
+returns-2 c =
+    let h = sym (c .before .before .before .before .before .before .before .before .before .before .before .take .ensures .0) ∙ not-false _ (c .before .before .before .before .before .before .before .before .if1 .left) in
+    c .before .before .tell-count .ensures _ ∙ c .before .before .before .before .before .before .write .ensures ∙ is-told _ _ h
 
 pub gofeshan-write-spec : {M : Type 1} → statement M
 gofeshan-write-spec =
@@ -54,7 +50,7 @@ gofeshan-write-spec =
     same-length-2
     returns
     write-requires
-    tell-write-requires
+    tell-count-requires
     same-length-3
     same-length-4
     returns-2)

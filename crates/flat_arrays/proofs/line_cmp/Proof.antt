@@ -1,24 +1,16 @@
 -- Tests and joins. Assumes nothing.
 use Prim.Native.Nat.{ℕ, _+_, _-_, _≤_}
 use mathlib.Core.Path.{ap, _∙_, subst⁻¹}
+use mathlib.Core.Bool.{false}
 use native.Mathlib.Omega.{arith}
 use lib.ListN.{length}
-use Rattle.tables.specs.Lines.{span}
-use Rattle.circuits.specs.Cells.{put}
-use Rattle.flattening.specs.Model.{words}
-use Rattle.flattening.specs.Making.{made, cmpWords}
+use Rattle.tables.specs.Layout.{held}
+use Rattle.flattening.specs.Placed.{putFlat}
+use Rattle.flattening.specs.Making.{made, cmpRecords}
 use Rattle.flattening.proofs.Laying.{size-le}
 use Rattle.tables.specs.Notes.{lookIn}
 use Rattle.flat_arrays.proofs.line_cmp.Statement.{statement}
 use Rattle.flat_arrays.proofs.line_cmp.Tie as tie
-use Rattle.flat_arrays.proofs.line_cmp.Reads as reads
-use Rattle.flat_arrays.proofs.line_cmp.Lts as lts
-use Rattle.flat_cells.proofs.cells.entry.Reads as entry-reads
-use Rattle.flat_arrays.proofs.cmp_kind.Reads as cmp-kind-reads
-use Rattle.flat_arrays.proofs.join_kind.Reads as join-kind-reads
-use Rattle.flat_chains.proofs.cmp_lines.Reads as cmp-lines-reads
-use Rattle.flat_cells.proofs.sources.less.Reads as less-reads
-use Rattle.flat_cells.proofs.sources.size.Reads as size-reads
 
 size-requires : tie.Need-size-requires
 size-requires c κs = c .before .pre .neat .deep (c .before .args .x)
@@ -33,7 +25,7 @@ entry-requires : tie.Need-entry-requires
 entry-requires c κs = omega arith
 
 cmp-lines-requires : tie.Need-cmp-lines-requires
-cmp-lines-requires c κs = let a = c .before .before .before .before .before .before .args in (c .before .before .before .before .before .before .pre .neat .sound, (subst⁻¹ (λ (x : ℕ). x ≤ 256) (c .before .before .before .before .size .ensures) (size-le (lookIn (a .types .now) (a .x) .iw) (c .before .before .before .before .before .before .pre .neat .deep (a .x))), (omega (arith, c .before .before .before .before .before .before .pre .low), subst⁻¹ (λ (x : ℕ). span (a .p + (x + (x - 1))) ≤ length (a .target .now)) (c .before .before .before .before .size .ensures) (c .before .before .before .before .before .before .pre .room))))
+cmp-lines-requires c κs = let a = c .before .before .before .before .before .before .args in (c .before .before .before .before .before .before .pre .neat .sound, (subst⁻¹ (λ (x : ℕ). x ≤ 256) (c .before .before .before .before .size .ensures) (size-le (lookIn (a .types .now) (a .x) .iw) (c .before .before .before .before .before .before .pre .neat .deep (a .x))), (omega (arith, c .before .before .before .before .before .before .pre .low), subst⁻¹ (λ (x : ℕ). a .p + (x + (x - 1)) ≤ held false (length (a .target .now))) (c .before .before .before .before .size .ensures) (c .before .before .before .before .before .before .pre .room))))
 
 less-requires : tie.Need-less-requires
 less-requires c κs = tt
@@ -51,7 +43,7 @@ same-length : tie.Need-same-length
 same-length c = c .before .before .before .before .cmp-lines .kept .1 .1 .1 .1 .1 .1 .1 .1 .0
 
 returns : tie.Need-returns
-returns c = let a = c .before .before .before .before .before .before .before .before .before .before .before .args in let H = a .kept .now in let l = c .before .less .ensures ∙ ap (λ (x : ℕ). x - 1) (c .before .before .before .before .before .before .before .before .before .size .ensures) in record { kept = λ i. made (a .p + (c .before .before .before .before .before .before .before .before .before .size .ensures i + l i)) (a .p + (c .before .before .before .before .before .before .before .before .before .size .ensures i + l i)) (c .entry2 .ensures i) 0 1 0; words = c .before .before .before .before .cmp-lines .ensures ∙ (λ i. put (a .target .now) (span (a .p)) (cmpWords H (a .p) (c .before .before .before .before .before .before .before .before .cmp-kind .ensures i) (c .before .before .before .before .before .before .before .join-kind .ensures i) (c .before .before .before .before .before .before .entry .ensures i) (a .x) (a .y) (c .before .before .before .before .before .before .before .before .before .size .ensures i))) }
+returns c = let a = c .before .before .before .before .before .before .before .before .before .before .before .args in let H = a .kept .now in let l = c .before .less .ensures ∙ ap (λ (x : ℕ). x - 1) (c .before .before .before .before .before .before .before .before .before .size .ensures) in record { kept = λ i. made (a .p + (c .before .before .before .before .before .before .before .before .before .size .ensures i + l i)) (a .p + (c .before .before .before .before .before .before .before .before .before .size .ensures i + l i)) (c .entry2 .ensures i) 0 1 0; records = c .before .before .before .before .cmp-lines .ensures ∙ (λ i. putFlat (a .target .now) (a .p) (cmpRecords H (a .p) (c .before .before .before .before .before .before .before .before .cmp-kind .ensures i) (c .before .before .before .before .before .before .before .join-kind .ensures i) (c .before .before .before .before .before .before .entry .ensures i) (a .x) (a .y) (c .before .before .before .before .before .before .before .before .before .size .ensures i))) }
 
 pub line-cmp-spec : {M : Type 1} → statement M
 line-cmp-spec =

@@ -1,21 +1,19 @@
 -- A record and a row. Assumes nothing.
-use Prim.Native.Nat.{_+_, _-_}
-use mathlib.Core.Path.{refl, ap, _∙_, subst⁻¹}
+use Prim.Native.Nat.{_+_}
+use mathlib.Core.Path.{ap, _∙_, subst⁻¹}
+use mathlib.Core.Bool.{false}
+use mathlib.Core.List.{[], _∷_}
 use native.Mathlib.Omega.{arith}
-use lib.ListN.{length}
-use Rattle.tables.specs.Lines.{fields, recorded, span}
-use Rattle.circuits.specs.Cells.{put}
-use Rattle.flattening.specs.Model.{Tame, words, rowAt}
+use Rattle.tables.specs.Lines.{fields}
+use Rattle.tables.specs.Layout.{held}
+use Rattle.flattening.specs.Placed.{putFlat}
+use Rattle.flattening.specs.Model.{Tame, rowsFor, rowAt}
 use Rattle.flattening.specs.Making.{run, still}
-use Rattle.flattening.proofs.Placing.{record-then, recorded-length, tame-run}
+use Rattle.flattening.proofs.Holding.{tame-run}
+use Rattle.flattening.proofs.Placing.{flat-append}
 use borrow.Author.Needs.{needs}
 use Rattle.flat_chains.proofs.array_lines.Statement.{statement}
 use Rattle.flat_chains.proofs.array_lines.Tie as tie
-use Rattle.flat_chains.proofs.array_lines.Reads as reads
-use Rattle.flat_chains.proofs.array_lines.Lts as lts
-use Rattle.flat_cells.proofs.sources.run.Reads as run-reads
-use Rattle.flat_cells.proofs.rows.rows.Reads as rows-reads
-use Rattle.records.proofs.put.Reads as put-reads
 
 of-requires : tie.Need-of-requires
 of-requires c κs = tt
@@ -33,13 +31,13 @@ run-requires-2 : tie.Need-run-requires-2
 run-requires-2 c κs = tt
 
 rows-requires : tie.Need-rows-requires
-rows-requires c κs = let a = c .before .before .before .before .before .before .before .before .before .args in let l = ap length (c .before .before .before .before .before .put .ensures) ∙ recorded-length (a .target .now) (a .p) (c .before .before .before .before .before .before .of .result) (ap length (c .before .before .before .before .before .before .of .ensures)) (omega (arith, c .before .before .before .before .before .before .before .before .before .pre .1 .1)) in (c .before .before .before .before .before .before .before .before .before .pre .0, (subst⁻¹ Tame (c .run2 .ensures) (tame-run 0 1 (omega arith) (omega arith)), (subst⁻¹ Tame (c .before .before .run .ensures) (tame-run 0 0 (omega arith) (omega arith)), (subst⁻¹ Tame (c .before .before .run .ensures) (tame-run 0 0 (omega arith) (omega arith)), (c .before .before .before .before .before .before .before .before .before .pre .1 .0, omega (arith, l, c .before .before .before .before .before .before .before .before .before .pre .1 .1))))))
+rows-requires c κs = let l = ap (held false) (c .before .before .before .before .before .put .kept .0) in (c .before .before .before .before .before .before .before .before .before .pre .0, (subst⁻¹ Tame (c .run2 .ensures) (tame-run 0 1 (omega arith) (omega arith)), (subst⁻¹ Tame (c .before .before .run .ensures) (tame-run 0 0 (omega arith) (omega arith)), (subst⁻¹ Tame (c .before .before .run .ensures) (tame-run 0 0 (omega arith) (omega arith)), (c .before .before .before .before .before .before .before .before .before .pre .1 .0, omega (arith, l, c .before .before .before .before .before .before .before .before .before .pre .1 .1))))))
 
 same-length : tie.Need-same-length
 same-length c = c .before .before .rows .kept .1 .0 ∙ c .before .before .before .before .before .before .before .before .put .kept .0
 
 returns : tie.Need-returns
-returns c = let a = c .before .before .before .before .before .before .before .before .before .before .before .before .args in let H = a .kept .now in let W = words (a .n) (rowAt H 3 (a .s) (run 0 1) (still 0) (still 0)) in c .before .before .rows .ensures ∙ (λ i. put ((c .before .before .before .before .before .before .before .before .put .ensures ∙ ap (recorded (a .target .now) (a .p)) (c .before .before .before .before .before .before .before .before .before .of .ensures)) i) (span (a .p + 1)) (words (a .n) (rowAt H 3 (a .s) (c .before .before .before .run2 .ensures i) (c .before .before .before .before .before .run .ensures i) (c .before .before .before .before .before .run .ensures i)))) ∙ record-then (a .target .now) (a .p) (fields 1 0 1 0 0) W refl (omega (arith, c .before .before .before .before .before .before .before .before .before .before .before .before .pre .1 .1))
+returns c = let a = c .before .before .before .before .before .before .before .before .before .before .before .before .args in let H = a .kept .now in let W = rowsFor (a .n) (rowAt H 3 (a .s) (run 0 1) (still 0) (still 0)) in c .before .before .rows .ensures ∙ (λ i. putFlat (c .before .before .before .before .before .before .before .before .put .ensures i) (a .p + 1) (rowsFor (a .n) (rowAt H 3 (a .s) (c .before .before .before .run2 .ensures i) (c .before .before .before .before .before .run .ensures i) (c .before .before .before .before .before .run .ensures i)))) ∙ (λ i. putFlat (putFlat (a .target .now) (a .p) (c .before .before .before .before .before .before .before .before .before .of .ensures i ∷ [])) (a .p + 1) W) ∙ flat-append (a .target .now) (a .p) (fields 1 0 1 0 0 ∷ []) (a .p + 1) W (omega arith)
 
 pub array-lines-spec : {M : Type 1} → statement M
 array-lines-spec =

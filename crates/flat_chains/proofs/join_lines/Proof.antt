@@ -1,26 +1,23 @@
 -- The first two tests, then each of the others. Assumes nothing.
-use Prim.Native.Nat.{ℕ, _+_, _-_, _≤_}
-use mathlib.Core.Path.{refl, sym, ap, _∙_, subst⁻¹}
-use mathlib.Core.List.{List}
+use Prim.Native.Nat.{_+_, _-_, _≤_}
+use mathlib.Core.Path.{sym, ap, _∙_, subst⁻¹}
+use mathlib.Core.Bool.{false}
+use mathlib.Core.List.{[], _∷_}
 use native.Mathlib.Omega.{arith}
-use lib.ListN.{length}
-use Rattle.tables.specs.Lines.{fields, recorded, span}
-use Rattle.circuits.specs.Cells.{put}
-use Rattle.flattening.specs.Model.{Tame, words, rowAt}
+use Rattle.tables.specs.Lines.{fields}
+use Rattle.tables.specs.Layout.{held}
+use Rattle.flattening.specs.Placed.{putFlat}
+use Rattle.flattening.specs.Model.{Tame, rowsFor, rowAt}
 use Rattle.flattening.specs.Making.{run, still}
-use Rattle.flattening.proofs.Stores.{put-none}
-use Rattle.flattening.proofs.Placing.{record-then, recorded-length, join-none, join-some, tame-run}
+use Rattle.flattening.proofs.Holding.{tame-run}
+use Rattle.flattening.proofs.Laying.{join-none, join-some}
+use Rattle.flattening.proofs.Placing.{flat-none, flat-append}
 use borrow.Author.Needs.{needs}
 use Rattle.flat_chains.proofs.join_lines.Statement.{statement}
 use Rattle.flat_chains.proofs.join_lines.Tie as tie
-use Rattle.flat_chains.proofs.join_lines.Reads as reads
-use Rattle.flat_chains.proofs.join_lines.Lts as lts
-use Rattle.flat_cells.proofs.sources.run.Reads as run-reads
-use Rattle.flat_cells.proofs.rows.rows.Reads as rows-reads
-use Rattle.records.proofs.put.Reads as put-reads
 
 returns : tie.Need-returns
-returns c = let a = c .before .before .args in let H = a .kept .now in sym (ap (λ (w : List ℕ). put (a .target .now) (span (a .p + a .n)) w) (join-none H (a .p) (a .j) (a .s) (a .n) (c .if1 .taken)) ∙ put-none (a .target .now) (span (a .p + a .n)))
+returns c = let a = c .before .before .args in let H = a .kept .now in flat-none (a .target .now) (a .p + a .n) ∙ ap (putFlat (a .target .now) (a .p + a .n)) (sym (join-none H (a .p) (a .j) (a .s) (a .n) (c .if1 .taken)))
 
 add-put : tie.Need-add-put
 add-put c = search needs
@@ -62,13 +59,13 @@ run-requires-3 : tie.Need-run-requires-3
 run-requires-3 c κs = tt
 
 rows-requires : tie.Need-rows-requires
-rows-requires c κs = let a = c .before .before .before .before .before .before .before .before .before .before .before .args in let two : 2 ≤ a .n = c .before .before .before .before .before .before .before .before .before .if1 .left in let l = ap length (c .before .before .before .before .before .before .put .ensures) ∙ recorded-length (a .target .now) (a .p + a .n) (c .before .before .before .before .before .before .before .of .result) (ap length (c .before .before .before .before .before .before .before .of .ensures)) (omega (arith, c .before .before .before .before .before .before .before .before .before .before .before .pre .1 .1 .1)) in (c .before .before .before .before .before .before .before .before .before .before .before .pre .0, (subst⁻¹ Tame (c .before .before .run .ensures) (tame-run (a .p + a .n + 1) 1 (omega (arith, c .before .before .before .before .before .before .before .before .before .before .before .pre .1 .0, c .before .before .before .before .before .before .before .before .before .before .before .pre .1 .1 .0)) (omega arith)), (subst⁻¹ Tame (c .before .run2 .ensures) (tame-run (a .p + 3) 1 (omega (arith, c .before .before .before .before .before .before .before .before .before .before .before .pre .1 .1 .0)) (omega arith)), (subst⁻¹ Tame (c .run3 .ensures) (tame-run 0 0 (omega arith) (omega arith)), (omega (arith, c .before .before .before .before .before .before .before .before .before .before .before .pre .1 .0), omega (arith, l, c .before .before .before .before .before .before .before .before .before .before .before .pre .1 .1 .1))))))
+rows-requires c κs = let a = c .before .before .before .before .before .before .before .before .before .before .before .args in let two : 2 ≤ a .n = c .before .before .before .before .before .before .before .before .before .if1 .left in let l = ap (held false) (c .before .before .before .before .before .before .put .kept .0) in (c .before .before .before .before .before .before .before .before .before .before .before .pre .0, (subst⁻¹ Tame (c .before .before .run .ensures) (tame-run (a .p + a .n + 1) 1 (omega (arith, c .before .before .before .before .before .before .before .before .before .before .before .pre .1 .0, c .before .before .before .before .before .before .before .before .before .before .before .pre .1 .1 .0)) (omega arith)), (subst⁻¹ Tame (c .before .run2 .ensures) (tame-run (a .p + 3) 1 (omega (arith, c .before .before .before .before .before .before .before .before .before .before .before .pre .1 .1 .0)) (omega arith)), (subst⁻¹ Tame (c .run3 .ensures) (tame-run 0 0 (omega arith) (omega arith)), (omega (arith, c .before .before .before .before .before .before .before .before .before .before .before .pre .1 .0), omega (arith, l, c .before .before .before .before .before .before .before .before .before .before .before .pre .1 .1 .1))))))
 
 same-length : tie.Need-same-length
 same-length c = search needs
 
 returns-2 : tie.Need-returns-2
-returns-2 c = let a = c .before .before .before .before .before .before .before .before .before .before .before .before .before .before .args in let H = a .kept .now in let two : 2 ≤ a .n = c .before .before .before .before .before .before .before .before .before .before .before .before .if1 .left in let r = fields (a .j) (a .s) (a .p + 1) (a .p + 2) 0 in let W = words (a .n - 2) (rowAt H (a .j) (a .s) (run (a .p + a .n + 1) 1) (run (a .p + 3) 1) (still 0)) in c .before .before .rows .ensures ∙ (λ i. put ((c .before .before .before .before .before .before .before .before .before .put .ensures ∙ ap (recorded (a .target .now) (a .p + a .n)) (c .before .before .before .before .before .before .before .before .before .before .of .ensures)) i) (span (a .p + a .n + 1)) (words (a .n - 2) (rowAt H (a .j) (a .s) (c .before .before .before .before .before .run .ensures i) (c .before .before .before .before .run2 .ensures i) (c .before .before .before .run3 .ensures i)))) ∙ record-then (a .target .now) (a .p + a .n) r W refl (omega (arith, c .before .before .before .before .before .before .before .before .before .before .before .before .before .before .pre .1 .1 .1)) ∙ ap (λ (w : List ℕ). put (a .target .now) (span (a .p + a .n)) w) (sym (join-some H (a .p) (a .j) (a .s) (a .n) two))
+returns-2 c = let a = c .before .before .before .before .before .before .before .before .before .before .before .before .before .before .args in let H = a .kept .now in let two : 2 ≤ a .n = c .before .before .before .before .before .before .before .before .before .before .before .before .if1 .left in let r = fields (a .j) (a .s) (a .p + 1) (a .p + 2) 0 in let W = rowsFor (a .n - 2) (rowAt H (a .j) (a .s) (run (a .p + a .n + 1) 1) (run (a .p + 3) 1) (still 0)) in c .before .before .rows .ensures ∙ (λ i. putFlat (c .before .before .before .before .before .before .before .before .before .put .ensures i) (a .p + a .n + 1) (rowsFor (a .n - 2) (rowAt H (a .j) (a .s) (c .before .before .before .before .before .run .ensures i) (c .before .before .before .before .run2 .ensures i) (c .before .before .before .run3 .ensures i)))) ∙ (λ i. putFlat (putFlat (a .target .now) (a .p + a .n) (c .before .before .before .before .before .before .before .before .before .before .of .ensures i ∷ [])) (a .p + a .n + 1) W) ∙ flat-append (a .target .now) (a .p + a .n) (r ∷ []) (a .p + a .n + 1) W (omega arith) ∙ ap (putFlat (a .target .now) (a .p + a .n)) (sym (join-some H (a .p) (a .j) (a .s) (a .n) two))
 
 pub join-lines-spec : {M : Type 1} → statement M
 join-lines-spec =

@@ -1,25 +1,18 @@
 -- The pair for the last cell but one, then the others, falling. Assumes nothing.
 use Prim.Native.Nat.{ℕ, _+_, _-_, _≤_}
 use mathlib.Core.Path.{ap, _∙_, subst⁻¹}
+use mathlib.Core.Bool.{false}
 use mathlib.Core.List.{List}
 use native.Mathlib.Omega.{arith}
-use Rattle.circuits.specs.Cells.{put}
-use Rattle.flattening.specs.Model.{Tame, cellIn, words, pairAt}
+use Rattle.tables.specs.Layout.{held}
+use Rattle.flattening.specs.Placed.{putFlat}
+use Rattle.flattening.specs.Model.{Tame, cellIn, rowsFor, pairAt}
 use Rattle.flattening.specs.Making.{run, still, runDown, ofDown}
-use Rattle.flattening.proofs.Holding.{cell-bound}
-use Rattle.flattening.proofs.Placing.{put-then, kept-length, length-pairs, tame-run, tame-run-down, tame-of-down}
+use Rattle.flattening.proofs.Holding.{cell-bound, tame-run, tame-run-down, tame-of-down}
+use Rattle.flattening.proofs.Placing.{flat-append, length-pairs}
 use borrow.Author.Needs.{needs}
-use Rattle.tables.specs.Lines.{span}
 use Rattle.flat_chains.proofs.read_lines.Statement.{statement}
 use Rattle.flat_chains.proofs.read_lines.Tie as tie
-use Rattle.flat_chains.proofs.read_lines.Reads as reads
-use Rattle.flat_chains.proofs.read_lines.Lts as lts
-use Rattle.flat_cells.proofs.cells.cell.Reads as cell-reads
-use Rattle.flat_cells.proofs.sources.less.Reads as less-reads
-use Rattle.flat_cells.proofs.sources.of_down.Reads as of-down-reads
-use Rattle.flat_cells.proofs.sources.run.Reads as run-reads
-use Rattle.flat_cells.proofs.sources.run_down.Reads as run-down-reads
-use Rattle.flat_cells.proofs.rows.pairs.Reads as pairs-reads
 
 sub-cell : tie.Need-sub-cell
 sub-cell c = search needs
@@ -67,13 +60,13 @@ run-requires-2 : tie.Need-run-requires-2
 run-requires-2 c κs = tt
 
 pairs-requires-2 : tie.Need-pairs-requires-2
-pairs-requires-2 c κs = let a = c .before .before .before .before .before .before .before .before .before .before .before .before .before .before .args in let H = a .kept .now in let m = a .n - 2 in let W = words 1 (pairAt H (a .p) (a .o) (a .i) (a .s) (c .before .before .before .before .before .before .before .before .before .before .run-down .result) (c .before .before .before .before .before .before .before .before .before .of-down .result) (c .before .before .before .before .before .before .before .before .run .result)) in let l = kept-length (a .target .now) (a .p) W _ (c .before .before .before .before .before .before .before .pairs .ensures) (omega (arith, length-pairs H (a .p) (a .o) (a .i) (a .s) (c .before .before .before .before .before .before .before .before .before .before .run-down .result) (c .before .before .before .before .before .before .before .before .before .of-down .result) (c .before .before .before .before .before .before .before .before .run .result) 1, c .before .before .before .before .before .before .before .before .before .before .before .before .before .before .pre .1 .1 .1 .1 .1, c .before .before .before .before .before .before .before .before .before .before .before .before .before .before .pre .1 .0)) in (c .before .before .before .before .before .before .before .before .before .before .before .before .before .before .pre .0, (subst⁻¹ Tame (c .before .before .run-down2 .ensures) (tame-run-down (a .o + 1) (c .before .before .before .before .less .result) (omega (arith, c .before .before .before .before .before .before .before .before .before .before .before .before .before .before .pre .1 .1 .1 .1 .0)) (omega (arith, c .before .before .before .before .less .ensures, c .before .before .before .before .before .before .before .before .before .before .before .before .before .before .pre .1 .1 .0))), (subst⁻¹ Tame (c .before .of-down2 .ensures) (tame-of-down (a .a) (c .before .before .before .before .less .result) (omega (arith, c .before .before .before .before .less .ensures, c .before .before .before .before .before .before .before .before .before .before .before .before .before .before .pre .1 .1 .0))), (subst⁻¹ Tame (c .run2 .ensures) (tame-run (a .p + 2) 2 (omega (arith, c .before .before .before .before .before .before .before .before .before .before .before .before .before .before .pre .1 .1 .1 .0)) (omega arith)), (omega (arith, c .before .before .before .before .before .before .before .before .before .before .before .before .before .before .pre .1 .1 .0), (omega (arith, c .before .before .before .before .before .before .before .before .before .before .before .before .before .before .pre .1 .1 .1 .0), omega (arith, l, c .before .before .before .before .before .before .before .before .before .before .before .before .before .before .pre .1 .1 .1 .1 .1, c .before .before .before .before .before .before .before .before .before .before .before .before .before .before .pre .1 .0)))))))
+pairs-requires-2 c κs = let a = c .before .before .before .before .before .before .before .before .before .before .before .before .before .before .args in let l = ap (held false) (c .before .before .before .before .before .before .before .pairs .kept .1 .0) in (c .before .before .before .before .before .before .before .before .before .before .before .before .before .before .pre .0, (subst⁻¹ Tame (c .before .before .run-down2 .ensures) (tame-run-down (a .o + 1) (c .before .before .before .before .less .result) (omega (arith, c .before .before .before .before .before .before .before .before .before .before .before .before .before .before .pre .1 .1 .1 .1 .0)) (omega (arith, c .before .before .before .before .less .ensures, c .before .before .before .before .before .before .before .before .before .before .before .before .before .before .pre .1 .1 .0))), (subst⁻¹ Tame (c .before .of-down2 .ensures) (tame-of-down (a .a) (c .before .before .before .before .less .result) (omega (arith, c .before .before .before .before .less .ensures, c .before .before .before .before .before .before .before .before .before .before .before .before .before .before .pre .1 .1 .0))), (subst⁻¹ Tame (c .run2 .ensures) (tame-run (a .p + 2) 2 (omega (arith, c .before .before .before .before .before .before .before .before .before .before .before .before .before .before .pre .1 .1 .1 .0)) (omega arith)), (omega (arith, c .before .before .before .before .before .before .before .before .before .before .before .before .before .before .pre .1 .1 .0), (omega (arith, c .before .before .before .before .before .before .before .before .before .before .before .before .before .before .pre .1 .1 .1 .0), omega (arith, l, c .before .before .before .before .before .before .before .before .before .before .before .before .before .before .pre .1 .1 .1 .1 .1, c .before .before .before .before .before .before .before .before .before .before .before .before .before .before .pre .1 .0)))))))
 
 same-length : tie.Need-same-length
 same-length c = c .before .before .pairs2 .kept .1 .0 ∙ c .before .before .before .before .before .before .before .before .before .before .pairs .kept .1 .0
 
 returns : tie.Need-returns
-returns c = let a = c .before .before .before .before .before .before .before .before .before .before .before .before .before .before .before .before .before .args in let H = a .kept .now in let U = words 1 (pairAt H (a .p) (a .o) (a .i) (a .s) (runDown (a .o + 1) (a .n - 2)) (ofDown (a .a) (a .n - 2)) (still (cellIn H (a .a) (a .n - 1)))) in let Z = words (a .n - 2) (pairAt H (a .p + 2) (a .o) (a .i) (a .s) (runDown (a .o + 1) (a .n - 3)) (ofDown (a .a) (a .n - 3)) (run (a .p + 2) 2)) in c .before .before .pairs2 .ensures ∙ (λ i. put (c .before .before .before .before .before .before .before .before .before .before .pairs .ensures i) (span (a .p + 2)) (words (a .n - 2) (pairAt H (a .p + 2) (a .o) (a .i) (a .s) ((c .before .before .before .before .before .run-down2 .ensures ∙ ap (λ (t : ℕ). runDown (a .o + 1) t) (c .before .before .before .before .before .before .before .less .ensures)) i) ((c .before .before .before .before .of-down2 .ensures ∙ ap (λ (t : ℕ). ofDown (a .a) t) (c .before .before .before .before .before .before .before .less .ensures)) i) (c .before .before .before .run2 .ensures i)))) ∙ ap (λ (t : List ℕ). put t (span (a .p + 2)) Z) (λ i. put (a .target .now) (span (a .p)) (words 1 (pairAt H (a .p) (a .o) (a .i) (a .s) (c .before .before .before .before .before .before .before .before .before .before .before .before .before .run-down .ensures i) (c .before .before .before .before .before .before .before .before .before .before .before .before .of-down .ensures i) ((c .before .before .before .before .before .before .before .before .before .before .before .run .ensures ∙ ap still (c .before .before .before .before .before .before .before .before .before .before .before .before .before .before .before .cell .ensures)) i)))) ∙ put-then (a .target .now) (a .p) (a .p + 2) U Z (omega (arith, c .before .before .before .before .before .before .before .before .before .before .before .before .before .before .before .before .before .pre .1 .1 .1 .1 .1)) (omega (arith, length-pairs H (a .p) (a .o) (a .i) (a .s) (runDown (a .o + 1) (a .n - 2)) (ofDown (a .a) (a .n - 2)) (still (cellIn H (a .a) (a .n - 1))) 1))
+returns c = let a = c .before .before .before .before .before .before .before .before .before .before .before .before .before .before .before .before .before .args in let H = a .kept .now in let U = rowsFor 1 (pairAt H (a .p) (a .o) (a .i) (a .s) (runDown (a .o + 1) (a .n - 2)) (ofDown (a .a) (a .n - 2)) (still (cellIn H (a .a) (a .n - 1)))) in let Z = rowsFor (a .n - 2) (pairAt H (a .p + 2) (a .o) (a .i) (a .s) (runDown (a .o + 1) (a .n - 3)) (ofDown (a .a) (a .n - 3)) (run (a .p + 2) 2)) in c .before .before .pairs2 .ensures ∙ (λ i. putFlat (c .before .before .before .before .before .before .before .before .before .before .pairs .ensures i) (a .p + 2) (rowsFor (a .n - 2) (pairAt H (a .p + 2) (a .o) (a .i) (a .s) ((c .before .before .before .before .before .run-down2 .ensures ∙ ap (λ (t : ℕ). runDown (a .o + 1) t) (c .before .before .before .before .before .before .before .less .ensures)) i) ((c .before .before .before .before .of-down2 .ensures ∙ ap (λ (t : ℕ). ofDown (a .a) t) (c .before .before .before .before .before .before .before .less .ensures)) i) (c .before .before .before .run2 .ensures i)))) ∙ ap (λ (t : List ℕ). putFlat t (a .p + 2) Z) (λ i. putFlat (a .target .now) (a .p) (rowsFor 1 (pairAt H (a .p) (a .o) (a .i) (a .s) (c .before .before .before .before .before .before .before .before .before .before .before .before .before .run-down .ensures i) (c .before .before .before .before .before .before .before .before .before .before .before .before .of-down .ensures i) ((c .before .before .before .before .before .before .before .before .before .before .before .run .ensures ∙ ap still (c .before .before .before .before .before .before .before .before .before .before .before .before .before .before .before .cell .ensures)) i)))) ∙ flat-append (a .target .now) (a .p) U (a .p + 2) Z (omega (arith, length-pairs H (a .p) (a .o) (a .i) (a .s) (runDown (a .o + 1) (a .n - 2)) (ofDown (a .a) (a .n - 2)) (still (cellIn H (a .a) (a .n - 1))) 1))
 
 pub read-lines-spec : {M : Type 1} → statement M
 read-lines-spec =

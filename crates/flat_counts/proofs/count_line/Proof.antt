@@ -10,14 +10,6 @@ use Rattle.tables.specs.Notes.{lookIn}
 use borrow.Author.Needs.{needs}
 use Rattle.flat_counts.proofs.count_line.Statement.{statement}
 use Rattle.flat_counts.proofs.count_line.Tie as tie
-use Rattle.flat_counts.proofs.count_line.Reads as reads
-use Rattle.flat_counts.proofs.count_line.Lts as lts
-use Rattle.flat_cells.proofs.cells.entry.Reads as entry-reads
-use Rattle.flat_counts.proofs.count_read.Reads as count-read-reads
-use Rattle.flat_counts.proofs.count_tests.Reads as count-tests-reads
-use Rattle.flat_counts.proofs.count_write.Reads as count-write-reads
-use Rattle.flat_cells.proofs.sources.index_size.Reads as index-size-reads
-use Rattle.flat_cells.proofs.sources.size.Reads as size-reads
 
 array-read-k : tie.Need-array-read-k
 array-read-k c = search needs

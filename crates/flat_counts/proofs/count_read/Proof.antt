@@ -7,9 +7,6 @@ use Rattle.tables.specs.Pick.{pick}
 use borrow.Author.Needs.{needs}
 use Rattle.flat_counts.proofs.count_read.Statement.{statement}
 use Rattle.flat_counts.proofs.count_read.Tie as tie
-use Rattle.flat_counts.proofs.count_read.Reads as reads
-use Rattle.flat_counts.proofs.count_read.Lts as lts
-use Rattle.flat_cells.proofs.sources.less.Reads as less-reads
 
 less-requires : tie.Need-less-requires
 less-requires c κs = tt

@@ -1,5 +1,5 @@
 -- The test decides. Assumes nothing.
-use Prim.Native.Nat.{_-_, _*_}
+use Prim.Native.Nat.{_*_}
 use mathlib.Core.Path.{sym, ap}
 use mathlib.Core.Bool.{Bool}
 use borrow.Author.Tests.{eq-eqb, ne-eqb}
@@ -7,8 +7,6 @@ use Rattle.tables.specs.Pick.{pick}
 use borrow.Author.Needs.{needs}
 use Rattle.flat_counts.proofs.count_write.Statement.{statement}
 use Rattle.flat_counts.proofs.count_write.Tie as tie
-use Rattle.flat_counts.proofs.count_write.Reads as reads
-use Rattle.flat_counts.proofs.count_write.Lts as lts
 
 mul-result : tie.Need-mul-result
 mul-result c = search needs

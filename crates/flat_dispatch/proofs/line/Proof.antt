@@ -3,17 +3,6 @@ use Rattle.flattening.proofs.Laying.{fit-as, laid-as, as-key, as-mark, as-give}
 use borrow.Author.Needs.{needs}
 use Rattle.flat_dispatch.proofs.line.Statement.{statement}
 use Rattle.flat_dispatch.proofs.line.Tie as tie
-use Rattle.flat_dispatch.proofs.line.Reads as reads
-use Rattle.flat_dispatch.proofs.line.Lts as lts
-use Rattle.flat_lines.proofs.line_array.Reads as line-array-reads
-use Rattle.flat_lines.proofs.line_bitvec.Reads as line-bitvec-reads
-use Rattle.flat_lines.proofs.line_const.Reads as line-const-reads
-use Rattle.flat_arrays.proofs.line_give.Reads as line-give-reads
-use Rattle.flat_lines.proofs.line_input.Reads as line-input-reads
-use Rattle.flat_lines.proofs.line_mark.Reads as line-mark-reads
-use Rattle.flat_lines.proofs.line_output.Reads as line-output-reads
-use Rattle.flat_arrays.proofs.line_state.Reads as line-state-reads
-use Rattle.flat_dispatch.proofs.operator.Reads as operator-reads
 
 array-read-k : tie.Need-array-read-k
 array-read-k c = search needs

@@ -3,14 +3,6 @@ use Rattle.flattening.proofs.Laying.{fit-as, laid-as, as-key, as-one, as-cmp, a
 use borrow.Author.Needs.{needs}
 use Rattle.flat_dispatch.proofs.operator.Statement.{statement}
 use Rattle.flat_dispatch.proofs.operator.Tie as tie
-use Rattle.flat_dispatch.proofs.operator.Reads as reads
-use Rattle.flat_dispatch.proofs.operator.Lts as lts
-use Rattle.flat_arrays.proofs.line_cmp.Reads as line-cmp-reads
-use Rattle.flat_arrays.proofs.line_ite.Reads as line-ite-reads
-use Rattle.flat_lines.proofs.line_one.Reads as line-one-reads
-use Rattle.flat_arrays.proofs.line_read.Reads as line-read-reads
-use Rattle.flat_lines.proofs.line_two.Reads as line-two-reads
-use Rattle.flat_arrays.proofs.line_write.Reads as line-write-reads
 
 array-read-k : tie.Need-array-read-k
 array-read-k c = search needs

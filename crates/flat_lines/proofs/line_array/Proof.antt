@@ -1,22 +1,17 @@
 -- A record and a row. Assumes nothing.
-use Prim.Native.Nat.{ℕ, _+_, _-_, _≤_}
+use Prim.Native.Nat.{ℕ, _+_, _≤_}
 use mathlib.Core.Path.{_∙_, subst⁻¹}
+use mathlib.Core.Bool.{false}
 use native.Mathlib.Omega.{arith}
 use lib.ListN.{length}
-use Rattle.circuits.specs.Cells.{put}
-use Rattle.flattening.specs.Model.{words}
-use Rattle.flattening.specs.Making.{made, arrayWords}
+use Rattle.tables.specs.Layout.{held}
+use Rattle.flattening.specs.Placed.{putFlat}
+use Rattle.flattening.specs.Making.{made, arrayRecords}
 use Rattle.flattening.proofs.Laying.{size-le}
 use Rattle.tables.specs.Notes.{lookIn}
 use borrow.Author.Needs.{needs}
-use Rattle.tables.specs.Lines.{span}
 use Rattle.flat_lines.proofs.line_array.Statement.{statement}
 use Rattle.flat_lines.proofs.line_array.Tie as tie
-use Rattle.flat_lines.proofs.line_array.Reads as reads
-use Rattle.flat_lines.proofs.line_array.Lts as lts
-use Rattle.flat_cells.proofs.cells.entry.Reads as entry-reads
-use Rattle.flat_chains.proofs.array_lines.Reads as array-lines-reads
-use Rattle.flat_cells.proofs.sources.index_size.Reads as index-size-reads
 
 index-size-requires : tie.Need-index-size-requires
 index-size-requires c κs = c .before .pre .deep
@@ -25,7 +20,7 @@ entry-requires : tie.Need-entry-requires
 entry-requires c κs = omega arith
 
 array-lines-requires : tie.Need-array-lines-requires
-array-lines-requires c κs = let a = c .before .before .before .before .args in let e = c .before .before .index-size .ensures in (c .before .before .before .before .pre .neat .sound, (subst⁻¹ (λ (x : ℕ). x ≤ 256) e (size-le (lookIn (a .types .now) (a .i) .w) (c .before .before .before .before .pre .deep)), subst⁻¹ (λ (x : ℕ). span (a .p + (1 + x)) ≤ length (a .target .now)) e (c .before .before .before .before .pre .room)))
+array-lines-requires c κs = let a = c .before .before .before .before .args in let e = c .before .before .index-size .ensures in (c .before .before .before .before .pre .neat .sound, (subst⁻¹ (λ (x : ℕ). x ≤ 256) e (size-le (lookIn (a .types .now) (a .i) .w) (c .before .before .before .before .pre .deep)), subst⁻¹ (λ (x : ℕ). a .p + (1 + x) ≤ held false (length (a .target .now))) e (c .before .before .before .before .pre .room)))
 
 add-t12 : tie.Need-add-t12
 add-t12 c = let a = c .before .before .before .before .before .before .before .args in let e = c .before .before .before .before .before .index-size .ensures in omega (arith, subst⁻¹ (λ (x : ℕ). x ≤ 256) e (size-le (lookIn (a .types .now) (a .i) .w) (c .before .before .before .before .before .before .before .pre .deep)))
@@ -43,7 +38,7 @@ same-length : tie.Need-same-length
 same-length c = c .before .before .before .array-lines .kept .1 .1 .1 .1 .0
 
 returns : tie.Need-returns
-returns c = let a = c .before .before .before .before .before .before .before .before .args in let H = a .kept .now in let e = c .before .before .before .before .before .before .index-size .ensures in record { kept = λ i. made (a .p + (1 + e i)) (c .entry2 .ensures i) (a .p + 1) 0 0 0; words = c .before .before .before .array-lines .ensures ∙ (λ i. put (a .target .now) (span (a .p)) (arrayWords H (c .before .before .before .before .before .entry .ensures i) (e i))) }
+returns c = let a = c .before .before .before .before .before .before .before .before .args in let H = a .kept .now in let e = c .before .before .before .before .before .before .index-size .ensures in record { kept = λ i. made (a .p + (1 + e i)) (c .entry2 .ensures i) (a .p + 1) 0 0 0; records = c .before .before .before .array-lines .ensures ∙ (λ i. putFlat (a .target .now) (a .p) (arrayRecords H (c .before .before .before .before .before .entry .ensures i) (e i))) }
 
 pub line-array-spec : {M : Type 1} → statement M
 line-array-spec =

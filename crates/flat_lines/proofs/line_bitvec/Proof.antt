@@ -1,13 +1,10 @@
 -- A word sort is copied. Assumes nothing.
+use mathlib.Core.List.{[], _∷_}
 use mathlib.Core.Path.{_∙_}
-use Rattle.tables.specs.Lines.{span}
-use Rattle.circuits.specs.Cells.{put}
+use Rattle.flattening.specs.Placed.{putFlat}
 use borrow.Author.Needs.{needs}
 use Rattle.flat_lines.proofs.line_bitvec.Statement.{statement}
 use Rattle.flat_lines.proofs.line_bitvec.Tie as tie
-use Rattle.flat_lines.proofs.line_bitvec.Reads as reads
-use Rattle.flat_lines.proofs.line_bitvec.Lts as lts
-use Rattle.flat_lines.proofs.single.Reads as single-reads
 
 of-requires : tie.Need-of-requires
 of-requires c κs = tt
@@ -22,7 +19,7 @@ same-length : tie.Need-same-length
 same-length c = c .before .before .single .kept .1 .1 .1 .1 .1 .1 .0
 
 returns : tie.Need-returns
-returns c = let a = c .before .before .before .before .before .before .args in record { kept = c .before .before .single .ensures .0; words = c .before .before .single .ensures .1 ∙ (λ i. put (a .target .now) (span (a .p)) (c .before .before .before .before .of .ensures i)) }
+returns c = let a = c .before .before .before .before .before .before .args in record { kept = c .before .before .single .ensures .0; records = c .before .before .single .ensures .1 ∙ (λ i. putFlat (a .target .now) (a .p) (c .before .before .before .before .of .ensures i ∷ [])) }
 
 pub line-bitvec-spec : {M : Type 1} → statement M
 line-bitvec-spec =

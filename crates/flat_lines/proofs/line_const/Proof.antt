@@ -1,19 +1,14 @@
 -- A constant is copied. Assumes nothing.
 use native.Mathlib.Omega.{arith}
-use Prim.Native.Nat.{_+_, _-_}
+use Prim.Native.Nat.{_+_}
+use mathlib.Core.List.{[], _∷_}
 use mathlib.Core.Path.{_∙_}
-use Rattle.tables.specs.Lines.{fields, span}
-use Rattle.circuits.specs.Cells.{put}
-use Rattle.flattening.specs.Model.{words}
+use Rattle.tables.specs.Lines.{fields}
+use Rattle.flattening.specs.Placed.{putFlat}
 use Rattle.flattening.specs.Making.{made}
 use borrow.Author.Needs.{needs}
 use Rattle.flat_lines.proofs.line_const.Statement.{statement}
 use Rattle.flat_lines.proofs.line_const.Tie as tie
-use Rattle.flat_lines.proofs.line_const.Reads as reads
-use Rattle.flat_lines.proofs.line_const.Lts as lts
-use Rattle.flat_cells.proofs.cells.entry.Reads as entry-reads
-use Rattle.flat_lines.proofs.single.Reads as single-reads
-use Rattle.flat_lines.proofs.small.Reads as small-reads
 
 entry-requires : tie.Need-entry-requires
 entry-requires c κs = omega arith
@@ -37,7 +32,7 @@ same-length : tie.Need-same-length
 same-length c = c .before .before .single .kept .1 .1 .1 .1 .1 .1 .0
 
 returns : tie.Need-returns
-returns c = let a = c .before .before .before .before .before .before .before .before .before .args in record { kept = c .before .before .single .ensures .0 ∙ (λ i. made (a .p + 1) (a .p + 1) (c .before .before .before .before .before .entry2 .ensures i) 0 1 (c .before .before .before .before .small .ensures i)); words = c .before .before .single .ensures .1 ∙ (λ i. put (a .target .now) (span (a .p)) (c .before .before .before .before .before .before .of .ensures i)) ∙ (λ i. put (a .target .now) (span (a .p)) (fields 3 (c .before .before .before .before .before .before .before .entry .ensures i) (a .v) 0 0)) }
+returns c = let a = c .before .before .before .before .before .before .before .before .before .args in record { kept = c .before .before .single .ensures .0 ∙ (λ i. made (a .p + 1) (a .p + 1) (c .before .before .before .before .before .entry2 .ensures i) 0 1 (c .before .before .before .before .small .ensures i)); records = c .before .before .single .ensures .1 ∙ (λ i. putFlat (a .target .now) (a .p) (c .before .before .before .before .before .before .of .ensures i ∷ [])) ∙ (λ i. putFlat (a .target .now) (a .p) (fields 3 (c .before .before .before .before .before .before .before .entry .ensures i) (a .v) 0 0 ∷ [])) }
 
 pub line-const-spec : {M : Type 1} → statement M
 line-const-spec =

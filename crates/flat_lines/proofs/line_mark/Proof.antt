@@ -1,18 +1,12 @@
 -- A bad or a constraint is copied. Assumes nothing.
 use native.Mathlib.Omega.{arith}
-use Prim.Native.Nat.{_+_, _-_}
+use mathlib.Core.List.{[], _∷_}
 use mathlib.Core.Path.{sym, _∙_}
-use Rattle.tables.specs.Lines.{fields, markKind, span}
-use Rattle.circuits.specs.Cells.{put}
-use Rattle.flattening.specs.Model.{words}
-use Rattle.flattening.specs.Making.{made}
+use Rattle.tables.specs.Lines.{fields, markKind}
+use Rattle.flattening.specs.Placed.{putFlat}
 use borrow.Author.Needs.{needs}
 use Rattle.flat_lines.proofs.line_mark.Statement.{statement}
 use Rattle.flat_lines.proofs.line_mark.Tie as tie
-use Rattle.flat_lines.proofs.line_mark.Reads as reads
-use Rattle.flat_lines.proofs.line_mark.Lts as lts
-use Rattle.flat_cells.proofs.cells.cell.Reads as cell-reads
-use Rattle.flat_lines.proofs.single.Reads as single-reads
 
 cell-requires : tie.Need-cell-requires
 cell-requires c κs = (c .before .pre .neat .sound, omega arith)
@@ -27,7 +21,7 @@ same-length : tie.Need-same-length
 same-length c = c .before .before .single .kept .1 .1 .1 .1 .1 .1 .0
 
 returns : tie.Need-returns
-returns c = let a = c .before .before .before .before .before .before .before .before .args in record { kept = c .before .before .single .ensures .0 ∙ (λ i. made (a .p + 1) (0) (0) 0 0 (0)); words = c .before .before .single .ensures .1 ∙ (λ i. put (a .target .now) (span (a .p)) (c .before .before .before .before .of .ensures i)) ∙ (λ i. put (a .target .now) (span (a .p)) (fields (markKind (sym (c .before .before .before .before .before .if1 .taken) i)) 0 (c .before .before .before .before .before .before .cell .ensures i) 0 0)) }
+returns c = let a = c .before .before .before .before .before .before .before .before .args in record { kept = c .before .before .single .ensures .0; records = c .before .before .single .ensures .1 ∙ (λ i. putFlat (a .target .now) (a .p) (c .before .before .before .before .of .ensures i ∷ [])) ∙ (λ i. putFlat (a .target .now) (a .p) (fields (markKind (sym (c .before .before .before .before .before .if1 .taken) i)) 0 (c .before .before .before .before .before .before .cell .ensures i) 0 0 ∷ [])) }
 
 of-requires-2 : tie.Need-of-requires-2
 of-requires-2 c κs = tt
@@ -39,7 +33,7 @@ same-length-2 : tie.Need-same-length-2
 same-length-2 c = c .before .before .single2 .kept .1 .1 .1 .1 .1 .1 .0
 
 returns-2 : tie.Need-returns-2
-returns-2 c = let a = c .before .before .before .before .before .before .before .before .args in record { kept = c .before .before .single2 .ensures .0 ∙ (λ i. made (a .p + 1) (0) (0) 0 0 (0)); words = c .before .before .single2 .ensures .1 ∙ (λ i. put (a .target .now) (span (a .p)) (c .before .before .before .before .of2 .ensures i)) ∙ (λ i. put (a .target .now) (span (a .p)) (fields (markKind (sym (c .before .before .before .before .before .if1 .left) i)) 0 (c .before .before .before .before .before .before .cell .ensures i) 0 0)) }
+returns-2 c = let a = c .before .before .before .before .before .before .before .before .args in record { kept = c .before .before .single2 .ensures .0; records = c .before .before .single2 .ensures .1 ∙ (λ i. putFlat (a .target .now) (a .p) (c .before .before .before .before .of2 .ensures i ∷ [])) ∙ (λ i. putFlat (a .target .now) (a .p) (fields (markKind (sym (c .before .before .before .before .before .if1 .left) i)) 0 (c .before .before .before .before .before .before .cell .ensures i) 0 0 ∷ [])) }
 
 pub line-mark-spec : {M : Type 1} → statement M
 line-mark-spec =

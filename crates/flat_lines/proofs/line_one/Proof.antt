@@ -1,19 +1,14 @@
 -- An operator is copied. Assumes nothing.
 use native.Mathlib.Omega.{arith}
-use Prim.Native.Nat.{_+_, _-_}
+use Prim.Native.Nat.{_+_}
+use mathlib.Core.List.{[], _∷_}
 use mathlib.Core.Path.{_∙_}
-use Rattle.tables.specs.Lines.{fields, span}
-use Rattle.circuits.specs.Cells.{put}
-use Rattle.flattening.specs.Model.{words}
+use Rattle.tables.specs.Lines.{fields}
+use Rattle.flattening.specs.Placed.{putFlat}
 use Rattle.flattening.specs.Making.{made}
 use borrow.Author.Needs.{needs}
 use Rattle.flat_lines.proofs.line_one.Statement.{statement}
 use Rattle.flat_lines.proofs.line_one.Tie as tie
-use Rattle.flat_lines.proofs.line_one.Reads as reads
-use Rattle.flat_lines.proofs.line_one.Lts as lts
-use Rattle.flat_cells.proofs.cells.cell.Reads as cell-reads
-use Rattle.flat_cells.proofs.cells.entry.Reads as entry-reads
-use Rattle.flat_lines.proofs.single.Reads as single-reads
 
 entry-requires : tie.Need-entry-requires
 entry-requires c κs = omega arith
@@ -37,7 +32,7 @@ same-length : tie.Need-same-length
 same-length c = c .before .before .single .kept .1 .1 .1 .1 .1 .1 .0
 
 returns : tie.Need-returns
-returns c = let a = c .before .before .before .before .before .before .before .before .before .args in record { kept = c .before .before .single .ensures .0 ∙ (λ i. made (a .p + 1) (a .p + 1) (c .before .before .before .before .entry2 .ensures i) 0 1 (0)); words = c .before .before .single .ensures .1 ∙ (λ i. put (a .target .now) (span (a .p)) (c .before .before .before .before .before .of .ensures i)) ∙ (λ i. put (a .target .now) (span (a .p)) (fields (a .k) (c .before .before .before .before .before .before .before .entry .ensures i) (c .before .before .before .before .before .before .cell .ensures i) (a .x) (a .y))) }
+returns c = let a = c .before .before .before .before .before .before .before .before .before .args in record { kept = c .before .before .single .ensures .0 ∙ (λ i. made (a .p + 1) (a .p + 1) (c .before .before .before .before .entry2 .ensures i) 0 1 (0)); records = c .before .before .single .ensures .1 ∙ (λ i. putFlat (a .target .now) (a .p) (c .before .before .before .before .before .of .ensures i ∷ [])) ∙ (λ i. putFlat (a .target .now) (a .p) (fields (a .k) (c .before .before .before .before .before .before .before .entry .ensures i) (c .before .before .before .before .before .before .cell .ensures i) (a .x) (a .y) ∷ [])) }
 
 pub line-one-spec : {M : Type 1} → statement M
 line-one-spec =

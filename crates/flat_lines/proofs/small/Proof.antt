@@ -1,5 +1,5 @@
 -- The test decides. Assumes nothing.
-use Prim.Native.Nat.{_+_, _-_}
+use Prim.Native.Nat.{_+_}
 use mathlib.Core.Path.{_≡_, sym, ap}
 use mathlib.Core.Bool.{Bool, true, false}
 use lib.Dec.{ltb}
@@ -8,8 +8,6 @@ use Rattle.tables.specs.Pick.{pick}
 use borrow.Author.Needs.{needs}
 use Rattle.flat_lines.proofs.small.Statement.{statement}
 use Rattle.flat_lines.proofs.small.Tie as tie
-use Rattle.flat_lines.proofs.small.Reads as reads
-use Rattle.flat_lines.proofs.small.Lts as lts
 
 add-result : tie.Need-add-result
 add-result c = search needs

@@ -4,10 +4,6 @@ use Rattle.flattening.proofs.Refusing.{refused, begin}
 use borrow.Author.Needs.{needs}
 use Rattle.flatten.proofs.checked.Statement.{statement}
 use Rattle.flatten.proofs.checked.Tie as tie
-use Rattle.flatten.proofs.checked.Reads as reads
-use Rattle.flatten.proofs.checked.Lts as lts
-use Rattle.flatten.proofs.whole.all_lines.Reads as all-lines-reads
-use Rattle.checks.proofs.check.Reads as check-reads
 
 check-requires : tie.Need-check-requires
 check-requires c κs = c .before .before .before .pre .fresh

@@ -4,9 +4,6 @@ use Rattle.flattening.proofs.Refusing.{blank-lists}
 use borrow.Author.Needs.{needs}
 use Rattle.flatten.proofs.many.Statement.{statement}
 use Rattle.flatten.proofs.many.Tie as tie
-use Rattle.flatten.proofs.many.Reads as reads
-use Rattle.flatten.proofs.many.Lts as lts
-use Rattle.flatten.proofs.checked.Reads as checked-reads
 
 slice-aggregate-checked : tie.Need-slice-aggregate-checked
 slice-aggregate-checked c = search needs

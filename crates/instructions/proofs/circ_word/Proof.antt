@@ -4,7 +4,7 @@ use Prim.Native.Nat.{ℕ, _%_, _^_}
 use borrow.Author.Needs.{needs}
 use Rattle.words.specs.Word.{Width}
 use Rattle.words.specs.Op.{opOf}
-use Rattle.words.specs.Program.{classOf}
+use Rattle.words.specs.Model.Classes.{classOf}
 use Rattle.words.proofs.Bounds.{masked, result-width}
 use Rattle.instructions.proofs.circ_word.Statement.{statement}
 use Rattle.instructions.proofs.circ_word.Tie as tie

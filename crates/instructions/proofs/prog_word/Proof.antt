@@ -54,7 +54,8 @@ mask-arm c =
     c .low .ensures .0
     ∙ sym (ap (λ (op : Op). prog op (g .args .u) (g .args .v) (g .args .a) (g .args .b) (g .args .c)) (beyond (g .args .kind) (past 43 (g .args .kind) (g .pre .0) (c .before .match .rest))))
 
--- first what the calls and shifts ask, then what the arms return
+-- first what the calls and shifts ask, then what the arms return. Where both operands are read by their low bits, the precondition says that
+-- they have one width
 pub prog-word-spec : {M : Type 1} → statement M
 prog-word-spec =
     tie.close
@@ -109,10 +110,10 @@ prog-word-spec =
     (λ c. rw (c .before .match .keys14) (c .ulte .ensures))
     (λ c. rw (c .before .match .keys15) (c .ult2 .ensures))
     (λ c. rw (c .before .match .keys16) (c .ulte2 .ensures))
-    (λ c. rw (c .before .match .keys17) (c .slt .ensures))
-    (λ c. rw (c .before .match .keys18) (c .slte .ensures))
-    (λ c. rw (c .before .match .keys19) (c .slt2 .ensures))
-    (λ c. rw (c .before .match .keys20) (c .slte2 .ensures))
+    (λ c. rw (c .before .match .keys17, sym (rw (c .before .match .keys17) at (c .before .before .pre .2))) (c .slt .ensures))
+    (λ c. rw (c .before .match .keys18, sym (rw (c .before .match .keys18) at (c .before .before .pre .2))) (c .slte .ensures))
+    (λ c. rw (c .before .match .keys19, sym (rw (c .before .match .keys19) at (c .before .before .pre .2))) (c .slt2 .ensures))
+    (λ c. rw (c .before .match .keys20, sym (rw (c .before .match .keys20) at (c .before .before .pre .2))) (c .slte2 .ensures))
     (λ c. rw (c .match .keys21) refl)
     (λ c. rw (c .match .keys22) refl)
     (λ c. rw (c .match .keys23) refl)
@@ -126,14 +127,14 @@ prog-word-spec =
     (λ c. rw (c .before .match .keys31) (c .wrapping-mul .ensures))
     (λ c. rw (c .before .match .keys32) (c .udiv .ensures))
     (λ c. rw (c .before .match .keys33) (c .urem .ensures))
-    (λ c. rw (c .before .match .keys34) (c .sdiv .ensures))
-    (λ c. rw (c .before .match .keys35) (c .srem .ensures))
-    (λ c. rw (c .before .match .keys36) (c .smod .ensures))
+    (λ c. rw (c .before .match .keys34, sym (rw (c .before .match .keys34) at (c .before .before .pre .2))) (c .sdiv .ensures))
+    (λ c. rw (c .before .match .keys35, sym (rw (c .before .match .keys35) at (c .before .before .pre .2))) (c .srem .ensures))
+    (λ c. rw (c .before .match .keys36, sym (rw (c .before .match .keys36) at (c .before .before .pre .2))) (c .smod .ensures))
     (λ c. rw (c .before .match .keys37) (c .sll .ensures))
     (λ c. rw (c .before .match .keys38) (c .srl .ensures))
-    (λ c. rw (c .before .match .keys39) (c .sra .ensures))
-    (λ c. rw (c .before .match .keys40) (c .rol .ensures))
-    (λ c. rw (c .before .match .keys41) (c .ror .ensures))
+    (λ c. rw (c .before .match .keys39, sym (rw (c .before .match .keys39) at (c .before .before .pre .2))) (c .sra .ensures))
+    (λ c. rw (c .before .match .keys40, sym (rw (c .before .match .keys40) at (c .before .before .pre .2))) (c .rol .ensures))
+    (λ c. rw (c .before .match .keys41, sym (rw (c .before .match .keys41) at (c .before .before .pre .2))) (c .ror .ensures))
     (λ c. rw (c .match .keys42) refl)
     (λ c. let g = c .before .before .args in rw (c .before .match .keys43) (chosen (g .a) (g .b) (g .c) (c .if1 .taken)))
     (λ c. let g = c .before .before .args in rw (c .before .match .keys43) (other (g .a) (g .b) (g .c) (c .if1 .left)))

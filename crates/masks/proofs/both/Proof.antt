@@ -2,8 +2,6 @@
 use borrow.Author.Tests.{not-true, not-false}
 use Rattle.masks.proofs.both.Statement.{statement}
 use Rattle.masks.proofs.both.Tie as tie
-use Rattle.masks.proofs.both.Reads as reads
-use Rattle.masks.proofs.both.Lts as lts
 
 returns : tie.Need-returns
 returns c = rw (not-true (c .before .args .a) (c .if1 .taken))

@@ -2,8 +2,6 @@
 use borrow.Author.Tests.{le-leb, lt-leb}
 use Rattle.masks.proofs.emitted.Statement.{statement}
 use Rattle.masks.proofs.emitted.Tie as tie
-use Rattle.masks.proofs.emitted.Reads as reads
-use Rattle.masks.proofs.emitted.Lts as lts
 
 returns : tie.Need-returns
 returns c = rw (le-leb (c .before .args .k) 2 (c .if1 .taken))

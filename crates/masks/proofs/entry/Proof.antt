@@ -4,8 +4,6 @@ use lib.ListN.{List·getD-eq-default}
 use borrow.Author.Needs.{needs}
 use Rattle.masks.proofs.entry.Statement.{statement}
 use Rattle.masks.proofs.entry.Tie as tie
-use Rattle.masks.proofs.entry.Reads as reads
-use Rattle.masks.proofs.entry.Lts as lts
 
 mul-result : tie.Need-mul-result
 mul-result c = search needs

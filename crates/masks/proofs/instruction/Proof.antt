@@ -5,13 +5,6 @@ use Rattle.programs.proofs.Reading.{instruction-read}
 use borrow.Author.Needs.{needs}
 use Rattle.masks.proofs.instruction.Statement.{statement}
 use Rattle.masks.proofs.instruction.Tie as tie
-use Rattle.masks.proofs.instruction.Reads as reads
-use Rattle.masks.proofs.instruction.Lts as lts
-use Rattle.masks.proofs.entry.Reads as entry-reads
-use Rattle.masks.proofs.operand.Reads as operand-reads
-use Rattle.uses.proofs.first_line.Reads as first-line-reads
-use Rattle.uses.proofs.second_line.Reads as second-line-reads
-use Rattle.uses.proofs.third_line.Reads as third-line-reads
 
 array-read-k : tie.Need-array-read-k
 array-read-k c = search needs

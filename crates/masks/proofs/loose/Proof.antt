@@ -5,15 +5,6 @@ use Rattle.programs.proofs.Reading.{never-64, loose-read}
 use borrow.Author.Needs.{needs}
 use Rattle.masks.proofs.loose.Statement.{statement}
 use Rattle.masks.proofs.loose.Tie as tie
-use Rattle.masks.proofs.loose.Reads as reads
-use Rattle.masks.proofs.loose.Lts as lts
-use Rattle.masks.proofs.entry.Reads as entry-reads
-use Rattle.uses.proofs.first_line.Reads as first-line-reads
-use Rattle.uses.proofs.loose_how.Reads as loose-how-reads
-use Rattle.uses.proofs.row.Reads as row-reads
-use Rattle.uses.proofs.second_line.Reads as second-line-reads
-use Rattle.uses.proofs.third_line.Reads as third-line-reads
-use Rattle.uses.proofs.used.Reads as used-reads
 
 array-read-entry : tie.Need-array-read-entry
 array-read-entry c = search needs

@@ -4,9 +4,6 @@ use borrow.Author.Tests.{not-true, not-false}
 use borrow.Author.Needs.{needs}
 use Rattle.masks.proofs.number.Statement.{statement}
 use Rattle.masks.proofs.number.Tie as tie
-use Rattle.masks.proofs.number.Reads as reads
-use Rattle.masks.proofs.number.Lts as lts
-use Rattle.uses.proofs.has_value.Reads as has-value-reads
 
 has-value-requires : tie.Need-has-value-requires
 has-value-requires c κs = search needs

@@ -2,9 +2,6 @@
 use borrow.Author.Needs.{needs}
 use Rattle.masks.proofs.operand.Statement.{statement}
 use Rattle.masks.proofs.operand.Tie as tie
-use Rattle.masks.proofs.operand.Reads as reads
-use Rattle.masks.proofs.operand.Lts as lts
-use Rattle.masks.proofs.entry.Reads as entry-reads
 
 entry-requires : tie.Need-entry-requires
 entry-requires c κs = search needs

@@ -4,8 +4,6 @@ use lib.Seq.{set-out}
 use borrow.Author.Needs.{needs}
 use Rattle.masks.proofs.store.Statement.{statement}
 use Rattle.masks.proofs.store.Tie as tie
-use Rattle.masks.proofs.store.Reads as reads
-use Rattle.masks.proofs.store.Lts as lts
 
 mul-xs : tie.Need-mul-xs
 mul-xs c = search needs

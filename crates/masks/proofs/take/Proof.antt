@@ -7,15 +7,6 @@ use Rattle.words.specs.Word.{bit}
 use borrow.Author.Needs.{needs}
 use Rattle.masks.proofs.take.Statement.{statement}
 use Rattle.masks.proofs.take.Tie as tie
-use Rattle.masks.proofs.take.Reads as reads
-use Rattle.masks.proofs.take.Lts as lts
-use Rattle.masks.proofs.both.Reads as both-reads
-use Rattle.masks.proofs.flag.Reads as flag-reads
-use Rattle.masks.proofs.loose.Reads as loose-reads
-use Rattle.masks.proofs.number.Reads as number-reads
-use Rattle.masks.proofs.store.Reads as store-reads
-use Rattle.masks.proofs.width.Reads as width-reads
-use Rattle.uses.proofs.flags.put.Reads as put-reads
 
 loose-requires : tie.Need-loose-requires
 loose-requires c κs = search needs

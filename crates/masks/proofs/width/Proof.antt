@@ -4,10 +4,6 @@ use borrow.Author.Tests.{eq-eqb, ne-eqb}
 use borrow.Author.Needs.{needs}
 use Rattle.masks.proofs.width.Statement.{statement}
 use Rattle.masks.proofs.width.Tie as tie
-use Rattle.masks.proofs.width.Reads as reads
-use Rattle.masks.proofs.width.Lts as lts
-use Rattle.masks.proofs.entry.Reads as entry-reads
-use Rattle.uses.proofs.has_value.Reads as has-value-reads
 
 array-read-if1 : tie.Need-array-read-if1
 array-read-if1 c = search needs

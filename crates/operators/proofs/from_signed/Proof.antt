@@ -11,8 +11,8 @@ use mir.Syntax.{w64}
 use mir.Val.{SFits, toZ, ofZ}
 use mir.Facts.{sfits-toZ, fits-ofZ, toZ-ofZ}
 use borrow.Author.Needs.{needs}
-use Rattle.words.specs.Word.{word}
-use Rattle.words.proofs.Signed.{cast-ok, down-fits, down-test, word-up, word-down}
+use Rattle.words.specs.Word.{twosComplement}
+use Rattle.words.proofs.Signed.{cast-ok, down-fits, down-test, complement-up, complement-down}
 use Rattle.operators.proofs.from_signed.Statement.{statement}
 use Rattle.operators.proofs.from_signed.Tie as tie
 
@@ -49,12 +49,12 @@ sub-result c = omega (arith, c .low2 .ensures .0, c .before .mask .ensures, mod-
 
 returns : tie.Need-returns
 returns c =
-    c .low .ensures .0 ∙ word-up (c .before .before .args .w) (y (c .before .before .args .z)) (c .before .if1 .taken)
-    ∙ ap (word (c .before .before .args .w)) (toZ-ofZ (c .before .before .fits .z))
+    c .low .ensures .0 ∙ complement-up (c .before .before .args .w) (y (c .before .before .args .z)) (c .before .if1 .taken)
+    ∙ ap (twosComplement (c .before .before .args .w)) (toZ-ofZ (c .before .before .fits .z))
 
-law : (w m l : ℕ) (z : ℤ) → SFits w64 z → leZ (pos 0) (y z) ≡ false → m ≡ 2 ^ w - 1 → l ≡ natAbs (y (d z)) % 2 ^ w → m - l ≡ word w z
+law : (w m l : ℕ) (z : ℤ) → SFits w64 z → leZ (pos 0) (y z) ≡ false → m ≡ 2 ^ w - 1 → l ≡ natAbs (y (d z)) % 2 ^ w → m - l ≡ twosComplement w z
 law w m l z f e p q =
-    ap₂ (λ (i j : ℕ). i - j) p (q ∙ ap (λ (x : ℤ). natAbs x % 2 ^ w) (toZ-ofZ (d-fits z f e))) ∙ word-down w (y z) e ∙ ap (word w) (toZ-ofZ f)
+    ap₂ (λ (i j : ℕ). i - j) p (q ∙ ap (λ (x : ℤ). natAbs x % 2 ^ w) (toZ-ofZ (d-fits z f e))) ∙ complement-down w (y z) e ∙ ap (twosComplement w) (toZ-ofZ f)
 
 returns-2 : tie.Need-returns-2
 returns-2 c =

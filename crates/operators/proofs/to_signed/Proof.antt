@@ -1,7 +1,7 @@
 -- `operators::to_signed` meets its contract; x is the low bits. Assumes nothing.
 use mathlib.Core.Path.{_∙_, ap}
 use borrow.Author.Needs.{needs}
-use Rattle.words.specs.Word.{signed}
+use Rattle.words.specs.Word.{signedValue}
 use Rattle.words.proofs.Signed.{clear-fits, clear-law, set-fits, set-down, set-law}
 use Rattle.operators.proofs.to_signed.Statement.{statement}
 use Rattle.operators.proofs.to_signed.Tie as tie
@@ -22,13 +22,13 @@ sub-result-2 c =
 returns : tie.Need-returns
 returns c =
     let s = c .before in
-    clear-law (s .before .args .w) (s .low .result) (s .before .pre) (c .if1 .taken) ∙ ap (signed (s .before .args .w)) (s .low .ensures .0)
+    clear-law (s .before .args .w) (s .low .result) (s .before .pre) (c .if1 .taken) ∙ ap (signedValue (s .before .args .w)) (s .low .ensures .0)
 
 returns-2 : tie.Need-returns-2
 returns-2 c =
     let s = c .before .before in
     set-law (s .before .args .w) (s .low .result) (c .mask .result) (s .before .pre) (s .low .ensures .1) (c .mask .ensures) (c .before .if1 .left)
-    ∙ ap (signed (s .before .args .w)) (s .low .ensures .0)
+    ∙ ap (signedValue (s .before .args .w)) (s .low .ensures .0)
 
 pub to-signed-spec : {M : Type 1} → statement M
 to-signed-spec =

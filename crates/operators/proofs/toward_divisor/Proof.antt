@@ -6,7 +6,7 @@ use lib.Signed.{leZ}
 use mir.Syntax.{w64}
 use mir.Val.{SFits, toZ, ofZ}
 use mir.Facts.{toZ-ofZ, sfits-toZ, fits-ofZ}
-use Rattle.words.specs.Word.{toward}
+use Rattle.words.specs.Word.{towardDivisor}
 use Rattle.words.proofs.Divide.{is, sum-fits, toward-same, toward-other}
 use Rattle.operators.proofs.toward_divisor.Statement.{statement}
 use Rattle.operators.proofs.toward_divisor.Tie as tie
@@ -19,12 +19,12 @@ module _ (r d : ℤ) (fr : SFits w64 r) (fd : SFits w64 d) where
   fits : (t : Bool) → leZ (pos 0) (y r) ≡ t → leZ (pos 0) (y d) ≡ cond t false true → SFits w64 (y r +ℤ y d)
   fits t e f = sum-fits (y r) (y d) t (sfits-toZ (fits-ofZ fr)) (sfits-toZ (fits-ofZ fd)) e f
 
-  same : (t : Bool) → leZ (pos 0) (y r) ≡ t → leZ (pos 0) (y d) ≡ t → y r ≡ toward r d
-  same t e f = sym (toward-same (y r) (y d) t e f) ∙ ap₂ toward (toZ-ofZ fr) (toZ-ofZ fd)
+  same : (t : Bool) → leZ (pos 0) (y r) ≡ t → leZ (pos 0) (y d) ≡ t → y r ≡ towardDivisor r d
+  same t e f = sym (toward-same (y r) (y d) t e f) ∙ ap₂ towardDivisor (toZ-ofZ fr) (toZ-ofZ fd)
 
-  other : (t : Bool) → (ofZ w64 r ≡ 0 → ⊥) → leZ (pos 0) (y r) ≡ t → leZ (pos 0) (y d) ≡ cond t false true → y (y r +ℤ y d) ≡ toward r d
+  other : (t : Bool) → (ofZ w64 r ≡ 0 → ⊥) → leZ (pos 0) (y r) ≡ t → leZ (pos 0) (y d) ≡ cond t false true → y (y r +ℤ y d) ≡ towardDivisor r d
   other t g e f =
-      toZ-ofZ (fits t e f) ∙ sym (toward-other (y r) (y d) t (λ p. g (ap (ofZ w64) (sym (toZ-ofZ fr) ∙ p))) e f) ∙ ap₂ toward (toZ-ofZ fr) (toZ-ofZ fd)
+      toZ-ofZ (fits t e f) ∙ sym (toward-other (y r) (y d) t (λ p. g (ap (ofZ w64) (sym (toZ-ofZ fr) ∙ p))) e f) ∙ ap₂ towardDivisor (toZ-ofZ fr) (toZ-ofZ fd)
 
 add-result : tie.Need-add-result
 add-result c = fits (c .before .before .before .args .r) (c .before .before .before .args .d) (c .before .before .before .fits .r) (c .before .before .before .fits .d) true (c .before .if2 .taken) (c .if3 .left)
@@ -33,7 +33,7 @@ add-result-2 : tie.Need-add-result-2
 add-result-2 c = fits (c .before .before .before .args .r) (c .before .before .before .args .d) (c .before .before .before .fits .r) (c .before .before .before .fits .d) false (c .before .if2 .left) (c .if4 .taken)
 
 returns : tie.Need-returns
-returns c = toZ-ofZ (c .before .fits .r) ∙ is (c .before .args .r) 0 (c .before .fits .r) (c .if1 .taken) ∙ sym (ap (λ (z : ℤ). toward z (c .before .args .d)) (is (c .before .args .r) 0 (c .before .fits .r) (c .if1 .taken)))
+returns c = toZ-ofZ (c .before .fits .r) ∙ is (c .before .args .r) 0 (c .before .fits .r) (c .if1 .taken) ∙ sym (ap (λ (z : ℤ). towardDivisor z (c .before .args .d)) (is (c .before .args .r) 0 (c .before .fits .r) (c .if1 .taken)))
 
 returns-2 : tie.Need-returns-2
 returns-2 c = same (c .before .before .before .args .r) (c .before .before .before .args .d) (c .before .before .before .fits .r) (c .before .before .before .fits .d) true (c .before .if2 .taken) (c .if3 .taken)

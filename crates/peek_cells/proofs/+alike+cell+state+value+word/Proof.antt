@@ -11,7 +11,7 @@ use Rattle.words.specs.Word.{bit}
 use Rattle.tables.specs.Lines.{isOne, isTwo, isIte, isRead, isWrite, isCmp, shapeOf, kindIn, thirdIn}
 use Rattle.circuits.specs.Cells.{say}
 use Rattle.circuits.specs.Meaning.{cellsAt}
-use Rattle.circuits.specs.Answers.{linesOf}
+use Rattle.tables.specs.Layout.{linesOf}
 use Rattle.circuits.proofs.Fitting.{fit-as, op-as}
 use Rattle.peeks.specs.Peek.{stepZero}
 use Rattle.tables.proofs.Shapes.{shape-cmp}
@@ -42,7 +42,7 @@ use Rattle.peek_values.proofs.keep.Reads as keep-reads
 use Rattle.peek_values.proofs.one.Reads as one-reads
 use Rattle.peek_values.proofs.start_word.Reads as start-word-reads
 use Rattle.peek_values.proofs.two.Reads as two-reads
-use Rattle.records.proofs.record.Reads as record-reads
+use Rattle.peek_values.proofs.record.Reads as record-reads
 use Rattle.peek_cells.proofs.+alike+cell+state+value+word.{statement}
 use Rattle.peek_cells.proofs.+alike+cell+state+value+word.Tie.{close}
 
@@ -107,7 +107,7 @@ abbrev word-uses : ℕ → word-lts.Claims
 word-uses t = (value-below t, value.Post, keep-reads.Asked, keep-reads.Learnt)
 
 abbrev alike-Inv-loop : alike-lts.InvT-loop
-alike-Inv-loop table count laid ini from row vals₀ has₀ a b m k₀ vals has k = Alike (stepZero (linesOf table count) from row) a b vals has m k
+alike-Inv-loop table count laid ini from row vals₀ has₀ a b m k₀ vals has k = Alike (stepZero (linesOf false table count) from row) a b vals has m k
 
 abbrev alike-μ-loop : alike-lts.MeasureT-loop
 alike-μ-loop table count laid ini from row vals₀ has₀ a b m k₀ vals has k = m - k
@@ -362,7 +362,7 @@ value-same-length-6 : (t : ℕ) → value-lts.Need-same-length-6 (value-uses t) 
 value-same-length-6 t c = c .before .before .before .before .cell .ensures .1 .marks ∙ sym (c .before .before .before .before .before .before .before .before .before .before .before .before .before .before .before .before .before .before .before .before .before .before .pre .1 .1 .1 .marks)
 
 value-returns-3 : (t : ℕ) → value-lts.Need-returns-3 (value-uses t) (value-at t) value.Post
-value-returns-3 t c = let a = c .before .before .before .before .before .before .before .before .before .before .before .before .before .before .before .before .before .before .before .before .before .before .args in let p = c .before .before .before .before .before .before .before .before .before .before .before .before .before .before .before .before .before .before .before .before .before .before .pre in let lk = p .1 .0 in let ln = p .1 .1 .0 in let F = fact lk (a .n) 0 (ln .value) (first-cell lk (a .n)) (c .before .before .before .before .before .before .before .before .before .before .before .before .before .before .before .«record» .ensures) isRead (ap shapeOf (c .before .before .before .before .before .before .before .before .before .before .before .before .before .before .match .keys3)) in (c .before .before .before .before .cell .ensures .0 ∙ ap (λ (i : ℕ). getD (cellsAt (stepZero (linesOf (a .table .now) (a .count)) (a .from .now) (a .row .now)) (getD (c .before .before .before .before .before .before .before .before .before .before .before .before .before .before .before .«record» .result) 2 0)) i 0) (c .before .before .before .before .before .before .before .before .before .before .before .word3 .ensures .0) ∙ F .is, c .before .before .before .before .cell .ensures .1)
+value-returns-3 t c = let a = c .before .before .before .before .before .before .before .before .before .before .before .before .before .before .before .before .before .before .before .before .before .before .args in let p = c .before .before .before .before .before .before .before .before .before .before .before .before .before .before .before .before .before .before .before .before .before .before .pre in let lk = p .1 .0 in let ln = p .1 .1 .0 in let F = fact lk (a .n) 0 (ln .value) (first-cell lk (a .n)) (c .before .before .before .before .before .before .before .before .before .before .before .before .before .before .before .«record» .ensures) isRead (ap shapeOf (c .before .before .before .before .before .before .before .before .before .before .before .before .before .before .match .keys3)) in (c .before .before .before .before .cell .ensures .0 ∙ ap (λ (i : ℕ). getD (cellsAt (stepZero (linesOf false (a .table .now) (a .count)) (a .from .now) (a .row .now)) (getD (c .before .before .before .before .before .before .before .before .before .before .before .before .before .before .before .«record» .result) 2 0)) i 0) (c .before .before .before .before .before .before .before .before .before .before .before .word3 .ensures .0) ∙ F .is, c .before .before .before .before .cell .ensures .1)
 
 value-returns-4 : (t : ℕ) → value-lts.Need-returns-4 (value-uses t) (value-at t) value.Post
 value-returns-4 t c = let a = c .before .before .before .before .before .before .before .before .before .before .args in let p = c .before .before .before .before .before .before .before .before .before .before .pre in let lk = p .1 .0 in let ln = p .1 .1 .0 in (given-is lk (a .n) 0 (ln .value) (first-cell lk (a .n)) (c .before .before .before .«record» .ensures) (c .before .if1 .taken) (c .given .ensures), p .1 .1 .1)

@@ -18,7 +18,7 @@ enum-known-r c = search needs
 
 returns : tie.Need-returns
 returns c = let a = c .before .before .before .before .before .before .before .before .before .args in
-    peek-refused (a .table .now) (a .count) (a .line) (a .cell) (a .starts .now) (a .row .now) _ (sym (c .before .before .before .before .check .ensures .0) ∙ c .before .r .given .1)
+    peek-refused (a .table .now) (a .count) (a .line) (a .cell) (a .starts .now) (a .row .now) (sym (c .before .before .before .before .check .ensures .0) ∙ c .before .r .given .1)
 
 enum-told : tie.Need-enum-told
 enum-told c = search needs
@@ -31,7 +31,7 @@ peek-checked-requires c κs = let e = c .before .enum-told .given .1 in record {
 
 returns-2 : tie.Need-returns-2
 returns-2 c = let a = c .before .before .before .before .before .before .before .before .before .before .args in
-    c .peek-checked .ensures ∙ peek-lent (a .table .now) (a .count) (a .line) (a .cell) (a .starts .now) (a .row .now) (sym (c .before .before .before .before .before .check .ensures .0) ∙ c .before .before .enum-told .given .1)
+    peek-lent (a .table .now) (a .count) (a .line) (a .cell) (a .starts .now) (a .row .now) (sym (c .before .before .before .before .before .check .ensures .0) ∙ c .before .before .enum-told .given .1) (c .peek-checked .ensures)
 
 pub peek-spec : {M : Type 1} → statement M
 peek-spec =

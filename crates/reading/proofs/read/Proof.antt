@@ -2,12 +2,13 @@
 use Prim.Native.Nat.{ℕ}
 use native.Mathlib.Omega.{arith}
 use mathlib.Core.Path.{sym, ap, _∙_}
+use mathlib.Core.Bool.{false}
 use lib.ListN.{length, replicate, length-replicate}
 use borrow.Author.Tests.{not-true, not-false}
 use Rattle.tables.specs.Notes.{blank}
-use Rattle.tables.specs.Tables.{whole}
+use Rattle.tables.specs.Layout.{whole}
 use Rattle.tables.proofs.Checking.{fresh, shows-none}
-use Rattle.texts.proofs.Reached.{text-1, text-2, out-refused, out-lines}
+use Rattle.texts.proofs.Reached.{text-1, text-2, out-refused, out-text, out-lines}
 use borrow.Author.Needs.{needs}
 use Rattle.reading.proofs.read.Statement.{statement}
 use Rattle.reading.proofs.read.Tie as tie
@@ -23,14 +24,14 @@ same-length c = c .before .before .before .before .clear .kept .0
 
 returns : tie.Need-returns
 returns c = let s = c .before .before .before .before .before .before .before .before .args in let len = length (s .table .now) in
-    out-refused len (text-1 len (s .text .now) (ap whole (sym (c .before .before .before .before .clear .kept .0)) ∙ (sym (c .before .is-table .ensures) ∙ not-true _ (c .if1 .taken)))) (c .before .before .before .before .clear .ensures)
+    out-text len (s .text .now) (out-refused len (text-1 len (s .text .now) (ap (whole false) (sym (c .before .before .before .before .clear .kept .0)) ∙ (sym (c .before .is-table .ensures) ∙ not-true _ (c .if1 .taken)))) (c .before .before .before .before .clear .ensures))
 
 same-length-2 : tie.Need-same-length-2
 same-length-2 c = c .before .before .before .before .before .clear .kept .0
 
 returns-2 : tie.Need-returns-2
 returns-2 c = let s = c .before .before .before .before .before .before .before .before .before .args in let len = length (s .table .now) in
-    out-refused len (text-2 len (s .text .now) (ap whole (sym (c .before .before .before .before .before .clear .kept .0)) ∙ (sym (c .before .before .is-table .ensures) ∙ not-false _ (c .before .if1 .left))) (c .if2 .taken)) (c .before .before .before .before .before .clear .ensures)
+    out-text len (s .text .now) (out-refused len (text-2 len (s .text .now) (ap (whole false) (sym (c .before .before .before .before .before .clear .kept .0)) ∙ (sym (c .before .before .is-table .ensures) ∙ not-false _ (c .before .if1 .left))) (c .if2 .taken)) (c .before .before .before .before .before .clear .ensures))
 
 slice-aggregate-read-lines : tie.Need-slice-aggregate-read-lines
 slice-aggregate-read-lines c = search needs

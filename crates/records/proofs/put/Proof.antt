@@ -1,28 +1,32 @@
 -- The words passed are the record's. Assumes nothing.
 use borrow.Author.Needs.{needs}
-use Prim.Native.Nat.{ℕ, _+_, _-_, _*_, _≤_}
-use native.Mathlib.Omega.{arith}
-use native.Mathlib.Numerals.{add-one}
-use mathlib.Core.Path.{_≡_, refl, sym, ap, _∙_}
+use Prim.Native.Nat.{ℕ, _+_, _-_, _*_, _≤_, _<_}
+use mathlib.Core.Path.{_≡_, refl, ap, _∙_}
 use mathlib.Core.List.{List}
-use lib.ListN.{length, getD, set, length-set}
-use lib.Seq.{paste, paste-zero, paste-suc}
+use native.Mathlib.Omega.{arith}
+use lib.ListN.{length, getD, set, take, length-set}
+use Rattle.tables.specs.Layout.{setWords}
+use Rattle.records.proofs.Rows.{row-inside, set-next, row-put}
 use Rattle.records.proofs.put.Statement.{statement}
 use Rattle.records.proofs.put.Tie as tie
-use Rattle.records.proofs.put.Reads as reads
-use Rattle.records.proofs.put.Lts as lts
 
 abbrev Inv-loop : tie.InvT-loop
-Inv-loop table₀ i rec at j₀ table j = (j ≤ 5) × ((length rec ≡ 5) × ((length table ≡ length table₀) × (table ≡ paste table₀ (5 * i) rec j)))
+Inv-loop program table₀ i rec at j₀ table j =
+    (j ≤ 5) × ((at + 4 < length table₀) × ((length rec ≡ 5) × ((length table ≡ length table₀) × (table ≡ setWords (λ (k : ℕ). at + k) table₀ 0 (take j rec)))))
 
 abbrev μ-loop : tie.MeasureT-loop
-μ-loop table₀ i rec at j₀ table j = 5 - j
+μ-loop program table₀ i rec at j₀ table j = 5 - j
+
+size-requires : tie.Need-size-requires Inv-loop μ-loop
+size-requires c κs = tt
 
 mul-at : tie.Need-mul-at Inv-loop μ-loop
-mul-at c = search needs
+mul-at c = let a = c .before .before .args in omega (arith, row-inside (a .program) (a .table .now) (c .size .result) (a .i) (c .before .before .pre, c .size .ensures))
 
 loop-holds : tie.Need-loop-holds Inv-loop μ-loop
-loop-holds c = (search needs, (search needs, (refl, paste-zero (c .args .table .now) (5 * c .args .i) (c .args .t3))))
+loop-holds c =
+    let a = c .before .before .args in
+    (omega arith, (row-inside (a .program) (a .table .now) (c .size .result) (a .i) (c .before .before .pre, c .size .ensures), (search needs, (refl, refl))))
 
 mul-v : tie.Need-mul-v Inv-loop μ-loop
 mul-v c = search needs
@@ -46,16 +50,19 @@ loop-less : tie.Need-loop-less Inv-loop μ-loop
 loop-less c = search needs
 
 loop-again : tie.Need-loop-again Inv-loop μ-loop
-loop-again c = let j = c .before .loop .j in
-    let s = c .before .before .args in
-    let at = 5 * s .i in (
+loop-again c =
+    let a = c .before .before .before .before .args in
+    let l = c .before .loop in
+    let n = c .before .before .size .result * a .i in (
       omega arith,
       (
-        c .before .loop .inv .1 .0,
+        l .inv .1 .0,
         (
-          simp length-set (c .before .loop .inv .1 .1 .0),
-          ap (λ (l : List ℕ). set l (at + j) (getD (s .t3) j 0)) (c .before .loop .inv .1 .1 .1)
-              ∙ (paste-suc (s .table .now) at (s .t3) j 0 (omega arith) (omega arith) ∙ ap (λ (k : ℕ). paste (s .table .now) at (s .t3) k) (sym (add-one j))),
+          l .inv .1 .1 .0,
+          (
+            simp length-set (l .inv .1 .1 .1 .0),
+            ap (λ (x : List ℕ). set x (n + l .j) (getD (a .t4) (l .j) 0)) (l .inv .1 .1 .1 .1) ∙ set-next (a .table .now) (a .t4) n (l .j) (omega arith),
+          ),
         ),
       ),
     )
@@ -64,9 +71,13 @@ same-length : tie.Need-same-length Inv-loop μ-loop
 same-length c = search needs
 
 returns : tie.Need-returns Inv-loop μ-loop
-returns c = let s = c .before .before .args in
-    let past : c .before .loop .j ≡ 5 = omega arith in
-    c .before .loop .inv .1 .1 .1 ∙ ap (λ (k : ℕ). paste (s .table .now) (5 * s .i) (s .t3) k) past
+returns c =
+    let a = c .before .before .before .before .args in
+    let l = c .before .loop in
+    let z = c .before .before .size in
+    let past : l .j ≡ 5 = omega arith in
+    l .inv .1 .1 .1 .1 ∙ ap (λ (k : ℕ). setWords (λ (m : ℕ). z .result * a .i + m) (a .table .now) 0 (take k (a .t4))) past
+    ∙ row-put (a .program) (a .table .now) (a .t4) (z .result) (a .i) (z .ensures) (l .inv .1 .1 .0)
 
 pub put-spec : {M : Type 1} → statement M
 put-spec =
@@ -74,6 +85,7 @@ put-spec =
     (tie.spec
     Inv-loop
     μ-loop
+    size-requires
     mul-at
     loop-holds
     mul-v

@@ -4,8 +4,8 @@ use mathlib.Core.Path.{ap₂, sym, _∙_, ap}
 use native.Mathlib.Omega.{arith}
 use lib.ListN.{length, replicate}
 use Rattle.tables.proofs.Checking.{fresh}
-use Rattle.circuits.specs.Model.{lentAnswer, lentSignals}
-use Rattle.circuits.proofs.Answering.{ran-refused, ran-lent}
+use Rattle.circuits.specs.Model.{lentRuns}
+use Rattle.circuits.proofs.Answering.{runs-refused, runs-lent}
 use borrow.Author.Needs.{needs}
 use Rattle.runs.proofs.run_table.Statement.{statement}
 use Rattle.runs.proofs.run_table.Tie as tie
@@ -33,8 +33,10 @@ same-length-2 c = c .before .before .before .before .before .before .before .bef
 
 returns : tie.Need-returns
 returns c = let a = c .before .before .before .before .before .before .before .before .before .before .before .before .before .before .before .before .before .before .before .args in
-    let e = ran-refused (a .program) (a .table .now) (a .count) (a .k) (a .starts .now) (a .inputs .now) (length (a .signals .now)) (length (a .work .now)) _ (sym (c .before .before .before .before .check .ensures .0) ∙ c .before .r .given .1) in
-    (e .0, (c .before .before .before .before .before .before .before .before .before .before .before .before .clear .ensures ∙ e .1, c .before .before .before .before .before .before .before .before .clear2 .ensures))
+    runs-refused (a .program) (a .table .now) (a .count) (a .k) (a .starts .now) (a .inputs .now) (length (a .signals .now)) (length (a .work .now))
+    (sym (c .before .before .before .before .check .ensures .0) ∙ c .before .r .given .1)
+    (c .before .before .before .before .before .before .before .before .before .before .before .before .clear .ensures)
+    (c .before .before .before .before .before .before .before .before .clear2 .ensures)
 
 enum-told : tie.Need-enum-told
 enum-told c = search needs
@@ -54,10 +56,12 @@ same-length-4 c = c .before .before .before .before .run-checked .kept .1 .1 .1 
 
 returns-2 : tie.Need-returns-2
 returns-2 c = let a = c .before .before .before .before .before .before .before .before .before .before .before .before .before .before .before .before .before .before .before .before .before .before .before .before .before .before .args in
-    let e = ran-lent (a .program) (a .table .now) (a .count) (a .k) (a .starts .now) (a .inputs .now) (length (a .signals .now)) (length (a .work .now)) (sym (c .before .before .before .before .before .before .before .before .before .before .before .check .ensures .0) ∙ c .before .before .before .before .before .before .before .before .enum-told .given .1) in
     let g = c .before .before .before .before .before .before .before .before .before .before .before .before .before .before .before .before .before .before .before .clear .kept .0 in
     let w = c .before .before .before .before .before .before .before .before .before .before .before .before .before .before .before .clear2 .kept .0 in
-    (c .before .before .before .before .run-checked .ensures .0 ∙ ap₂ (λ (x y : ℕ). lentAnswer (a .program) (a .table .now) (a .count) (a .k) (a .starts .now) (a .inputs .now) x y) g w ∙ e .0, (c .before .before .before .before .run-checked .ensures .1 .0 ∙ ap₂ (λ (x y : ℕ). lentSignals (a .program) (a .table .now) (a .count) (a .k) (a .starts .now) (a .inputs .now) x y) g w ∙ e .1, c .before .before .before .before .run-checked .ensures .1 .1 ∙ ap (λ (n : ℕ). replicate n 0) w))
+    c .before .before .before .before .run-checked .ensures
+    ∙ ap₂ (λ (x y : ℕ). lentRuns (a .program) (a .table .now) (a .count) (a .k) (a .starts .now) (a .inputs .now) x y) g w
+    ∙ runs-lent (a .program) (a .table .now) (a .count) (a .k) (a .starts .now) (a .inputs .now) (length (a .signals .now)) (length (a .work .now))
+    (sym (c .before .before .before .before .before .before .before .before .before .before .before .check .ensures .0) ∙ c .before .before .before .before .before .before .before .before .enum-told .given .1)
 
 pub run-table-spec : {M : Type 1} → statement M
 run-table-spec =

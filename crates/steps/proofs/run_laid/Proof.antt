@@ -4,7 +4,7 @@ use Prim.Native.Nat.{ℕ, _≤_}
 use native.Mathlib.Omega.{arith}
 use lib.ListN.{length, replicate, length-drop}
 use lib.Seq.{length-take-le, length-front}
-use Rattle.circuits.specs.Answers.{linesOf}
+use Rattle.tables.specs.Layout.{linesOf}
 use Rattle.circuits.proofs.Repeated.{once, ready-as, start-as, run-as}
 use borrow.Author.Needs.{needs}
 use Rattle.steps.proofs.run_laid.Statement.{statement}
@@ -55,7 +55,7 @@ returns : tie.Need-returns
 returns c = let a = c .before .before .before .before .before .before .before .before .before .before .before .before .before .before .before .before .before .before .before .before .before .before .before .before .args in
     let g = c .before .before .before .before .before .before .before .before .before .before .before .before .before .before .before .begin in
     let t = c .before .before .before .before .before .before .before .before .steps in
-    (t .ensures ∙ run-as (a .program) (linesOf (a .table .now) (a .count)) (a .k) (a .starts .now) (a .inputs .now) _ (g .ensures ∙ start-as (a .program) (linesOf (a .table .now) (a .count)) (a .ins) (c .before .before .before .before .before .before .before .before .before .before .before .before .before .before .before .before .before .before .before .before .before .before .before .before .pre .1 .0 .inputs) (a .starts .now) (a .inputs .now) _ refl), c .before .before .fill .ensures ∙ ap (λ (n : ℕ). replicate n 0) (t .kept .1 .1 .1 .1 .1 .1 .1 .1 .1 .1 .0 ∙ g .kept .1 .1 .1 .1 .1 .1 .1 .1 .0))
+    (t .ensures ∙ run-as (a .program) (linesOf (a .program) (a .table .now) (a .count)) (a .k) (a .starts .now) (a .inputs .now) _ (g .ensures ∙ start-as (a .program) (linesOf (a .program) (a .table .now) (a .count)) (a .ins) (c .before .before .before .before .before .before .before .before .before .before .before .before .before .before .before .before .before .before .before .before .before .before .before .before .pre .1 .0 .inputs) (a .starts .now) (a .inputs .now) _ refl), c .before .before .fill .ensures ∙ ap (λ (n : ℕ). replicate n 0) (t .kept .1 .1 .1 .1 .1 .1 .1 .1 .1 .1 .0 ∙ g .kept .1 .1 .1 .1 .1 .1 .1 .1 .0))
 
 pub run-laid-spec : {M : Type 1} → statement M
 run-laid-spec =

@@ -6,7 +6,7 @@ use native.Mathlib.Omega.{arith}
 use lib.ListN.{length, take, drop, length-drop}
 use borrow.Author.Needs.{needs}
 use Rattle.circuits.specs.Run.{steps, bytes}
-use Rattle.circuits.specs.Answers.{linesOf}
+use Rattle.tables.specs.Layout.{linesOf}
 use Rattle.circuits.proofs.Puts as laws
 use Rattle.circuits.proofs.Repeated.{fewer, row-fits, bytes-fit, ready-as, run-more, run-ends, run-begins}
 use Rattle.steps.proofs.steps.Statement.{statement}
@@ -14,7 +14,7 @@ use Rattle.steps.proofs.steps.Tie as tie
 
 abbrev Inv-loop : tie.InvT-loop
 Inv-loop program table count laid all ins sigs k inputs signals₀ work₀ i₀ r₀ g₀ signals work i r g =
-    (i ≤ k) × ((r + (k - i) * ins ≤ length inputs) × ((length signals ≡ g + (k - i) * sigs) × ((length work ≡ length work₀) × ((length signals ≡ length signals₀) × (bytes (steps program (linesOf table count) k (drop all work₀) inputs) ≡ take g signals ++ bytes (steps program (linesOf table count) (k - i) (drop all work) (drop r inputs)))))))
+    (i ≤ k) × ((r + (k - i) * ins ≤ length inputs) × ((length signals ≡ g + (k - i) * sigs) × ((length work ≡ length work₀) × ((length signals ≡ length signals₀) × (bytes (steps program (linesOf program table count) k (drop all work₀) inputs) ≡ take g signals ++ bytes (steps program (linesOf program table count) (k - i) (drop all work) (drop r inputs)))))))
 
 abbrev μ-loop : tie.MeasureT-loop
 μ-loop program table count laid all ins sigs k inputs signals₀ work₀ i₀ r₀ g₀ signals work i r g =
@@ -22,7 +22,7 @@ abbrev μ-loop : tie.MeasureT-loop
 
 loop-holds : tie.Need-loop-holds Inv-loop μ-loop
 loop-holds c = let s = c .before .before .before .before .args in let z : s .k - 0 ≡ s .k = omega arith in
-    (omega arith, (omega (arith, ap (λ (m : ℕ). m * s .ins) z), (omega (arith, ap (λ (m : ℕ). m * s .sigs) z), (refl, (refl, run-begins (s .program) (linesOf (s .table .now) (s .count)) (s .k) (drop (s .all) (s .work .now)) (s .inputs .now) (s .signals .now))))))
+    (omega arith, (omega (arith, ap (λ (m : ℕ). m * s .ins) z), (omega (arith, ap (λ (m : ℕ). m * s .sigs) z), (refl, (refl, run-begins (s .program) (linesOf (s .program) (s .table .now) (s .count)) (s .k) (drop (s .all) (s .work .now)) (s .inputs .now) (s .signals .now))))))
 
 add-e : tie.Need-add-e Inv-loop μ-loop
 add-e c = let s = c .before .before .before .before .before .before .args in let l = c .before .loop in
@@ -105,7 +105,7 @@ loop-again c = let s = c .before .before .before .before .before .before .before
     let q : List ℕ = w .last .1 .1 .1 .1 .1 .1 .1 .0 in
     let lq : length q ≡ l .g + s .sigs - l .g = w .kept .1 .1 .1 .1 .1 .1 .1 .0 ∙ laws.length-part (l .signals) (l .g) (l .g + s .sigs - l .g) (omega arith) in
     let lp : length (take (l .g) (l .signals) ++ (q ++ drop (l .g + s .sigs - l .g) (drop (l .g) (l .signals)))) ≡ length (l .signals) = laws.mid-length (l .signals) q (l .g) (l .g + s .sigs - l .g) lq (omega arith) in
-    (omega (arith, more), (omega (arith, l .inv .1 .0), (lp ∙ omega (arith, l .inv .1 .1 .0), (w .kept .1 .1 .1 .1 .1 .1 .1 .1 .0 ∙ l .inv .1 .1 .1 .0, (lp ∙ l .inv .1 .1 .1 .1 .0, run-more (s .program) (linesOf (s .table .now) (s .count)) (s .ins) (c .before .before .before .before .before .before .before .before .before .before .before .before .before .before .pre .1 .0 .inputs) (s .sigs) (s .k) (l .i) (drop (s .all) (l .work)) _ (s .inputs .now) _ (l .signals) q _ (l .r) (l .g) more h₂ (lq ∙ e₂) (l .inv .1 .1 .1 .1 .1) (ap (λ (n : ℕ). take n (drop (l .r) (s .inputs .now))) e₁) (w .ensures .1 refl) (w .ensures .0))))))
+    (omega (arith, more), (omega (arith, l .inv .1 .0), (lp ∙ omega (arith, l .inv .1 .1 .0), (w .kept .1 .1 .1 .1 .1 .1 .1 .1 .0 ∙ l .inv .1 .1 .1 .0, (lp ∙ l .inv .1 .1 .1 .1 .0, run-more (s .program) (linesOf (s .program) (s .table .now) (s .count)) (s .ins) (c .before .before .before .before .before .before .before .before .before .before .before .before .before .before .pre .1 .0 .inputs) (s .sigs) (s .k) (l .i) (drop (s .all) (l .work)) _ (s .inputs .now) _ (l .signals) q _ (l .r) (l .g) more h₂ (lq ∙ e₂) (l .inv .1 .1 .1 .1 .1) (ap (λ (n : ℕ). take n (drop (l .r) (s .inputs .now))) e₁) (w .ensures .1 refl) (w .ensures .0))))))
 
 same-length : tie.Need-same-length Inv-loop μ-loop
 same-length c = search needs
@@ -115,7 +115,7 @@ same-length-2 c = search needs
 
 returns : tie.Need-returns Inv-loop μ-loop
 returns c = let s = c .before .before .before .before .before .before .args in let l = c .before .loop in let z : s .k - l .i ≡ 0 = omega arith in
-    run-ends (s .program) (linesOf (s .table .now) (s .count)) (s .ins) (c .before .before .before .before .before .before .pre .1 .0 .inputs) (s .k) (l .i) (drop (s .all) (l .work)) (s .inputs .now) _ (l .signals) (l .r) (l .g) (omega arith) (omega (arith, ap (λ (m : ℕ). m * s .sigs) z)) (l .inv .1 .1 .1 .1 .1)
+    run-ends (s .program) (linesOf (s .program) (s .table .now) (s .count)) (s .ins) (c .before .before .before .before .before .before .pre .1 .0 .inputs) (s .k) (l .i) (drop (s .all) (l .work)) (s .inputs .now) _ (l .signals) (l .r) (l .g) (omega arith) (omega (arith, ap (λ (m : ℕ). m * s .sigs) z)) (l .inv .1 .1 .1 .1 .1)
 
 pub steps-spec : {M : Type 1} → statement M
 steps-spec =

@@ -3,8 +3,6 @@ use borrow.Author.Tests.{le-leb, lt-leb}
 use native.Mathlib.Omega.{arith}
 use Rattle.uses.proofs.has_value.Statement.{statement}
 use Rattle.uses.proofs.has_value.Tie as tie
-use Rattle.uses.proofs.has_value.Reads as reads
-use Rattle.uses.proofs.has_value.Lts as lts
 
 returns : tie.Need-returns
 returns c = rw (lt-leb 3 (c .before .args .k) (c .if1 .taken), lt-leb 11 (c .before .args .k) (omega (arith, c .if1 .taken)))

@@ -2,8 +2,6 @@
 use borrow.Author.Tests.{eq-eqb, ne-eqb}
 use Rattle.uses.proofs.loose_how.Statement.{statement}
 use Rattle.uses.proofs.loose_how.Tie as tie
-use Rattle.uses.proofs.loose_how.Reads as reads
-use Rattle.uses.proofs.loose_how.Lts as lts
 
 returns : tie.Need-returns
 returns c = rw (eq-eqb (c .before .args .h) 1 (c .if1 .taken))

@@ -8,10 +8,6 @@ use Rattle.programs.specs.Records.{markIf}
 use borrow.Author.Needs.{needs}
 use Rattle.uses.proofs.mark.Statement.{statement}
 use Rattle.uses.proofs.mark.Tie as tie
-use Rattle.uses.proofs.mark.Reads as reads
-use Rattle.uses.proofs.mark.Lts as lts
-use Rattle.uses.proofs.mark_if.Reads as mark-if-reads
-use Rattle.uses.proofs.row.Reads as row-reads
 
 array-read-row : tie.Need-array-read-row
 array-read-row c = search needs

@@ -3,9 +3,6 @@ use borrow.Author.Tests.{eq-eqb, ne-eqb}
 use borrow.Author.Needs.{needs}
 use Rattle.uses.proofs.mark_if.Statement.{statement}
 use Rattle.uses.proofs.mark_if.Tie as tie
-use Rattle.uses.proofs.mark_if.Reads as reads
-use Rattle.uses.proofs.mark_if.Lts as lts
-use Rattle.uses.proofs.flags.put.Reads as put-reads
 
 put-requires : tie.Need-put-requires
 put-requires c κs = search needs

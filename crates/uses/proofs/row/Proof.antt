@@ -2,9 +2,6 @@ use Rattle.programs.proofs.Sets.{row-of}
 use borrow.Author.Needs.{needs}
 use Rattle.uses.proofs.row.Statement.{statement}
 use Rattle.uses.proofs.row.Tie as tie
-use Rattle.uses.proofs.row.Reads as reads
-use Rattle.uses.proofs.row.Lts as lts
-use Rattle.uses.proofs.member.Reads as member-reads
 
 member-requires : tie.Need-member-requires
 member-requires c κs = search needs

@@ -3,8 +3,6 @@ use borrow.Author.Tests.{le-leb, lt-leb}
 use native.Mathlib.Omega.{arith}
 use Rattle.uses.proofs.second_line.Statement.{statement}
 use Rattle.uses.proofs.second_line.Tie as tie
-use Rattle.uses.proofs.second_line.Reads as reads
-use Rattle.uses.proofs.second_line.Lts as lts
 
 returns : tie.Need-returns
 returns c = rw (lt-leb 6 (c .before .args .k) (c .if1 .taken), lt-leb 21 (c .before .args .k) (omega (arith, c .if1 .taken)))

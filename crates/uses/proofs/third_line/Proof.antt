@@ -2,8 +2,6 @@
 use borrow.Author.Tests.{eq-eqb, ne-eqb}
 use Rattle.uses.proofs.third_line.Statement.{statement}
 use Rattle.uses.proofs.third_line.Tie as tie
-use Rattle.uses.proofs.third_line.Reads as reads
-use Rattle.uses.proofs.third_line.Lts as lts
 
 returns : tie.Need-returns
 returns c = rw (eq-eqb (c .before .args .k) 53 (c .if1 .taken))

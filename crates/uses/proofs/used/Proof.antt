@@ -3,9 +3,6 @@ use borrow.Author.Tests.{not-true, not-false}
 use borrow.Author.Needs.{needs}
 use Rattle.uses.proofs.used.Statement.{statement}
 use Rattle.uses.proofs.used.Tie as tie
-use Rattle.uses.proofs.used.Reads as reads
-use Rattle.uses.proofs.used.Lts as lts
-use Rattle.uses.proofs.flags.at.Reads as at-reads
 
 returns : tie.Need-returns
 returns c = rw (not-true (c .before .before .args .line) (c .if1 .taken))

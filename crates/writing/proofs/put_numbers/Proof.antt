@@ -6,7 +6,7 @@ use mathlib.Core.Path.{_≡_, refl, sym, ap, _∙_}
 use mathlib.Core.List.{List, []}
 use lib.ListN.{length, getD, length-set}
 use lib.Seq.{sets, length-sets}
-use Rattle.tables.specs.Lines.{recordSize}
+use Rattle.tables.specs.Layout.{recordWords}
 use Rattle.texts.specs.Split.{spaced}
 use Rattle.texts.specs.Decimal.{digits}
 use Rattle.texts.specs.Writing.{numbers}
@@ -15,7 +15,7 @@ use Rattle.writing.proofs.put_numbers.Statement.{statement}
 use Rattle.writing.proofs.put_numbers.Tie as tie
 
 abbrev Inv-loop : tie.InvT-loop
-Inv-loop out₀ at m j rec e p₀ i₀ out p i = (j ≤ i) × ((i ≤ e) × ((e ≡ j + m) × ((e ≤ recordSize) × ((length out ≡ length out₀) × ((length rec ≡ recordSize) × ((at + length (spaced (numbers m j rec)) < 2 ^ 63) × ((at + length (spaced (numbers m j rec)) ≡ p + length (spaced (numbers (e - i) i rec))) × (sets out₀ at (spaced (numbers m j rec)) ≡ sets out p (spaced (numbers (e - i) i rec))))))))))
+Inv-loop out₀ at m j rec e p₀ i₀ out p i = (j ≤ i) × ((i ≤ e) × ((e ≡ j + m) × ((e ≤ recordWords) × ((length out ≡ length out₀) × ((length rec ≡ recordWords) × ((at + length (spaced (numbers m j rec)) < 2 ^ 63) × ((at + length (spaced (numbers m j rec)) ≡ p + length (spaced (numbers (e - i) i rec))) × (sets out₀ at (spaced (numbers m j rec)) ≡ sets out p (spaced (numbers (e - i) i rec))))))))))
 
 abbrev μ-loop : tie.MeasureT-loop
 μ-loop out₀ at m j rec e p₀ i₀ out p i = e - i

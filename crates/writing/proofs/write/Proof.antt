@@ -5,7 +5,8 @@ use mathlib.Core.Path.{sym, ap, _∙_}
 use mathlib.Core.List.{List}
 use lib.ListN.{length, replicate}
 use lib.Seq.{sets}
-use Rattle.tables.specs.Lines.{counted}
+use mathlib.Core.Bool.{false}
+use Rattle.tables.specs.Layout.{recordsOf}
 use Rattle.texts.specs.Writing.{writeText}
 use Rattle.texts.proofs.Round.{held}
 use Rattle.texts.proofs.Printed.{out-not, out-short, out-written}
@@ -49,7 +50,7 @@ same-length-3 c = c .before .before .before .put-lines .kept .0 ∙ c .before .b
 
 returns-3 : tie.Need-returns-3
 returns-3 c = let s = c .before .before .before .before .before .before .before .before .before .before .before .before .before .before .args in let k = c .before .before .before .put-lines .kept .0 ∙ c .before .before .before .before .before .before .before .before .before .before .clear .kept .0 in
-    out-written (s .table .now) (s .count) (length (s .text .now)) (c .before .before .before .put-lines .result) (c .before .before .before .before .before .before .before .accept .ensures) (c .before .before .before .before .before .enum-told .given .1) (c .before .before .before .put-lines .ensures .0) (omega (arith, k, c .if1 .left)) (c .before .before .before .put-lines .ensures .1 ∙ ap (λ (x : List ℕ). sets x 0 (writeText (counted (s .table .now) (s .count)))) (c .before .before .before .before .before .before .before .before .before .before .clear .ensures))
+    out-written (s .table .now) (s .count) (length (s .text .now)) (c .before .before .before .put-lines .result) (c .before .before .before .before .before .before .before .accept .ensures) (c .before .before .before .before .before .enum-told .given .1) (c .before .before .before .put-lines .ensures .0) (omega (arith, k, c .if1 .left)) (c .before .before .before .put-lines .ensures .1 ∙ ap (λ (x : List ℕ). sets x 0 (writeText (recordsOf false (s .table .now) (s .count)))) (c .before .before .before .before .before .before .before .before .before .before .clear .ensures))
 
 pub write-spec : {M : Type 1} → statement M
 write-spec =

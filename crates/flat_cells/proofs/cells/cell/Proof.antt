@@ -6,9 +6,6 @@ use Rattle.flattening.specs.Model.{cellIn}
 use Rattle.flattening.proofs.Holding.{cell-own, cell-new, cell-old, product}
 use Rattle.flat_cells.proofs.cells.cell.Statement.{statement}
 use Rattle.flat_cells.proofs.cells.cell.Tie as tie
-use Rattle.flat_cells.proofs.cells.cell.Reads as reads
-use Rattle.flat_cells.proofs.cells.cell.Lts as lts
-use Rattle.flat_cells.proofs.cells.entry.Reads as entry-reads
 
 abbrev Inv-loop : tie.InvT-loop
 Inv-loop kept a j m₀ m = cellIn kept m j ≡ cellIn kept a j

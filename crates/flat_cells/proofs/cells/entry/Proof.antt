@@ -8,8 +8,6 @@ use Rattle.flattening.proofs.Holding.{nothing-at, read-kept}
 use borrow.Author.Needs.{needs}
 use Rattle.flat_cells.proofs.cells.entry.Statement.{statement}
 use Rattle.flat_cells.proofs.cells.entry.Tie as tie
-use Rattle.flat_cells.proofs.cells.entry.Reads as reads
-use Rattle.flat_cells.proofs.cells.entry.Lts as lts
 
 mul-result : tie.Need-mul-result
 mul-result c = search needs

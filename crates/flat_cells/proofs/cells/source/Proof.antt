@@ -5,10 +5,6 @@ use native.Mathlib.Omega.{arith}
 use Rattle.flattening.proofs.Holding.{product, turn-lt, source-own, source-cell}
 use Rattle.flat_cells.proofs.cells.source.Statement.{statement}
 use Rattle.flat_cells.proofs.cells.source.Tie as tie
-use Rattle.flat_cells.proofs.cells.source.Reads as reads
-use Rattle.flat_cells.proofs.cells.source.Lts as lts
-use Rattle.flat_cells.proofs.cells.cell.Reads as cell-reads
-use Rattle.flat_cells.proofs.cells.turn.Reads as turn-reads
 
 turn-requires : tie.Need-turn-requires
 turn-requires c κs = tt

@@ -3,8 +3,6 @@ use borrow.Author.Tests.{not-true, not-false}
 use Rattle.flattening.proofs.Holding.{turn-up, turn-past, turn-down}
 use Rattle.flat_cells.proofs.cells.turn.Statement.{statement}
 use Rattle.flat_cells.proofs.cells.turn.Tie as tie
-use Rattle.flat_cells.proofs.cells.turn.Reads as reads
-use Rattle.flat_cells.proofs.cells.turn.Lts as lts
 
 returns : tie.Need-returns
 returns c = turn-up (c .before .before .args .s) (c .before .before .args .j) (not-true _ (c .if1 .taken))

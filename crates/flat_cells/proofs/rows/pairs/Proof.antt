@@ -2,28 +2,23 @@
 use borrow.Author.Needs.{needs}
 use Prim.Native.Nat.{ℕ, _+_, _-_, _*_, _≤_}
 use mathlib.Core.Path.{_≡_, refl, ap, ap₂, _∙_}
-use mathlib.Core.List.{List}
+use mathlib.Core.List.{List, [], _∷_}
 use native.Mathlib.Omega.{arith}
 use lib.ListN.{length}
-use Rattle.tables.specs.Lines.{recorded, span}
-use Rattle.circuits.specs.Cells.{put}
-use Rattle.flattening.specs.Model.{words, pairAt}
-use Rattle.flattening.proofs.Placing.{rows-none, pairs-length, pair-more}
+use Rattle.flattening.specs.Placed.{putFlat}
+use Rattle.flattening.specs.Model.{rowsFor, pairAt}
+use Rattle.flattening.proofs.Placing.{flat-none, length-flat, pair-more}
 use Rattle.flat_cells.proofs.rows.pairs.Statement.{statement}
 use Rattle.flat_cells.proofs.rows.pairs.Tie as tie
-use Rattle.flat_cells.proofs.rows.pairs.Reads as reads
-use Rattle.flat_cells.proofs.rows.pairs.Lts as lts
-use Rattle.flat_cells.proofs.cells.source.Reads as source-reads
-use Rattle.records.proofs.put.Reads as put-reads
 
 abbrev Inv-loop : tie.InvT-loop
-Inv-loop kept target₀ p n o i s c x y j₀ target j = (j ≤ n) × ((length target ≡ length target₀) × (target ≡ put target₀ (span p) (words j (pairAt kept p o i s c x y))))
+Inv-loop kept target₀ p n o i s c x y j₀ target j = (j ≤ n) × ((length target ≡ length target₀) × (target ≡ putFlat target₀ p (rowsFor j (pairAt kept p o i s c x y))))
 
 abbrev μ-loop : tie.MeasureT-loop
 μ-loop kept target₀ p n o i s c x y j₀ target j = n - j
 
 loop-holds : tie.Need-loop-holds Inv-loop μ-loop
-loop-holds c = let a = c .before .args in (search needs, (refl, rows-none (a .target .now) (a .p) (pairAt (a .kept .now) (a .p) (a .o) (a .i) (a .s) (a .c) (a .x) (a .y))))
+loop-holds c = let a = c .before .args in (search needs, (refl, flat-none (a .target .now) (a .p)))
 
 mul-q : tie.Need-mul-q Inv-loop μ-loop
 mul-q c = search needs
@@ -71,9 +66,9 @@ loop-again c = let a = c .before .before .before .before .before .before .before
     let q = a .p + 2 * j in
     let e =
     c .before .before .put2 .ensures
-    ∙ ap₂ (λ (t r : List ℕ). recorded t (q + 1) r) (c .before .before .before .before .before .before .put .ensures ∙ ap₂ (λ (t r : List ℕ). recorded t q r) (c .before .before .before .before .before .before .before .before .before .before .before .before .before .before .loop .inv .1 .1) (c .before .before .before .before .before .before .before .before .before .before .before .of .ensures)) (c .before .before .before .before .before .before .before .before .of2 .ensures)
-    ∙ pair-more (a .target .now) (a .p) j H (a .o) (a .i) (a .s) (a .c) (a .x) (a .y) (c .before .before .before .before .before .before .before .before .before .before .before .before .source .result) (c .before .before .before .before .before .before .before .before .before .before .source2 .result) (c .before .before .before .before .before .before .before .before .before .source3 .result) (omega (arith, c .before .before .before .before .before .before .before .before .before .before .before .before .before .before .before .before .pre .1 .1 .1 .1 .1 .1)) (c .before .before .before .before .before .before .before .before .before .before .before .before .source .ensures) (c .before .before .before .before .before .before .before .before .before .before .source2 .ensures) (c .before .before .before .before .before .before .before .before .before .source3 .ensures) in
-    (omega arith, (ap length e ∙ pairs-length (a .target .now) (a .p) (a .n) (j + 1) H (a .o) (a .i) (a .s) (a .c) (a .x) (a .y) (c .before .before .before .before .before .before .before .before .before .before .before .before .before .before .before .before .pre .1 .1 .1 .1 .1 .1) (omega arith), e))
+    ∙ ap₂ (λ (t r : List ℕ). putFlat t (q + 1) (r ∷ [])) (c .before .before .before .before .before .before .put .ensures ∙ ap₂ (λ (t r : List ℕ). putFlat t q (r ∷ [])) (c .before .before .before .before .before .before .before .before .before .before .before .before .before .before .loop .inv .1 .1) (c .before .before .before .before .before .before .before .before .before .before .before .of .ensures)) (c .before .before .before .before .before .before .before .before .of2 .ensures)
+    ∙ pair-more (a .target .now) (a .p) j H (a .o) (a .i) (a .s) (a .c) (a .x) (a .y) (c .before .before .before .before .before .before .before .before .before .before .before .before .source .result) (c .before .before .before .before .before .before .before .before .before .before .source2 .result) (c .before .before .before .before .before .before .before .before .before .source3 .result) (c .before .before .before .before .before .before .before .before .before .before .before .before .source .ensures) (c .before .before .before .before .before .before .before .before .before .before .source2 .ensures) (c .before .before .before .before .before .before .before .before .before .source3 .ensures) in
+    (omega arith, (ap length e ∙ length-flat (a .target .now) (a .p) (rowsFor (j + 1) (pairAt H (a .p) (a .o) (a .i) (a .s) (a .c) (a .x) (a .y))), e))
 
 same-length : tie.Need-same-length Inv-loop μ-loop
 same-length c = search needs
@@ -81,7 +76,7 @@ same-length c = search needs
 returns : tie.Need-returns Inv-loop μ-loop
 returns c = let a = c .before .before .before .args in
     let q : c .before .loop .j ≡ a .n = omega arith in
-    c .before .loop .inv .1 .1 ∙ ap (λ (m : ℕ). put (a .target .now) (span (a .p)) (words m (pairAt (a .kept .now) (a .p) (a .o) (a .i) (a .s) (a .c) (a .x) (a .y)))) q
+    c .before .loop .inv .1 .1 ∙ ap (λ (m : ℕ). putFlat (a .target .now) (a .p) (rowsFor m (pairAt (a .kept .now) (a .p) (a .o) (a .i) (a .s) (a .c) (a .x) (a .y)))) q
 
 pub pairs-spec : {M : Type 1} → statement M
 pairs-spec =

@@ -2,28 +2,23 @@
 use borrow.Author.Needs.{needs}
 use Prim.Native.Nat.{ℕ, _+_, _-_, _≤_}
 use mathlib.Core.Path.{_≡_, refl, ap, ap₂, _∙_}
-use mathlib.Core.List.{List}
+use mathlib.Core.List.{List, [], _∷_}
 use native.Mathlib.Omega.{arith}
 use lib.ListN.{length}
-use Rattle.tables.specs.Lines.{recorded, span}
-use Rattle.circuits.specs.Cells.{put}
-use Rattle.flattening.specs.Model.{words, rowAt}
-use Rattle.flattening.proofs.Placing.{rows-none, rows-length, row-more}
+use Rattle.flattening.specs.Placed.{putFlat}
+use Rattle.flattening.specs.Model.{rowsFor, rowAt}
+use Rattle.flattening.proofs.Placing.{flat-none, length-flat, row-more}
 use Rattle.flat_cells.proofs.rows.rows.Statement.{statement}
 use Rattle.flat_cells.proofs.rows.rows.Tie as tie
-use Rattle.flat_cells.proofs.rows.rows.Reads as reads
-use Rattle.flat_cells.proofs.rows.rows.Lts as lts
-use Rattle.flat_cells.proofs.cells.source.Reads as source-reads
-use Rattle.records.proofs.put.Reads as put-reads
 
 abbrev Inv-loop : tie.InvT-loop
-Inv-loop kept target₀ p n k s x y z j₀ target j = (j ≤ n) × ((length target ≡ length target₀) × (target ≡ put target₀ (span p) (words j (rowAt kept k s x y z))))
+Inv-loop kept target₀ p n k s x y z j₀ target j = (j ≤ n) × ((length target ≡ length target₀) × (target ≡ putFlat target₀ p (rowsFor j (rowAt kept k s x y z))))
 
 abbrev μ-loop : tie.MeasureT-loop
 μ-loop kept target₀ p n k s x y z j₀ target j = n - j
 
 loop-holds : tie.Need-loop-holds Inv-loop μ-loop
-loop-holds c = let a = c .before .args in (search needs, (refl, rows-none (a .target .now) (a .p) (rowAt (a .kept .now) (a .k) (a .s) (a .x) (a .y) (a .z))))
+loop-holds c = let a = c .before .args in (search needs, (refl, flat-none (a .target .now) (a .p)))
 
 source-requires : tie.Need-source-requires Inv-loop μ-loop
 source-requires c κs = (c .before .before .before .pre .0, (c .before .before .before .pre .1 .0, omega (arith, c .before .before .before .pre .1 .1 .1 .1 .0)))
@@ -55,9 +50,9 @@ loop-again c = let a = c .before .before .before .before .before .before .before
     let j = c .before .before .before .before .before .before .before .before .before .loop .j in
     let e =
     c .before .before .put .ensures
-    ∙ ap₂ (λ (t r : List ℕ). recorded t (a .p + j) r) (c .before .before .before .before .before .before .before .before .before .loop .inv .1 .1) (c .before .before .before .before .of .ensures)
-    ∙ row-more (a .target .now) (a .p) j H (a .k) (a .s) (a .x) (a .y) (a .z) (c .before .before .before .before .before .before .before .source .result) (c .before .before .before .before .before .before .source2 .result) (c .before .before .before .before .before .source3 .result) (omega (arith, c .before .before .before .before .before .before .before .before .before .before .before .pre .1 .1 .1 .1 .1)) (c .before .before .before .before .before .before .before .source .ensures) (c .before .before .before .before .before .before .source2 .ensures) (c .before .before .before .before .before .source3 .ensures) in
-    (omega arith, (ap length e ∙ rows-length (a .target .now) (a .p) (a .n) (j + 1) H (a .k) (a .s) (a .x) (a .y) (a .z) (c .before .before .before .before .before .before .before .before .before .before .before .pre .1 .1 .1 .1 .1) (omega arith), e))
+    ∙ ap₂ (λ (t r : List ℕ). putFlat t (a .p + j) (r ∷ [])) (c .before .before .before .before .before .before .before .before .before .loop .inv .1 .1) (c .before .before .before .before .of .ensures)
+    ∙ row-more (a .target .now) (a .p) j H (a .k) (a .s) (a .x) (a .y) (a .z) (c .before .before .before .before .before .before .before .source .result) (c .before .before .before .before .before .before .source2 .result) (c .before .before .before .before .before .source3 .result) (c .before .before .before .before .before .before .before .source .ensures) (c .before .before .before .before .before .before .source2 .ensures) (c .before .before .before .before .before .source3 .ensures) in
+    (omega arith, (ap length e ∙ length-flat (a .target .now) (a .p) (rowsFor (j + 1) (rowAt H (a .k) (a .s) (a .x) (a .y) (a .z))), e))
 
 same-length : tie.Need-same-length Inv-loop μ-loop
 same-length c = search needs
@@ -65,7 +60,7 @@ same-length c = search needs
 returns : tie.Need-returns Inv-loop μ-loop
 returns c = let a = c .before .before .before .args in
     let q : c .before .loop .j ≡ a .n = omega arith in
-    c .before .loop .inv .1 .1 ∙ ap (λ (m : ℕ). put (a .target .now) (span (a .p)) (words m (rowAt (a .kept .now) (a .k) (a .s) (a .x) (a .y) (a .z)))) q
+    c .before .loop .inv .1 .1 ∙ ap (λ (m : ℕ). putFlat (a .target .now) (a .p) (rowsFor m (rowAt (a .kept .now) (a .k) (a .s) (a .x) (a .y) (a .z)))) q
 
 pub rows-spec : {M : Type 1} → statement M
 rows-spec =

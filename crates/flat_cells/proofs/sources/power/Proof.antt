@@ -1,11 +1,9 @@
 -- Nine powers. Assumes nothing.
 use Prim.Native.Nat.{ℕ, _^_}
 use mathlib.Core.Path.{sym, ap}
-use Rattle.flattening.proofs.Placing.{eight}
+use Rattle.flattening.proofs.Laying.{eight}
 use Rattle.flat_cells.proofs.sources.power.Statement.{statement}
 use Rattle.flat_cells.proofs.sources.power.Tie as tie
-use Rattle.flat_cells.proofs.sources.power.Reads as reads
-use Rattle.flat_cells.proofs.sources.power.Lts as lts
 
 returns : tie.Need-returns
 returns c = ap (λ (x : ℕ). 2 ^ x) (sym (c .match .keys1))

@@ -6,73 +6,69 @@ use lib.ListN.{length, length-replicate}
 use Rattle.flattening.proofs.Pass.{Going, shallow, going, record-fits, line-fits, rec-known, rec-deep, rec-fit, rec-next, rec-stopped, rec-done, same-kept, same-target}
 use Rattle.flatten.proofs.whole.all_lines.Statement.{statement}
 use Rattle.flatten.proofs.whole.all_lines.Tie as tie
-use Rattle.flatten.proofs.whole.all_lines.Reads as reads
-use Rattle.flatten.proofs.whole.all_lines.Lts as lts
-use Rattle.flat_counts.proofs.count_line.Reads as count-line-reads
-use Rattle.flat_dispatch.proofs.line.Reads as line-reads
-use Rattle.records.proofs.clear.Reads as clear-reads
-use Rattle.records.proofs.record.Reads as record-reads
-use Rattle.records.proofs.room_of.Reads as room-of-reads
 
 abbrev Inv-loop : tie.InvT-loop
-Inv-loop table count types kept₀ target₀ room i₀ p₀ kept target i p = Going table count types kept₀ target₀ i p kept target
+Inv-loop table count types kept₀ target₀ h room i₀ p₀ kept target i p = Going table count types kept₀ target₀ i p kept target
 
 abbrev μ-loop : tie.MeasureT-loop
-μ-loop table count types kept₀ target₀ room i₀ p₀ kept target i p = count - i
+μ-loop table count types kept₀ target₀ h room i₀ p₀ kept target i p = count - i
+
+step-requires : tie.Need-step-requires Inv-loop μ-loop
+step-requires c κs = tt
 
 room-of-requires : tie.Need-room-of-requires Inv-loop μ-loop
 room-of-requires c κs = tt
 
 loop-holds : tie.Need-loop-holds Inv-loop μ-loop
-loop-holds c = going (c .before .before .before .pre)
+loop-holds c = going (c .before .before .before .before .pre)
 
 record-requires : tie.Need-record-requires Inv-loop μ-loop
-record-requires c κs = record-fits (c .before .before .before .before .before .pre) (c .before .loop .i) (c .loop-test .taken)
+record-requires c κs = (record-fits (c .before .before .before .before .before .before .pre) (c .before .loop .i) (c .loop-test .taken), c .before .before .before .step .ensures)
 
 count-line-requires : tie.Need-count-line-requires Inv-loop μ-loop
-count-line-requires c κs = (rec-known (c .before .before .before .before .before .before .before .pre) (c .before .before .before .loop .inv) (c .before .before .loop-test .taken) _ (c .before .«record» .ensures), (shallow (c .before .before .before .before .before .before .before .pre), rec-deep (c .before .before .before .before .before .before .before .pre) (c .before .before .before .loop .inv) (c .before .before .loop-test .taken) _ (c .before .«record» .ensures)))
+count-line-requires c κs = (rec-known (c .before .before .before .before .before .before .before .before .pre) (c .before .before .before .loop .inv) (c .before .before .loop-test .taken) _ (c .before .«record» .ensures), (shallow (c .before .before .before .before .before .before .before .before .pre), rec-deep (c .before .before .before .before .before .before .before .before .pre) (c .before .before .before .loop .inv) (c .before .before .loop-test .taken) _ (c .before .«record» .ensures)))
 
 sub-if1 : tie.Need-sub-if1 Inv-loop μ-loop
-sub-if1 c = let s = c .before .before .before .before .loop .inv (c .before .before .before .before .before .before .before .before .pre) in omega (arith, s .fits, c .before .before .before .before .before .room-of .ensures)
+sub-if1 c = let s = c .before .before .before .before .loop .inv (c .before .before .before .before .before .before .before .before .before .pre) in omega (arith, s .fits, c .before .before .before .before .before .room-of .ensures)
 
 clear-requires : tie.Need-clear-requires Inv-loop μ-loop
 clear-requires c κs = tt
 
 same-length : tie.Need-same-length Inv-loop μ-loop
-same-length c = same-kept (c .before .before .before .before .before .before .before .before .before .before .before .before .before .pre) (c .before .before .before .before .before .before .before .before .before .loop .inv)
+same-length c = same-kept (c .before .before .before .before .before .before .before .before .before .before .before .before .before .before .pre) (c .before .before .before .before .before .before .before .before .before .loop .inv)
 
 same-length-2 : tie.Need-same-length-2 Inv-loop μ-loop
-same-length-2 c = ap length (c .before .before .clear .ensures) ∙ length-replicate {A = ℕ} _ 0 ∙ same-target (c .before .before .before .before .before .before .before .before .before .before .before .before .before .pre) (c .before .before .before .before .before .before .before .before .before .loop .inv)
+same-length-2 c = ap length (c .before .before .clear .ensures) ∙ length-replicate {A = ℕ} _ 0 ∙ same-target (c .before .before .before .before .before .before .before .before .before .before .before .before .before .before .pre) (c .before .before .before .before .before .before .before .before .before .loop .inv)
 
 returns : tie.Need-returns Inv-loop μ-loop
-returns c = rec-stopped (c .before .before .before .before .before .before .before .before .before .before .before .before .before .pre) (c .before .before .before .before .before .before .before .before .before .loop .inv) (c .before .before .before .before .before .before .before .before .loop-test .taken) _ (c .before .before .before .before .before .before .before .«record» .ensures) (c .before .before .before .before .before .count-line .result) (c .before .before .before .before .before .before .before .before .before .before .room-of .result) (c .before .before .before .before .before .count-line .ensures) (c .before .before .before .before .before .before .before .before .before .before .room-of .ensures) (c .before .before .before .before .if1 .taken) (c .before .before .clear .ensures)
+returns c = rec-stopped (c .before .before .before .before .before .before .before .before .before .before .before .before .before .before .pre) (c .before .before .before .before .before .before .before .before .before .loop .inv) (c .before .before .before .before .before .before .before .before .loop-test .taken) _ (c .before .before .before .before .before .before .before .«record» .ensures) (c .before .before .before .before .before .count-line .result) (c .before .before .before .before .before .before .before .before .before .before .room-of .result) (c .before .before .before .before .before .count-line .ensures) (c .before .before .before .before .before .before .before .before .before .before .room-of .ensures) (c .before .before .before .before .if1 .taken) (c .before .before .clear .ensures)
 
 line-requires : tie.Need-line-requires Inv-loop μ-loop
-line-requires c κs = (rec-known (c .before .before .before .before .before .before .before .before .before .before .before .pre) (c .before .before .before .before .before .before .before .loop .inv) (c .before .before .before .before .before .before .loop-test .taken) _ (c .before .before .before .before .before .«record» .ensures), rec-fit (c .before .before .before .before .before .before .before .before .before .before .before .pre) (c .before .before .before .before .before .before .before .loop .inv) (c .before .before .before .before .before .before .loop-test .taken) _ (c .before .before .before .before .before .«record» .ensures) (c .before .before .before .count-line .result) (c .before .before .before .before .before .before .before .before .room-of .result) (c .before .before .before .count-line .ensures) (c .before .before .before .before .before .before .before .before .room-of .ensures) (c .before .before .if1 .left))
+line-requires c κs = (rec-known (c .before .before .before .before .before .before .before .before .before .before .before .before .pre) (c .before .before .before .before .before .before .before .loop .inv) (c .before .before .before .before .before .before .loop-test .taken) _ (c .before .before .before .before .before .«record» .ensures), rec-fit (c .before .before .before .before .before .before .before .before .before .before .before .before .pre) (c .before .before .before .before .before .before .before .loop .inv) (c .before .before .before .before .before .before .loop-test .taken) _ (c .before .before .before .before .before .«record» .ensures) (c .before .before .before .count-line .result) (c .before .before .before .before .before .before .before .before .room-of .result) (c .before .before .before .count-line .ensures) (c .before .before .before .before .before .before .before .before .room-of .ensures) (c .before .before .if1 .left))
 
 add-n : tie.Need-add-n Inv-loop μ-loop
-add-n c = let w = line-fits (c .before .before .before .before .before .before .before .before .before .before .before .before .before .before .pre) (c .before .before .before .before .before .before .before .before .before .before .loop .i) (c .before .before .before .before .before .before .before .before .before .loop-test .taken) in omega (arith, w .0)
+add-n c = let w = line-fits (c .before .before .before .before .before .before .before .before .before .before .before .before .before .before .before .pre) (c .before .before .before .before .before .before .before .before .before .before .loop .i) (c .before .before .before .before .before .before .before .before .before .loop-test .taken) in omega (arith, w .0)
 
-mul-t17 : tie.Need-mul-t17 Inv-loop μ-loop
-mul-t17 c = let w = line-fits (c .before .before .before .before .before .before .before .before .before .before .before .before .before .before .pre) (c .before .before .before .before .before .before .before .before .before .before .loop .i) (c .before .before .before .before .before .before .before .before .before .loop-test .taken) in omega (arith, w .0)
+mul-t18 : tie.Need-mul-t18 Inv-loop μ-loop
+mul-t18 c = let w = line-fits (c .before .before .before .before .before .before .before .before .before .before .before .before .before .before .before .pre) (c .before .before .before .before .before .before .before .before .before .before .loop .i) (c .before .before .before .before .before .before .before .before .before .loop-test .taken) in omega (arith, w .0)
 
 slice-set-from-kept : tie.Need-slice-set-from-kept Inv-loop μ-loop
-slice-set-from-kept c = let w = line-fits (c .before .before .before .before .before .before .before .before .before .before .before .before .before .before .pre) (c .before .before .before .before .before .before .before .before .before .before .loop .i) (c .before .before .before .before .before .before .before .before .before .loop-test .taken) in let s = c .before .before .before .before .before .before .before .before .before .before .loop .inv (c .before .before .before .before .before .before .before .before .before .before .before .before .before .before .pre) in omega (arith, w .1, s .of-kept)
+slice-set-from-kept c = let w = line-fits (c .before .before .before .before .before .before .before .before .before .before .before .before .before .before .before .pre) (c .before .before .before .before .before .before .before .before .before .before .loop .i) (c .before .before .before .before .before .before .before .before .before .loop-test .taken) in let s = c .before .before .before .before .before .before .before .before .before .before .loop .inv (c .before .before .before .before .before .before .before .before .before .before .before .before .before .before .before .pre) in omega (arith, w .1, s .of-kept)
 
 loop-less : tie.Need-loop-less Inv-loop μ-loop
 loop-less c = omega (arith, c .before .before .before .before .before .before .before .before .before .loop-test .taken)
 
 loop-again : tie.Need-loop-again Inv-loop μ-loop
-loop-again c = rec-next (c .before .before .before .before .before .before .before .before .before .before .before .before .before .before .pre) (c .before .before .before .before .before .before .before .before .before .before .loop .inv) (c .before .before .before .before .before .before .before .before .before .loop-test .taken) _ (c .before .before .before .before .before .before .before .before .«record» .ensures) (c .before .before .before .before .before .before .count-line .result) (c .before .before .before .before .before .before .before .before .before .before .before .room-of .result) (c .before .before .before .before .before .before .count-line .ensures) (c .before .before .before .before .before .before .before .before .before .before .before .room-of .ensures) (c .before .before .before .before .before .if1 .left) (c .before .before .line .result) (c .before .before .line .ensures)
+loop-again c = rec-next (c .before .before .before .before .before .before .before .before .before .before .before .before .before .before .before .pre) (c .before .before .before .before .before .before .before .before .before .before .loop .inv) (c .before .before .before .before .before .before .before .before .before .loop-test .taken) _ (c .before .before .before .before .before .before .before .before .«record» .ensures) (c .before .before .before .before .before .before .count-line .result) (c .before .before .before .before .before .before .before .before .before .before .before .room-of .result) (c .before .before .before .before .before .before .count-line .ensures) (c .before .before .before .before .before .before .before .before .before .before .before .room-of .ensures) (c .before .before .before .before .before .if1 .left) (c .before .before .line .result) (c .before .before .line .ensures)
 
 same-length-3 : tie.Need-same-length-3 Inv-loop μ-loop
-same-length-3 c = same-kept (c .before .before .before .before .before .pre) (c .before .loop .inv)
+same-length-3 c = same-kept (c .before .before .before .before .before .before .pre) (c .before .loop .inv)
 
 same-length-4 : tie.Need-same-length-4 Inv-loop μ-loop
-same-length-4 c = same-target (c .before .before .before .before .before .pre) (c .before .loop .inv)
+same-length-4 c = same-target (c .before .before .before .before .before .before .pre) (c .before .loop .inv)
 
 returns-2 : tie.Need-returns-2 Inv-loop μ-loop
-returns-2 c = rec-done (c .before .before .before .before .before .pre) (c .before .loop .inv) (c .loop-test .left)
+returns-2 c = rec-done (c .before .before .before .before .before .before .pre) (c .before .loop .inv) (c .loop-test .left)
 
 pub all-lines-spec : {M : Type 1} → statement M
 all-lines-spec =
@@ -80,6 +76,7 @@ all-lines-spec =
     (tie.spec
     Inv-loop
     μ-loop
+    step-requires
     room-of-requires
     loop-holds
     record-requires
@@ -91,7 +88,7 @@ all-lines-spec =
     returns
     line-requires
     add-n
-    mul-t17
+    mul-t18
     slice-set-from-kept
     loop-less
     loop-again

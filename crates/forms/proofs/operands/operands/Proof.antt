@@ -8,7 +8,7 @@ use mathlib.Core.List.{List, _∷_}
 use lib.ListN.{length, take, drop, getD, set, length-set, length-drop}
 use lib.Seq.{getD-set-other, length-take-le}
 use lib.Arith.{lt-of-le-ne}
-use Rattle.tables.specs.Lines.{recordSize}
+use Rattle.tables.specs.Layout.{recordWords}
 use Rattle.texts.specs.Split.{tokens}
 use Rattle.texts.specs.Reading.{operands}
 use Rattle.texts.proofs.Places.{next-token, no-token}
@@ -17,7 +17,7 @@ use Rattle.forms.proofs.operands.operands.Statement.{statement}
 use Rattle.forms.proofs.operands.operands.Tie as tie
 
 abbrev Inv-loop : tie.InvT-loop
-Inv-loop l i f m j e rec₀ at₀ big₀ len₀ p₀ rec at big len p = (getD rec 0 0 ≡ getD rec₀ 0 0) × ((j ≤ p) × ((p ≤ e) × ((e ≡ j + m) × ((e ≤ recordSize) × ((at ≤ length l) × ((length rec ≡ recordSize) × (operands f m j rec₀ false 0 (tokens (drop i l)) ≡ operands f (e - p) p rec big len (tokens (drop at l)))))))))
+Inv-loop l i f m j e rec₀ at₀ big₀ len₀ p₀ rec at big len p = (getD rec 0 0 ≡ getD rec₀ 0 0) × ((j ≤ p) × ((p ≤ e) × ((e ≡ j + m) × ((e ≤ recordWords) × ((at ≤ length l) × ((length rec ≡ recordWords) × (operands f m j rec₀ false 0 (tokens (drop i l)) ≡ operands f (e - p) p rec big len (tokens (drop at l)))))))))
 
 abbrev μ-loop : tie.MeasureT-loop
 μ-loop l i f m j e rec₀ at₀ big₀ len₀ p₀ rec at big len p = e - p

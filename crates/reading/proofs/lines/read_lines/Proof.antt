@@ -1,11 +1,11 @@
 -- Line after line, reading stands where the definition does. Assumes nothing.
 use native.Mathlib.Nat.{le-trans}
-use Rattle.tables.specs.Tables.{room as roomOf}
+use Rattle.tables.specs.Layout.{room as roomOf}
 use mathlib.Core.Bool.{false}
 use Prim.Native.Nat.{ℕ, _-_}
 use native.Mathlib.Omega.{arith}
 use mathlib.Core.Path.{_≡_, refl, sym, ap, _∙_}
-use mathlib.Core.List.{List, [], _++_}
+use mathlib.Core.List.{List, [], _∷_, _++_}
 use lib.ListN.{length, replicate}
 use Rattle.tables.specs.Types.{Ctx, noCtx, grow}
 use Rattle.tables.specs.Lines.{lineOf}
@@ -14,7 +14,7 @@ use Rattle.reading.proofs.lines.read_lines.Statement.{statement}
 use Rattle.reading.proofs.lines.read_lines.Tie as tie
 
 abbrev Inv-loop : tie.InvT-loop
-Inv-loop text table₀ notes₀ room i₀ n₀ line₀ table notes i n line = (room ≡ roomOf (length table₀)) × ((e : List ℕ) × ((x : Ctx) × Reached text (length table₀) i n line table notes e x))
+Inv-loop text table₀ notes₀ room i₀ n₀ line₀ table notes i n line = (room ≡ roomOf false (length table₀)) × ((rs : List (List ℕ)) × ((x : Ctx) × Reached text (length table₀) i n line table notes rs x))
 
 abbrev μ-loop : tie.MeasureT-loop
 μ-loop text table₀ notes₀ room i₀ n₀ line₀ table notes i n line = length text - i
@@ -71,7 +71,7 @@ loop-less : tie.Need-loop-less Inv-loop μ-loop
 loop-less c = omega (arith, c .before .before .before .before .before .before .before .before .before .before .before .after .ensures, c .before .before .before .before .before .before .before .before .before .before .before .before .before .before .before .before .find-byte .ensures .0, c .before .before .before .before .before .before .before .before .before .before .before .before .before .before .before .before .before .loop-test .taken)
 
 loop-again : tie.Need-loop-again Inv-loop μ-loop
-loop-again c = (c .before .before .before .before .before .before .before .before .before .before .before .before .before .before .before .before .before .before .loop .inv .0, (c .before .before .before .before .before .before .before .before .before .before .before .before .before .before .before .before .before .before .loop .inv .1 .0 ++ c .before .before .before .before .before .before .before .before .before .before .before .before .read-line .result .rec, (grow false (c .before .before .before .before .before .before .before .before .before .before .before .before .before .before .before .before .before .before .loop .inv .1 .1 .0) (lineOf (c .before .before .before .before .before .before .before .before .before .before .before .before .read-line .result .rec)), at-got (c .before .before .before .before .before .before .before .before .before .before .before .before .before .before .before .before .before .before .loop .inv .1 .1 .1) (c .before .before .before .before .before .before .before .before .before .before .before .before .before .before .before .before .before .before .before .room-of .result) (c .before .before .before .before .before .before .before .before .before .before .before .before .before .before .before .before .find-byte .result) (c .before .before .before .before .before .before .before .before .before .before .before .before .before .before .before .cut .result) (c .before .before .before .before .before .before .before .before .before .before .before .after .result) (c .before .before .before .before .before .before .before .before .before .before .before .before .before .before .before .before .before .before .loop .inv .0) (c .before .before .before .before .before .before .before .before .before .before .before .before .before .before .before .before .before .loop-test .taken) (c .before .before .before .before .before .before .before .before .before .before .before .before .before .before .before .before .find-byte .ensures .1 .1) (c .before .before .before .before .before .before .before .before .before .before .before .before .before .before .before .cut .ensures .1 .1) (c .before .before .before .before .before .before .before .before .before .before .before .before .before .before .before .before .find-byte .ensures .1 .0) (c .before .before .before .before .before .before .before .before .before .before .before .after .ensures) (c .before .before .before .before .before .before .before .before .before .before .before .before .read-line .result) (c .before .before .before .before .before .before .before .before .before .before .before .before .read-line .ensures) (c .before .before .before .before .before .before .before .if2 .taken) (c .before .before .before .take .ensures .0) (c .before .before .before .take .ensures .1))))
+loop-again c = (c .before .before .before .before .before .before .before .before .before .before .before .before .before .before .before .before .before .before .loop .inv .0, (c .before .before .before .before .before .before .before .before .before .before .before .before .before .before .before .before .before .before .loop .inv .1 .0 ++ (c .before .before .before .before .before .before .before .before .before .before .before .before .read-line .result .rec ∷ []), (grow false (c .before .before .before .before .before .before .before .before .before .before .before .before .before .before .before .before .before .before .loop .inv .1 .1 .0) (lineOf (c .before .before .before .before .before .before .before .before .before .before .before .before .read-line .result .rec)), at-got (c .before .before .before .before .before .before .before .before .before .before .before .before .before .before .before .before .before .before .loop .inv .1 .1 .1) (c .before .before .before .before .before .before .before .before .before .before .before .before .before .before .before .before .before .before .before .room-of .result) (c .before .before .before .before .before .before .before .before .before .before .before .before .before .before .before .before .find-byte .result) (c .before .before .before .before .before .before .before .before .before .before .before .before .before .before .before .cut .result) (c .before .before .before .before .before .before .before .before .before .before .before .after .result) (c .before .before .before .before .before .before .before .before .before .before .before .before .before .before .before .before .before .before .loop .inv .0) (c .before .before .before .before .before .before .before .before .before .before .before .before .before .before .before .before .before .loop-test .taken) (c .before .before .before .before .before .before .before .before .before .before .before .before .before .before .before .before .find-byte .ensures .1 .1) (c .before .before .before .before .before .before .before .before .before .before .before .before .before .before .before .cut .ensures .1 .1) (c .before .before .before .before .before .before .before .before .before .before .before .before .before .before .before .before .find-byte .ensures .1 .0) (c .before .before .before .before .before .before .before .before .before .before .before .after .ensures) (c .before .before .before .before .before .before .before .before .before .before .before .before .read-line .result) (c .before .before .before .before .before .before .before .before .before .before .before .before .read-line .ensures) (c .before .before .before .before .before .before .before .if2 .taken) (c .before .before .before .take .ensures .0) (c .before .before .before .take .ensures .1))))
 
 loop-less-2 : tie.Need-loop-less-2 Inv-loop μ-loop
 loop-less-2 c = omega (arith, c .before .before .before .before .after .ensures, c .before .before .before .before .before .before .before .before .before .find-byte .ensures .0, c .before .before .before .before .before .before .before .before .before .before .loop-test .taken)
@@ -86,7 +86,7 @@ same-length-4 : tie.Need-same-length-4 Inv-loop μ-loop
 same-length-4 c = c .before .loop .inv .1 .1 .1 .ample ∙ sym (c .before .before .before .before .before .pre .1 .1 .0)
 
 returns-2 : tie.Need-returns-2 Inv-loop μ-loop
-returns-2 c = out-done (length (c .before .before .before .before .before .args .table .now)) (c .before .loop .n) (c .before .loop .inv .1 .0) (at-end (c .before .loop .inv .1 .1 .1) (c .loop-test .left)) (c .before .loop .inv .1 .1 .1 .filled)
+returns-2 c = out-done (length (c .before .before .before .before .before .args .table .now)) (c .before .loop .n) (c .before .loop .inv .1 .0) (c .before .loop .inv .1 .1 .1 .size) (at-end (c .before .loop .inv .1 .1 .1) (c .loop-test .left)) (c .before .loop .inv .1 .1 .1 .holds)
 
 pub read-lines-spec : {M : Type 1} → statement M
 read-lines-spec =

@@ -3,8 +3,6 @@ use lib.ListN.{List·getD-eq-default}
 use borrow.Author.Needs.{needs}
 use Rattle.uses.proofs.flags.at.Statement.{statement}
 use Rattle.uses.proofs.flags.at.Tie as tie
-use Rattle.uses.proofs.flags.at.Reads as reads
-use Rattle.uses.proofs.flags.at.Lts as lts
 
 shared-slice-read-result : tie.Need-shared-slice-read-result
 shared-slice-read-result c = search needs

@@ -3,8 +3,6 @@ use lib.Seq.{set-out}
 use borrow.Author.Needs.{needs}
 use Rattle.uses.proofs.flags.put.Statement.{statement}
 use Rattle.uses.proofs.flags.put.Tie as tie
-use Rattle.uses.proofs.flags.put.Reads as reads
-use Rattle.uses.proofs.flags.put.Lts as lts
 
 slice-write-xs : tie.Need-slice-write-xs
 slice-write-xs c = search needs

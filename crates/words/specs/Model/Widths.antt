@@ -4,9 +4,9 @@
 use Prim.Native.Nat.{ℕ, suc, _+_, _-_, _≤_, _<_}
 use mathlib.Core.Path.{_≡_}
 use Rattle.words.specs.Word.{Width}
-use Rattle.words.specs.Program.{Class, turn, wrap, meet, merge, test, plain, copy, compare, low, extend, cut, left, join, pick, clear}
+use Rattle.words.specs.Model.Classes.{Class, turn, wrap, meet, merge, test, plain, copy, compare, low, extend, cut, left, join, pick, clear}
 
-abbrev pub Widths : Class → ℕ → ℕ → ℕ → ℕ → Type 0
+abbrev pub Widths : Class → (u v b c : ℕ) → Type 0
 Widths turn u v b c = Unit {0}
 Widths wrap u v b c = u ≡ v
 Widths meet u v b c = u ≡ v
@@ -23,7 +23,7 @@ Widths join u v b c = u + v ≤ 64
 Widths pick u v b c = Width v
 Widths clear u v b c = Unit {0}
 
-abbrev pub widthOf : Class → ℕ → ℕ → ℕ → ℕ → ℕ
+abbrev pub widthOf : Class → (u v b c : ℕ) → ℕ
 widthOf turn u v b c = u
 widthOf wrap u v b c = u
 widthOf meet u v b c = u

@@ -1,0 +1,100 @@
+-- How records lie in a list of words: nothing outside this file and the laws of `proofs/Layouts` knows it. The flag p says that the list is a program's, else it is a
+-- circuit's. A record that is handed about is its five words: kind, sort line (in a program the width) and three operands. Records and words are counted from 0 here.
+-- Assumes nothing.
+use Prim.Native.Nat.{ℕ, zero, suc, _+_, _*_, _/_, _%_, min}
+use mathlib.Core.Bool.{Bool, true, false}
+use mathlib.Core.List.{List, [], _∷_, map}
+use lib.Dec.{eqb}
+use lib.ListN.{length, getD, set, replicate}
+use Rattle.tables.specs.Lines.{Line, lineOf}
+
+-- ---- sizes
+
+-- the words of a record that is handed about, and those that a record takes in a list
+abbrev pub recordWords : ℕ
+recordWords = 5
+
+abbrev pub recordSize : Bool → ℕ
+recordSize false = 5
+recordSize true = 5
+
+-- a list that holds no whole number of records is no table
+abbrev pub whole : Bool → ℕ → Bool
+whole p len = eqb (len % recordSize p) 0
+
+-- the records that a list of so many words holds, and those of them that may count
+abbrev pub held : Bool → ℕ → ℕ
+held p len = len / recordSize p
+
+abbrev pub room : Bool → ℕ → ℕ
+room p len = min (held p len) 16384
+
+-- ---- where the word j of the record i stands in a list of len words
+
+abbrev pub Placing : Type 0
+Placing = (len i j : ℕ) → ℕ
+
+-- one record behind the other
+abbrev pub byRow : Bool → Placing
+byRow p len i j = recordSize p * i + j
+
+-- the layout in use, and the number that a pass over a list of len words works out once for it
+abbrev pub placeAt : Bool → Placing
+placeAt = byRow
+
+abbrev pub stepOf : Bool → (len : ℕ) → ℕ
+stepOf p len = recordSize p
+
+-- ---- reading and writing, by a place function
+
+-- m words from the places at j, at (j + 1) and so on, and words that are set there
+abbrev pub wordsFrom : (ℕ → ℕ) → List ℕ → (j m : ℕ) → List ℕ
+wordsFrom at t j zero = []
+wordsFrom at t j (suc m) = getD t (at j) 0 ∷ wordsFrom at t (suc j) m
+
+abbrev pub setWords : (ℕ → ℕ) → List ℕ → (j : ℕ) → List ℕ → List ℕ
+setWords at t j [] = t
+setWords at t j (x ∷ xs) = setWords at (set t (at j) x) (suc j) xs
+
+-- the first m words of the record i, and of the n records from i on
+abbrev pub rowBy : Placing → (m : ℕ) → List ℕ → (i : ℕ) → List ℕ
+rowBy f m t i = wordsFrom (f (length t) i) t 0 m
+
+abbrev pub rowsFrom : Placing → (m : ℕ) → List ℕ → (i n : ℕ) → List (List ℕ)
+rowsFrom f m t i zero = []
+rowsFrom f m t i (suc n) = rowBy f m t i ∷ rowsFrom f m t (suc i) n
+
+-- the first words of the record i are set, and those of the records from i on
+abbrev pub rowSet : Placing → List ℕ → (i : ℕ) → List ℕ → List ℕ
+rowSet f t i x = setWords (f (length t) i) t 0 x
+
+abbrev pub putRows : Placing → List ℕ → (i : ℕ) → List (List ℕ) → List ℕ
+putRows f t i [] = t
+putRows f t i (x ∷ xs) = putRows f (rowSet f t i x) (suc i) xs
+
+-- zeros, with records put from the start
+unfoldable pub filledBy : Placing → (len : ℕ) → List (List ℕ) → List ℕ
+filledBy f len xs = putRows f (replicate len 0) 0 xs
+
+-- ---- what everything else speaks of
+
+-- the record i of a list, its first n records, and their lines
+abbrev pub recordAt : Bool → List ℕ → (i : ℕ) → List ℕ
+recordAt p t i = rowBy (placeAt p) recordWords t i
+
+abbrev pub recordsOf : Bool → List ℕ → (n : ℕ) → List (List ℕ)
+recordsOf p t n = rowsFrom (placeAt p) recordWords t 0 n
+
+abbrev pub linesOf : Bool → List ℕ → (n : ℕ) → List Line
+linesOf p t n = map lineOf (recordsOf p t n)
+
+-- a list with the record r at the place i, and with the records rs from i on
+abbrev pub recorded : Bool → List ℕ → (i : ℕ) → (r : List ℕ) → List ℕ
+recorded p t i r = rowSet (placeAt p) t i r
+
+abbrev pub putAll : Bool → List ℕ → (i : ℕ) → (rs : List (List ℕ)) → List ℕ
+putAll p t i rs = putRows (placeAt p) t i rs
+
+-- a list of len words that holds the records rs, and zeros past them
+abbrev pub filled : Bool → (len : ℕ) → (rs : List (List ℕ)) → List ℕ
+filled p len rs = filledBy (placeAt p) len rs
