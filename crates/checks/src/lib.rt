@@ -20,7 +20,7 @@ ghost use Rattle.tables.specs.Kinds.{rows};
 ghost use Rattle.tables.specs.Refusals.{numberOf};
 
 // The kind is one of a circuit, or of a program.
-pub fn known(program: bool, k: u64) -> bool
+fn known(program: bool, k: u64) -> bool
     ensures { λ r. ⌜ r ≡ knownOf program k ⌝ }
 {
     if !program {
@@ -39,7 +39,7 @@ pub fn known(program: bool, k: u64) -> bool
 }
 
 // A place that the line does not have holds 0.
-pub fn unused(k: u8, x: u64) -> bool
+fn unused(k: u8, x: u64) -> bool
     ensures { λ r. ⌜ r ≡ unusedOf k x ⌝ }
 {
     if k != 0 {
@@ -49,7 +49,7 @@ pub fn unused(k: u8, x: u64) -> bool
 }
 
 // The places that the row lacks hold 0.
-pub fn tidy(row: [u8; 16], rec: [u64; WORDS]) -> bool
+fn tidy(row: [u8; 16], rec: [u64; WORDS]) -> bool
     ensures { λ r. ⌜ r ≡ all (tidyOf row rec) ⌝ }
 {
     if !unused(row[11], rec[1]) {

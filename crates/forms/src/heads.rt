@@ -10,7 +10,7 @@ ghost use Prim.Native.Nat.{_≤_};
 ghost use lib.ListN.{drop};
 ghost use Rattle.texts.specs.Split.{tokens as tokensIn};
 ghost use Rattle.texts.specs.Reading.{wordIn, isId};
-ghost use Rattle.texts.specs.Stages.{asWord};
+ghost use Rattle.texts.specs.Model.Structs.{asWord};
 ghost use Rattle.texts.specs.Decimal.{decimal};
 
 // The line's word, from the place i on.

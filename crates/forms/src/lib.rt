@@ -75,7 +75,7 @@ pub fn sorted(row: [u8; 16]) -> usize
 }
 
 // A token is the word of a row.
-pub fn is_word(t: &[u8], r: [u8; 16]) -> bool
+fn is_word(t: &[u8], r: [u8; 16]) -> bool
     requires { ⌜ getD r 0 0 ≤ 10 ⌝ }
     ensures { λ x. ⌜ x ≡ same (now (t .entry)) (wordOf r) ⌝ }
 {
@@ -94,7 +94,7 @@ pub fn is_word(t: &[u8], r: [u8; 16]) -> bool
 }
 
 // The token is `sort`.
-pub fn is_sort(t: &[u8]) -> bool
+fn is_sort(t: &[u8]) -> bool
     ensures { λ r. ⌜ r ≡ same (now (t .entry)) sortWord ⌝ }
 {
     if t.len() != 4 {
@@ -113,7 +113,7 @@ pub fn is_sort(t: &[u8]) -> bool
 }
 
 // The first of n kinds from k on that has the word t, or 0.
-pub fn find_kind(t: &[u8], k: usize, n: usize) -> usize
+fn find_kind(t: &[u8], k: usize, n: usize) -> usize
     requires { ⌜ (1 ≤ k) × (k + n ≤ 56) ⌝ }
     ensures { λ r. ⌜ r ≡ findIn k n (now (t .entry)) ⌝ }
 {
@@ -131,7 +131,7 @@ pub fn find_kind(t: &[u8], k: usize, n: usize) -> usize
 }
 
 // The first of the forms 56 to 60 that has the word t, or 0.
-pub fn find_other(t: &[u8]) -> usize
+fn find_other(t: &[u8]) -> usize
     ensures { λ r. ⌜ r ≡ findIn 56 5 (now (t .entry)) ⌝ }
 {
     let rows = others();
@@ -147,7 +147,7 @@ pub fn find_other(t: &[u8]) -> usize
 }
 
 // The form other than a sort's that has the word t, or 0.
-pub fn find(t: &[u8]) -> usize
+fn find(t: &[u8]) -> usize
     ensures { λ r. ⌜ r ≡ findIn 3 58 (now (t .entry)) ⌝ }
 {
     let f = find_kind(t, 3, 53);

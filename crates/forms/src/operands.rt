@@ -7,14 +7,15 @@ ghost use mathlib.Core.Path.{_≡_};
 ghost use mathlib.Core.Bool.{false};
 ghost use Prim.Native.Nat.{_+_, _≤_};
 ghost use lib.ListN.{drop};
-ghost use Rattle.texts.specs.Reading.{numberAt, operands as operandsOf};
+ghost use Rattle.texts.specs.Reading.{numberAt};
+ghost use Rattle.texts.specs.Model.Stages.{operands as operandsOf};
 ghost use Rattle.tables.specs.Lines.{kindIn};
 ghost use Rattle.tables.specs.Layout.{recordWords};
 ghost use Rattle.texts.specs.Split.{tokens as tokensIn};
-ghost use Rattle.texts.specs.Stages.{asTook};
+ghost use Rattle.texts.specs.Model.Structs.{asTook};
 
 // The number that a token is, at the place j of a line of the form f.
-pub fn number(f: usize, j: usize, t: &[u8]) -> Num
+fn number(f: usize, j: usize, t: &[u8]) -> Num
     ensures { λ r. ⌜ r ≡ numberAt f j (now (t .entry)) ⌝ }
 {
     if j == 2 {

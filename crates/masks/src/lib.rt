@@ -6,7 +6,8 @@ ghost use mathlib.Core.Bool.{_&&_};
 ghost use Prim.Native.Nat.{_≤_, _<_};
 ghost use lib.ListN.{getD, set};
 ghost use Rattle.tables.specs.Lines.{kindIn};
-ghost use Rattle.programs.specs.Records.{numberAt, flagAt, looseIn, instruction as instructionOf, widthIn, numberIn, emitted as emittedOf, Taken};
+ghost use Rattle.programs.specs.Model.Kinds.{numberAt, flagAt};
+ghost use Rattle.programs.specs.Model.Records.{looseIn, instruction as instructionOf, widthIn, numberIn, emitted as emittedOf, Taken};
 ghost use Rattle.tables.specs.Pick.{pick};
 ghost use Rattle.words.specs.Word.{bit};
 
@@ -22,7 +23,7 @@ pub fn entry(xs: &[u64], a: u64) -> u64
 }
 
 // An entry of a list; a place past the end is left.
-pub fn store(xs: &mut [u64], n: u64, v: u64)
+fn store(xs: &mut [u64], n: u64, v: u64)
     ensures { λ _. ⌜ now (xs .exit) ≡ set (now (xs .entry)) n v ⌝ }
 {
     if n < xs.len() as u64 {
@@ -32,7 +33,7 @@ pub fn store(xs: &mut [u64], n: u64, v: u64)
 }
 
 // The record's line is loose.
-pub fn loose(rec: [u64; WORDS], wd: &[u64], lo: &[u8]) -> bool
+fn loose(rec: [u64; WORDS], wd: &[u64], lo: &[u8]) -> bool
     requires { ⌜ kindIn rec ≤ 55 ⌝ }
     ensures { λ r. ⌜ r ≡ looseIn (numberAt (now (wd .entry))) (flagAt (now (lo .entry))) rec ⌝ }
 {
@@ -48,7 +49,7 @@ pub fn loose(rec: [u64; WORDS], wd: &[u64], lo: &[u8]) -> bool
 }
 
 // An operand: a line's instruction number, or the number as it is written.
-pub fn operand(line: bool, num: &[u64], a: u64) -> u64
+fn operand(line: bool, num: &[u64], a: u64) -> u64
     ensures { λ r. ⌜ r ≡ pick line (getD (now (num .entry)) a 0) a ⌝ }
 {
     if line {
@@ -70,7 +71,7 @@ pub fn instruction(rec: [u64; WORDS], wd: &[u64], num: &[u64]) -> [u64; WORDS]
 }
 
 // The line's width.
-pub fn width(rec: [u64; WORDS], wd: &[u64]) -> u64
+fn width(rec: [u64; WORDS], wd: &[u64]) -> u64
     ensures { λ r. ⌜ r ≡ widthIn (numberAt (now (wd .entry))) rec ⌝ }
 {
     if rec[0] == 1 {
@@ -83,7 +84,7 @@ pub fn width(rec: [u64; WORDS], wd: &[u64]) -> u64
 }
 
 // The instruction that uses of the line take.
-pub fn number(k: u64, b: u64, mask: bool) -> u64
+fn number(k: u64, b: u64, mask: bool) -> u64
     requires { ⌜ b < 65536 ⌝ }
     ensures { λ r. ⌜ r ≡ numberIn k b mask ⌝ }
 {
@@ -110,7 +111,7 @@ pub fn emitted(k: u64, mask: bool) -> usize
 }
 
 // Both hold.
-pub fn both(a: bool, b: bool) -> bool
+fn both(a: bool, b: bool) -> bool
     ensures { λ r. ⌜ r ≡ (a && b) ⌝ }
 {
     if !a {
@@ -120,7 +121,7 @@ pub fn both(a: bool, b: bool) -> bool
 }
 
 // A mark for a flag.
-pub fn flag(t: bool) -> u8
+fn flag(t: bool) -> u8
     ensures { λ r. ⌜ r ≡ bit t ⌝ }
 {
     if t {

@@ -8,7 +8,7 @@ ghost use Rattle.texts.specs.Split.{tokens as tokensIn};
 ghost use Rattle.texts.specs.Naming.{only as onlyOf, lineName, leads as leadsBy, nameOf};
 
 // The place behind m tokens from the place i on, or the line's end where there are fewer.
-pub fn pass(l: &[u8], i: usize, m: usize) -> usize
+fn pass(l: &[u8], i: usize, m: usize) -> usize
     requires { do ⌜ i ≤ (← ⟦l.len()⟧) ⌝ }
     ensures { λ r. do ⌜ (r ≤ (← ⟦l.len()⟧ .entry)) × (tokensIn (drop r (now (l .entry))) ≡ drop m (tokensIn (drop i (now (l .entry))))) ⌝ }
 {
@@ -26,7 +26,7 @@ pub fn pass(l: &[u8], i: usize, m: usize) -> usize
 }
 
 // The token that stands alone from the place i on, or an empty part.
-pub fn only(l: &[u8], i: usize) -> Part
+fn only(l: &[u8], i: usize) -> Part
     requires { do ⌜ i ≤ (← ⟦l.len()⟧) ⌝ }
     ensures { λ r. do
       ⌜ (r .from ≤ r .to) × ((r .to ≤ (← ⟦l.len()⟧ .entry))
@@ -45,7 +45,7 @@ pub fn only(l: &[u8], i: usize) -> Part
 }
 
 // The name in a line.
-pub fn part(l: &[u8]) -> Part
+fn part(l: &[u8]) -> Part
     ensures { λ r. do
       ⌜ (r .from ≤ r .to) × ((r .to ≤ (← ⟦l.len()⟧ .entry))
           × (take (r .to - r .from) (drop (r .from) (now (l .entry))) ≡ lineName (tokensIn (now (l .entry))))) ⌝ }
@@ -63,7 +63,7 @@ pub fn part(l: &[u8]) -> Part
 }
 
 // The id of a line is the number n.
-pub fn leads(l: &[u8], n: u64) -> bool
+fn leads(l: &[u8], n: u64) -> bool
     ensures { λ r. ⌜ r ≡ leadsBy n (tokensIn (now (l .entry))) ⌝ }
 {
     let a = tokens::skip(l, 0);

@@ -9,7 +9,7 @@ ghost use Rattle.tables.specs.Tables.{checked};
 ghost use Rattle.tables.specs.Layout.{held, linesOf};
 ghost use Rattle.programs.specs.Translation.{hasArray};
 ghost use Rattle.programs.specs.Answers.{programOf};
-ghost use Rattle.programs.specs.Records.{Fresh, written, Prepared, Ready, programIn};
+ghost use Rattle.programs.specs.Model.Passes.{Fresh, written, Prepared, Ready, programIn};
 
 // A counted record is an array sort.
 pub fn has_array(table: &[u64], count: usize) -> bool
@@ -69,7 +69,7 @@ pub fn count_all(
 }
 
 // The e instructions of a line go to the target: the instruction, of width w, at the number b, and its mask.
-pub fn emit(e: usize, ins: [u64; WORDS], w: u64, b: usize, target: &mut [u64])
+fn emit(e: usize, ins: [u64; WORDS], w: u64, b: usize, target: &mut [u64])
     requires { ⌜ (1 ≤ b) × ((b < 65536) × ((e ≤ 2) × (b - 1 + e ≤ held true (length (now target))))) ⌝ }
     ensures { λ _. ⌜ now (target .exit) ≡ written e ins w b (now (target .entry)) ⌝ }
 {

@@ -21,8 +21,8 @@ use Rattle.tables.proofs.Facts.{OkOne, OkValue, OkExpr, Ok, AllOk}
 use Rattle.tables.proofs.Encoding.{lines-accepted}
 use Rattle.circuits.specs.Layout.{Layout, typeAt, typeOf, placeOf, lay, layAll}
 use Rattle.circuits.proofs.Placing.{lay-ctx}
-use Rattle.programs.specs.Uses.{looseLine, looseExpr, needed}
-use Rattle.programs.specs.Translation.{Info, info, noInfo, widthOf, numberOf, looseOf, put, renumbered, made, isArraySort, hasArray, translateFrom, translate}
+use Rattle.programs.specs.Uses.{looseLine, looseExpr, hasNeedingUse}
+use Rattle.programs.specs.Translation.{Info, info, noInfo, widthOf, numberOf, looseOf, withMask, renumbered, made, isArraySort, hasArray, translateFrom, translate}
 use Rattle.programs.proofs.Grew.{lines, grew-line, new-type}
 use Rattle.programs.proofs.Laid.{Laid, sort-of-width, Fresh, puts}
 use Rattle.programs.proofs.LaidLines.{and-never, typed, sorted, fresh-input, fresh-state, fresh-val, laid-line, lines-more, or-none, laid-start}
@@ -37,10 +37,10 @@ mask-ok L w b t e h k c i x =
     (record { kind = inr refl; sort = record { is = refl; flat = refl }; arg = record { is = c; flat = i }; rule = eq-eqb w (t .w) (sym x); spare₂ = refl; spare₃ = refl })
 
 module _ {Y Z : Layout} {J : List Info} (v : Laid Y Z J) (o : Once Y Z J) where
-  put-ok : (i l : Line) (b w : ℕ) (lo n : Bool) → b ≡ lines Z → Fresh Z i (typeOf false Y l) (placeOf Y l) w lo → Ok true (tyAt (Z .ctx)) (given (Z .ctx)) i → AllOk true (Z .ctx) (put b w i lo n .code)
-  put-ok i l b w false n e h k = (k, tt)
-  put-ok i l b w true false e h k = (k, tt)
-  put-ok i l b w true true e h k =
+  masked-ok : (i l : Line) (b w : ℕ) (lo n : Bool) → b ≡ lines Z → Fresh Z i (typeOf false Y l) (placeOf Y l) w lo → Ok true (tyAt (Z .ctx)) (given (Z .ctx)) i → AllOk true (Z .ctx) (withMask b w i lo n .code)
+  masked-ok i l b w false n e h k = (k, tt)
+  masked-ok i l b w true false e h k = (k, tt)
+  masked-ok i l b w true true e h k =
       (k, (mask-ok (tyAt (lay true Z i .ctx)) w b (typeOf false Y l) (new-type true (v .evenZ) i b e ∙ h .type) (h .least) (h .most) (h .class) (h .flat) (h .width), tt))
 
   -- ---- each line
@@ -74,12 +74,12 @@ module _ {Y Z : Layout} {J : List Info} (v : Laid Y Z J) (o : Once Y Z J) where
   line-ok N b (bitvec w) e k f = tt
   line-ok N b (array i j) e k f = tt
   line-ok N b (input s) e k f =
-      put-ok (input (widthOf J s)) (input s) b (widthOf J s) (looseLine (widthOf J s) 4 false false false) (N (length J)) e (fresh-input v s _ k) (rw (sorted v s (k .is)) k)
+      masked-ok (input (widthOf J s)) (input s) b (widthOf J s) (looseLine (widthOf J s) 4 false false false) (N (length J)) e (fresh-input v s _ k) (rw (sorted v s (k .is)) k)
   line-ok N b (state s) e k f =
-      put-ok (state (widthOf J s)) (state s) b (widthOf J s) (looseLine (widthOf J s) 5 false false false) (N (length J)) e (fresh-state v s _ (and-never (not (eqb (widthOf J s) 64))) k)
+      masked-ok (state (widthOf J s)) (state s) b (widthOf J s) (looseLine (widthOf J s) 5 false false false) (N (length J)) e (fresh-state v s _ (and-never (not (eqb (widthOf J s) 64))) k)
       (rw (sorted v s (k .is)) k)
   line-ok N b (val s x) e k f =
-      put-ok (val (widthOf J s) (renumbered (numberOf J) x)) (val s x) b (widthOf J s) (looseExpr (looseOf J) (widthOf J s) x) (N (length J)) e (fresh-val v s x _ k) (val-ok s x k)
+      masked-ok (val (widthOf J s) (renumbered (numberOf J) x)) (val s x) b (widthOf J s) (looseExpr (looseOf J) (widthOf J s) x) (N (length J)) e (fresh-val v s x _ k) (val-ok s x k)
   line-ok N b (give m s q x) e k f = (give-ok m s q x k, tt)
   line-ok N b (mark m a) e k f = (rw (typed v a (k .word .is)) k, tt)
   line-ok N b (output a) e k f = (rw (typed v a (k .is)) k, tt)
@@ -87,22 +87,22 @@ module _ {Y Z : Layout} {J : List Info} (v : Laid Y Z J) (o : Once Y Z J) where
 
   -- ---- numbers rise, and states are given once
 
-  put-given : (m : Bool) (b w : ℕ) (i : Line) (lo n : Bool) → givenBy m (lay true Z i .ctx) ≡ givenBy m (Z .ctx) → givenBy m (layAll true Z (put b w i lo n .code) .ctx) ≡ givenBy m (Z .ctx)
-  put-given m b w i false n e = e
-  put-given m b w i true false e = e
-  put-given true b w i true true e = e
-  put-given false b w i true true e = e
+  mask-given : (m : Bool) (b w : ℕ) (i : Line) (lo n : Bool) → givenBy m (lay true Z i .ctx) ≡ givenBy m (Z .ctx) → givenBy m (layAll true Z (withMask b w i lo n .code) .ctx) ≡ givenBy m (Z .ctx)
+  mask-given m b w i false n e = e
+  mask-given m b w i true false e = e
+  mask-given true b w i true true e = e
+  mask-given false b w i true true e = e
 
-  put-number : (b w : ℕ) (i : Line) (lo n : Bool) → b ≤ put b w i lo n .info .num
-  put-number b w i false n = le-refl b
-  put-number b w i true false = le-refl b
-  put-number b w i true true = omega arith
+  mask-number : (b w : ℕ) (i : Line) (lo n : Bool) → b ≤ withMask b w i lo n .info .num
+  mask-number b w i false n = le-refl b
+  mask-number b w i true false = le-refl b
+  mask-number b w i true true = omega arith
 
-  once-put : (l i : Line) (b w : ℕ) (lo n : Bool) → b ≡ lines Z → Fresh Z i (typeOf false Y l) (placeOf Y l) w lo
+  once-masked : (l i : Line) (b w : ℕ) (lo n : Bool) → b ≡ lines Z → Fresh Z i (typeOf false Y l) (placeOf Y l) w lo
       → ((m : Bool) → givenBy m (lay false Y l .ctx) ≡ givenBy m (Y .ctx)) → ((m : Bool) → givenBy m (lay true Z i .ctx) ≡ givenBy m (Z .ctx))
-      → Once (lay false Y l) (layAll true Z (put b w i lo n .code)) (J ++ (put b w i lo n .info ∷ []))
-  once-put l i b w lo n e h gy gz =
-      once-quiet v o l (put b w i lo n .info) (λ c. omega (arith, put-number b w i lo n)) gy (λ m. put-given m b w i lo n (gz m)) (puts (v .evenZ) b e lo n h .grew .longer)
+      → Once (lay false Y l) (layAll true Z (withMask b w i lo n .code)) (J ++ (withMask b w i lo n .info ∷ []))
+  once-masked l i b w lo n e h gy gz =
+      once-quiet v o l (withMask b w i lo n .info) (λ c. omega (arith, mask-number b w i lo n)) gy (λ m. mask-given m b w i lo n (gz m)) (puts (v .evenZ) b e lo n h .grew .longer)
 
   unchanged : (p : Bool) (X : Layout) (l : Line) → (lay p X l .ctx .inits ≡ X .ctx .inits) → (lay p X l .ctx .nexts ≡ X .ctx .nexts) → (m : Bool) → givenBy m (lay p X l .ctx) ≡ givenBy m (X .ctx)
   unchanged p X l e f true = e
@@ -113,13 +113,13 @@ module _ {Y Z : Layout} {J : List Info} (v : Laid Y Z J) (o : Once Y Z J) where
   once-line N b (bitvec w) e k f = once-quiet v o (bitvec w) (info w 0 false) (λ c. absurd (omega arith)) (unchanged false Y (bitvec w) refl refl) (λ m. refl) (le-refl (lines Z))
   once-line N b (array i j) e k f = absurd (no-yes (sym f))
   once-line N b (input s) e k f =
-      once-put (input s) (input (widthOf J s)) b (widthOf J s) (looseLine (widthOf J s) 4 false false false) (N (length J)) e (fresh-input v s _ k) (unchanged false Y (input s) refl refl)
+      once-masked (input s) (input (widthOf J s)) b (widthOf J s) (looseLine (widthOf J s) 4 false false false) (N (length J)) e (fresh-input v s _ k) (unchanged false Y (input s) refl refl)
       (unchanged true Z (input (widthOf J s)) refl refl)
   once-line N b (state s) e k f =
-      once-put (state s) (state (widthOf J s)) b (widthOf J s) (looseLine (widthOf J s) 5 false false false) (N (length J)) e (fresh-state v s _ (and-never (not (eqb (widthOf J s) 64))) k)
+      once-masked (state s) (state (widthOf J s)) b (widthOf J s) (looseLine (widthOf J s) 5 false false false) (N (length J)) e (fresh-state v s _ (and-never (not (eqb (widthOf J s) 64))) k)
       (unchanged false Y (state s) refl refl) (unchanged true Z (state (widthOf J s)) refl refl)
   once-line N b (val s x) e k f =
-      once-put (val s x) (val (widthOf J s) (renumbered (numberOf J) x)) b (widthOf J s) (looseExpr (looseOf J) (widthOf J s) x) (N (length J)) e (fresh-val v s x _ k)
+      once-masked (val s x) (val (widthOf J s) (renumbered (numberOf J) x)) b (widthOf J s) (looseExpr (looseOf J) (widthOf J s) x) (N (length J)) e (fresh-val v s x _ k)
       (unchanged false Y (val s x) refl refl) (unchanged true Z (val (widthOf J s) (renumbered (numberOf J) x)) refl refl)
   once-line N b (give m s q x) e k f = once-give v o m s q x (widthOf J s) (numberOf J x) (k .state)
   once-line N b (mark m a) e k f =
@@ -150,7 +150,7 @@ all-ok {Y} {Z} {J} N b (l ∷ ls) v o e k f =
 -- the program of an accepted flat circuit keeps the rules for programs
 pub translated-ok : (F : List Line) → AllOk false noCtx F → hasArray F ≡ false → AllOk true noCtx (translate F)
 unfolding translate
-translated-ok F k f = all-ok (needed F) 1 F laid-start once-start refl k f
+translated-ok F k f = all-ok (hasNeedingUse F) 1 F laid-start once-start refl k f
 
 -- so neither 1 nor 20 holds of a list that holds its records, with their count
 pub program-accepted : (F : List Line) (len : ℕ) → AllOk false noCtx F → hasArray F ≡ false → length (translate F) ≤ held true len → length (translate F) ≤ 16384 → whole true len ≡ true

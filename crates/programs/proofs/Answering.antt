@@ -18,7 +18,7 @@ use Rattle.tables.specs.Answers.{Outcome, told}
 use Rattle.tables.proofs.Outcomes.{told-as}
 use Rattle.programs.specs.Translation.{hasArray}
 use Rattle.programs.specs.Answers.{programOf, fitting, flatOnly, answerOf, translated, targetLeft, translates}
-use Rattle.programs.specs.Records.{programIn, outcomeFor, makes}
+use Rattle.programs.specs.Model.Passes.{programIn, outcomeFor, makes}
 use Rattle.programs.proofs.Keeping.{zeros-count}
 
 -- zeros, by their own number

@@ -9,10 +9,12 @@ use Rattle.tables.specs.declared.Checked.the-variants.{Accepted}
 use Rattle.tables.specs.Lines.{Line, wordsOf, kindIn}
 use Rattle.tables.specs.Layout.{recordAt, linesOf}
 use Rattle.tables.specs.Tables.{checked}
-use Rattle.programs.specs.Uses.{needed}
+use Rattle.programs.specs.Uses.{hasNeedingUse}
 use Rattle.programs.specs.Translation.{Info, noInfo, widthOf, numberOf, made, translateFrom, translate}
 use Rattle.programs.specs.Answers.{programOf}
-use Rattle.programs.specs.Records.{numberAt, flagAt, emitted, Taken, Fresh, Prepared}
+use Rattle.programs.specs.Model.Kinds.{numberAt, flagAt}
+use Rattle.programs.specs.Model.Records.{emitted, Taken}
+use Rattle.programs.specs.Model.Passes.{Fresh, Prepared}
 use Rattle.programs.proofs.Modelled.{Agrees, agrees}
 use Rattle.programs.proofs.Keeping.{Keeps, keeps-start, keeps-more, line-at, few-here, no-line, few-emitted}
 
@@ -27,7 +29,7 @@ pub record Walk (z : ℕ) (t : List ℕ) (n i b : ℕ) (wd num lo : List ℕ) : 
   -- the instructions so far
   pub out : List Line
   pub place : length out + 1 ≡ b
-  pub all : out ++ translateFrom (needed (linesOf false t n)) J b (drop i (linesOf false t n)) ≡ programOf t n
+  pub all : out ++ translateFrom (hasNeedingUse (linesOf false t n)) J b (drop i (linesOf false t n)) ≡ programOf t n
 
 start-lists : {n : ℕ} {wd num lo : List ℕ} → Fresh n wd num lo → Keeps (length wd) (noInfo ∷ []) wd num lo
 start-lists {n} {wd} {num} {lo} f =
@@ -47,7 +49,7 @@ start-out t n f = refl
 
 module _ {z : ℕ} {t : List ℕ} {n i b : ℕ} {wd num lo : List ℕ} (K : Walk z t n i b wd num lo) (e : checked false t n ≡ Accepted) where
   abbrev N : ℕ → Bool
-  N = needed (linesOf false t n)
+  N = hasNeedingUse (linesOf false t n)
 
   -- the line at hand, as the code finds it
   module _ (l : i < n) (nd : Bool) (en : nd ≡ N (i + 1)) where
@@ -109,11 +111,11 @@ module _ {z : ℕ} {t : List ℕ} {n i b : ℕ} {wd num lo : List ℕ} (K : Walk
 -- past the last record
 module _ {z : ℕ} {t : List ℕ} {n i b : ℕ} {wd num lo : List ℕ} (K : Walk z t n i b wd num lo) (l : n ≤ i) where
   pub walk-out : K .out ≡ programOf t n
-  walk-out = sym (append-nil (K .out)) ∙ ap (λ (x : List Line). K .out ++ translateFrom (needed (linesOf false t n)) (K .J) b x) (sym (no-line t n i l)) ∙ K .all
+  walk-out = sym (append-nil (K .out)) ∙ ap (λ (x : List Line). K .out ++ translateFrom (hasNeedingUse (linesOf false t n)) (K .J) b x) (sym (no-line t n i l)) ∙ K .all
 
   pub walk-end : b ≡ length (programOf t n) + 1
   walk-end = sym (K .place) ∙ ap (λ (x : List Line). length x + 1) walk-out
 
 -- the mark of the line at hand
-pub need-here : {t : List ℕ} {n : ℕ} {ms : List ℕ} → Prepared t n ms → (i : ℕ) → i < n → {nd : Bool} → nd ≡ flagAt ms (i + 1) → nd ≡ needed (linesOf false t n) (i + 1)
+pub need-here : {t : List ℕ} {n : ℕ} {ms : List ℕ} → Prepared t n ms → (i : ℕ) → i < n → {nd : Bool} → nd ≡ flagAt ms (i + 1) → nd ≡ hasNeedingUse (linesOf false t n) (i + 1)
 need-here {t} {n} P i l e = e ∙ P .marked .at (i + 1) (omega (arith, few-here t n i (P .accepted) l))

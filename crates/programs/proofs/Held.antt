@@ -15,7 +15,7 @@ use Rattle.tables.specs.Lines.{Line}
 use Rattle.tables.specs.Types.{noTy}
 use Rattle.circuits.specs.Layout.{Place, typeAt, placeAt, typeOf, placeOf, lay}
 use Rattle.circuits.specs.Meaning.{Acc, cellsAt, wordAt, widthAt, cellsOf, stsOf, sigsOf, evalLine, evalAll}
-use Rattle.programs.specs.Translation.{Info, noInfo, infoAt, maskOf, put}
+use Rattle.programs.specs.Translation.{Info, noInfo, infoAt, maskOf, withMask}
 use Rattle.programs.proofs.Lists.{length-snoc, below-snoc, snoc₃}
 use Rattle.programs.proofs.Grew.{lines, Even, Grew, grew-more, line-more, even-line, grew-line, new-type, new-place}
 use Rattle.programs.proofs.Laid.{Laid, Fresh}
@@ -137,7 +137,7 @@ module _ (g : Bool) (σ ι : List ℕ) where
         })
 
     pub holds : (lo n : Bool) → Fresh (B .lay) i t (placeOf (A .lay) l) w lo → New A B i l w lo → (t .cls ≡ 4 → W (placeOf (B .lay) i .at) ≡ w)
-        → Holds W B (evalAll true g σ ι B (put b w i lo n .code)) i n t (cellsOf false g σ ι A l) (put b w i lo n .info)
+        → Holds W B (evalAll true g σ ι B (withMask b w i lo n .code)) i n t (cellsOf false g σ ι A l) (withMask b w i lo n .info)
     holds false n k h st =
         record { more = more-line u i; full = full-line u i true; sts = refl; sigs = refl; word = first-word n false k h (clean n) st _ refl refl }
       where

@@ -25,10 +25,18 @@ use Rattle.tables.proofs.Facts.{Ok, OkExpr, AllOk}
 use Rattle.tables.proofs.Sound.{accepted-lawful, accepted-ok}
 use Rattle.circuits.proofs.Walked.{line-here}
 use Rattle.programs.specs.Translation.{Info, noInfo, infoAt, widthOf, numberOf, looseOf}
-use Rattle.programs.specs.Records.{numberAt, flagAt, looseIn, widthIn, numberIn, emitted, Taken, Ample, Fresh}
+use Rattle.programs.specs.Model.Kinds.{numberAt, flagAt}
+use Rattle.programs.specs.Model.Records.{looseIn, widthIn, numberIn, emitted, Taken}
+use Rattle.programs.specs.Model.Passes.{Fresh}
 use Rattle.programs.proofs.Modelled.{Kinded, KindedExpr, infoIn}
 
 -- ---- the lists
+
+-- they have as many entries
+pub record Ample (size : ℕ) (wd num lo : List ℕ) : Type 0 where
+  pub of-wd : length wd ≡ size
+  pub of-num : length num ≡ size
+  pub of-lo : length lo ≡ size
 
 pub record Keeps (z : ℕ) (J : List Info) (wd num lo : List ℕ) : Type 0 where
   pub width : (a : ℕ) → numberAt wd a ≡ widthOf J a

@@ -16,7 +16,7 @@ use Rattle.tables.specs.Types.{ty, noTy, sortAt, tyAt, given}
 use Rattle.tables.proofs.Facts.{Ok}
 use Rattle.tables.proofs.Wide.{AllWide, grow-wide}
 use Rattle.circuits.specs.Layout.{Place, Layout, noPlace, typeAt, placeAt, typeOf, placeOf, lay, layAll}
-use Rattle.programs.specs.Translation.{Info, info, noInfo, infoAt, maskOf, put}
+use Rattle.programs.specs.Translation.{Info, info, noInfo, infoAt, maskOf, withMask}
 use Rattle.programs.proofs.Lists.{length-snoc, snoc₃}
 use Rattle.programs.proofs.Grew.{lines, Even, Grew, grew-more, line-more, even-line, grew-line, new-type, new-place}
 
@@ -140,7 +140,7 @@ pub record Puts (Z Z′ : Layout) (l : Line) (t : Ty) (q : Place) (f : Info) : T
   pub reg : Reg Z′ t q f
 
 pub puts : {Z : Layout} {l : Line} {t : Ty} {q : Place} {w : ℕ} (ev : Even Z) (b : ℕ) → b ≡ lines Z → (lo n : Bool) → Fresh Z l t q w lo
-    → Puts Z (layAll true Z (put b w l lo n .code)) l t q (put b w l lo n .info)
+    → Puts Z (layAll true Z (withMask b w l lo n .code)) l t q (withMask b w l lo n .info)
 puts {l = l} ev b e false n h = record { grew = grew-line true ev l; even = even-line true ev l; counts = (refl, refl, refl); reg = fresh-reg ev h b e _ refl }
 puts {l = l} ev b e true false h = record { grew = grew-line true ev l; even = even-line true ev l; counts = (refl, refl, refl); reg = fresh-reg ev h b e _ refl }
 puts {l = l} {w = w} ev b e true true h =

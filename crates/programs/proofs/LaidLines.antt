@@ -14,8 +14,8 @@ use Rattle.tables.proofs.Kept.{no-yes}
 use Rattle.tables.proofs.Facts.{Ok, OkExpr, AllOk}
 use Rattle.tables.proofs.Values.{val-iw, val-w, val-value}
 use Rattle.circuits.specs.Layout.{Layout, typeAt, placeAt, typeOf, placeOf, size, lay, layAll, noLayout, layout}
-use Rattle.programs.specs.Uses.{looseLine, looseExpr, needed}
-use Rattle.programs.specs.Translation.{Info, info, noInfo, infoAt, widthOf, numberOf, looseOf, put, renumbered, made, isArraySort, hasArray, translateFrom, translate}
+use Rattle.programs.specs.Uses.{looseLine, looseExpr, hasNeedingUse}
+use Rattle.programs.specs.Translation.{Info, info, noInfo, infoAt, widthOf, numberOf, looseOf, withMask, renumbered, made, isArraySort, hasArray, translateFrom, translate}
 use Rattle.programs.proofs.Grew.{lines, Even, grew-none, line-more, even-line, grew-line}
 use Rattle.programs.proofs.Laid.{Rel, rel-none, Laid, laid-end, sort-of-width, Fresh, puts}
 
@@ -132,10 +132,10 @@ module _ {Y Z : Layout} {J : List Info} (v : Laid Y Z J) where
 
   value-line : (l i : Line) (b w : ℕ) (lo n : Bool) → b ≡ lines Z → Ok false (tyAt (Y .ctx)) (given (Y .ctx)) l → Fresh Z i (typeOf false Y l) (placeOf Y l) w lo
       → lay true Z i .counts .states ≡ lay false Y l .counts .states → lay true Z i .counts .inputs ≡ lay false Y l .counts .inputs → lay true Z i .counts .signals ≡ lay false Y l .counts .signals
-      → Laid (lay false Y l) (layAll true Z (put b w i lo n .code)) (J ++ (put b w i lo n .info ∷ []))
+      → Laid (lay false Y l) (layAll true Z (withMask b w i lo n .code)) (J ++ (withMask b w i lo n .info ∷ []))
   value-line l i b w lo n e k h es ei eg =
       let p = puts (v .evenZ) b e lo n h in
-      laid-end l (put b w i lo n .info) v k (p .grew) (p .even) (p .counts .0 ∙ es) (p .counts .1 ∙ ei) (p .counts .2 ∙ eg)
+      laid-end l (withMask b w i lo n .info) v k (p .grew) (p .even) (p .counts .0 ∙ es) (p .counts .1 ∙ ei) (p .counts .2 ∙ eg)
       (record { flat = h .flat; sort = λ c. absurd (omega (arith, h .class)); value = λ c. p .reg })
 
   quiet-line : (l i : Line) → Ok false (tyAt (Y .ctx)) (given (Y .ctx)) l → typeOf false Y l ≡ noTy
@@ -212,4 +212,4 @@ laid-start =
 -- a flat circuit and its program have as many state words, inputs and signals
 pub same-counts : (F : List Line) → AllOk false noCtx F → hasArray F ≡ false → SameCounts (layout false F) (layout true (translate F))
 unfolding layout translate
-same-counts F k f = laid-all (needed F) 1 F laid-start refl k f
+same-counts F k f = laid-all (hasNeedingUse F) 1 F laid-start refl k f

@@ -17,9 +17,10 @@ use Rattle.tables.specs.Tables.{checked}
 use Rattle.tables.proofs.Laws.{or-true, or-false}
 use Rattle.tables.proofs.Checking.{zeros-at}
 use Rattle.tables.proofs.Showing.{by-place}
-use Rattle.programs.specs.Uses.{when, needs, needed}
+use Rattle.programs.specs.Uses.{when, needs, hasNeedingUse}
 use Rattle.programs.specs.Translation.{isArraySort, hasArray}
-use Rattle.programs.specs.Records.{secondLine, usesOf, markIf, marked, flagAt, Marked}
+use Rattle.programs.specs.Model.Kinds.{secondLine, usesOf, markIf, marked, flagAt}
+use Rattle.programs.specs.Model.Passes.{Marked}
 use Rattle.programs.proofs.Reading.{need-row₁, need-row₂}
 use Rattle.programs.proofs.Modelled.{needs-words, array-words}
 use Rattle.programs.proofs.Keeping.{zeros-count, line-at, no-line}
@@ -67,14 +68,14 @@ marked-law l r ms e k j h =
 pub record Marking (t : List ℕ) (n i : ℕ) (ms : List ℕ) : Type 0 where
   pub size : length ms ≡ 16385
   pub most : i ≤ n
-  pub at : (j : ℕ) → j < 16385 → (flagAt ms j || needed (drop i (linesOf false t n)) j) ≡ needed (linesOf false t n) j
+  pub at : (j : ℕ) → j < 16385 → (flagAt ms j || hasNeedingUse (drop i (linesOf false t n)) j) ≡ hasNeedingUse (linesOf false t n) j
 
 pub marking-start : (t : List ℕ) (n : ℕ) {ms : List ℕ} → ms ≡ replicate 16385 0 → Marking t n 0 ms
 marking-start t n e =
     record {
       size = zeros-count 16385 e;
       most = omega arith;
-      at = λ j h. ap (λ (x : List ℕ). flagAt x j || needed (linesOf false t n) j) e ∙ ap (λ (x : ℕ). eqb x 1 || needed (linesOf false t n) j) (zeros-at 16385 j);
+      at = λ j h. ap (λ (x : List ℕ). flagAt x j || hasNeedingUse (linesOf false t n) j) e ∙ ap (λ (x : ℕ). eqb x 1 || hasNeedingUse (linesOf false t n) j) (zeros-at 16385 j);
     }
 
 module _ {t : List ℕ} {n i : ℕ} {ms : List ℕ} (M : Marking t n i ms) (e : checked false t n ≡ Accepted) where
@@ -89,15 +90,15 @@ module _ {t : List ℕ} {n i : ℕ} {ms : List ℕ} (M : Marking t n i ms) (e : 
         size = ap length p ∙ mark-length (getD (usesOf (kindIn (recordAt false t i))) 1 0) (secondIn (recordAt false t i)) (markIf (getD (usesOf (kindIn (recordAt false t i))) 0 0) (firstIn (recordAt false t i)) ms) ∙ mark-length (getD (usesOf (kindIn (recordAt false t i))) 0 0) (firstIn (recordAt false t i)) ms ∙ M .size;
         most = omega arith;
         at = λ j h.
-            ap (λ (y : List ℕ). flagAt y j || needed R j) p
-            ∙ ap (λ (b : Bool). b || needed R j) (marked-law (x .line) (recordAt false t i) ms w (x .kind) j (omega (arith, M .size)))
-            ∙ or-assoc (flagAt ms j) (among j (needs (x .line))) (needed R j)
-            ∙ sym (ap (λ (y : List Line). flagAt ms j || needed y j) (x .rest))
+            ap (λ (y : List ℕ). flagAt y j || hasNeedingUse R j) p
+            ∙ ap (λ (b : Bool). b || hasNeedingUse R j) (marked-law (x .line) (recordAt false t i) ms w (x .kind) j (omega (arith, M .size)))
+            ∙ or-assoc (flagAt ms j) (among j (needs (x .line))) (hasNeedingUse R j)
+            ∙ sym (ap (λ (y : List Line). flagAt ms j || hasNeedingUse y j) (x .rest))
             ∙ M .at j h;
       }
 
 pub marking-end : {t : List ℕ} {n i : ℕ} {ms : List ℕ} → Marking t n i ms → n ≤ i → Marked (linesOf false t n) ms
-marking-end {t} {n} {i} {ms} M l = record { size = M .size; at = λ j h. sym (or-false (flagAt ms j)) ∙ sym (ap (λ (y : List Line). flagAt ms j || needed y j) (no-line t n i l)) ∙ M .at j h }
+marking-end {t} {n} {i} {ms} M l = record { size = M .size; at = λ j h. sym (or-false (flagAt ms j)) ∙ sym (ap (λ (y : List Line). flagAt ms j || hasNeedingUse y j) (no-line t n i l)) ∙ M .at j h }
 
 -- ---- an array sort among the lines
 

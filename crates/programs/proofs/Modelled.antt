@@ -12,8 +12,9 @@ use Rattle.tables.specs.Pick.{pick, inside}
 use Rattle.tables.specs.Lines.{Line, Expr, bitvec, array, input, state, val, give, mark, output, junk, const, one, two, cmp, ite, read, write, fields, wordsOf, kindIn, sortIn, firstIn, secondIn}
 use Rattle.tables.proofs.Laws.{or-true, and-true}
 use Rattle.programs.specs.Uses.{looseLine, when, needs}
-use Rattle.programs.specs.Translation.{isArraySort, Info, info, widthOf, numberOf, looseOf, Made, put, made}
-use Rattle.programs.specs.Records.{firstLine, secondLine, thirdLine, hasValue, looseIn, instruction, maskWords, widthIn, numberIn, emitted}
+use Rattle.programs.specs.Translation.{isArraySort, Info, info, widthOf, numberOf, looseOf, Made, withMask, made}
+use Rattle.programs.specs.Model.Kinds.{firstLine, secondLine, thirdLine, hasValue}
+use Rattle.programs.specs.Model.Records.{looseIn, instruction, maskWords, widthIn, numberIn, emitted}
 
 -- the kinds of operators of one line and of two
 abbrev pub KindedExpr : Expr → Type 0
@@ -116,20 +117,20 @@ array-words junk k = refl
 -- ---- what is made of a line
 
 -- the definition's, by the tests that the code makes
-put-info : (b w : ℕ) (i : Line) (lo n : Bool) → put b w i lo n .info ≡ info w (pick (lo && n) (suc b) b) lo
-put-info b w i false n = refl
-put-info b w i true false = refl
-put-info b w i true true = refl
+mask-info : (b w : ℕ) (i : Line) (lo n : Bool) → withMask b w i lo n .info ≡ info w (pick (lo && n) (suc b) b) lo
+mask-info b w i false n = refl
+mask-info b w i true false = refl
+mask-info b w i true true = refl
 
-put-code : (b w : ℕ) (i : Line) (lo n : Bool) → map wordsOf (put b w i lo n .code) ≡ wordsOf i ∷ pick (lo && n) (maskWords w b ∷ []) []
-put-code b w i false n = refl
-put-code b w i true false = refl
-put-code b w i true true = refl
+mask-code : (b w : ℕ) (i : Line) (lo n : Bool) → map wordsOf (withMask b w i lo n .code) ≡ wordsOf i ∷ pick (lo && n) (maskWords w b ∷ []) []
+mask-code b w i false n = refl
+mask-code b w i true false = refl
+mask-code b w i true true = refl
 
-put-count : (b w : ℕ) (i : Line) (lo n : Bool) → length (put b w i lo n .code) ≡ pick (lo && n) 2 1
-put-count b w i false n = refl
-put-count b w i true false = refl
-put-count b w i true true = refl
+mask-count : (b w : ℕ) (i : Line) (lo n : Bool) → length (withMask b w i lo n .code) ≡ pick (lo && n) 2 1
+mask-count b w i false n = refl
+mask-count b w i true false = refl
+mask-count b w i true true = refl
 
 module _ (W M : ℕ → ℕ) (L : ℕ → Bool) (nd : Bool) (b : ℕ) (r : List ℕ) where
   abbrev pub maskIn : Bool
@@ -168,13 +169,13 @@ module _ (N : ℕ → Bool) (J : List Info) (b : ℕ) (zero-w : widthOf J 0 ≡ 
 
   -- a value line, of which the code finds the same
   value : (l i : Line) (lo : Bool) → hasValue (kindIn (wordsOf l)) ≡ true → eqb (kindIn (wordsOf l)) 1 ≡ false → leb (kindIn (wordsOf l)) 2 ≡ false
-      → looseIn W L (wordsOf l) ≡ lo → instruction W M (wordsOf l) ≡ wordsOf i → Agrees W M L nd b (wordsOf l) (put b (W (sortIn (wordsOf l))) i lo nd)
+      → looseIn W L (wordsOf l) ≡ lo → instruction W M (wordsOf l) ≡ wordsOf i → Agrees W M L nd b (wordsOf l) (withMask b (W (sortIn (wordsOf l))) i lo nd)
   value l i lo v w q e c =
       let u = W (sortIn (wordsOf l)) in
       record {
-        info = put-info b u i lo nd ∙ sym (rw (v, w, e));
-        code = put-code b u i lo nd ∙ sym (rw (q, e) (ap (λ (x : List ℕ). x ∷ pick (lo && nd) (maskWords u b ∷ []) []) c));
-        count = put-count b u i lo nd ∙ sym (rw (q, e));
+        info = mask-info b u i lo nd ∙ sym (rw (v, w, e));
+        code = mask-code b u i lo nd ∙ sym (rw (q, e) (ap (λ (x : List ℕ). x ∷ pick (lo && nd) (maskWords u b ∷ []) []) c));
+        count = mask-count b u i lo nd ∙ sym (rw (q, e));
       }
 
   -- a line without a value; it is never loose

@@ -1,4 +1,4 @@
--- Each line that some line needs clean is one that `needed` names. Assumes nothing.
+-- Each line that some line needs clean is one that `hasNeedingUse` names. Assumes nothing.
 use Prim.Native.Nat.{ℕ}
 use mathlib.Core.Path.{_≡_, refl, ap, _∙_}
 use mathlib.Core.Bool.{Bool, true, false, _||_}
@@ -9,7 +9,7 @@ use Rattle.tables.specs.Pick.{among}
 use Rattle.tables.specs.Lines.{Line}
 use Rattle.tables.proofs.Laws.{or-true}
 use Rattle.tables.proofs.Kept.{no-yes}
-use Rattle.programs.specs.Uses.{when, needs, needed}
+use Rattle.programs.specs.Uses.{when, needs, hasNeedingUse}
 
 -- N names all of them
 abbrev pub Met : (ℕ → Bool) → List ℕ → Type 0
@@ -47,9 +47,9 @@ met-self : (r : List ℕ) → Met (λ i. among i r) r
 met-self [] = tt
 met-self (a ∷ r) = (or-left (eqb a a) (among a r) (eq-eqb a a refl), met-mono (λ i. among i r) (λ i. among i (a ∷ r)) (λ i e. or-right (eqb i a) (among i r) e) r (met-self r))
 
-pub met-needed : (F : List Line) → MetAll (needed F) F
+pub met-needed : (F : List Line) → MetAll (hasNeedingUse F) F
 met-needed [] = tt
 met-needed (l ∷ ls) = (
-  met-mono (λ i. among i (needs l)) (needed (l ∷ ls)) (λ i e. or-left (among i (needs l)) (needed ls i) e) (needs l) (met-self (needs l)),
-  met-all-mono (needed ls) (needed (l ∷ ls)) (λ i e. or-right (among i (needs l)) (needed ls i) e) ls (met-needed ls),
+  met-mono (λ i. among i (needs l)) (hasNeedingUse (l ∷ ls)) (λ i e. or-left (among i (needs l)) (hasNeedingUse ls i) e) (needs l) (met-self (needs l)),
+  met-all-mono (hasNeedingUse ls) (hasNeedingUse (l ∷ ls)) (λ i e. or-right (among i (needs l)) (hasNeedingUse ls i) e) ls (met-needed ls),
 )

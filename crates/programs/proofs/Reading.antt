@@ -11,7 +11,8 @@ use Rattle.words.specs.Kinds.{looseKind, needKind₁, needKind₂}
 use Rattle.words.proofs.Table.{table, at}
 use Rattle.tables.specs.Pick.{pick}
 use Rattle.tables.specs.Lines.{fields, kindIn, sortIn, firstIn, secondIn, thirdIn}
-use Rattle.programs.specs.Records.{firstLine, secondLine, thirdLine, usesOf, looseHow, looseIn, instruction}
+use Rattle.programs.specs.Model.Kinds.{firstLine, secondLine, thirdLine, usesOf, looseHow}
+use Rattle.programs.specs.Model.Records.{looseIn, instruction}
 
 -- ---- the table, compared by computing
 

@@ -15,7 +15,7 @@ use Rattle.tables.proofs.Facts.{AllOk}
 use Rattle.circuits.specs.Layout.{Layout, typeAt, size, lay, layAll, noLayout, layout}
 use Rattle.circuits.specs.Meaning.{Sig, Acc, evalLine, evalAll, noAcc, step}
 use Rattle.circuits.specs.Run.{rowOf, start, steps, run, bytes, firstBad}
-use Rattle.programs.specs.Uses.{needed}
+use Rattle.programs.specs.Uses.{hasNeedingUse}
 use Rattle.programs.specs.Translation.{Info, noInfo, made, isArraySort, hasArray, translateFrom, translate}
 use Rattle.programs.proofs.Grew.{lines, Even, even-line, grew-line}
 use Rattle.programs.proofs.LaidLines.{laid-start, lines-more, or-none, same-counts}
@@ -135,7 +135,7 @@ module _ (F : List Line) (ok : AllOk false noCtx F) (flat : hasArray F ≡ false
       → SameStep (stateWidth F) (step false g F σ ι) (step true g (translate F) σ ι)
   unfolding step layout translate
   step-alike g σ ι h tame words =
-      alike-all g σ ι (widthsFrom noLayout F) (needed F) tame words 1 [] F (alike-start (stateWidth F) (needed F)) refl ok flat (met-needed F) refl refl h
+      alike-all g σ ι (widthsFrom noLayout F) (hasNeedingUse F) tame words 1 [] F (alike-start (stateWidth F) (hasNeedingUse F)) refl ok flat (met-needed F) refl refl h
 
   step-counts : (g : Bool) (σ ι : List ℕ) → step false g F σ ι .lay .counts .states ≡ layout false F .counts .states
   unfolding step layout

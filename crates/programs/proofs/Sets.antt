@@ -4,7 +4,7 @@ use mathlib.Core.Path.{_≡_, refl, sym, ap, _∙_}
 use mathlib.Core.List.{List, [], _∷_}
 use native.Mathlib.Omega.{arith}
 use lib.ListN.{getD}
-use Rattle.programs.specs.Records.{uses, usesOf}
+use Rattle.programs.specs.Model.Kinds.{uses, usesOf}
 
 -- f at the n numbers from i on
 abbrev listed : (ℕ → List ℕ) → (i n : ℕ) → List (List ℕ)

@@ -13,10 +13,12 @@ use Rattle.tables.specs.Layout.{held, recordAt, linesOf, recorded, filled}
 use Rattle.tables.specs.Tables.{checked}
 use Rattle.tables.proofs.Places.{filled-none, length-filled, record-filled}
 use Rattle.tables.proofs.Encoding.{length-words}
-use Rattle.programs.specs.Uses.{needed}
+use Rattle.programs.specs.Uses.{hasNeedingUse}
 use Rattle.programs.specs.Translation.{made, translateFrom}
 use Rattle.programs.specs.Answers.{programOf}
-use Rattle.programs.specs.Records.{numberAt, flagAt, instruction, maskWords, emitted, written, Taken, Fresh, programIn}
+use Rattle.programs.specs.Model.Kinds.{numberAt, flagAt}
+use Rattle.programs.specs.Model.Records.{instruction, maskWords, emitted, Taken}
+use Rattle.programs.specs.Model.Passes.{written, Fresh, programIn}
 use Rattle.programs.proofs.Modelled.{codeIn, maskIn}
 use Rattle.programs.proofs.Keeping.{line-at}
 use Rattle.programs.proofs.Counting.{Walk, walk-start, at-hand, ahead, count-is, walk-more, walk-out, start-out, more-out}
@@ -47,15 +49,15 @@ module _ {z : ℕ} {t : List ℕ} {n i b len : ℕ} {wd num lo target : List ℕ
   pub writes-size : length target ≡ len
   writes-size = ap length (S .holds) ∙ length-filled true len (map wordsOf (S .walk .out))
 
-  module _ (e : checked false t n ≡ Accepted) (l : i < n) (nd : Bool) (en : nd ≡ needed (linesOf false t n) (i + 1)) {m : Bool} {wd₁ num₁ lo₁ : List ℕ} {r : List ℕ} (er : r ≡ recordAt false t i)
+  module _ (e : checked false t n ≡ Accepted) (l : i < n) (nd : Bool) (en : nd ≡ hasNeedingUse (linesOf false t n) (i + 1)) {m : Bool} {wd₁ num₁ lo₁ : List ℕ} {r : List ℕ} (er : r ≡ recordAt false t i)
       (T : Taken r (i + 1) nd b wd num lo wd₁ num₁ lo₁ m) {x : ℕ} (ex : x ≡ emitted (kindIn r) m) where
     -- there is room for the line's instructions
     pub fits-here : length (programOf t n) ≤ held true len → b - 1 + x ≤ held true (length target)
     fits-here room =
         let K = S .walk in
-        let c = made (needed (linesOf false t n)) (K .J) b (line-at t n i e l .line) in
-        let a : length (K .out) + length (translateFrom (needed (linesOf false t n)) (K .J) b (drop i (linesOf false t n))) ≡ length (programOf t n) =
-        sym (length-append (K .out) (translateFrom (needed (linesOf false t n)) (K .J) b (drop i (linesOf false t n)))) ∙ ap length (K .all) in
+        let c = made (hasNeedingUse (linesOf false t n)) (K .J) b (line-at t n i e l .line) in
+        let a : length (K .out) + length (translateFrom (hasNeedingUse (linesOf false t n)) (K .J) b (drop i (linesOf false t n))) ≡ length (programOf t n) =
+        sym (length-append (K .out) (translateFrom (hasNeedingUse (linesOf false t n)) (K .J) b (drop i (linesOf false t n)))) ∙ ap length (K .all) in
         let d = ap length (ahead K e l nd en) ∙ length-append (c .code) _ in
         omega (arith, a, d, room, ex, count-is K e l nd en er T, K .place, ap (held true) writes-size)
 
@@ -63,7 +65,7 @@ module _ {z : ℕ} {t : List ℕ} {n i b len : ℕ} {wd num lo target : List ℕ
         → Writes z t n (i + 1) (b + x) len wd₁ num₁ lo₁ target₁
     writes-more {w} {ins} {target₁} ei ew et =
         let K = S .walk in
-        let c = made (needed (linesOf false t n)) (K .J) b (line-at t n i e l .line) in
+        let c = made (hasNeedingUse (linesOf false t n)) (K .J) b (line-at t n i e l .line) in
         let rs = map wordsOf (K .out) in
         let k = kindIn r in
         let M : m ≡ maskIn (numberAt wd) (numberAt num) (flagAt lo) nd b r = T .mask in

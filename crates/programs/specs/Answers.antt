@@ -1,4 +1,5 @@
--- What translating answers and leaves: 1 for either list, 11, 19, 12, the first that holds; else the number of records of the program. Assumes nothing.
+-- What translating answers and leaves. "Translating: 1 for either list; 11; 19 a record of kind 2 is present; 12", the first that holds; else the number of records of the
+-- program. Assumes nothing.
 use Prim.Native.Nat.{ℕ}
 use mathlib.Core.Bool.{Bool, true, false, _&&_}
 use mathlib.Core.List.{List, [], _∷_, map}

@@ -4,7 +4,7 @@ use mathlib.Core.Path.{_≡_, refl}
 use mathlib.Core.Bool.{true, false}
 use mathlib.Core.List.{List, [], _∷_, map}
 use lib.ListN.{length, getD, replicate}
-use Rattle.tables.specs.declared.Refusal.the-variants.{NotATable, BadTable, TargetTooSmall, ArrayPresent}
+use Rattle.tables.specs.declared.Refusal.the-variants.{NotATable, BadTable, ArrayPresent}
 use Rattle.tables.specs.declared.Checked.the-variants.{Accepted}
 use Rattle.tables.specs.declared.Answer.the-variants.{Done, Refused}
 use Rattle.tables.specs.Kinds.{rowOf}
@@ -12,9 +12,10 @@ use Rattle.tables.specs.Lines.{Line, fields, wordsOf}
 use Rattle.tables.specs.Layout.{filledBy, recordsOf, filled}
 use Rattle.tables.specs.Rules.{suits, fault}
 use Rattle.tables.specs.Tables.{checked}
+use Rattle.tables.specs.Answers.{outcome}
 use Rattle.circuits.specs.Examples.{circuit, program}
 use Rattle.programs.specs.Translation.{translate, maskOf}
-use Rattle.programs.specs.Answers.{programOf, translated, targetLeft}
+use Rattle.programs.specs.Answers.{programOf, translated, targetLeft, translates}
 
 -- ---- the request's flat circuit of 19 lines, and its program of 17 records, the sixth a mask
 
@@ -79,17 +80,13 @@ pub exact-answer : translated flat 19 85 ≡ Done 17
 unfolding translated filledBy checked fault suits rowOf translate
 exact-answer = refl
 
-spare-target : targetLeft flat 19 90 ≡ filled true 90 (recordsOf true program 17)
-unfolding targetLeft translated filledBy checked fault suits rowOf translate
-spare-target = refl
+spare-outcome : translates flat 19 90 ≡ outcome 0 17 0 0 (filled true 90 (recordsOf true program 17) ∷ [])
+unfolding translates targetLeft translated filledBy checked fault suits rowOf translate
+spare-outcome = refl
 
-short-answer : translated flat 19 80 ≡ Refused TargetTooSmall 0
-unfolding translated filledBy checked fault suits rowOf translate
-short-answer = refl
-
-short-target : targetLeft flat 19 80 ≡ replicate 80 0
-unfolding targetLeft translated filledBy checked fault suits rowOf translate
-short-target = refl
+short-outcome : translates flat 19 80 ≡ outcome 12 0 0 0 (replicate 80 0 ∷ [])
+unfolding translates targetLeft translated filledBy checked fault suits rowOf translate
+short-outcome = refl
 
 -- 1 comes before 11, 11 before 19, and 19 before 12
 uneven-answer : translated flat 20 84 ≡ Refused NotATable 0

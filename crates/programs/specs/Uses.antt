@@ -1,4 +1,5 @@
--- Loose lines, and uses that need a clean operand. Both are worked out on the circuit alone, by the kinds' numbers. Assumes nothing.
+-- Loose lines, and needing uses: the two lists of the request's section Program, worked out on the circuit alone. The kinds' numbers stand in `looseKind`, `needKind₁` and
+-- `needKind₂` of `words`. Assumes nothing.
 use Prim.Native.Nat.{ℕ}
 use mathlib.Core.Bool.{Bool, true, false, not, _&&_, _||_}
 use mathlib.Core.List.{List, [], _∷_, _++_}
@@ -7,11 +8,13 @@ use Rattle.words.specs.Kinds.{looseKind, needKind₁, needKind₂}
 use Rattle.tables.specs.Pick.{among}
 use Rattle.tables.specs.Lines.{Line, Expr, bitvec, array, input, state, val, give, mark, output, junk, const, one, two, cmp, ite, read, write, giveKind, markKind, cmpKind}
 
--- a line of width w and of the kind k is loose, where l₁, l₂ and l₃ say which of its operands are: width 64 never is
+-- ---- "Loose: input, 11 to 14, 18, 31, 32, 36 to 41, 47. and is loose if both operands are; or, xor and ite if a data operand is; concat if its high operand is."
+
+-- "Width 64 and the rest are never loose": a line of width w and of the kind k, where l₁, l₂ and l₃ say which of its operands are loose
 abbrev pub looseLine : (w k : ℕ) → (l₁ l₂ l₃ : Bool) → Bool
 looseLine w k l₁ l₂ l₃ = not (eqb w 64) && looseKind k l₁ l₂ l₃
 
--- a value line of width w is loose, where L says which earlier lines are. A number is no line, and an array operator is in no flat circuit
+-- a value line of width w, where L says which earlier lines are loose. A number is no line, and an array operator is in no flat circuit
 abbrev pub looseExpr : (ℕ → Bool) → ℕ → Expr → Bool
 looseExpr L w (const v) = looseLine w 3 false false false
 looseExpr L w (one k a x y) = looseLine w k (L a) false false
@@ -21,20 +24,20 @@ looseExpr L w (ite c a b) = looseLine w 53 (L c) (L a) (L b)
 looseExpr L w (read a i) = false
 looseExpr L w (write a i v) = false
 
--- ---- needing uses
+-- ---- "Needing a clean operand: 6 to 10, 15 to 17, 19 to 30, 42 to 46, 48 to 51, the amount of sll, the low operand of concat, the condition of ite."
 
 abbrev pub when : Bool → ℕ → List ℕ
 when true a = a ∷ []
 when false a = []
 
--- the lines that a line of the kind k needs clean: of one operand that is a line, a, and of two, a and b
+-- the operands that a line of the kind k needs clean: of one operand that is a line, a, and of two, a and b
 abbrev pub needsOne : (k a : ℕ) → List ℕ
 needsOne k a = when (needKind₁ k) a
 
 abbrev pub needsTwo : (k a b : ℕ) → List ℕ
 needsTwo k a b = when (needKind₁ k) a ++ when (needKind₂ k) b
 
--- slice bounds and extra bits are numbers; no third operand has to be clean
+-- of a value line: slice bounds and extra bits are numbers, and no third operand has to be clean
 abbrev pub needsExpr : Expr → List ℕ
 needsExpr (const v) = []
 needsExpr (one k a x y) = needsOne k a
@@ -44,6 +47,7 @@ needsExpr (ite c a b) = needsTwo 53 c a
 needsExpr (read a i) = []
 needsExpr (write a i v) = []
 
+-- of every line
 abbrev pub needs : Line → List ℕ
 needs (bitvec w) = []
 needs (array i e) = []
@@ -55,7 +59,7 @@ needs (mark m a) = needsOne (markKind m) a
 needs (output a) = needsOne 10 a
 needs junk = []
 
--- some line needs the line i clean
-abbrev pub needed : List Line → ℕ → Bool
-needed [] i = false
-needed (l ∷ ls) i = among i (needs l) || needed ls i
+-- the line i has a needing use: some line needs it clean
+abbrev pub hasNeedingUse : List Line → ℕ → Bool
+hasNeedingUse [] i = false
+hasNeedingUse (l ∷ ls) i = among i (needs l) || hasNeedingUse ls i

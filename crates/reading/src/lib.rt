@@ -1,5 +1,5 @@
 // Reading a text into a table.
-pub mod lines; // the lines of a text
+mod lines; // the lines of a text
 
 use records::notes::BYTES;
 use tables::Answer;

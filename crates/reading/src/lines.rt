@@ -12,17 +12,18 @@ ghost use Prim.Native.Nat.{ℕ, _≤_, _+_, _<_};
 ghost use lib.ListN.{length, replicate};
 ghost use Rattle.tables.specs.Notes.{lookIn, givenIn, noted, Shows};
 ghost use Rattle.texts.specs.Split.{tokens as tokensIn};
-ghost use Rattle.texts.specs.Reading.{readLine, linesRead, outcomeOf};
-ghost use Rattle.texts.specs.Stages.{asRead};
+ghost use Rattle.texts.specs.Reading.{linesRead, outcomeOf};
+ghost use Rattle.texts.specs.Model.Stages.{stagedLine};
+ghost use Rattle.texts.specs.Model.Structs.{asRead};
 ghost use Rattle.tables.specs.Lines.{kindIn, firstIn};
 ghost use Rattle.tables.specs.Layout.{room as roomOf, recorded};
 ghost use Rattle.tables.specs.Answers.{told};
 ghost use Rattle.tables.specs.Types.{noCtx};
 
 // A line, after n records, with room for `room` of them.
-pub fn read_line(l: &[u8], n: usize, room: usize, notes: &[[u8; BYTES]]) -> Readout
+fn read_line(l: &[u8], n: usize, room: usize, notes: &[[u8; BYTES]]) -> Readout
     requires { ⌜ (n ≤ 16384) × ((a : ℕ) → lookIn (now notes) a .w ≤ 64) ⌝ }
-    ensures { λ r. ⌜ r ≡ asRead (readLine (lookIn (now (notes .entry))) (givenIn (now (notes .entry))) room n (tokensIn (now (l .entry)))) ⌝ }
+    ensures { λ r. ⌜ r ≡ asRead (stagedLine (lookIn (now (notes .entry))) (givenIn (now (notes .entry))) room n (tokensIn (now (l .entry)))) ⌝ }
 {
     let a = tokens::skip(l, 0);
     if a == l.len() {

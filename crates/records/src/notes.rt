@@ -34,7 +34,7 @@ pub fn look(notes: &[[u8; BYTES]], a: u64) -> Ty
 }
 
 // A note goes to the line n; a place past the end is left.
-pub fn put(notes: &mut [[u8; BYTES]], n: u64, r: [u8; BYTES])
+fn put(notes: &mut [[u8; BYTES]], n: u64, r: [u8; BYTES])
     ensures { λ _. ⌜ now (notes .exit) ≡ set (now (notes .entry)) n r ⌝ }
 {
     if n < notes.len() as u64 {

@@ -1,4 +1,11 @@
 // The rules 8, 9 and 10 for a record after earlier lines. t is the type of its sort, a, b and c are those of its operands.
+use records::kinds::ARRAY;
+use records::kinds::ASORT;
+use records::kinds::SORT;
+use records::kinds::STATE;
+use records::kinds::VALUE;
+use records::kinds::WORD;
+use records::kinds::WSORT;
 use records::notes;
 use records::notes::BYTES;
 use tables::Ty;
@@ -11,23 +18,23 @@ ghost use Rattle.tables.specs.Notes.{givenIn, lookIn};
 ghost use Rattle.tables.specs.Kinds.{rowOf};
 
 // A line of the type t may stand where the class k is asked for.
-pub fn suits(k: u8, t: Ty) -> bool
+fn suits(k: u8, t: Ty) -> bool
     ensures { λ r. ⌜ r ≡ suitsOf k t ⌝ }
 {
     match k {
-        1 => types::is_word(t),
-        2 => types::is_array(t),
-        3 => 2 <= t.cls,
-        4 => t.cls == 4,
-        5 => types::is_word_sort(t),
-        6 => types::is_array_sort(t),
-        7 => t.cls == 1,
+        WORD => types::is_word(t),
+        ARRAY => types::is_array(t),
+        VALUE => 2 <= t.cls,
+        STATE => t.cls == 4,
+        WSORT => types::is_word_sort(t),
+        ASORT => types::is_array_sort(t),
+        SORT => t.cls == 1,
         _ => true,
     }
 }
 
 // Rule 8, by the row of the kind.
-pub fn classed(row: [u8; 16], t: Ty, a: Ty, b: Ty, c: Ty) -> bool
+fn classed(row: [u8; 16], t: Ty, a: Ty, b: Ty, c: Ty) -> bool
     ensures { λ r. ⌜ r ≡ all (classes row t a b c) ⌝ }
 {
     if !suits(row[11], t) {
@@ -43,7 +50,7 @@ pub fn classed(row: [u8; 16], t: Ty, a: Ty, b: Ty, c: Ty) -> bool
 }
 
 // Rule 10: b is the type of the second operand.
-pub fn once(rec: [u64; WORDS], b: Ty, notes: &[[u8; BYTES]]) -> bool
+fn once(rec: [u64; WORDS], b: Ty, notes: &[[u8; BYTES]]) -> bool
     ensures { λ r. ⌜ r ≡ all (onceRules (lineOf rec) (givenIn (now (notes .entry))) b) ⌝ }
 {
     let k = rec[0];

@@ -9,8 +9,9 @@ use texts::Taken;
 ghost use mathlib.Core.Path.{_≡_};
 ghost use Prim.Native.Nat.{_-_, _^_, _≤_, ℕ};
 ghost use lib.ListN.{drop};
-ghost use Rattle.texts.specs.Reading.{no, ruled as ruledBy, settled, judged, large as largeOf, ended, numbersIn};
-ghost use Rattle.texts.specs.Stages.{asRead, asTook};
+ghost use Rattle.texts.specs.Reading.{no, settled};
+ghost use Rattle.texts.specs.Model.Stages.{ruled as ruledBy, judged, large as largeOf, ended, takenIn};
+ghost use Rattle.texts.specs.Model.Structs.{asRead, asTook};
 ghost use Rattle.tables.specs.Kinds.{rowOf};
 ghost use Rattle.tables.specs.Lines.{kindIn};
 ghost use Rattle.tables.specs.Notes.{lookIn, givenIn};
@@ -28,7 +29,7 @@ pub fn refuse(r: Refusal) -> Readout
 }
 
 // 9, 10, or the record.
-pub fn ruled(a: u64, rec: [u64; WORDS]) -> Readout
+fn ruled(a: u64, rec: [u64; WORDS]) -> Readout
     ensures { λ x. ⌜ x ≡ asRead (ruledBy a rec) ⌝ }
 {
     if a == 0 {
@@ -45,7 +46,7 @@ pub fn ruled(a: u64, rec: [u64; WORDS]) -> Readout
 }
 
 // 2^w - 1.
-pub fn ones(w: u8) -> u64
+fn ones(w: u8) -> u64
     requires { ⌜ w ≤ 64 ⌝ }
     ensures { λ r. ⌜ r ≡ 2 ^ w - 1 ⌝ }
 {
@@ -56,7 +57,7 @@ pub fn ones(w: u8) -> u64
 }
 
 // The record after the words that give a value; w is the width of the line's sort.
-pub fn settle(w: u8, f: usize, rec: [u64; WORDS]) -> [u64; WORDS]
+fn settle(w: u8, f: usize, rec: [u64; WORDS]) -> [u64; WORDS]
     requires { ⌜ w ≤ 64 ⌝ }
     ensures { λ r. ⌜ r ≡ settled w f rec ⌝ }
 {
@@ -73,13 +74,7 @@ pub fn settle(w: u8, f: usize, rec: [u64; WORDS]) -> [u64; WORDS]
 }
 
 // 8, 9 and 10. The row is that of the record's kind.
-pub fn judge(
-    row: [u8; 16],
-    f: usize,
-    len: usize,
-    rec: [u64; WORDS],
-    notes: &[[u8; BYTES]],
-) -> Readout
+fn judge(row: [u8; 16], f: usize, len: usize, rec: [u64; WORDS], notes: &[[u8; BYTES]]) -> Readout
     requires { ⌜ row ≡ rowOf (kindIn rec) ⌝ }
     ensures { λ r. ⌜ r ≡ asRead (judged (lookIn (now (notes .entry))) (givenIn (now (notes .entry))) f len rec) ⌝ }
 {
@@ -98,7 +93,7 @@ pub fn judge(
 }
 
 // 7, and what follows.
-pub fn large(
+fn large(
     row: [u8; 16],
     f: usize,
     rec: [u64; WORDS],
@@ -124,7 +119,7 @@ pub fn large(
 }
 
 // What stands behind the numbers, 6, and what follows.
-pub fn finish(l: &[u8], row: [u8; 16], f: usize, t: Taken, notes: &[[u8; BYTES]]) -> Readout
+fn finish(l: &[u8], row: [u8; 16], f: usize, t: Taken, notes: &[[u8; BYTES]]) -> Readout
     requires { do ⌜ (t .at ≤ (← ⟦l.len()⟧)) × ((row ≡ rowOf (kindIn (t .rec))) × ((a : ℕ) → lookIn (now notes) a .w ≤ 64)) ⌝ }
     ensures { λ r. ⌜ r ≡ asRead (ended (lookIn (now (notes .entry))) (givenIn (now (notes .entry))) f (asTook (now (l .entry)) t)) ⌝ }
 {
@@ -141,7 +136,7 @@ pub fn finish(l: &[u8], row: [u8; 16], f: usize, t: Taken, notes: &[[u8; BYTES]]
 // The line behind its word, whose form is f.
 pub fn rest(l: &[u8], f: usize, at: usize, notes: &[[u8; BYTES]]) -> Readout
     requires { do ⌜ (at ≤ (← ⟦l.len()⟧)) × ((1 ≤ f) × ((f ≤ 60) × ((a : ℕ) → lookIn (now notes) a .w ≤ 64))) ⌝ }
-    ensures { λ r. ⌜ r ≡ asRead (ended (lookIn (now (notes .entry))) (givenIn (now (notes .entry))) f (numbersIn f (tokensIn (drop at (now (l .entry)))))) ⌝ }
+    ensures { λ r. ⌜ r ≡ asRead (ended (lookIn (now (notes .entry))) (givenIn (now (notes .entry))) f (takenIn f (tokensIn (drop at (now (l .entry)))))) ⌝ }
 {
     let row = forms::row(f);
     let s = forms::sorted(row);

@@ -17,7 +17,7 @@ use Rattle.tables.specs.Tables.{checked}
 use Rattle.texts.specs.Forms.{formRow}
 use Rattle.texts.specs.Split.{split, upTo, tokens}
 use Rattle.texts.specs.Decimal.{digit, allIn, valueFrom, valued, scanned, decimal, digitsIn, digits, digitsF}
-use Rattle.texts.specs.Reading.{findIn, wordIn, operands, ruled, settled, judged, large, readLine, readLines, readText, Text, done, refused}
+use Rattle.texts.specs.Reading.{findIn, wordIn, settled, lowest, readLine, readLines, readText, Text, done, refused}
 use Rattle.texts.specs.Writing.{writeFrom, writeText}
 use Rattle.texts.specs.Naming.{nameIn, nameOf}
 use Rattle.texts.proofs.Round.{round-trip}
@@ -37,7 +37,7 @@ records =
     ∷ fields 8 0 10 0 0 ∷ []
 
 pub sample-read : readText 100 (bytes sample) ≡ done records
-unfolding bytes readText readLines readLine large ruled judged settled operands wordIn findIn formRow rowOf fault suits split upTo tokens decimal scanned valued digitsIn allIn valueFrom digit
+unfolding bytes readText readLines readLine lowest settled wordIn findIn formRow rowOf fault suits split upTo tokens decimal scanned valued digitsIn allIn valueFrom digit
 sample-read = refl
 
 pub sample-written : writeText records ≡ bytes sample
@@ -75,7 +75,7 @@ pub refusals : answers (
     ∷ "1 sort bitvec 1\n2 state 1\n3 next 1 2 2\n4 next 1 2 2\n"
     ∷ [])
     ≡ refused WrongId 3 ∷ refused NoRecordLeft 7 ∷ refused UnknownWord 2 ∷ refused BadOperand 3 ∷ refused NumberTooLarge 1 ∷ refused WrongClass 3 ∷ refused Misfit 2 ∷ refused InitOrNext 4 ∷ []
-unfolding answers bytes readText readLines readLine large ruled judged settled operands wordIn findIn formRow rowOf fault suits split upTo tokens decimal scanned valued digitsIn allIn valueFrom digit
+unfolding answers bytes readText readLines readLine lowest settled wordIn findIn formRow rowOf fault suits split upTo tokens decimal scanned valued digitsIn allIn valueFrom digit
 refusals = refl
 
 -- ---- names

@@ -5,12 +5,11 @@ use mathlib.Core.Bool.{Bool, true, false, not, _&&_, _||_}
 use mathlib.Core.List.{List, [], _∷_}
 use native.Mathlib.Omega.{arith}
 use lib.Dec.{T, eqb, leb, ltb}
-use lib.ListN.{length, getD, set, length-set}
+use lib.ListN.{length, getD, set, length-set, length-take}
 use lib.Seq.{getD-set-other}
 use mir.Facts.{and-yes}
 use borrow.Author.Tests.{eqb-true, eqb-false, eq-eqb, ltb-true, leb-true}
 use Rattle.tables.specs.declared.Ty.{Ty}
-use Rattle.tables.specs.declared.Refusal.the-variants.{WrongId, NoRecordLeft}
 use Rattle.tables.specs.Pick.{pick, all, inside}
 use Rattle.tables.specs.Kinds.{rowOf, sortClass, firstClass, secondClass, thirdClass}
 use Rattle.tables.specs.Lines.{kindIn, sortIn, firstIn, secondIn, thirdIn}
@@ -20,12 +19,12 @@ use Rattle.tables.specs.Tables.{known, unused, tidy, formed, keeps}
 use Rattle.tables.proofs.Every.{every, at-each}
 use Rattle.texts.specs.declared.Num.{Num}
 use Rattle.texts.specs.declared.Num.the-variants.{Bad, Big, Is}
-use Rattle.texts.specs.Forms.{formRow, kindOf, firstOf, numbersOf, sortWord}
-use Rattle.texts.specs.Split.{same}
-use Rattle.texts.specs.Decimal.{decimal}
-use Rattle.texts.specs.Reading.{findIn, known as knownWord, sortWords, wordIn, numberAt, Took, took, malformed, operands, numbersIn, fresh, Reply, skip, no, got, ruled, settled, judged, large, ended, worded, isId, readLine}
-use Rattle.texts.proofs.Words.{find-most}
-use Rattle.texts.proofs.Steps.{ruled-got, ruled-9, ruled-10, settled-one, settled-ones, settled-other, settled-kind, judged-8, judged-9, judged-const, judged-other, large-big, large-wide, large-fits, large-other}
+use Rattle.texts.specs.Forms.{formRow, kindOf, firstOf, numbersOf}
+use Rattle.texts.specs.Reading.{Word, word, unknown, wordIn, formOf, behind, numbersFrom, placed, numberTokens, numbersIn, fresh, written, settled, recordIn, refusals, got, lowest, readLine}
+use Rattle.texts.proofs.Words.{InForms, word-forms}
+use Rattle.texts.proofs.Steps.{settled-one, settled-ones, settled-other, settled-kind}
+use Rattle.texts.proofs.Lowest.{NoneHolds, got-none}
+use Rattle.texts.proofs.Staged.{last-rule}
 
 -- ---- the places that a line's numbers do not fill
 
@@ -37,37 +36,33 @@ pub record Left (j m : ℕ) (rec out : List ℕ) : Type 0 where
   pub same-length : length out ≡ length rec
   pub same-place : (p : ℕ) → Outside j m p → getD out p 0 ≡ getD rec p 0
 
-abbrev LeftBy : ℕ → ℕ → List ℕ → Took → Type 0
-LeftBy j m rec malformed = Unit {0}
-LeftBy j m rec (took out big len ts) = Left j m rec out
+left-more : (j m : ℕ) (rec out : List ℕ) → Left (suc j) m rec out → Left j (suc m) rec out
+left-more j m rec out l = record { same-length = l .same-length; same-place = λ p o. l .same-place p (λ i h e. o (suc i) (omega arith) (omega arith)) }
 
-left-big : (j m : ℕ) (rec : List ℕ) (u : Took) → LeftBy (suc j) m rec u → LeftBy j (suc m) rec u
-left-big j m rec malformed l = tt
-left-big j m rec (took out big len ts) l =
-    record {
-      same-length = l .same-length;
-      same-place = λ p o. l .same-place p (λ i h e. o (suc i) (omega arith) (omega arith));
-    }
-
-left-set : (j m : ℕ) (rec : List ℕ) (v : ℕ) (u : Took) → LeftBy (suc j) m (set rec j v) u → LeftBy j (suc m) rec u
-left-set j m rec v malformed l = tt
-left-set j m rec v (took out big len ts) l =
+left-set : (j m : ℕ) (rec : List ℕ) (v : ℕ) (out : List ℕ) → Left (suc j) m (set rec j v) out → Left j (suc m) rec out
+left-set j m rec v out l =
     record {
       same-length = l .same-length ∙ length-set rec j v;
       same-place = λ p o. l .same-place p (λ i h e. o (suc i) (omega arith) (omega arith)) ∙ getD-set-other rec j p v 0 (λ e. o 0 (omega arith) (omega arith));
     }
 
-left-of : (f m j : ℕ) (rec : List ℕ) (big : Bool) (len : ℕ) (ts : List (List ℕ)) → LeftBy j m rec (operands f m j rec big len ts)
-unfolding operands
-left-of f zero j rec big len ts = record { same-length = refl; same-place = λ p o. refl }
-left-of f (suc m) j rec big len [] = tt
-left-of f (suc m) j rec big len (t ∷ ts) = go (numberAt f j t) refl (left-of f m (suc j) rec true (length t) ts) (λ v. left-of f m (suc j) (set rec j v) big (length t) ts)
-  where
-    go : (x : Num) → numberAt f j t ≡ x → LeftBy (suc j) m rec (operands f m (suc j) rec true (length t) ts)
-        → ((v : ℕ) → LeftBy (suc j) m (set rec j v) (operands f m (suc j) (set rec j v) big (length t) ts)) → LeftBy j (suc m) rec (operands f (suc m) j rec big len (t ∷ ts))
-    go Bad e a b = rw (e, operands) tt
-    go Big e a b = rw (e, operands) (left-big j m rec (operands f m (suc j) rec true (length t) ts) a)
-    go (Is v) e a b = rw (e, operands) (left-set j m rec v (operands f m (suc j) (set rec j v) big (length t) ts) (b v))
+left-placed : (j : ℕ) (ns : List Num) (rec : List ℕ) → Left j (length ns) rec (placed j ns rec)
+left-placed j [] rec = record { same-length = refl; same-place = λ p o. refl }
+left-placed j (Bad ∷ ns) rec = left-more j (length ns) rec (placed (suc j) ns rec) (left-placed (suc j) ns rec)
+left-placed j (Big ∷ ns) rec = left-more j (length ns) rec (placed (suc j) ns rec) (left-placed (suc j) ns rec)
+left-placed j (Is v ∷ ns) rec = left-set j (length ns) rec v (placed (suc j) ns (set rec j v)) (left-placed (suc j) ns (set rec j v))
+
+length-numbers : (f j : ℕ) (ts : List (List ℕ)) → length (numbersFrom f j ts) ≡ length ts
+length-numbers f j [] = refl
+length-numbers f j (t ∷ ts) = ap suc (length-numbers f (suc j) ts)
+
+left-written : (f : ℕ) (ts : List (List ℕ)) → Left (firstOf (formRow f)) (numbersOf (formRow f)) (fresh (kindOf f)) (written f ts)
+left-written f ts =
+    let j : ℕ = firstOf (formRow f) in
+    let m : ℕ = numbersOf (formRow f) in
+    let l = left-placed j (numbersIn f ts) (fresh (kindOf f)) in
+    let q : length (numbersIn f ts) ≤ m = omega (arith, length-numbers f j (numberTokens f ts), length-take m ts) in
+    record { same-length = l .same-length; same-place = λ p o. l .same-place p (λ i h e. o i (omega arith) e) }
 
 -- ---- the rows leave the unused places alone: one computed test
 
@@ -181,112 +176,69 @@ module _ (w f : ℕ) (one-up : 1 ≤ f) (most : f ≤ 60) (rec : List ℕ) (l : 
           go true t o = eq-eqb (firstIn (settled w f rec)) 0 (zero-value (leb-true f 58 (yes (leb f 58) t)) o)
           go false t o = refl
 
--- ---- what a line's answer holds
+first-low : (r : List ℕ) → 1 ≤ firstOf r
+first-low r = go (eqb (sortClass r) 0)
+  where
+    go : (b : Bool) → 1 ≤ 2 - pick b 0 1
+    go true = omega arith
+    go false = omega arith
 
--- of a record that it keeps the rules
-abbrev pub Fine : (ℕ → Ty) → (Bool → ℕ → Bool) → Reply → Type 0
-Fine L G skip = Unit {0}
-Fine L G (no r) = Unit {0}
-Fine L G (got rec) = (keeps false L G rec ≡ true) × (length rec ≡ recordWords)
+-- ---- a line that gives a record has none of the refusals
+
+not-not : (b : Bool) → not b ≡ false → b ≡ true
+not-not true h = refl
+not-not false h = let z : _≡_ {A = ℕ} 0 1 = cc in absurd (omega arith)
+
+first-not : (a b : Bool) → (a || b) ≡ false → a ≡ false
+first-not true b h = h
+first-not false b h = refl
 
 module _ (L : ℕ → Ty) (G : Bool → ℕ → Bool) where
-  fine-as : {x y : Reply} → x ≡ y → Fine L G y → Fine L G x
-  fine-as e h = subst (Fine L G) (sym e) h
-
-  fine-ruled : (rec : List ℕ) → formed false rec ≡ true → length rec ≡ recordWords → Fine L G (ruled (fault false L G rec) rec)
-  fine-ruled rec h l = go (eqb (fault false L G rec) 0) (eqb (fault false L G rec) 9) refl refl
+  no-fault : (rec : List ℕ) → eqb (fault false L G rec) 8 ≡ false → eqb (fault false L G rec) 9 ≡ false → eqb (fault false L G rec) 10 ≡ false → eqb (fault false L G rec) 0 ≡ true
+  no-fault rec x y z = go (eqb (fault false L G rec) 0) refl
     where
-      go : (p q : Bool) → eqb (fault false L G rec) 0 ≡ p → eqb (fault false L G rec) 9 ≡ q → Fine L G (ruled (fault false L G rec) rec)
-      go true q x y = fine-as (ruled-got (fault false L G rec) rec (eqb-true _ 0 x)) (both-true (formed false rec) _ h x, l)
-      go false true x y = fine-as (ruled-9 (fault false L G rec) rec (eqb-true _ 9 y)) tt
-      go false false x y = fine-as (ruled-10 (fault false L G rec) rec (eqb-false _ 0 x) (eqb-false _ 9 y)) tt
+      go : (b : Bool) → eqb (fault false L G rec) 0 ≡ b → b ≡ true
+      go true e = refl
+      go false e = absurd (eqb-false _ 10 z (last-rule L G rec (eqb-false _ 0 e) (eqb-false _ 8 x) (eqb-false _ 9 y)))
 
-  fine-judged : (f len : ℕ) (rec : List ℕ) → formed false rec ≡ true → length rec ≡ recordWords → Fine L G (judged L G f len rec)
-  fine-judged f len rec h l = go (eqb (fault false L G rec) 8) (eqb f 56) (eqb len (L (sortIn rec) .w)) refl refl refl
-    where
-      go : (p q r : Bool) → eqb (fault false L G rec) 8 ≡ p → eqb f 56 ≡ q → eqb len (L (sortIn rec) .w) ≡ r → Fine L G (judged L G f len rec)
-      go true q r x y z = fine-as (judged-8 L G f rec len (eqb-true _ 8 x)) tt
-      go false false r x y z = fine-as (judged-other L G f rec len (eqb-false _ 8 x) (eqb-false f 56 y)) (fine-ruled rec h l)
-      go false true true x y z = fine-as (judged-const L G f rec len (eqb-false _ 8 x) (eqb-true f 56 y) (eqb-true len _ z)) (fine-ruled rec h l)
-      go false true false x y z = fine-as (judged-9 L G f rec len (eqb-false _ 8 x) (eqb-true f 56 y) (eqb-false len _ z)) tt
+  -- of a word that is known
+  module _ (m n : ℕ) (t : List ℕ) (w : Word) (forms : InForms w) (r : List ℕ)
+      (e : lowest (refusals L G m n t (formOf w) (behind w)) (recordIn L (formOf w) (behind w)) ≡ got r) where
+    none : NoneHolds (refusals L G m n t (formOf w) (behind w))
+    none = got-none (refusals L G m n t (formOf w) (behind w)) (recordIn L (formOf w) (behind w)) r e .0
 
-  fine-large : (f len : ℕ) (rec : List ℕ) (big : Bool) → formed false (settled (L (sortIn rec) .w) f rec) ≡ true → length (settled (L (sortIn rec) .w) f rec) ≡ recordWords
-      → Fine L G (large L G f rec big len)
-  fine-large f len rec true h l = fine-as (large-big L G f rec len true refl) tt
-  fine-large f len rec false h l = go (eqb f 1) (inside 1 64 (firstIn rec)) refl refl
-    where
-      j : Fine L G (judged L G f len (settled (L (sortIn rec) .w) f rec))
-      j = fine-judged f len (settled (L (sortIn rec) .w) f rec) h l
+    is-record : recordIn L (formOf w) (behind w) ≡ r
+    is-record = got-none (refusals L G m n t (formOf w) (behind w)) (recordIn L (formOf w) (behind w)) r e .1
 
-      go : (p q : Bool) → eqb f 1 ≡ p → inside 1 64 (firstIn rec) ≡ q → Fine L G (large L G f rec false len)
-      go false q x y = fine-as (large-other L G f rec len false refl (eqb-false f 1 x)) j
-      go true true x y = fine-as (large-fits L G f rec len false refl (eqb-true f 1 x) y) j
-      go true false x y = fine-as (large-wide L G f rec len false refl (eqb-true f 1 x) y) tt
+    line-room : n < m
+    line-room = ltb-true n m (not-not (ltb n m) (none .1 .0))
 
-  first-low : (r : List ℕ) → 1 ≤ firstOf r
-  first-low r = go (eqb (sortClass r) 0)
-    where
-      go : (b : Bool) → 1 ≤ 2 - pick b 0 1
-      go true = omega arith
-      go false = omega arith
+    in-forms : (v : Word) → InForms v → eqb (formOf v) 0 ≡ false → (1 ≤ formOf v) × (formOf v ≤ 60)
+    in-forms unknown h k = let z : _≡_ {A = ℕ} 0 1 = cc in absurd (omega arith)
+    in-forms (word f ts) h k = h
 
-  fine-ended : (f : ℕ) → 1 ≤ f → f ≤ 60 → (u : Took) → LeftBy (firstOf (formRow f)) (numbersOf (formRow f)) (fresh (kindOf f)) u → Fine L G (ended L G f u)
-  fine-ended f a b malformed h = tt
-  fine-ended f a b (took rec big len []) h =
-      fine-large f len rec big (taken-formed (L (sortIn rec) .w) f a b rec h (first-low (formRow f))) (settled-length (L (sortIn rec) .w) f a b rec h (first-low (formRow f)))
-  fine-ended f a b (took rec big len (x ∷ [])) h =
-      fine-large f len rec big (taken-formed (L (sortIn rec) .w) f a b rec h (first-low (formRow f))) (settled-length (L (sortIn rec) .w) f a b rec h (first-low (formRow f)))
-  fine-ended f a b (took rec big len (x ∷ y ∷ r)) h = tt
+    line-keeps : (keeps false L G r ≡ true) × (length r ≡ recordWords)
+    line-keeps =
+        let f : ℕ = formOf w in
+        let x : List ℕ = written f (behind w) in
+        let b = in-forms w forms (none .1 .1 .0) in
+        let l = left-written f (behind w) in
+        let h = none .1 .1 .1 .1 .1 in
+        let k = no-fault (recordIn L f (behind w)) (h .0) (first-not _ _ (h .1 .0)) (h .1 .1 .0) in
+        subst (λ (y : List ℕ). (keeps false L G y ≡ true) × (length y ≡ recordWords)) is-record (
+          both-true (formed false (recordIn L f (behind w))) _ (taken-formed (L (sortIn x) .w) f (b .0) (b .1) x l (first-low (formRow f))) k,
+          settled-length (L (sortIn x) .w) f (b .0) (b .1) x l (first-low (formRow f)),
+        )
 
-  fine-known : (f : ℕ) (ts : List (List ℕ)) → f ≤ 60 → Fine L G (worded L G (knownWord f ts))
-  fine-known zero ts h = tt
-  fine-known (suc f) ts h = fine-ended (suc f) (omega arith) h (numbersIn (suc f) ts) (left-of (suc f) (numbersOf (formRow (suc f))) (firstOf (formRow (suc f))) (fresh (kindOf (suc f))) false 0 ts)
+  module _ (m n : ℕ) where
+    -- a line that gives a record has an id and a word
+    first-token : (ts : List (List ℕ)) (rec : List ℕ) → readLine L G m n ts ≡ got rec → ((keeps false L G rec ≡ true) × (length rec ≡ recordWords)) × (n < m)
+    unfolding readLine
+    first-token [] rec e = let z : _≡_ {A = ℕ} 0 1 = cc in absurd (omega arith)
+    first-token (t ∷ ts) rec e = (line-keeps m n t (wordIn ts) (word-forms ts) rec e, line-room m n t (wordIn ts) (word-forms ts) rec e)
 
-  fine-worded : (ts : List (List ℕ)) → Fine L G (worded L G (wordIn ts))
-  unfolding wordIn
-  fine-worded [] = tt
-  fine-worded (t ∷ ts) = go (same t sortWord) ts
-    where
-      go : (b : Bool) (ts : List (List ℕ)) → Fine L G (worded L G (elim b [ true ↦ sortWords ts | false ↦ knownWord (findIn 3 58 t) ts ]))
-      go true [] = tt
-      go true (u ∷ ts) = fine-known (findIn 1 2 u) ts (omega (arith, find-most 1 2 u))
-      go false ts = fine-known (findIn 3 58 t) ts (omega (arith, find-most 3 58 t))
+    pub got-keeps : (ts : List (List ℕ)) (rec : List ℕ) → readLine L G m n ts ≡ got rec → (keeps false L G rec ≡ true) × (length rec ≡ recordWords)
+    got-keeps ts rec e = first-token ts rec e .0
 
-  pub fine-line : (m n : ℕ) (ts : List (List ℕ)) → Fine L G (readLine L G m n ts)
-  unfolding readLine
-  fine-line m n [] = tt
-  fine-line m n (t ∷ ts) = go (isId (decimal t) (suc n)) (ltb n m)
-    where
-      go : (p q : Bool) → Fine L G (elim p [ false ↦ no WrongId | true ↦ elim q [ true ↦ worded L G (wordIn ts) | false ↦ no NoRecordLeft ] ])
-      go true true = fine-worded ts
-      go true false = tt
-      go false q = tt
-
-  -- a record is given only where there is room
-  Roomy : (m n : ℕ) → Reply → Type 0
-  Roomy m n skip = Unit {0}
-  Roomy m n (no r) = Unit {0}
-  Roomy m n (got rec) = n < m
-
-  roomy-line : (m n : ℕ) (ts : List (List ℕ)) → Roomy m n (readLine L G m n ts)
-  unfolding readLine Roomy
-  roomy-line m n [] = tt
-  roomy-line m n (t ∷ ts) = go (isId (decimal t) (suc n)) (ltb n m) refl
-    where
-      any : n < m → (x : Reply) → Roomy m n x
-      any h skip = tt
-      any h (no r) = tt
-      any h (got rec) = h
-
-      go : (p q : Bool) → ltb n m ≡ q → Roomy m n (elim p [ false ↦ no WrongId | true ↦ elim q [ true ↦ worded L G (wordIn ts) | false ↦ no NoRecordLeft ] ])
-      go true true e = any (ltb-true n m e) (worded L G (wordIn ts))
-      go true false e = tt
-      go false q e = tt
-
-  module _ (m n : ℕ) (ts : List (List ℕ)) (rec : List ℕ) (e : readLine L G m n ts ≡ got rec) where
-    pub got-keeps : (keeps false L G rec ≡ true) × (length rec ≡ recordWords)
-    got-keeps = subst (Fine L G) e (fine-line m n ts)
-
-    pub got-room : n < m
-    unfolding Roomy
-    got-room = subst (Roomy m n) e (roomy-line m n ts)
+    pub got-room : (ts : List (List ℕ)) (rec : List ℕ) → readLine L G m n ts ≡ got rec → n < m
+    got-room ts rec e = first-token ts rec e .1

@@ -4,6 +4,8 @@ pub mod Words
 pub mod Scan
 pub mod Places
 pub mod Steps
+pub mod Lowest
+pub mod Staged
 pub mod Kept
 pub mod Reached
 pub mod Bounded

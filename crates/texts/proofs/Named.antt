@@ -13,7 +13,7 @@ use Rattle.texts.specs.Forms.{formRow, numbersOf}
 use Rattle.texts.specs.Split.{split, upTo, tokens}
 use Rattle.texts.specs.Reading.{wordIn, lineTokens}
 use Rattle.texts.specs.Naming.{leads, only, extraIn, lineName, nameIn, nameOf}
-use Rattle.texts.specs.Stages.{wordAt, asWord}
+use Rattle.texts.specs.Model.Structs.{wordAt, asWord}
 use Rattle.texts.proofs.Places.{tail, line-first, next-token}
 
 -- ---- tokens passed

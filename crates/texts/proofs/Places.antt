@@ -9,7 +9,7 @@ use lib.ListN.{length, take, drop, getD, drop-of-length-le, length-drop}
 use lib.Seq.{drop-drop, getD-drop, take-take}
 use borrow.Author.Tests.{ne-eqb}
 use Rattle.texts.specs.Split.{split, upTo, filled, tokens}
-use Rattle.texts.specs.Stages.{several}
+use Rattle.texts.specs.Model.Structs.{several}
 
 -- ---- from a place to the first part
 

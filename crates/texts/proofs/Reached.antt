@@ -31,8 +31,10 @@ use Rattle.tables.proofs.Showing.{length-noted, shows-more, length-more}
 use Rattle.texts.specs.declared.Readout.{Readout}
 use Rattle.texts.specs.Split.{split, upTo, tokens}
 use Rattle.texts.specs.Reading.{Reply, skip, no, got, lineTokens, readLine, Text, done, refused, readLines, linesRead, readText, answerOf, tableOf, outcomeOf, reads}
-use Rattle.texts.specs.Stages.{asRead}
+use Rattle.texts.specs.Model.Stages.{stagedLine}
+use Rattle.texts.specs.Model.Structs.{asRead}
 use Rattle.texts.proofs.Places.{tail, line-first}
+use Rattle.texts.proofs.Staged.{staged}
 use Rattle.texts.proofs.Kept.{got-keeps, got-room}
 
 -- ---- one line, and the lines behind it
@@ -166,9 +168,10 @@ module _ {s table : List ℕ} {notes rs : List (List ℕ)} {len i n line : ℕ} 
   pub narrow-noted : (a : ℕ) → lookIn notes a .w ≤ 64
   narrow-noted a = subst (λ (t : Ty). t .w ≤ 64) (sym (R .shows .types a)) (R .narrow a)
 
-  as-noted : (ts : List (List ℕ)) → readLine (lookIn notes) (givenIn notes) (room false len) n ts ≡ readLine (tyAt c) (given c) (room false len) (length rs) ts
+  as-noted : (ts : List (List ℕ)) → stagedLine (lookIn notes) (givenIn notes) (room false len) n ts ≡ readLine (tyAt c) (given c) (room false len) (length rs) ts
   as-noted ts =
-      ap₂ (λ (L : ℕ → Ty) (G : Bool → ℕ → Bool). readLine L G (room false len) n ts) (λ j a. R .shows .types a j) (λ j m q. R .shows .marks m q j)
+      staged (lookIn notes) (givenIn notes) (room false len) n ts
+      ∙ ap₂ (λ (L : ℕ → Ty) (G : Bool → ℕ → Bool). readLine L G (room false len) n ts) (λ j a. R .shows .types a j) (λ j m q. R .shows .marks m q j)
       ∙ ap (λ (k : ℕ). readLine (tyAt c) (given c) (room false len) k ts) (R .size)
 
   pub at-end : length s ≤ i → linesRead len s ≡ done rs
@@ -177,16 +180,16 @@ module _ {s table : List ℕ} {notes rs : List (List ℕ)} {len i n line : ℕ} 
 
   -- the line from i to f, without its comment from i to z; the next one starts at i′
   module _ (m f z i′ : ℕ) (em : m ≡ room false len) (on : i < length s) (hf : f ≡ i + length (upTo 10 (drop i s))) (hz : take (z - i) (drop i s) ≡ upTo 59 (take (f - i) (drop i s))) (lf : f ≤ length s) (hi : i′ ≡ min (f + 1) (length s))
-      (r : Readout) (er : r ≡ asRead (readLine (lookIn notes) (givenIn notes) m n (tokens (take (z - i) (drop i s))))) where
+      (r : Readout) (er : r ≡ asRead (stagedLine (lookIn notes) (givenIn notes) m n (tokens (take (z - i) (drop i s))))) where
     abbrev this : List ℕ
     this = take (f - i) (drop i s)
 
     abbrev later : List (List ℕ)
     later = tail 10 (drop f s)
 
-    as-line : readLine (lookIn notes) (givenIn notes) m n (tokens (take (z - i) (drop i s))) ≡ readLine (tyAt c) (given c) (room false len) (length rs) (lineTokens this)
+    as-line : stagedLine (lookIn notes) (givenIn notes) m n (tokens (take (z - i) (drop i s))) ≡ readLine (tyAt c) (given c) (room false len) (length rs) (lineTokens this)
     as-line =
-        ap (λ (k : ℕ). readLine (lookIn notes) (givenIn notes) k n (tokens (take (z - i) (drop i s)))) em
+        ap (λ (k : ℕ). stagedLine (lookIn notes) (givenIn notes) k n (tokens (take (z - i) (drop i s)))) em
         ∙ as-noted (tokens (take (z - i) (drop i s))) ∙ ap (λ (x : List ℕ). readLine (tyAt c) (given c) (room false len) (length rs) (tokens x)) hz
 
     begun : linesRead len s ≡ readLines (room false len) line c rs (this ∷ later)

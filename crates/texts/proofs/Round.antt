@@ -1,13 +1,14 @@
 -- The round trip: an accepted table, written as text and read again, gives the same records and the same count. Assumes nothing.
 use Prim.Native.Nat.{ℕ, zero, suc, _+_, _-_, _^_, _≤_, _<_}
-use mathlib.Core.Path.{_≡_, refl, sym, ap, _∙_, subst}
-use mathlib.Core.Bool.{Bool, true, false, _&&_, _||_}
+use mathlib.Core.Path.{_≡_, refl, sym, ap, ap₂, _∙_, subst}
+use mathlib.Core.Bool.{Bool, true, false, _&&_, _||_, not}
 use mathlib.Core.List.{List, [], _∷_, _++_, append-nil, append-assoc}
 use native.Mathlib.Omega.{arith}
 use lib.Dec.{T, eqb, leb, ltb, eqb→eq, leb→le}
-use lib.ListN.{length, getD, set, length-append}
+use lib.ListN.{length, take, drop, getD, set, drop-of-length-le, length-append}
+use lib.Seq.{take-all}
 use mir.Facts.{and-yes}
-use borrow.Author.Tests.{eqb-true, eqb-false, eq-eqb, lt-ltb, ltb-true}
+use borrow.Author.Tests.{eqb-true, eq-eqb, ne-eqb, lt-ltb, le-ltb, ltb-true}
 use Rattle.tables.specs.declared.Ty.{Ty}
 use Rattle.tables.specs.declared.Refusal.the-variants.{TextBuffer}
 use Rattle.tables.specs.declared.Checked.{Checked}
@@ -27,17 +28,19 @@ use Rattle.tables.proofs.Kept.{both}
 use Rattle.tables.proofs.Checking.{roomy}
 use Rattle.tables.proofs.Places.{fields-of, fields-eq, length-records}
 use Rattle.tables.proofs.Sound.{accepted-room, accepted-lawful}
+use Rattle.texts.specs.declared.Num.{Num}
 use Rattle.texts.specs.declared.Num.the-variants.{Is}
-use Rattle.texts.specs.Forms.{firstOf, numbersOf}
+use Rattle.texts.specs.Forms.{formRow, kindOf, firstOf, numbersOf}
 use Rattle.texts.specs.Split.{split, join}
 use Rattle.texts.specs.Decimal.{digits}
-use Rattle.texts.specs.Reading.{word, wordIn, numberAt, took, operands, fresh, got, settled, judged, large, readLine, done, lineTokens, readLines, readText}
+use Rattle.texts.specs.Reading.{Word, word, wordIn, formOf, behind, numberAt, numbersFrom, anyBad, anyBig, placed, numberTokens, extraTokens, numbersIn, fresh, written, settled, recordIn, misfit, refusals, got, lowest, readLine, done, lineTokens, readLines, readText}
 use Rattle.texts.specs.Writing.{numbers, kindTokens, tokensOf, writeFrom, writeText, wrote, refuse, fitted, writeTable}
 use Rattle.texts.proofs.Splitting.{Toks, toks-append, tokens-join, lines-join}
 use Rattle.texts.proofs.Decimals.{digits-tok, decimal-digits}
 use Rattle.texts.proofs.Words.{word-found, word-toks, row-kind, kind-low}
 use Rattle.texts.proofs.Scan.{number-other}
-use Rattle.texts.proofs.Steps.{ruled-got, settled-other, judged-other, large-fits, large-other}
+use Rattle.texts.proofs.Steps.{settled-other}
+use Rattle.texts.proofs.Lowest.{NoneHolds, none-holds}
 use Rattle.texts.proofs.Bounded.{Good, good-lawful}
 use Rattle.texts.proofs.Reached.{step-got, lines-end, text-lines}
 
@@ -48,16 +51,34 @@ abbrev copied : (m j : ℕ) → List ℕ → List ℕ → List ℕ
 copied zero j rec d = d
 copied (suc m) j rec d = copied m (suc j) rec (set d j (getD rec j 0))
 
+length-numbers : (m j : ℕ) (rec : List ℕ) → length (numbers m j rec) ≡ m
+length-numbers zero j rec = refl
+length-numbers (suc m) j rec = ap suc (length-numbers m (suc j) rec)
+
+-- m words of rec, from the place j on, as numbers
+abbrev values : (m j : ℕ) → List ℕ → List Num
+values zero j rec = []
+values (suc m) j rec = Is (getD rec j 0) ∷ values m (suc j) rec
+
+none-bad : (m j : ℕ) (rec : List ℕ) → anyBad (values m j rec) ≡ false
+none-bad zero j rec = refl
+none-bad (suc m) j rec = none-bad m (suc j) rec
+
+none-big : (m j : ℕ) (rec : List ℕ) → anyBig (values m j rec) ≡ false
+none-big zero j rec = refl
+none-big (suc m) j rec = none-big m (suc j) rec
+
+placed-values : (m j : ℕ) (rec d : List ℕ) → placed j (values m j rec) d ≡ copied m j rec d
+placed-values zero j rec d = refl
+placed-values (suc m) j rec d = placed-values m (suc j) rec (set d j (getD rec j 0))
+
 module _ (k : ℕ) (low : k ≤ 55) (rec : List ℕ) (words : (j : ℕ) → getD rec j 0 < 2 ^ 64) where
   number-read : (j : ℕ) → numberAt k j (digits (getD rec j 0)) ≡ Is (getD rec j 0)
   number-read j = number-other k j (digits (getD rec j 0)) (λ e. omega arith) (λ e. omega arith) ∙ decimal-digits (getD rec j 0) (words j)
 
-  numbers-read : (m j : ℕ) (d : List ℕ) (l : ℕ) → (l′ : ℕ) × (operands k m j d false l (numbers m j rec) ≡ took (copied m j rec d) false l′ [])
-  unfolding operands
-  numbers-read zero j d l = (l, refl)
-  numbers-read (suc m) j d l =
-      let r = numbers-read m (suc j) (set d j (getD rec j 0)) (length (digits (getD rec j 0))) in
-      (r .0, rw (number-read j, operands) (r .1))
+  numbers-read : (m j : ℕ) → numbersFrom k j (numbers m j rec) ≡ values m j rec
+  numbers-read zero j = refl
+  numbers-read (suc m) j = ap₂ (λ (x : Num) (xs : List Num). x ∷ xs) (number-read j) (numbers-read m (suc j))
 
 -- ---- the words that a line does not use are 0, so nothing of a formed record is lost
 
@@ -152,32 +173,83 @@ module _ (L : ℕ → Ty) (G : Bool → ℕ → Bool) (r : List ℕ) (sized : le
   line-toks : (n : ℕ) → Toks (tokensOf n r)
   line-toks n = (digits-tok n, toks-append (kindTokens (kindIn r)) _ (kind-toks (kindIn r) least most) (numbers-toks (numbersOf (rowOf (kindIn r))) (firstOf (rowOf (kindIn r))) r))
 
-  judged-got : (l : ℕ) → judged L G (kindIn r) l r ≡ got r
-  judged-got l =
-      judged-other L G (kindIn r) r l (λ e. omega (arith, free)) (λ e. omega (arith, most)) ∙ ruled-got (fault false L G r) r free
-
-  settled-same : settled (L (sortIn r) .w) (kindIn r) r ≡ r
-  settled-same = settled-other (L (sortIn r) .w) (kindIn r) r (λ e. omega (arith, most)) (λ e. omega (arith, most))
+  settled-same : (w : ℕ) → settled w (kindIn r) r ≡ r
+  settled-same w = settled-other w (kindIn r) r (λ e. omega (arith, most)) (λ e. omega (arith, most))
 
   -- the width of a sort
   width-fits : kindIn r ≡ 1 → inside 1 64 (firstIn r) ≡ true
   width-fits k = sym (and-true (inside 1 64 (firstIn r))) ∙ (fits-as r isBitvec (ap shapeOf k) (L (sortIn r)) (L (firstIn r)) (L (secondIn r)) (L (thirdIn r)) refl ∙ passed false L G r free .width)
 
-  large-got : (l : ℕ) → large L G (kindIn r) r false l ≡ got r
-  large-got l = go (eqb (kindIn r) 1) refl
+  abbrev row : List ℕ
+  row = rowOf (kindIn r)
+
+  -- the numbers of the line, printed
+  abbrev printed : List (List ℕ)
+  printed = numbers (numbersOf row) (firstOf row) r
+
+  own-row : formRow (kindIn r) ≡ row
+  own-row = row-kind (kindIn r) most
+
+  all-taken : numberTokens (kindIn r) printed ≡ printed
+  all-taken = ap (λ (x : List ℕ). take (numbersOf x) printed) own-row ∙ take-all (numbersOf row) printed (omega (arith, length-numbers (numbersOf row) (firstOf row) r))
+
+  none-left : extraTokens (kindIn r) printed ≡ []
+  none-left =
+      let h : length printed ≤ numbersOf row = omega (arith, length-numbers (numbersOf row) (firstOf row) r) in
+      ap (λ (x : List ℕ). drop (numbersOf x) printed) own-row ∙ drop-of-length-le printed h
+
+  are-values : numbersIn (kindIn r) printed ≡ values (numbersOf row) (firstOf row) r
+  are-values =
+      ap (numbersFrom (kindIn r) (firstOf (formRow (kindIn r)))) all-taken
+      ∙ (ap (λ (x : List ℕ). numbersFrom (kindIn r) (firstOf x) printed) own-row ∙ numbers-read (kindIn r) most r words (numbersOf row) (firstOf row))
+
+  written-same : written (kindIn r) printed ≡ r
+  written-same =
+      ap (λ (ns : List Num). placed (firstOf (formRow (kindIn r))) ns (fresh (kindOf (kindIn r)))) are-values
+      ∙ (ap (λ (x : List ℕ). placed (firstOf x) (values (numbersOf row) (firstOf row) r) (fresh (kindOf (kindIn r)))) own-row
+      ∙ (ap (λ (k : ℕ). placed (firstOf row) (values (numbersOf row) (firstOf row) r) (fresh k)) (kind-low (kindIn r) most)
+      ∙ (placed-values (numbersOf row) (firstOf row) r (fresh (kindIn r)) ∙ copied-back r sized well)))
+
+  record-same : recordIn L (kindIn r) printed ≡ r
+  record-same = ap (λ (x : List ℕ). settled (L (sortIn x) .w) (kindIn r) x) written-same ∙ settled-same (L (sortIn r) .w)
+
+  -- none of the rules 8, 9 and 10 is broken
+  other-fault : (x : ℕ) → (x ≡ 0 → ⊥) → eqb (fault false L G (recordIn L (kindIn r) printed)) x ≡ false
+  other-fault x h = ne-eqb _ x (λ e. h (sym e ∙ (ap (fault false L G) record-same ∙ free)))
+
+  -- 6 and 7
+  operands-fit : (ltb (length printed) (numbersOf (formRow (kindIn r))) || (anyBad (numbersIn (kindIn r) printed) || leb 2 (length (extraTokens (kindIn r) printed)))) ≡ false
+  operands-fit =
+      let a : numbersOf (formRow (kindIn r)) ≤ length printed = omega (arith, ap numbersOf own-row, length-numbers (numbersOf row) (firstOf row) r) in
+      rw (le-ltb (length printed) (numbersOf (formRow (kindIn r))) a, ap anyBad are-values ∙ none-bad (numbersOf row) (firstOf row) r) (ap (λ (x : List (List ℕ)). leb 2 (length x)) none-left)
+
+  numbers-fit : (anyBig (numbersIn (kindIn r) printed) || (eqb (kindIn r) 1 && not (inside 1 64 (firstIn (recordIn L (kindIn r) printed))))) ≡ false
+  numbers-fit = rw (ap anyBig are-values ∙ none-big (numbersOf row) (firstOf row) r) (go (eqb (kindIn r) 1) refl)
     where
-      go : (q : Bool) → eqb (kindIn r) 1 ≡ q → large L G (kindIn r) r false l ≡ got r
-      go true e = let k = eqb-true (kindIn r) 1 e in large-fits L G (kindIn r) r l false refl k (width-fits k) ∙ (ap (judged L G (kindIn r) l) settled-same ∙ judged-got l)
-      go false e = large-other L G (kindIn r) r l false refl (eqb-false (kindIn r) 1 e) ∙ (ap (judged L G (kindIn r) l) settled-same ∙ judged-got l)
+      go : (q : Bool) → eqb (kindIn r) 1 ≡ q → (q && not (inside 1 64 (firstIn (recordIn L (kindIn r) printed)))) ≡ false
+      go true e = ap (λ (x : List ℕ). not (inside 1 64 (firstIn x))) record-same ∙ ap not (width-fits (eqb-true (kindIn r) 1 e))
+      go false e = refl
+
+  none-refused : (m n : ℕ) → n < m → suc n < 2 ^ 64 → NoneHolds (refusals L G m n (digits (suc n)) (kindIn r) printed)
+  none-refused m n h s = (
+    rw (decimal-digits (suc n) s) (ap not (eq-eqb (suc n) (suc n) refl)),
+    (
+      ap not (lt-ltb n m h),
+      (
+        ne-eqb (kindIn r) 0 (λ e. omega (arith, least)),
+        (operands-fit, (numbers-fit, (other-fault 8 (λ e. omega arith), (no-misfit, (other-fault 10 (λ e. omega arith), tt))))),
+      ),
+    ),
+  )
+    where
+      no-misfit : misfit L G m n (digits (suc n)) (kindIn r) printed ≡ false
+      no-misfit = rw (other-fault 9 (λ e. omega arith), ne-eqb (kindIn r) 56 (λ e. omega (arith, most))) refl
 
   pub line-read : (m n : ℕ) → n < m → suc n < 2 ^ 64 → readLine L G m n (tokensOf (suc n) r) ≡ got r
   unfolding readLine
   line-read m n h s =
-      let k : ℕ = kindIn r in
-      let ns : List (List ℕ) = numbers (numbersOf (rowOf (kindIn r))) (firstOf (rowOf (kindIn r))) r in
-      let x = numbers-read (kindIn r) most r words (numbersOf (rowOf (kindIn r))) (firstOf (rowOf (kindIn r))) (fresh (kindIn r)) 0 in
-      rw (decimal-digits (suc n) s, eq-eqb (suc n) (suc n) refl, lt-ltb n m h, readLine)
-      (rw (kind-word (kindIn r) least most ns, row-kind (kindIn r) most, kind-low (kindIn r) most, x .1, copied-back r sized well) (large-got (x .0)))
+      ap (λ (w : Word). lowest (refusals L G m n (digits (suc n)) (formOf w) (behind w)) (recordIn L (formOf w) (behind w))) (kind-word (kindIn r) least most printed)
+      ∙ (none-holds (refusals L G m n (digits (suc n)) (kindIn r) printed) (recordIn L (kindIn r) printed) (none-refused m n h s) ∙ ap got record-same)
 
 -- ---- the lines, the text
 

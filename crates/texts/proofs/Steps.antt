@@ -18,11 +18,12 @@ use Rattle.tables.specs.Kinds.{countOf}
 use Rattle.texts.specs.Forms.{formRow, kindOf, sorted, firstOf, numbersOf}
 use Rattle.texts.specs.Split.{tokens}
 use Rattle.texts.specs.Decimal.{decimal}
-use Rattle.texts.specs.Reading.{wordIn, numberAt, Took, took, malformed, operands, numbersIn, fresh, no, got, skip, ruled, settled, judged, large, ended, worded, readLine, isId}
+use Rattle.texts.specs.Reading.{wordIn, numberAt, fresh, settled, no, got, skip, isId}
+use Rattle.texts.specs.Model.Stages.{Took, took, malformed, operands, takenIn, ruled, judged, large, ended, worded, stagedLine}
 use Rattle.texts.specs.declared.Readout.{Readout}
 use Rattle.texts.specs.declared.Taken.{Taken}
 use Rattle.texts.specs.declared.Form.{Form}
-use Rattle.texts.specs.Stages.{wordAt, asWord, tookAt, asTook, asRead, several}
+use Rattle.texts.specs.Model.Structs.{wordAt, asWord, tookAt, asTook, asRead, several}
 
 -- ---- operands
 
@@ -163,7 +164,7 @@ module _ (L : ℕ → Ty) (G : Bool → ℕ → Bool) (f : ℕ) (l : List ℕ) (
 
   -- the numbers were taken from a line of the form f, whose row is row
   pub taken-from : (row start : List ℕ) (k s i : ℕ) → x ≡ asRead (ended L G f (asTook l t)) → operands f (s + countOf row) (2 - s) start false 0 (tokens (drop i l)) ≡ asTook l t
-      → start ≡ fresh k → s ≡ sorted row → row ≡ formRow f → k ≡ kindOf f → x ≡ asRead (ended L G f (numbersIn f (tokens (drop i l))))
+      → start ≡ fresh k → s ≡ sorted row → row ≡ formRow f → k ≡ kindOf f → x ≡ asRead (ended L G f (takenIn f (tokens (drop i l))))
   taken-from row start k s i e o eb es er ek =
       let ts : List (List ℕ) = tokens (drop i l) in
       e
@@ -177,52 +178,52 @@ module _ (L : ℕ → Ty) (G : Bool → ℕ → Bool) (f : ℕ) (l : List ℕ) (
 -- ---- lines
 
 module _ (L : ℕ → Ty) (G : Bool → ℕ → Bool) (m n : ℕ) where
-  pub line-skip : readLine L G m n [] ≡ skip
-  unfolding readLine
+  pub line-skip : stagedLine L G m n [] ≡ skip
+  unfolding stagedLine
   line-skip = refl
 
   module _ (t : List ℕ) (ts : List (List ℕ)) where
-    pub line-3 : isId (decimal t) (n + 1) ≡ false → readLine L G m n (t ∷ ts) ≡ no WrongId
-    unfolding readLine
-    line-3 h = rw (rw add-one at h, readLine) refl
+    pub line-3 : isId (decimal t) (n + 1) ≡ false → stagedLine L G m n (t ∷ ts) ≡ no WrongId
+    unfolding stagedLine
+    line-3 h = rw (rw add-one at h, stagedLine) refl
 
-    pub line-4 : isId (decimal t) (n + 1) ≡ true → m ≤ n → readLine L G m n (t ∷ ts) ≡ no NoRecordLeft
-    unfolding readLine
-    line-4 h k = rw (rw add-one at h, le-ltb n m k, readLine) refl
+    pub line-4 : isId (decimal t) (n + 1) ≡ true → m ≤ n → stagedLine L G m n (t ∷ ts) ≡ no NoRecordLeft
+    unfolding stagedLine
+    line-4 h k = rw (rw add-one at h, le-ltb n m k, stagedLine) refl
 
-    pub line-word : isId (decimal t) (n + 1) ≡ true → n < m → readLine L G m n (t ∷ ts) ≡ worded L G (wordIn ts)
-    unfolding readLine
-    line-word h k = rw (rw add-one at h, lt-ltb n m k, readLine) refl
+    pub line-word : isId (decimal t) (n + 1) ≡ true → n < m → stagedLine L G m n (t ∷ ts) ≡ worded L G (wordIn ts)
+    unfolding stagedLine
+    line-word h k = rw (rw add-one at h, lt-ltb n m k, stagedLine) refl
 
 module _ (L : ℕ → Ty) (G : Bool → ℕ → Bool) (l : List ℕ) (f z : ℕ) where
   pub word-no : f ≡ 0 → worded L G (wordAt l f z) ≡ no UnknownWord
   word-no h = rw h refl
 
-  pub word-form : (f ≡ 0 → ⊥) → worded L G (wordAt l f z) ≡ ended L G f (numbersIn f (tokens (drop z l)))
+  pub word-form : (f ≡ 0 → ⊥) → worded L G (wordAt l f z) ≡ ended L G f (takenIn f (tokens (drop z l)))
   word-form h = go f h
     where
-      go : (f : ℕ) → (f ≡ 0 → ⊥) → worded L G (wordAt l f z) ≡ ended L G f (numbersIn f (tokens (drop z l)))
+      go : (f : ℕ) → (f ≡ 0 → ⊥) → worded L G (wordAt l f z) ≡ ended L G f (takenIn f (tokens (drop z l)))
       go zero h = absurd (h refl)
       go (suc f) h = refl
 
 -- a line whose tokens are known
 module _ (L : ℕ → Ty) (G : Bool → ℕ → Bool) (m n : ℕ) (l : List ℕ) {x : Readout} where
-  pub read-skip : tokens l ≡ [] → x ≡ asRead skip → x ≡ asRead (readLine L G m n (tokens l))
-  read-skip e h = h ∙ ap asRead (sym (ap (readLine L G m n) e ∙ line-skip L G m n))
+  pub read-skip : tokens l ≡ [] → x ≡ asRead skip → x ≡ asRead (stagedLine L G m n (tokens l))
+  read-skip e h = h ∙ ap asRead (sym (ap (stagedLine L G m n) e ∙ line-skip L G m n))
 
   module _ (t : List ℕ) (z : ℕ) (e : tokens l ≡ t ∷ tokens (drop z l)) where
-    pub read-3 : isId (decimal t) (n + 1) ≡ false → x ≡ asRead (no WrongId) → x ≡ asRead (readLine L G m n (tokens l))
-    read-3 a h = h ∙ ap asRead (sym (ap (readLine L G m n) e ∙ line-3 L G m n t (tokens (drop z l)) a))
+    pub read-3 : isId (decimal t) (n + 1) ≡ false → x ≡ asRead (no WrongId) → x ≡ asRead (stagedLine L G m n (tokens l))
+    read-3 a h = h ∙ ap asRead (sym (ap (stagedLine L G m n) e ∙ line-3 L G m n t (tokens (drop z l)) a))
 
-    pub read-4 : isId (decimal t) (n + 1) ≡ true → m ≤ n → x ≡ asRead (no NoRecordLeft) → x ≡ asRead (readLine L G m n (tokens l))
-    read-4 a b h = h ∙ ap asRead (sym (ap (readLine L G m n) e ∙ line-4 L G m n t (tokens (drop z l)) a b))
+    pub read-4 : isId (decimal t) (n + 1) ≡ true → m ≤ n → x ≡ asRead (no NoRecordLeft) → x ≡ asRead (stagedLine L G m n (tokens l))
+    read-4 a b h = h ∙ ap asRead (sym (ap (stagedLine L G m n) e ∙ line-4 L G m n t (tokens (drop z l)) a b))
 
     pub read-5 : isId (decimal t) (n + 1) ≡ true → n < m → (w : Form) → wordIn (tokens (drop z l)) ≡ asWord l w → w .form ≡ 0 → x ≡ asRead (no UnknownWord)
-        → x ≡ asRead (readLine L G m n (tokens l))
+        → x ≡ asRead (stagedLine L G m n (tokens l))
     read-5 a b w k q h =
-        h ∙ ap asRead (sym (ap (readLine L G m n) e ∙ (line-word L G m n t (tokens (drop z l)) a b ∙ (ap (worded L G) k ∙ word-no L G l (w .form) (w .at) q))))
+        h ∙ ap asRead (sym (ap (stagedLine L G m n) e ∙ (line-word L G m n t (tokens (drop z l)) a b ∙ (ap (worded L G) k ∙ word-no L G l (w .form) (w .at) q))))
 
     pub read-on : isId (decimal t) (n + 1) ≡ true → n < m → (w : Form) → wordIn (tokens (drop z l)) ≡ asWord l w → (w .form ≡ 0 → ⊥)
-        → x ≡ asRead (ended L G (w .form) (numbersIn (w .form) (tokens (drop (w .at) l)))) → x ≡ asRead (readLine L G m n (tokens l))
+        → x ≡ asRead (ended L G (w .form) (takenIn (w .form) (tokens (drop (w .at) l)))) → x ≡ asRead (stagedLine L G m n (tokens l))
     read-on a b w k q h =
-        h ∙ ap asRead (sym (ap (readLine L G m n) e ∙ (line-word L G m n t (tokens (drop z l)) a b ∙ (ap (worded L G) k ∙ word-form L G l (w .form) (w .at) q))))
+        h ∙ ap asRead (sym (ap (stagedLine L G m n) e ∙ (line-word L G m n t (tokens (drop z l)) a b ∙ (ap (worded L G) k ∙ word-form L G l (w .form) (w .at) q))))

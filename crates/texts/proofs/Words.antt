@@ -15,9 +15,9 @@ use Rattle.tables.specs.Kinds.{rows, rowOf, wordOf, countOf}
 use Rattle.tables.proofs.Every.{every, at-each}
 use Rattle.texts.specs.Forms.{extra, formRow, kindOf, sorted, sortWord}
 use Rattle.texts.specs.Split.{same, tokens}
-use Rattle.texts.specs.Reading.{findIn, word, unknown, known, sortWords, wordIn}
+use Rattle.texts.specs.Reading.{findIn, Word, word, unknown, known, sortWords, wordIn}
 use Rattle.texts.specs.Writing.{headed, kindTokens}
-use Rattle.texts.specs.Stages.{wordAt}
+use Rattle.texts.specs.Model.Structs.{wordAt}
 use Rattle.texts.proofs.Splitting.{Clean, Tok, Toks}
 
 -- ---- a token against a word
@@ -92,6 +92,25 @@ find-most k (suc n) t = go (same t (wordOf (formRow k))) refl (find-most (suc k)
     go : (q : Bool) → same t (wordOf (formRow k)) ≡ q → findIn (suc k) n t ≤ suc k + n - 1 → findIn k (suc n) t ≤ k + suc n - 1
     go true e h = rw (e, findIn) (omega arith)
     go false e h = rw (e, findIn) (omega arith)
+
+-- a word that is known has one of the forms 1 to 60
+abbrev pub InForms : Word → Type 0
+InForms unknown = Unit {0}
+InForms (word f ts) = (1 ≤ f) × (f ≤ 60)
+
+known-forms : (f : ℕ) (ts : List (List ℕ)) → f ≤ 60 → InForms (known f ts)
+known-forms zero ts h = tt
+known-forms (suc f) ts h = (omega arith, h)
+
+pub word-forms : (ts : List (List ℕ)) → InForms (wordIn ts)
+unfolding wordIn
+word-forms [] = tt
+word-forms (t ∷ ts) = go (same t sortWord) ts
+  where
+    go : (b : Bool) (ts : List (List ℕ)) → InForms (elim b [ true ↦ sortWords ts | false ↦ known (findIn 3 58 t) ts ])
+    go true [] = tt
+    go true (u ∷ ts) = known-forms (findIn 1 2 u) ts (omega (arith, find-most 1 2 u))
+    go false ts = known-forms (findIn 3 58 t) ts (omega (arith, find-most 3 58 t))
 
 same-at : (x y : List ℕ) (i : ℕ) → i < length x → i < length y → (getD x i 0 ≡ getD y i 0 → ⊥) → same x y ≡ false
 same-at [] y i h k n = absurd (omega arith)

@@ -3,5 +3,5 @@ pub mod Split
 pub mod Decimal
 pub mod Reading
 pub mod Writing
-pub mod Stages
 pub mod Naming
+pub mod Model

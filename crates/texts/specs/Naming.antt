@@ -4,10 +4,9 @@ use Prim.Native.Nat.{ℕ}
 use mathlib.Core.Bool.{Bool, true, false}
 use mathlib.Core.List.{List, [], _∷_}
 use lib.ListN.{drop}
-use Rattle.texts.specs.Forms.{formRow, numbersOf}
 use Rattle.texts.specs.Split.{split}
 use Rattle.texts.specs.Decimal.{decimal}
-use Rattle.texts.specs.Reading.{Word, word, unknown, wordIn, isId, lineTokens}
+use Rattle.texts.specs.Reading.{Word, word, unknown, wordIn, extraTokens, isId, lineTokens}
 
 -- the line's id is the number n
 abbrev pub leads : ℕ → List (List ℕ) → Bool
@@ -23,7 +22,7 @@ only (t ∷ u ∷ r) = []
 -- the extra token behind a word and its numbers
 abbrev pub extraIn : Word → List ℕ
 extraIn unknown = []
-extraIn (word f ts) = only (drop (numbersOf (formRow f)) ts)
+extraIn (word f ts) = only (extraTokens f ts)
 
 -- the name in a line's tokens, of which the first is the id
 abbrev pub lineName : List (List ℕ) → List ℕ

@@ -1,10 +1,10 @@
--- Reading a text: its lines are parted at LF, cut at the first semicolon, and parted into tokens at spaces. Of a line the lowest refusal that holds is answered,
--- of a text the first line's that has one. A comment gives the refusal's number where its name stands for it. Assumes nothing.
+-- Reading a text: its lines are parted at LF, cut at the first semicolon, and parted into tokens at spaces. Of a line the first of the refusals 3 to 10 that holds is
+-- answered, of a text the first line's that has one. Assumes nothing.
 use Prim.Native.Nat.{ℕ, zero, suc, _-_, _^_}
-use mathlib.Core.Bool.{Bool, true, false, _&&_, not}
+use mathlib.Core.Bool.{Bool, true, false, _&&_, _||_, not}
 use mathlib.Core.List.{List, [], _∷_, _++_}
 use lib.Dec.{eqb, leb, ltb}
-use lib.ListN.{length, set, replicate}
+use lib.ListN.{length, take, drop, set, replicate}
 use Rattle.tables.specs.declared.Ty.{Ty}
 use Rattle.tables.specs.declared.Refusal.{Refusal}
 use Rattle.tables.specs.declared.Refusal.the-variants.{NotATable, TextTooLong, WrongId, NoRecordLeft, UnknownWord, BadOperand, NumberTooLarge, WrongClass, Misfit, InitOrNext}
@@ -48,7 +48,16 @@ unfoldable pub wordIn : List (List ℕ) → Word
 wordIn [] = unknown
 wordIn (t ∷ ts) = elim (same t sortWord) [ true ↦ sortWords ts | false ↦ known (findIn 3 58 t) ts ]
 
--- ---- the numbers
+-- its form, 0 where it is unknown or missing, and what stands behind it
+abbrev pub formOf : Word → ℕ
+formOf unknown = 0
+formOf (word f ts) = f
+
+abbrev pub behind : Word → List (List ℕ)
+behind unknown = []
+behind (word f ts) = ts
+
+-- ---- the numbers: a line's sort, where it has one, and its operands
 
 -- the number that a token is, for the place j of a record: the value of const is in binary, that of consth in hexadecimal digits
 abbrev pub numberAt : ℕ → ℕ → List ℕ → Num
@@ -58,28 +67,119 @@ numberAt f j t =
       | false ↦ elim (eqb f 57 && eqb j 2) [ true ↦ digitsIn 16 16 t | false ↦ decimal t ]
     ]
 
--- the record, whether a number was too large, how many bytes the last number has, and the tokens left
-pub data Took : Type 0 where
-  malformed : Took
-  took : (rec : List ℕ) (big : Bool) (len : ℕ) (rest : List (List ℕ)) → Took
+-- tokens as numbers for the places j and up
+abbrev pub numbersFrom : (f j : ℕ) → List (List ℕ) → List Num
+numbersFrom f j [] = []
+numbersFrom f j (t ∷ ts) = numberAt f j t ∷ numbersFrom f (suc j) ts
 
--- m numbers go to the places j and up of a record
-unfoldable pub operands : (f m j : ℕ) (rec : List ℕ) (big : Bool) (len : ℕ) → List (List ℕ) → Took
-operands f zero j rec big len ts = took rec big len ts
-operands f (suc m) j rec big len [] = malformed
-operands f (suc m) j rec big len (t ∷ ts) =
-    elim (numberAt f j t) [
-      | Bad ↦ malformed
-      | Big ↦ operands f m (suc j) rec true (length t) ts
-      | Is v ↦ operands f m (suc j) (set rec j v) big (length t) ts
-    ]
+-- one of the numbers is malformed; one is too large
+abbrev pub anyBad : List Num → Bool
+anyBad [] = false
+anyBad (Bad ∷ ns) = true
+anyBad (Big ∷ ns) = anyBad ns
+anyBad (Is v ∷ ns) = anyBad ns
 
--- all places but the kind are 0 before the numbers are put
+abbrev pub anyBig : List Num → Bool
+anyBig [] = false
+anyBig (Bad ∷ ns) = anyBig ns
+anyBig (Big ∷ ns) = true
+anyBig (Is v ∷ ns) = anyBig ns
+
+-- numbers at the places j and up of a record; one that has no value leaves its place as it is
+abbrev pub placed : (j : ℕ) → List Num → List ℕ → List ℕ
+placed j [] rec = rec
+placed j (Bad ∷ ns) rec = placed (suc j) ns rec
+placed j (Big ∷ ns) rec = placed (suc j) ns rec
+placed j (Is v ∷ ns) rec = placed (suc j) ns (set rec j v)
+
+-- the last of some tokens, or t where there is none
+abbrev pub lastOf : List ℕ → List (List ℕ) → List ℕ
+lastOf t [] = t
+lastOf t (u ∷ ts) = lastOf u ts
+
+-- ---- what stands behind a word of the form f: the tokens ts
+
+-- the tokens of its numbers, and the extra ones
+abbrev pub numberTokens : ℕ → List (List ℕ) → List (List ℕ)
+numberTokens f ts = take (numbersOf (formRow f)) ts
+
+abbrev pub extraTokens : ℕ → List (List ℕ) → List (List ℕ)
+extraTokens f ts = drop (numbersOf (formRow f)) ts
+
+abbrev pub numbersIn : ℕ → List (List ℕ) → List Num
+numbersIn f ts = numbersFrom f (firstOf (formRow f)) (numberTokens f ts)
+
+-- the record as it is written: all places but the kind are 0 before the numbers are put
 abbrev pub fresh : ℕ → List ℕ
 fresh k = fields k 0 0 0 0
 
-abbrev pub numbersIn : ℕ → List (List ℕ) → Took
-numbersIn f ts = operands f (numbersOf (formRow f)) (firstOf (formRow f)) (fresh (kindOf f)) false 0 ts
+abbrev pub written : ℕ → List (List ℕ) → List ℕ
+written f ts = placed (firstOf (formRow f)) (numbersIn f ts) (fresh (kindOf f))
+
+-- one and ones have their value from the word; w is the width of the line's sort
+unfoldable pub settled : (w f : ℕ) → List ℕ → List ℕ
+settled w f rec = elim (eqb f 59) [ true ↦ set rec 2 1 | false ↦ elim (eqb f 60) [ true ↦ set rec 2 (2 ^ w - 1) | false ↦ rec ] ]
+
+-- the line's record, after lines whose types are L
+abbrev pub recordIn : (ℕ → Ty) → ℕ → List (List ℕ) → List ℕ
+recordIn L f ts = settled (L (sortIn (written f ts)) .w) f (written f ts)
+
+-- ---- the refusals of a line
+
+-- a token is the number n
+abbrev pub isId : Num → ℕ → Bool
+isId Bad n = false
+isId Big n = false
+isId (Is v) n = eqb v n
+
+-- A line after n others, with room for m records: L has the types of those lines, and G says which states have had an init or a next. The line's first token is t, f is
+-- the form of its word, 0 where that is unknown or missing, and ts are the tokens behind the word. Where a test has no meaning, as that of an unknown word's numbers, an
+-- earlier one holds.
+module _ (L : ℕ → Ty) (G : Bool → ℕ → Bool) (m n : ℕ) (t : List ℕ) (f : ℕ) (ts : List (List ℕ)) where
+  -- 3: the id is not the next number
+  abbrev pub wrongId : Bool
+  wrongId = not (isId (decimal t) (suc n))
+
+  -- 4: no record is left
+  abbrev pub noRecordLeft : Bool
+  noRecordLeft = not (ltb n m)
+
+  -- 5: the word is unknown or missing
+  abbrev pub unknownWord : Bool
+  unknownWord = eqb f 0
+
+  -- 6: an operand is missing or malformed, or there are two extra tokens; one is a name
+  abbrev pub badOperand : Bool
+  badOperand = ltb (length ts) (numbersOf (formRow f)) || (anyBad (numbersIn f ts) || leb 2 (length (extraTokens f ts)))
+
+  -- 7: a number is above 2 ^ 64 - 1, a const above 64 or a consth above 16 digits, or a bitvec width not 1 to 64
+  abbrev pub numberTooLarge : Bool
+  numberTooLarge = anyBig (numbersIn f ts) || (eqb f 1 && not (inside 1 64 (firstIn (recordIn L f ts))))
+
+  -- 8: an operand is not an earlier line of the right class
+  abbrev pub wrongClass : Bool
+  wrongClass = eqb (fault false L G (recordIn L f ts)) 8
+
+  -- 9: sorts, widths, bounds or a constant misfit; a const token, the last of its numbers, has as many digits as its width
+  abbrev pub misfit : Bool
+  misfit = eqb (fault false L G (recordIn L f ts)) 9 || (eqb f 56 && not (eqb (length (lastOf [] (numberTokens f ts))) (L (sortIn (recordIn L f ts)) .w)))
+
+  -- 10: a second init or next of a state, or the init rule
+  abbrev pub initOrNext : Bool
+  initOrNext = eqb (fault false L G (recordIn L f ts)) 10
+
+  -- all of them, lowest number first
+  abbrev pub refusals : List (Refusal × Bool)
+  refusals =
+      (WrongId, wrongId)
+      ∷ (NoRecordLeft, noRecordLeft)
+      ∷ (UnknownWord, unknownWord)
+      ∷ (BadOperand, badOperand)
+      ∷ (NumberTooLarge, numberTooLarge)
+      ∷ (WrongClass, wrongClass)
+      ∷ (Misfit, misfit)
+      ∷ (InitOrNext, initOrNext)
+      ∷ []
 
 -- ---- a line
 
@@ -89,67 +189,18 @@ pub data Reply : Type 0 where
   no : (r : Refusal) → Reply
   got : (rec : List ℕ) → Reply
 
--- a token is the number n
-abbrev pub isId : Num → ℕ → Bool
-isId Bad n = false
-isId Big n = false
-isId (Is v) n = eqb v n
+-- the first refusal whose test holds, else the record
+unfoldable pub lowest : List (Refusal × Bool) → (rec : List ℕ) → Reply
+lowest [] rec = got rec
+lowest (x ∷ xs) rec = elim (x .1) [ true ↦ no (x .0) | false ↦ lowest xs rec ]
 
 -- a line's tokens: a semicolon starts a comment to the line's end
 abbrev pub lineTokens : List ℕ → List (List ℕ)
 lineTokens l = tokens (upTo 59 l)
 
--- 9, 10, or the record
-unfoldable pub ruled : ℕ → List ℕ → Reply
-ruled a rec = elim (eqb a 0) [ true ↦ got rec | false ↦ elim (eqb a 9) [ true ↦ no Misfit | false ↦ no InitOrNext ] ]
-
--- one and ones have their value from the word; w is the width of the line's sort
-unfoldable pub settled : (w f : ℕ) → List ℕ → List ℕ
-settled w f rec = elim (eqb f 59) [ true ↦ set rec 2 1 | false ↦ elim (eqb f 60) [ true ↦ set rec 2 (2 ^ w - 1) | false ↦ rec ] ]
-
--- after lines whose types are L and of which G says which states have had an init or a next
-module _ (L : ℕ → Ty) (G : Bool → ℕ → Bool) where
-  -- 8; 9, also where a const token has not as many digits as its width; 10
-  unfoldable pub judged : (f len : ℕ) → List ℕ → Reply
-  judged f len rec =
-      elim (eqb (fault false L G rec) 8) [
-        | true ↦ no WrongClass
-        | false ↦
-            elim (eqb f 56 && not (eqb len (L (sortIn rec) .w))) [
-              | true ↦ no Misfit
-              | false ↦ ruled (fault false L G rec) rec
-            ]
-      ]
-
-  -- 7: a number that is too large, or a bitvec width that is not 1 to 64
-  unfoldable pub large : (f : ℕ) → List ℕ → Bool → ℕ → Reply
-  large f rec true len = no NumberTooLarge
-  large f rec false len =
-      elim (eqb f 1 && not (inside 1 64 (firstIn rec))) [
-        | true ↦ no NumberTooLarge
-        | false ↦ judged f len (settled (L (sortIn rec) .w) f rec)
-      ]
-
-  -- 6: an operand is missing or malformed, or there are two extra tokens; one is a name
-  abbrev pub ended : (f : ℕ) → Took → Reply
-  ended f malformed = no BadOperand
-  ended f (took rec big len []) = large f rec big len
-  ended f (took rec big len (x ∷ [])) = large f rec big len
-  ended f (took rec big len (x ∷ y ∷ r)) = no BadOperand
-
-  -- 5: the word is unknown or missing
-  abbrev pub worded : Word → Reply
-  worded unknown = no UnknownWord
-  worded (word f ts) = ended f (numbersIn f ts)
-
-  -- what a line's tokens give, after n records, with room for m: 3, the id is not the next number; 4, no record is left
-  unfoldable pub readLine : (m n : ℕ) → List (List ℕ) → Reply
-  readLine m n [] = skip
-  readLine m n (t ∷ ts) =
-      elim (isId (decimal t) (suc n)) [
-        | false ↦ no WrongId
-        | true ↦ elim (ltb n m) [ true ↦ worded (wordIn ts) | false ↦ no NoRecordLeft ]
-      ]
+unfoldable pub readLine : (ℕ → Ty) → (Bool → ℕ → Bool) → (m n : ℕ) → List (List ℕ) → Reply
+readLine L G m n [] = skip
+readLine L G m n (t ∷ ts) = lowest (refusals L G m n t (formOf (wordIn ts)) (behind (wordIn ts))) (recordIn L (formOf (wordIn ts)) (behind (wordIn ts)))
 
 -- ---- a text
 

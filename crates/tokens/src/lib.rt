@@ -5,7 +5,7 @@ ghost use mathlib.Core.Path.{_≡_};
 ghost use Prim.Native.Nat.{_+_, _≤_, _<_, _-_, min};
 ghost use lib.ListN.{length, drop, getD, take};
 ghost use Rattle.texts.specs.Split.{upTo, tokens};
-ghost use Rattle.texts.specs.Stages.{several};
+ghost use Rattle.texts.specs.Model.Structs.{several};
 
 // Where the first b stands, from i on, or the length of s.
 pub fn find_byte(s: &[u8], i: usize, b: u8) -> usize

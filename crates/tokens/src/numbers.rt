@@ -11,7 +11,7 @@ fn wide(b: u8) -> u64
 }
 
 // What a byte stands for as a digit, 99 where it is none.
-pub fn digit(b: u8) -> u64
+fn digit(b: u8) -> u64
     ensures { λ r. ⌜ r ≡ digitOf b ⌝ }
 {
     let c = wide(b);
@@ -37,7 +37,7 @@ pub fn digit(b: u8) -> u64
 }
 
 // Every byte of a token is a digit of the base.
-pub fn all_in(t: &[u8], base: u64) -> bool
+fn all_in(t: &[u8], base: u64) -> bool
     ensures { λ r. ⌜ r ≡ allIn base (now (t .entry)) ⌝ }
 {
     let mut i: usize = 0;
@@ -52,7 +52,7 @@ pub fn all_in(t: &[u8], base: u64) -> bool
 }
 
 // The value of a token's digits.
-pub fn value(t: &[u8], base: u64) -> Num
+fn value(t: &[u8], base: u64) -> Num
     requires { ⌜ (2 ≤ base) × (base ≤ 16) ⌝ }
     ensures { λ r. ⌜ r ≡ valued base (now (t .entry)) ⌝ }
 {
@@ -71,7 +71,7 @@ pub fn value(t: &[u8], base: u64) -> Num
 }
 
 // The number that the digits of a token have.
-pub fn scan(t: &[u8], base: u64) -> Num
+fn scan(t: &[u8], base: u64) -> Num
     requires { ⌜ (2 ≤ base) × (base ≤ 16) ⌝ }
     ensures { λ r. ⌜ r ≡ scanned base (now (t .entry)) ⌝ }
 {

@@ -1,5 +1,5 @@
 // Translating a flat circuit into a program.
-pub mod make; // the program of an accepted table, where it fits
+mod make; // the program of an accepted table, where it fits
 
 use tables::Answer;
 use tables::Checked;

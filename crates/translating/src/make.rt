@@ -10,7 +10,7 @@ ghost use Rattle.tables.specs.declared.Checked.the-variants.{Accepted};
 ghost use Rattle.tables.specs.Tables.{checked};
 ghost use Rattle.tables.specs.Answers.{told};
 ghost use Rattle.programs.specs.Answers.{programOf};
-ghost use Rattle.programs.specs.Records.{Prepared, Ready, programIn, makes};
+ghost use Rattle.programs.specs.Model.Passes.{Prepared, Ready, programIn, makes};
 
 // How many instructions the program has. A small circuit takes small lists, which are sooner zero.
 fn counting(table: &[u64], count: usize, marks: &[u8]) -> usize

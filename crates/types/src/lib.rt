@@ -76,7 +76,7 @@ pub fn is_array_sort(t: Ty) -> bool
 }
 
 // The cones of two values, or of three, hold no input and no state.
-pub fn fixed_two(a: Ty, b: Ty) -> bool
+fn fixed_two(a: Ty, b: Ty) -> bool
     ensures { λ r. ⌜ r ≡ (isFixed a && isFixed b) ⌝ }
 {
     if a.cls != 2 {
@@ -85,7 +85,7 @@ pub fn fixed_two(a: Ty, b: Ty) -> bool
     b.cls == 2
 }
 
-pub fn fixed_three(a: Ty, b: Ty, c: Ty) -> bool
+fn fixed_three(a: Ty, b: Ty, c: Ty) -> bool
     ensures { λ r. ⌜ r ≡ (isFixed a && (isFixed b && isFixed c)) ⌝ }
 {
     if a.cls != 2 {
@@ -95,7 +95,7 @@ pub fn fixed_three(a: Ty, b: Ty, c: Ty) -> bool
 }
 
 // A value of the sort t.
-pub fn value(fixed: bool, t: Ty) -> Ty
+fn value(fixed: bool, t: Ty) -> Ty
     ensures { λ r. ⌜ r ≡ ty (pick fixed 2 3) (t .iw) (t .w) ⌝ }
 {
     if fixed {

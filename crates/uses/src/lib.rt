@@ -5,7 +5,7 @@ use tables::WORDS;
 ghost use mathlib.Core.Path.{_≡_};
 ghost use mathlib.Core.Bool.{_&&_};
 ghost use Prim.Native.Nat.{_≤_, _/_, _%_, _^_};
-ghost use Rattle.programs.specs.Records.{usesOf, looseHow, firstLine, secondLine, thirdLine, hasValue, flagAt, markIf, marked};
+ghost use Rattle.programs.specs.Model.Kinds.{usesOf, looseHow, firstLine, secondLine, thirdLine, hasValue, flagAt, markIf, marked};
 ghost use Rattle.tables.specs.Lines.{kindIn};
 
 // Sets of kinds, a bit for each: those whose first operand has to be clean, those whose second operand does, and the three bits of the number that says when a kind's line
@@ -128,7 +128,7 @@ pub fn used(line: bool, lo: &[u8], a: u64) -> bool
 }
 
 // A mark at the line a, if v is 1.
-pub fn mark_if(v: u8, a: u64, marks: &mut [u8])
+fn mark_if(v: u8, a: u64, marks: &mut [u8])
     ensures { λ _. ⌜ now (marks .exit) ≡ markIf v a (now (marks .entry)) ⌝ }
 {
     if v == 1 {

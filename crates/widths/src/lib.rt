@@ -9,7 +9,7 @@ ghost use Rattle.tables.specs.Pick.{all, inside};
 ghost use Rattle.tables.specs.Lines.{lineOf};
 
 // The line's width w, the operand's u and the numbers of an operator of one word fit.
-pub fn fits_one(k: u64, w: u8, u: u8, x: u64, y: u64) -> bool
+fn fits_one(k: u64, w: u8, u: u8, x: u64, y: u64) -> bool
     ensures { λ r. ⌜ r ≡ fitsOne k w u x y ⌝ }
 {
     if k <= 14 {
@@ -37,7 +37,7 @@ pub fn fits_one(k: u64, w: u8, u: u8, x: u64, y: u64) -> bool
 }
 
 // The widths of an operator of two words fit.
-pub fn fits_two(k: u64, w: u8, u: u8, v: u8) -> bool
+fn fits_two(k: u64, w: u8, u: u8, v: u8) -> bool
     ensures { λ r. ⌜ r ≡ fitsTwo k w u v ⌝ }
 {
     if k <= 30 {
@@ -65,7 +65,7 @@ pub fn fits_two(k: u64, w: u8, u: u8, v: u8) -> bool
 }
 
 // The same widths.
-pub fn same(a: Ty, t: Ty) -> bool
+fn same(a: Ty, t: Ty) -> bool
     ensures { λ r. ⌜ r ≡ sameOf a t ⌝ }
 {
     if a.iw != t.iw {
@@ -75,7 +75,7 @@ pub fn same(a: Ty, t: Ty) -> bool
 }
 
 // A constant is below 2^w.
-pub fn fits_const(v: u64, w: u8) -> bool
+fn fits_const(v: u64, w: u8) -> bool
     ensures { λ r. ⌜ r ≡ ltb v (2 ^ w) ⌝ }
 {
     if 64 <= w {
@@ -84,7 +84,7 @@ pub fn fits_const(v: u64, w: u8) -> bool
     v >> w == 0
 }
 
-pub fn fits_cmp(t: Ty, a: Ty, b: Ty) -> bool
+fn fits_cmp(t: Ty, a: Ty, b: Ty) -> bool
     ensures { λ r. ⌜ r ≡ all (fitsCmp t a b) ⌝ }
 {
     if t.w != 1 {
@@ -93,7 +93,7 @@ pub fn fits_cmp(t: Ty, a: Ty, b: Ty) -> bool
     same(b, a)
 }
 
-pub fn fits_ite(t: Ty, a: Ty, b: Ty, c: Ty) -> bool
+fn fits_ite(t: Ty, a: Ty, b: Ty, c: Ty) -> bool
     ensures { λ r. ⌜ r ≡ all (fitsIte t a b c) ⌝ }
 {
     if a.w != 1 {
@@ -105,7 +105,7 @@ pub fn fits_ite(t: Ty, a: Ty, b: Ty, c: Ty) -> bool
     same(c, t)
 }
 
-pub fn fits_read(t: Ty, a: Ty, b: Ty) -> bool
+fn fits_read(t: Ty, a: Ty, b: Ty) -> bool
     ensures { λ r. ⌜ r ≡ all (fitsRead t a b) ⌝ }
 {
     if a.w != t.w {
@@ -114,7 +114,7 @@ pub fn fits_read(t: Ty, a: Ty, b: Ty) -> bool
     b.w == a.iw
 }
 
-pub fn fits_write(t: Ty, a: Ty, b: Ty, c: Ty) -> bool
+fn fits_write(t: Ty, a: Ty, b: Ty, c: Ty) -> bool
     ensures { λ r. ⌜ r ≡ all (fitsWrite t a b c) ⌝ }
 {
     if !same(a, t) {
@@ -127,7 +127,7 @@ pub fn fits_write(t: Ty, a: Ty, b: Ty, c: Ty) -> bool
 }
 
 // The value's type b fits the state's, a, which is the sort t; an init's value is one word.
-pub fn fits_give(init: bool, t: Ty, a: Ty, b: Ty) -> bool
+fn fits_give(init: bool, t: Ty, a: Ty, b: Ty) -> bool
     ensures { λ r. ⌜ r ≡ all (fitsGive init t a b) ⌝ }
 {
     if !same(a, t) {

@@ -22,7 +22,7 @@ ghost use Rattle.tables.specs.Tables.{lawful};
 ghost use Rattle.tables.specs.Answers.{told};
 
 // One byte at a place of the text, where there is room.
-pub fn put(out: &mut [u8], at: usize, b: u8) -> usize
+fn put(out: &mut [u8], at: usize, b: u8) -> usize
     requires { ⌜ at < 2 ^ 63 ⌝ }
     ensures { λ r. ⌜ (r ≡ at + 1) × (now (out .exit) ≡ set (now (out .entry)) at b) ⌝ }
 {
@@ -34,7 +34,7 @@ pub fn put(out: &mut [u8], at: usize, b: u8) -> usize
 }
 
 // The decimal digits of v.
-pub fn put_number(out: &mut [u8], at: usize, v: u64) -> usize
+fn put_number(out: &mut [u8], at: usize, v: u64) -> usize
     requires { ⌜ at + length (digits v) < 2 ^ 63 ⌝ }
     ensures { λ r. ⌜ (r ≡ at + length (digits v)) × (now (out .exit) ≡ sets (now (out .entry)) at (digits v)) ⌝ }
 {
@@ -46,7 +46,7 @@ pub fn put_number(out: &mut [u8], at: usize, v: u64) -> usize
 }
 
 // The word of a row.
-pub fn put_word(out: &mut [u8], at: usize, r: [u8; 16]) -> usize
+fn put_word(out: &mut [u8], at: usize, r: [u8; 16]) -> usize
     requires { ⌜ (getD r 0 0 ≤ 10) × (at + length (wordOf r) < 2 ^ 63) ⌝ }
     ensures { λ x. ⌜ (x ≡ at + length (wordOf r)) × (now (out .exit) ≡ sets (now (out .entry)) at (wordOf r)) ⌝ }
 {
@@ -62,7 +62,7 @@ pub fn put_word(out: &mut [u8], at: usize, r: [u8; 16]) -> usize
 }
 
 // The word of the kind k, whose row is r, or two words for a sort, with a space before each.
-pub fn put_kind(out: &mut [u8], at: usize, k: u64, r: [u8; 16]) -> usize
+fn put_kind(out: &mut [u8], at: usize, k: u64, r: [u8; 16]) -> usize
     requires { ⌜ (1 ≤ k) × ((k ≤ 55) × ((r ≡ rowOf k) × (at + length (spaced (kindTokens k)) < 2 ^ 63))) ⌝ }
     ensures { λ x. ⌜ (x ≡ at + length (spaced (kindTokens k))) × (now (out .exit) ≡ sets (now (out .entry)) at (spaced (kindTokens k))) ⌝ }
 {
@@ -81,7 +81,7 @@ pub fn put_kind(out: &mut [u8], at: usize, k: u64, r: [u8; 16]) -> usize
 }
 
 // m numbers of a record from the place j on, with a space before each.
-pub fn put_numbers(out: &mut [u8], at: usize, m: usize, j: usize, rec: [u64; WORDS]) -> usize
+fn put_numbers(out: &mut [u8], at: usize, m: usize, j: usize, rec: [u64; WORDS]) -> usize
     requires { ⌜ (j + m ≤ recordWords) × (at + length (spaced (numbers m j rec)) < 2 ^ 63) ⌝ }
     ensures { λ x. ⌜ (x ≡ at + length (spaced (numbers m j rec))) × (now (out .exit) ≡ sets (now (out .entry)) at (spaced (numbers m j rec))) ⌝ }
 {
@@ -98,13 +98,7 @@ pub fn put_numbers(out: &mut [u8], at: usize, m: usize, j: usize, rec: [u64; WOR
 }
 
 // The line of a record, with its LF.
-pub fn put_line(
-    kinds: &[[u8; 16]; 55],
-    out: &mut [u8],
-    at: usize,
-    id: u64,
-    rec: [u64; WORDS],
-) -> usize
+fn put_line(kinds: &[[u8; 16]; 55], out: &mut [u8], at: usize, id: u64, rec: [u64; WORDS]) -> usize
     requires { ⌜ (now kinds ≡ rows) × ((1 ≤ kindIn rec) × ((kindIn rec ≤ 55) × (at + length (join (tokensOf id rec) ++ (10 ∷ [])) < 2 ^ 63))) ⌝ }
     ensures { λ x. ⌜ (x ≡ at + length (join (tokensOf id rec) ++ (10 ∷ []))) × (now (out .exit) ≡ sets (now (out .entry)) at (join (tokensOf id rec) ++ (10 ∷ []))) ⌝ }
 {
@@ -119,7 +113,7 @@ pub fn put_line(
 }
 
 // The lines of the first `count` records, which keep the rules.
-pub fn put_lines(out: &mut [u8], table: &[u64], count: usize) -> usize
+fn put_lines(out: &mut [u8], table: &[u64], count: usize) -> usize
     requires { ⌜ (count ≤ room false (length (now table))) × (lawful false noCtx (recordsOf false (now table) count) ≡ true) ⌝ }
     ensures { λ x. ⌜ (x ≡ length (writeText (recordsOf false (now (table .entry)) count)))
         × (now (out .exit) ≡ sets (now (out .entry)) 0 (writeText (recordsOf false (now (table .entry)) count))) ⌝ }

@@ -1,6 +1,6 @@
 -- Width and operands, each as the kind asks. Assumes nothing.
 use mathlib.Core.Path.{_∙_}
-use Rattle.programs.specs.Records.{numberAt}
+use Rattle.programs.specs.Model.Kinds.{numberAt}
 use Rattle.programs.proofs.Reading.{instruction-read}
 use borrow.Author.Needs.{needs}
 use Rattle.masks.proofs.instruction.Statement.{statement}

@@ -1,6 +1,6 @@
 -- Width 64, or the row of the kind. Assumes nothing.
 use mathlib.Core.Path.{sym, _∙_}
-use Rattle.programs.specs.Records.{numberAt, flagAt}
+use Rattle.programs.specs.Model.Kinds.{numberAt, flagAt}
 use Rattle.programs.proofs.Reading.{never-64, loose-read}
 use borrow.Author.Needs.{needs}
 use Rattle.masks.proofs.loose.Statement.{statement}

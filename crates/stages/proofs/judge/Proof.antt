@@ -2,8 +2,8 @@
 use mathlib.Core.Path.{sym, ap, _∙_}
 use Rattle.tables.specs.declared.Ty.{Ty}
 use Prim.Native.Nat.{ℕ}
-use Rattle.texts.specs.Reading.{ruled}
-use Rattle.texts.specs.Stages.{asRead}
+use Rattle.texts.specs.Model.Stages.{ruled}
+use Rattle.texts.specs.Model.Structs.{asRead}
 use Rattle.texts.proofs.Steps.{judged-8, judged-9, judged-const, judged-other}
 use borrow.Author.Needs.{needs}
 use Rattle.stages.proofs.judge.Statement.{statement}

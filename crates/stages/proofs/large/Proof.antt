@@ -5,7 +5,7 @@ use mathlib.Core.Path.{sym, ap, _∙_, subst}
 use borrow.Author.Tests.{not-true, not-false}
 use Rattle.tables.specs.Kinds.{rowOf}
 use Rattle.tables.specs.Lines.{kindIn}
-use Rattle.texts.specs.Stages.{asRead}
+use Rattle.texts.specs.Model.Structs.{asRead}
 use Rattle.texts.proofs.Steps.{large-big, large-wide, large-fits, large-other, settled-kind, then-judged}
 use borrow.Author.Needs.{needs}
 use Rattle.stages.proofs.large.Statement.{statement}

@@ -1,6 +1,6 @@
 -- The record, or what the rules say. Assumes nothing.
 use mathlib.Core.Path.{sym, ap, _∙_}
-use Rattle.texts.specs.Stages.{asRead}
+use Rattle.texts.specs.Model.Structs.{asRead}
 use Rattle.texts.proofs.Steps.{ruled-got, ruled-9, ruled-10}
 use borrow.Author.Needs.{needs}
 use Rattle.stages.proofs.ruled.Statement.{statement}

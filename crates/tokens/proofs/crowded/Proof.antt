@@ -5,7 +5,7 @@ use mathlib.Core.Path.{_≡_, sym, ap, _∙_}
 use mathlib.Core.List.{List, [], _∷_}
 use lib.ListN.{take, drop}
 use Rattle.texts.specs.Split.{tokens}
-use Rattle.texts.specs.Stages.{several}
+use Rattle.texts.specs.Model.Structs.{several}
 use Rattle.texts.proofs.Places.{next-token, no-token, several-more}
 use Rattle.tokens.proofs.crowded.Statement.{statement}
 use Rattle.tokens.proofs.crowded.Tie as tie

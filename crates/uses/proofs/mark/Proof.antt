@@ -4,7 +4,7 @@ use Prim.Native.Nat.{ℕ}
 use mathlib.Core.List.{List}
 use lib.ListN.{getD}
 use Rattle.tables.specs.Lines.{firstIn, secondIn}
-use Rattle.programs.specs.Records.{markIf}
+use Rattle.programs.specs.Model.Kinds.{markIf}
 use borrow.Author.Needs.{needs}
 use Rattle.uses.proofs.mark.Statement.{statement}
 use Rattle.uses.proofs.mark.Tie as tie

@@ -1,0 +1,205 @@
+-- Reading a line stage by stage gives the first refusal of the list that holds, else the record. Assumes nothing.
+use Prim.Native.Nat.{ℕ, zero, suc}
+use mathlib.Core.Path.{_≡_, refl, sym, ap, _∙_}
+use mathlib.Core.Bool.{Bool, true, false, _&&_, _||_, not}
+use mathlib.Core.List.{List, [], _∷_}
+use native.Mathlib.Omega.{arith}
+use lib.Dec.{eqb, leb, ltb}
+use lib.ListN.{length, take, drop, set}
+use borrow.Author.Tests.{eqb-true, eqb-false, eq-eqb, ne-eqb, le-leb, lt-ltb, le-ltb, ltb-true, ltb-false}
+use Rattle.tables.specs.declared.Ty.{Ty}
+use Rattle.tables.specs.declared.Refusal.{Refusal}
+use Rattle.tables.specs.declared.Refusal.the-variants.{UnknownWord, BadOperand, NumberTooLarge, WrongClass, Misfit, InitOrNext}
+use Rattle.tables.specs.Pick.{inside, all}
+use Rattle.tables.specs.Kinds.{rowOf}
+use Rattle.tables.specs.Lines.{lineOf, kindIn, sortIn, firstIn, secondIn, thirdIn}
+use Rattle.tables.specs.Types.{sortAt}
+use Rattle.tables.specs.Rules.{classes, fits, onceRules, answer, fault}
+use Rattle.texts.specs.declared.Num.{Num}
+use Rattle.texts.specs.declared.Num.the-variants.{Bad, Big, Is}
+use Rattle.texts.specs.Forms.{formRow, kindOf, firstOf, numbersOf}
+use Rattle.texts.specs.Decimal.{decimal}
+use Rattle.texts.specs.Reading.{Word, word, unknown, wordIn, formOf, behind, numberAt, numbersFrom, anyBad, anyBig, placed, lastOf, numberTokens, extraTokens, numbersIn, fresh, written, settled, recordIn, isId, lowest, readLine}
+use Rattle.texts.specs.Model.Stages.{Took, operands, takenIn, judged, large, ended, worded, stagedLine}
+use Rattle.texts.specs.Model.Structs.{tookAt, several}
+use Rattle.texts.proofs.Words.{InForms, word-forms}
+use Rattle.texts.proofs.Steps.{ruled-got, ruled-9, ruled-10, settled-other, large-big, large-wide, large-fits, large-other, ended-bad, ended-many, ended-few}
+use Rattle.texts.proofs.Lowest.{holds, passes}
+
+-- ---- numbers taken one after the other, and all at once
+
+-- the length of the last token taken, or len
+abbrev lastLength : ℕ → List (List ℕ) → ℕ
+lastLength len [] = len
+lastLength len (t ∷ ts) = lastLength (length t) ts
+
+last-length : (t : List ℕ) (ts : List (List ℕ)) → lastLength (length t) ts ≡ length (lastOf t ts)
+last-length t [] = refl
+last-length t (u ∷ ts) = last-length u ts
+
+fewer : (m : ℕ) (t : List ℕ) (ts : List (List ℕ)) → ltb (length (t ∷ ts)) (suc m) ≡ ltb (length ts) m
+fewer m t ts = go (ltb (length ts) m) refl
+  where
+    go : (b : Bool) → ltb (length ts) m ≡ b → ltb (length (t ∷ ts)) (suc m) ≡ b
+    go true e = lt-ltb (length (t ∷ ts)) (suc m) (omega (arith, ltb-true (length ts) m e))
+    go false e = le-ltb (length (t ∷ ts)) (suc m) (omega (arith, ltb-false (length ts) m e))
+
+or-true : (b : Bool) → (b || true) ≡ true
+or-true true = refl
+or-true false = refl
+
+or-false : (b : Bool) → (b || false) ≡ b
+or-false true = refl
+or-false false = refl
+
+-- the numbers ns for the places j and up; `less` says that there are fewer tokens than numbers
+abbrev at-once : (less : Bool) (j : ℕ) (ns : List Num) (rec : List ℕ) (big : Bool) (len : ℕ) (rest : List (List ℕ)) → Took
+at-once less j ns rec big len rest = tookAt (not (less || anyBad ns)) (placed j ns rec) (big || anyBig ns) len rest
+
+taken-at : (f m j : ℕ) (rec : List ℕ) (big : Bool) (len : ℕ) (ts : List (List ℕ))
+    → operands f m j rec big len ts ≡ at-once (ltb (length ts) m) j (numbersFrom f j (take m ts)) rec big (lastLength len (take m ts)) (drop m ts)
+unfolding operands
+taken-at f zero j rec big len ts = rw (le-ltb (length ts) 0 (omega arith), or-false big) refl
+taken-at f (suc m) j rec big len [] = rw (lt-ltb 0 (suc m) (omega arith)) refl
+taken-at f (suc m) j rec big len (t ∷ ts) = go (numberAt f j t) refl (λ b. taken-at f m (suc j) rec b (length t) ts) (λ v. taken-at f m (suc j) (set rec j v) big (length t) ts)
+  where
+    go : (x : Num) → numberAt f j t ≡ x
+        → ((b : Bool) → operands f m (suc j) rec b (length t) ts ≡ at-once (ltb (length ts) m) (suc j) (numbersFrom f (suc j) (take m ts)) rec b (lastLength (length t) (take m ts)) (drop m ts))
+        → ((v : ℕ) → operands f m (suc j) (set rec j v) big (length t) ts ≡ at-once (ltb (length ts) m) (suc j) (numbersFrom f (suc j) (take m ts)) (set rec j v) big (lastLength (length t) (take m ts)) (drop m ts))
+        → operands f (suc m) j rec big len (t ∷ ts) ≡ at-once (ltb (length (t ∷ ts)) (suc m)) j (x ∷ numbersFrom f (suc j) (take m ts)) rec big (lastLength (length t) (take m ts)) (drop m ts)
+    go Bad e a b = rw (e, operands) (rw (or-true (ltb (length (t ∷ ts)) (suc m))) refl)
+    go Big e a b = rw (e, operands) (a true ∙ rw (fewer m t ts, or-true big) refl)
+    go (Is v) e a b = rw (e, operands) (b v ∙ rw (fewer m t ts) refl)
+
+-- ---- 8, 9 and 10
+
+-- the rules answer 0, 8, 9 or 10
+ten : (a b c : Bool) → (answer a b c ≡ 0 → ⊥) → (answer a b c ≡ 8 → ⊥) → (answer a b c ≡ 9 → ⊥) → answer a b c ≡ 10
+ten false b c x y z = absurd (y refl)
+ten true false c x y z = absurd (z refl)
+ten true true false x y z = refl
+ten true true true x y z = absurd (x refl)
+
+module _ (L : ℕ → Ty) (G : Bool → ℕ → Bool) where
+  pub last-rule : (rec : List ℕ) → (fault false L G rec ≡ 0 → ⊥) → (fault false L G rec ≡ 8 → ⊥) → (fault false L G rec ≡ 9 → ⊥) → fault false L G rec ≡ 10
+  unfolding fault
+  last-rule rec x y z =
+      ten (all (classes (rowOf (kindIn rec)) (sortAt false L (sortIn rec)) (L (firstIn rec)) (L (secondIn rec)) (L (thirdIn rec))))
+      (all (fits (lineOf rec) (sortAt false L (sortIn rec)) (L (firstIn rec)) (L (secondIn rec)) (L (thirdIn rec))))
+      (all (onceRules (lineOf rec) G (L (secondIn rec)))) x y z
+
+  -- a const token of len digits against the width of its sort
+  abbrev uneven : (f len : ℕ) → List ℕ → Bool
+  uneven f len rec = eqb f 56 && not (eqb len (L (sortIn rec) .w))
+
+  abbrev judgements : (f len : ℕ) → List ℕ → List (Refusal × Bool)
+  judgements f len rec =
+      (WrongClass, eqb (fault false L G rec) 8) ∷ (Misfit, eqb (fault false L G rec) 9 || uneven f len rec) ∷ (InitOrNext, eqb (fault false L G rec) 10) ∷ []
+
+  judged-first : (f len : ℕ) (rec : List ℕ) → judged L G f len rec ≡ lowest (judgements f len rec) rec
+  unfolding judged lowest
+  judged-first f len rec = go (eqb (fault false L G rec) 8) (uneven f len rec) (eqb (fault false L G rec) 9) (eqb (fault false L G rec) 0) refl refl refl refl
+    where
+      go : (p q r z : Bool) → eqb (fault false L G rec) 8 ≡ p → uneven f len rec ≡ q → eqb (fault false L G rec) 9 ≡ r → eqb (fault false L G rec) 0 ≡ z
+          → judged L G f len rec ≡ lowest (judgements f len rec) rec
+      go true q r z ep eq er ez = rw (ep, judged, lowest) refl
+      go false true r z ep eq er ez = rw (ep, judged, lowest) (rw (eq, or-true (eqb (fault false L G rec) 9)) refl)
+      go false false true z ep eq er ez = rw (ep, judged, lowest) (rw (eq, er) (ruled-9 (fault false L G rec) rec (eqb-true _ 9 er)))
+      go false false false true ep eq er ez =
+          let h = eqb-true (fault false L G rec) 0 ez in
+          rw (ep, judged, lowest) (rw (eq, er, ne-eqb (fault false L G rec) 10 (λ e. omega (arith, h))) (ruled-got (fault false L G rec) rec h))
+      go false false false false ep eq er ez =
+          let t = last-rule rec (eqb-false _ 0 ez) (eqb-false _ 8 ep) (eqb-false _ 9 er) in
+          rw (ep, judged, lowest) (rw (eq, er, eq-eqb (fault false L G rec) 10 t) (ruled-10 (fault false L G rec) rec (eqb-false _ 0 ez) (eqb-false _ 9 er)))
+
+  -- ---- 7
+
+  large-first : (f : ℕ) (rec : List ℕ) (big : Bool) (len : ℕ)
+      → large L G f rec big len
+      ≡ lowest ((NumberTooLarge, big || (eqb f 1 && not (inside 1 64 (firstIn (settled (L (sortIn rec) .w) f rec))))) ∷ judgements f len (settled (L (sortIn rec) .w) f rec)) (settled (L (sortIn rec) .w) f rec)
+  large-first f rec true len = large-big L G f rec len true refl ∙ sym (holds _ _ _ _ refl)
+  large-first f rec false len = go (eqb f 1) (inside 1 64 (firstIn rec)) refl refl
+    where
+      same : f ≡ 1 → settled (L (sortIn rec) .w) f rec ≡ rec
+      same e = settled-other (L (sortIn rec) .w) f rec (λ x. omega arith) (λ x. omega arith)
+
+      go : (p q : Bool) → eqb f 1 ≡ p → inside 1 64 (firstIn rec) ≡ q
+          → large L G f rec false len
+          ≡ lowest ((NumberTooLarge, eqb f 1 && not (inside 1 64 (firstIn (settled (L (sortIn rec) .w) f rec)))) ∷ judgements f len (settled (L (sortIn rec) .w) f rec)) (settled (L (sortIn rec) .w) f rec)
+      go false q ep eq = large-other L G f rec len false refl (eqb-false f 1 ep) ∙ (judged-first f len (settled (L (sortIn rec) .w) f rec) ∙ sym (passes _ _ _ _ (rw ep refl)))
+      go true false ep eq =
+          let e = eqb-true f 1 ep in
+          large-wide L G f rec len false refl e eq ∙ sym (holds _ _ _ _ (rw (ep, ap (λ (x : List ℕ). inside 1 64 (firstIn x)) (same e) ∙ eq) refl))
+      go true true ep eq =
+          let e = eqb-true f 1 ep in
+          large-fits L G f rec len false refl e eq
+          ∙ (judged-first f len (settled (L (sortIn rec) .w) f rec) ∙ sym (passes _ _ _ _ (rw (ep, ap (λ (x : List ℕ). inside 1 64 (firstIn x)) (same e) ∙ eq) refl)))
+
+  -- ---- 6
+
+  several-two : (ts : List (List ℕ)) → leb 2 (length ts) ≡ several ts
+  several-two [] = refl
+  several-two (x ∷ []) = refl
+  several-two (x ∷ y ∷ r) = le-leb 2 (length (x ∷ y ∷ r)) (omega arith)
+
+  module _ (f : ℕ) (ts : List (List ℕ)) where
+    abbrev less : Bool
+    less = ltb (length ts) (numbersOf (formRow f))
+
+    abbrev unfit : Bool
+    unfit = less || (anyBad (numbersIn f ts) || leb 2 (length (extraTokens f ts)))
+
+    abbrev digits : ℕ
+    digits = length (lastOf [] (numberTokens f ts))
+
+    taken-once : takenIn f ts ≡ at-once less (firstOf (formRow f)) (numbersIn f ts) (fresh (kindOf f)) false digits (extraTokens f ts)
+    taken-once =
+        taken-at f (numbersOf (formRow f)) (firstOf (formRow f)) (fresh (kindOf f)) false 0 ts
+        ∙ ap (λ (len : ℕ). at-once less (firstOf (formRow f)) (numbersIn f ts) (fresh (kindOf f)) false len (extraTokens f ts)) (last-length [] (numberTokens f ts))
+
+    -- what is left after the refusals 3 to 6
+    abbrev laterTests : List (Refusal × Bool)
+    laterTests =
+        (NumberTooLarge, anyBig (numbersIn f ts) || (eqb f 1 && not (inside 1 64 (firstIn (recordIn L f ts))))) ∷ judgements f digits (recordIn L f ts)
+
+    ended-first : ended L G f (takenIn f ts) ≡ lowest ((BadOperand, unfit) ∷ laterTests) (recordIn L f ts)
+    ended-first = ap (ended L G f) taken-once ∙ go less (anyBad (numbersIn f ts)) (several (extraTokens f ts)) refl refl refl
+      where
+        go : (p q r : Bool) → ltb (length ts) (numbersOf (formRow f)) ≡ p → anyBad (numbersIn f ts) ≡ q → several (extraTokens f ts) ≡ r
+            → ended L G f (at-once less (firstOf (formRow f)) (numbersIn f ts) (fresh (kindOf f)) false digits (extraTokens f ts))
+            ≡ lowest ((BadOperand, unfit) ∷ laterTests) (recordIn L f ts)
+        go true q r ep eq er =
+            let k : not (less || anyBad (numbersIn f ts)) ≡ false = rw ep refl in
+            let h : unfit ≡ true = rw ep refl in
+            ended-bad L G f (written f ts) digits _ _ (extraTokens f ts) k ∙ sym (holds _ _ _ _ h)
+        go false true r ep eq er =
+            let k : not (less || anyBad (numbersIn f ts)) ≡ false = rw (ep, eq) refl in
+            let h : unfit ≡ true = rw (ep, eq) refl in
+            ended-bad L G f (written f ts) digits _ _ (extraTokens f ts) k ∙ sym (holds _ _ _ _ h)
+        go false false true ep eq er =
+            let k : not (less || anyBad (numbersIn f ts)) ≡ true = rw (ep, eq) refl in
+            let h : unfit ≡ true = rw (ep, eq) (several-two (extraTokens f ts) ∙ er) in
+            ended-many L G f (written f ts) digits _ _ (extraTokens f ts) k er ∙ sym (holds _ _ _ _ h)
+        go false false false ep eq er =
+            let k : not (less || anyBad (numbersIn f ts)) ≡ true = rw (ep, eq) refl in
+            let h : unfit ≡ false = rw (ep, eq) (several-two (extraTokens f ts) ∙ er) in
+            ended-few L G f (written f ts) digits _ _ (extraTokens f ts) k er ∙ (large-first f (written f ts) (anyBig (numbersIn f ts)) digits ∙ sym (passes _ _ _ _ h))
+
+  -- ---- 5
+
+  worded-first : (w : Word) → InForms w
+      → worded L G w ≡ lowest ((UnknownWord, eqb (formOf w) 0) ∷ (BadOperand, unfit (formOf w) (behind w)) ∷ laterTests (formOf w) (behind w)) (recordIn L (formOf w) (behind w))
+  worded-first unknown h = sym (holds _ _ _ _ refl)
+  worded-first (word f ts) h = ended-first f ts ∙ sym (passes _ _ _ _ (ne-eqb f 0 (λ e. omega (arith, h .0))))
+
+  -- ---- 3 and 4: all of a line
+
+  pub staged : (m n : ℕ) (ts : List (List ℕ)) → stagedLine L G m n ts ≡ readLine L G m n ts
+  unfolding stagedLine readLine
+  staged m n [] = refl
+  staged m n (t ∷ ts) = go (isId (decimal t) (suc n)) (ltb n m) refl refl
+    where
+      go : (p q : Bool) → isId (decimal t) (suc n) ≡ p → ltb n m ≡ q → stagedLine L G m n (t ∷ ts) ≡ readLine L G m n (t ∷ ts)
+      go false q ep eq = rw (ep, stagedLine) (sym (holds _ _ _ _ refl))
+      go true false ep eq = rw (ep, eq, stagedLine) (sym (passes _ _ _ _ refl ∙ holds _ _ _ _ refl))
+      go true true ep eq = rw (ep, eq, stagedLine) (worded-first (wordIn ts) (word-forms ts) ∙ sym (passes _ _ _ _ refl ∙ passes _ _ _ _ refl))
