@@ -14,7 +14,7 @@ use Rattle.flattening.proofs.Leaves.{answered, flat-accepted, flat-counts, flat
 use Rattle.programs.proofs.LaidLines.{same-counts}
 use Rattle.programs.proofs.Runs.{Small, alike}
 use Rattle.programs.proofs.Done.{is-done, flat-ok, target-accepted, target-lines}
-use Rattle.agreement.specs.Comparison.{Table, Runs, flatOf, programOf, starts, totals, Words, Given, Agree}
+use Rattle.agreement.specs.Comparison.{Table, Runs, flatTable, programTable, starts, totals, Words, Given, Agree}
 use Rattle.agreement.proofs.Ready.{is-ready, answers, leaves}
 
 small : (xs : List ℕ) → Words xs → Small xs
@@ -26,10 +26,10 @@ module _ (R : Runs) (G : Given R) where
   C = R .circuit
 
   abbrev F : Table
-  F = flatOf R
+  F = flatTable R
 
   abbrev P : Table
-  P = programOf R
+  P = programTable R
 
   abbrev k : ℕ
   k = R .lent .steps

@@ -12,8 +12,8 @@ use Rattle.tables.specs.Layout.{linesOf}
 use Rattle.circuits.specs.declared.Ran.{Ran}
 use Rattle.circuits.specs.Layout.{Counts, layout}
 use Rattle.circuits.specs.Answers.{ready, ran, signalsLeft}
-use Rattle.flattening.specs.Answers.{flattened, targetLeft as flatLeft}
-use Rattle.programs.specs.Answers.{translated, targetLeft as programLeft}
+use Rattle.flattening.specs.Answers.{flattened, flatLeft}
+use Rattle.programs.specs.Answers.{translated, programLeft}
 
 -- ---- what is given
 
@@ -42,11 +42,11 @@ pub record Runs : Type 0 where
   pub workF : ℕ
   pub workP : ℕ
 
-abbrev pub flatOf : Runs → Table
-flatOf R = record { words = flatLeft (R .circuit .words) (R .circuit .count) (R .flatWords); count = R .flatCount }
+abbrev pub flatTable : Runs → Table
+flatTable R = record { words = flatLeft (R .circuit .words) (R .circuit .count) (R .flatWords); count = R .flatCount }
 
-abbrev pub programOf : Runs → Table
-programOf R = record { words = programLeft (flatOf R .words) (flatOf R .count) (R .programWords); count = R .programCount }
+abbrev pub programTable : Runs → Table
+programTable R = record { words = programLeft (flatTable R .words) (flatTable R .count) (R .programWords); count = R .programCount }
 
 -- ---- one run
 
@@ -78,22 +78,22 @@ Words (x ∷ xs) = (x < 2 ^ 64) × Words xs
 -- what is assumed: flattening and translating answered these counts, and the runs are lent what C asks for
 pub record Given (R : Runs) : Type 0 where
   pub flat : flattened (R .circuit .words) (R .circuit .count) (R .flatWords) ≡ Done (R .flatCount)
-  pub program : translated (flatOf R .words) (flatOf R .count) (R .programWords) ≡ Done (R .programCount)
+  pub program : translated (flatTable R .words) (flatTable R .count) (R .programWords) ≡ Done (R .programCount)
   pub steps : R .lent .steps ≤ 4096
   pub starts : length (R .lent .starts) ≡ totals false (R .circuit) .states
   pub inputs : length (R .lent .inputs) ≡ R .lent .steps * totals false (R .circuit) .inputs
   pub signals : R .lent .signals ≡ R .lent .steps * totals false (R .circuit) .signals
   pub words : Words (R .lent .inputs)
   pub workC : Roomy false (R .circuit) (R .workC)
-  pub workF : Roomy false (flatOf R) (R .workF)
-  pub workP : Roomy true (programOf R) (R .workP)
+  pub workF : Roomy false (flatTable R) (R .workF)
+  pub workP : Roomy true (programTable R) (R .workP)
 
 -- None of the three runs is refused, the three signal lists are equal byte for byte, and the three answers for the first counted bad are the same.
 pub record Agree (R : Runs) : Type 0 where
   pub runC : starts false (R .circuit) (R .lent) (R .workC) ≡ Accepted
-  pub runF : starts false (flatOf R) (R .lent) (R .workF) ≡ Accepted
-  pub runP : starts true (programOf R) (R .lent) (R .workP) ≡ Accepted
-  pub signalsF : signals false (flatOf R) (R .lent) (R .workF) ≡ signals false (R .circuit) (R .lent) (R .workC)
-  pub signalsP : signals true (programOf R) (R .lent) (R .workP) ≡ signals false (R .circuit) (R .lent) (R .workC)
-  pub badF : bad false (flatOf R) (R .lent) (R .workF) ≡ bad false (R .circuit) (R .lent) (R .workC)
-  pub badP : bad true (programOf R) (R .lent) (R .workP) ≡ bad false (R .circuit) (R .lent) (R .workC)
+  pub runF : starts false (flatTable R) (R .lent) (R .workF) ≡ Accepted
+  pub runP : starts true (programTable R) (R .lent) (R .workP) ≡ Accepted
+  pub signalsF : signals false (flatTable R) (R .lent) (R .workF) ≡ signals false (R .circuit) (R .lent) (R .workC)
+  pub signalsP : signals true (programTable R) (R .lent) (R .workP) ≡ signals false (R .circuit) (R .lent) (R .workC)
+  pub badF : bad false (flatTable R) (R .lent) (R .workF) ≡ bad false (R .circuit) (R .lent) (R .workC)
+  pub badP : bad true (programTable R) (R .lent) (R .workP) ≡ bad false (R .circuit) (R .lent) (R .workC)

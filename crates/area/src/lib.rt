@@ -2,8 +2,8 @@
 ghost use mathlib.Core.Path.{_≡_};
 ghost use Prim.Native.Nat.{_≤_, _+_, _<_};
 ghost use lib.ListN.{length, replicate, set, drop};
-ghost use Rattle.circuits.specs.Model.{offIn, numIn, posIn, widIn, Apart};
-ghost use Rattle.circuits.specs.Cells.{part, put, lows, same};
+ghost use Rattle.circuits.specs.Model.Work.{offIn, numIn, posIn, widIn, Apart};
+ghost use Rattle.circuits.specs.Cells.{part, put, maskWords, sameCells};
 ghost use Rattle.words.specs.Word.{Width};
 ghost use Rattle.tables.specs.Pick.{pick};
 
@@ -68,9 +68,9 @@ pub fn copy(words: &mut [u64], x: usize, y: usize, n: usize)
 }
 
 // Takes each word modulo 2^w.
-pub fn mask_all(cells: &mut [u64], w: u64)
+fn mask_all(cells: &mut [u64], w: u64)
     requires { ⌜ Width w ⌝ }
-    ensures { λ _. ⌜ now (cells .exit) ≡ lows w (now (cells .entry)) ⌝ }
+    ensures { λ _. ⌜ now (cells .exit) ≡ maskWords w (now (cells .entry)) ⌝ }
 {
     let mut i: usize = 0;
     while i < cells.len() {
@@ -94,7 +94,7 @@ pub fn fill(cells: &mut [u64], v: u64)
 // Two runs hold the same words.
 pub fn alike(words: &[u64], x: usize, y: usize, n: usize) -> bool
     requires { ⌜ (x + n ≤ length (now words)) × (y + n ≤ length (now words)) ⌝ }
-    ensures { λ r. ⌜ r ≡ same (part (now (words .entry)) x n) (part (now (words .entry)) y n) ⌝ }
+    ensures { λ r. ⌜ r ≡ sameCells (part (now (words .entry)) x n) (part (now (words .entry)) y n) ⌝ }
 {
     let mut i: usize = 0;
     while i < n {
@@ -107,7 +107,7 @@ pub fn alike(words: &[u64], x: usize, y: usize, n: usize) -> bool
 }
 
 // The write evaluator: the cells hold the array written to.
-pub fn store(cells: &mut [u64], i: usize, v: u64)
+fn store(cells: &mut [u64], i: usize, v: u64)
     requires { ⌜ i < length (now cells) ⌝ }
     ensures { λ _. ⌜ now (cells .exit) ≡ set (now (cells .entry)) i v ⌝ }
 {
@@ -115,7 +115,7 @@ pub fn store(cells: &mut [u64], i: usize, v: u64)
 }
 
 // The words of from go to to.
-pub fn load(to: &mut [u64], from: &[u64])
+fn load(to: &mut [u64], from: &[u64])
     requires { ⌜ length (now to) ≡ length (now from) ⌝ }
     ensures { λ _. ⌜ now (to .exit) ≡ now (from .entry) ⌝ }
 {
@@ -138,9 +138,9 @@ pub fn raise(work: &mut [u64], x: usize, o: usize, m: usize)
     copy(&mut work[x..e], 0, o - x, m);
 }
 
-pub fn mask_run(work: &mut [u64], a: usize, m: usize, w: u64)
+fn mask_run(work: &mut [u64], a: usize, m: usize, w: u64)
     requires { ⌜ (a + m ≤ length (now work)) × Width w ⌝ }
-    ensures { λ _. ⌜ now (work .exit) ≡ put (now (work .entry)) a (lows w (part (now (work .entry)) a m)) ⌝ }
+    ensures { λ _. ⌜ now (work .exit) ≡ put (now (work .entry)) a (maskWords w (part (now (work .entry)) a m)) ⌝ }
 {
     let e = a + m;
     mask_all(&mut work[a..e], w);
@@ -149,7 +149,7 @@ pub fn mask_run(work: &mut [u64], a: usize, m: usize, w: u64)
 // The words from a on are taken modulo 2^w, or stay.
 pub fn settle(mask: bool, work: &mut [u64], a: usize, m: usize, w: u64)
     requires { ⌜ (a + m ≤ length (now work)) × Width w ⌝ }
-    ensures { λ _. ⌜ now (work .exit) ≡ put (now (work .entry)) a (pick mask (lows w (part (now (work .entry)) a m)) (part (now (work .entry)) a m)) ⌝ }
+    ensures { λ _. ⌜ now (work .exit) ≡ put (now (work .entry)) a (pick mask (maskWords w (part (now (work .entry)) a m)) (part (now (work .entry)) a m)) ⌝ }
 {
     if !mask {
         return;

@@ -1,4 +1,4 @@
-// The first counted bad, from the signal bytes of all steps and the signals' classes: 1 for a bad line, 0 for a constraint.
+// The first counted bad, from the signal bytes of all steps and a mark for each signal: 1 for a bad line, 0 for a constraint.
 use circuits::Ran;
 ghost use mathlib.Core.Path.{_≡_};
 ghost use mathlib.Core.Bool.{false, not, _&&_};
@@ -7,7 +7,7 @@ ghost use lib.Dec.{eqb};
 ghost use lib.ListN.{length};
 ghost use Rattle.tables.specs.Pick.{pick};
 ghost use Rattle.circuits.specs.Run.{met as metOf, firstBad};
-ghost use Rattle.circuits.specs.Model.{zipSig, sigRows};
+ghost use Rattle.circuits.specs.Model.Signals.{zipSig, sigRows};
 
 // A constraint whose byte is not 1.
 fn breaks(b: u8, v: u8) -> bool

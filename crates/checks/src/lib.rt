@@ -15,7 +15,7 @@ ghost use Rattle.tables.specs.Pick.{all};
 ghost use Rattle.tables.specs.Lines.{lineOf, kindIn, firstIn};
 ghost use Rattle.tables.specs.Layout.{held, recordsOf, linesOf};
 ghost use Rattle.tables.specs.Types.{recordType, noCtx, context};
-ghost use Rattle.tables.specs.Notes.{lookIn, noted, givenIn, Shows, Fresh};
+ghost use Rattle.tables.specs.Model.Notes.{lookIn, noted, givenIn, Shows, Fresh};
 ghost use Rattle.tables.specs.Kinds.{rows};
 ghost use Rattle.tables.specs.Refusals.{numberOf};
 

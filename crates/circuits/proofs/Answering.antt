@@ -20,12 +20,14 @@ use Rattle.tables.proofs.Checking.{not-accepted}
 use Rattle.circuits.specs.declared.Totals.{Totals}
 use Rattle.circuits.specs.declared.Ran.{Ran}
 use Rattle.circuits.specs.declared.Ran.the-variants.{Nothing, Refused as RefusedRun}
-use Rattle.circuits.specs.Layout.{Counts, Layout, noLayout, lay, layAll, layout, countOf, size, typeOf}
-use Rattle.circuits.specs.Meaning.{Sig, sig, Acc, noAcc, evalLine, evalAll, sigsOf, step}
-use Rattle.circuits.specs.Run.{rowOf, start, steps, run, bytesOf, bytes, firstBad}
+use Rattle.circuits.specs.Layout.{Counts, Layout, noLayout, lay, layAll, layout, countsAfter, size, lineTypeIn}
+use Rattle.circuits.specs.Meaning.{Signal, signalByte, Frame, noFrame, evalLine, evalAll, signalsAfter, step}
+use Rattle.circuits.specs.Run.{rowLength, start, steps, run, bytesOf, bytes, firstBad}
 use Rattle.tables.specs.Layout.{linesOf}
 use Rattle.circuits.specs.Answers.{lent, ready, ran, signalsLeft, toldRun, started, runs}
-use Rattle.circuits.specs.Model.{markOf, marks, zipSig, sigRows, lentRuns, countsOf, totalsOf}
+use Rattle.circuits.specs.Model.Passes.{countsOf, totalsOf}
+use Rattle.circuits.specs.Model.Signals.{markOf, marks, zipSig, sigRows}
+use Rattle.circuits.specs.Model.Answers.{lentRuns}
 
 -- ---- 13 to 17
 
@@ -74,79 +76,79 @@ times-small k n h l = let e : n * k ≤ n * 4096 = mul-le-mul-left n h in omega 
 
 -- ---- the signals' classes
 
-classesOf : List Sig → List ℕ
+classesOf : List Signal → List ℕ
 classesOf [] = []
-classesOf (sig m v ∷ g) = bit m ∷ classesOf g
+classesOf (signalByte m v ∷ g) = bit m ∷ classesOf g
 
-classes-snoc : (g : List Sig) (m : Bool) (v : ℕ) → classesOf (g ++ (sig m v ∷ [])) ≡ classesOf g ++ (bit m ∷ [])
+classes-snoc : (g : List Signal) (m : Bool) (v : ℕ) → classesOf (g ++ (signalByte m v ∷ [])) ≡ classesOf g ++ (bit m ∷ [])
 unfolding classesOf
 classes-snoc [] m v = refl
-classes-snoc (sig b x ∷ g) m v = ap (λ (l : List ℕ). bit b ∷ l) (classes-snoc g m v)
+classes-snoc (signalByte b x ∷ g) m v = ap (λ (l : List ℕ). bit b ∷ l) (classes-snoc g m v)
 
-class-line : (A : Acc) (l : Line) → classesOf (sigsOf A l) ≡ classesOf (A .sigs) ++ markOf l
+class-line : (A : Frame) (l : Line) → classesOf (signalsAfter A l) ≡ classesOf (A .sigs) ++ markOf l
 class-line A (Line.bitvec w) = sym (append-nil (classesOf (A .sigs)))
 class-line A (Line.array i e) = sym (append-nil (classesOf (A .sigs)))
 class-line A (Line.input s) = sym (append-nil (classesOf (A .sigs)))
 class-line A (Line.state s) = sym (append-nil (classesOf (A .sigs)))
-class-line A (Line.val s e) = sym (append-nil (classesOf (A .sigs)))
-class-line A (Line.give m s q v) = sym (append-nil (classesOf (A .sigs)))
-class-line A (Line.mark m a) = classes-snoc (A .sigs) m _
+class-line A (Line.value s e) = sym (append-nil (classesOf (A .sigs)))
+class-line A (Line.initOrNext m s q v) = sym (append-nil (classesOf (A .sigs)))
+class-line A (Line.signal m a) = classes-snoc (A .sigs) m _
 class-line A (Line.output a) = sym (append-nil (classesOf (A .sigs)))
-class-line A Line.junk = sym (append-nil (classesOf (A .sigs)))
+class-line A Line.unknown = sym (append-nil (classesOf (A .sigs)))
 
-class-all : (p f : Bool) (σ ι : List ℕ) (A : Acc) (C : List Line) → classesOf (evalAll p f σ ι A C .sigs) ≡ classesOf (A .sigs) ++ marks C
+class-all : (p f : Bool) (σ ι : List ℕ) (A : Frame) (C : List Line) → classesOf (evalAll p f σ ι A C .sigs) ≡ classesOf (A .sigs) ++ marks C
 class-all p f σ ι A [] = sym (append-nil (classesOf (A .sigs)))
 class-all p f σ ι A (l ∷ C) =
     class-all p f σ ι (evalLine p f σ ι A l) C ∙ ap (λ (x : List ℕ). x ++ marks C) (class-line A l) ∙ append-assoc (classesOf (A .sigs)) (markOf l) (marks C)
 
 step-classes : (p f : Bool) (C : List Line) (σ ι : List ℕ) → classesOf (step p f C σ ι .sigs) ≡ marks C
 unfolding step classesOf
-step-classes p f C σ ι = class-all p f σ ι noAcc C
+step-classes p f C σ ι = class-all p f σ ι noFrame C
 
 bit-back : (m : Bool) → eqb (bit m) 1 ≡ m
 bit-back true = refl
 bit-back false = refl
 
-zip-back : (g : List Sig) (rest : List ℕ) → zipSig (classesOf g) (bytesOf g ++ rest) ≡ g
+zip-back : (g : List Signal) (rest : List ℕ) → zipSig (classesOf g) (bytesOf g ++ rest) ≡ g
 unfolding classesOf
 zip-back [] rest = refl
-zip-back (sig m v ∷ g) rest = ap₂ (λ (b : Bool) (x : List Sig). sig b v ∷ x) (bit-back m) (zip-back g rest)
+zip-back (signalByte m v ∷ g) rest = ap₂ (λ (b : Bool) (x : List Signal). signalByte b v ∷ x) (bit-back m) (zip-back g rest)
 
-rest-back : (g : List Sig) (rest : List ℕ) → drop (length (classesOf g)) (bytesOf g ++ rest) ≡ rest
+rest-back : (g : List Signal) (rest : List ℕ) → drop (length (classesOf g)) (bytesOf g ++ rest) ≡ rest
 unfolding classesOf
 rest-back [] rest = refl
-rest-back (sig m v ∷ g) rest = rest-back g rest
+rest-back (signalByte m v ∷ g) rest = rest-back g rest
 
 rows-back : (p : Bool) (C : List Line) (k : ℕ) (σ I : List ℕ) → sigRows (marks C) k (bytes (steps p C k σ I)) ≡ steps p C k σ I
 unfolding steps
 rows-back p C zero σ I = refl
 rows-back p C (suc k) σ I =
-    let A = step p false C σ (take (rowOf p C) I) in
-    let r = bytes (steps p C k (A .sts) (drop (rowOf p C) I)) in
-    let e : marks C ≡ classesOf (A .sigs) = sym (step-classes p false C σ (take (rowOf p C) I)) in
-    ap₂ (λ (x : List Sig) (y : List (List Sig)). x ∷ y) (ap (λ (m : List ℕ). zipSig m (bytesOf (A .sigs) ++ r)) e ∙ zip-back (A .sigs) r)
-    (ap (sigRows (marks C) k) (ap (λ (m : List ℕ). drop (length m) (bytesOf (A .sigs) ++ r)) e ∙ rest-back (A .sigs) r) ∙ rows-back p C k (A .sts) (drop (rowOf p C) I))
+    let A = step p false C σ (take (rowLength p C) I) in
+    let r = bytes (steps p C k (A .sts) (drop (rowLength p C) I)) in
+    let e : marks C ≡ classesOf (A .sigs) = sym (step-classes p false C σ (take (rowLength p C) I)) in
+    ap₂ (λ (x : List Signal) (y : List (List Signal)). x ∷ y) (ap (λ (m : List ℕ). zipSig m (bytesOf (A .sigs) ++ r)) e ∙ zip-back (A .sigs) r)
+    (ap (sigRows (marks C) k) (ap (λ (m : List ℕ). drop (length m) (bytesOf (A .sigs) ++ r)) e ∙ rest-back (A .sigs) r) ∙ rows-back p C k (A .sts) (drop (rowLength p C) I))
 
 -- the first counted bad, as it is found
 pub bad-found : (p : Bool) (C : List Line) (k : ℕ) (S I : List ℕ) {m g : List ℕ} → m ≡ marks C → g ≡ bytes (run p C k S I) → firstBad 0 (sigRows m k g) ≡ firstBad 0 (run p C k S I)
 unfolding run
 bad-found p C k S I em eg = ap₂ (λ (x y : List ℕ). firstBad 0 (sigRows x k y)) em eg ∙ ap (firstBad 0) (rows-back p C k (start p C S I) I)
 
-signal-line : (c : Counts) (m : ℕ) (l : Line) → countOf c m l .signals ≡ c .signals + length (markOf l)
+signal-line : (c : Counts) (m : ℕ) (l : Line) → countsAfter c m l .signals ≡ c .signals + length (markOf l)
 signal-line c m (Line.bitvec w) = omega arith
 signal-line c m (Line.array i e) = omega arith
 signal-line c m (Line.input s) = omega arith
 signal-line c m (Line.state s) = omega arith
-signal-line c m (Line.val s e) = omega arith
-signal-line c m (Line.give n s q v) = omega arith
-signal-line c m (Line.mark n a) = omega arith
+signal-line c m (Line.value s e) = omega arith
+signal-line c m (Line.initOrNext n s q v) = omega arith
+signal-line c m (Line.signal n a) = omega arith
 signal-line c m (Line.output a) = omega arith
-signal-line c m Line.junk = omega arith
+signal-line c m Line.unknown = omega arith
 
 signals-all : (p : Bool) (Y : Layout) (C : List Line) → layAll p Y C .counts .signals ≡ Y .counts .signals + length (marks C)
 signals-all p Y [] = omega arith
 signals-all p Y (l ∷ C) =
-    signals-all p (lay p Y l) C ∙ omega (arith, signal-line (Y .counts) (size (typeOf p Y l)) l, length-append (markOf l) (marks C))
+    signals-all p (lay p Y l) C ∙ omega (arith, signal-line (Y .counts) (size (lineTypeIn p Y l)) l, length-append (markOf l) (marks C))
 
 pub signals-many : (p : Bool) (C : List Line) → layout p C .counts .signals ≡ length (marks C)
 unfolding layout

@@ -6,10 +6,11 @@ use mathlib.Core.Bool.{Bool, true, false, not}
 use mathlib.Core.List.{List}
 use lib.ListN.{length}
 use Rattle.tables.specs.Pick.{alike}
-use Rattle.tables.specs.Lines.{Line, Shape, isBitvec, isArray, isConst, isInput, isState, isOutput, isOne, isTwo, isIte, isRead, isWrite, isJunk, isGive, isMark, isCmp, shapeOf, build, lineOf, kindIn, sortIn, firstIn, secondIn, thirdIn}
+use Rattle.tables.specs.Lines.{Line, Shape, isBitvec, isArray, isConst, isInput, isState, isOutput, isUnary, isBinary, isIte, isRead, isWrite, isUnknown, isInitOrNext, isSignal, isEquality, shapeOf, build, lineOf, kindIn, sortIn, firstIn, secondIn, thirdIn}
 use Rattle.tables.proofs.Laws.{past}
 use Rattle.tables.proofs.Shapes.{KindOf, kind-of, line-as}
-use Rattle.circuits.specs.Model.{FitL, workIn, sigsIn}
+use Rattle.circuits.specs.Model.Work.{workIn, sigsIn}
+use Rattle.circuits.specs.Model.Fits.{FitL}
 
 module _ (r : List ℕ) (S : Shape) (e : shapeOf (kindIn r) ≡ S) where
   pub fit-line : (p : Bool) (P : List (List ℕ)) (all : ℕ) (ι w g : List ℕ) (n : ℕ) → FitL p P all (length ι) (length g) w n (lineOf r)
@@ -38,19 +39,19 @@ idle-line r p f P all ι w g n n₃ n₄ n₅ n₆ n₇ n₈ n₉ none n₂₁ n
     go isInput e k = absurd (n₄ k)
     go isState e k = absurd (n₅ k)
     go isOutput e k = does-line r isOutput e p f P all ι w g n refl refl
-    go isOne e (inl k) = absurd (none (k .0) (k .1))
-    go isOne e (inr k) = absurd (n₅₆ k)
-    go isTwo e k = absurd (ntwo (k .0) (k .1))
+    go isUnary e (inl k) = absurd (none (k .0) (k .1))
+    go isUnary e (inr k) = absurd (n₅₆ k)
+    go isBinary e k = absurd (ntwo (k .0) (k .1))
     go isIte e k = absurd (n₅₃ k)
     go isRead e k = absurd (n₅₄ k)
     go isWrite e k = absurd (n₅₅ k)
-    go isJunk e k = does-line r isJunk e p f P all ι w g n refl refl
-    go (isGive true) e k = absurd (n₆ k)
-    go (isGive false) e k = absurd (n₇ k)
-    go (isMark true) e k = absurd (n₈ k)
-    go (isMark false) e k = absurd (n₉ k)
-    go (isCmp true) e k = absurd (n₂₁ k)
-    go (isCmp false) e k = absurd (n₂₂ k)
+    go isUnknown e k = does-line r isUnknown e p f P all ι w g n refl refl
+    go (isInitOrNext true) e k = absurd (n₆ k)
+    go (isInitOrNext false) e k = absurd (n₇ k)
+    go (isSignal true) e k = absurd (n₈ k)
+    go (isSignal false) e k = absurd (n₉ k)
+    go (isEquality true) e k = absurd (n₂₁ k)
+    go (isEquality false) e k = absurd (n₂₂ k)
 
 pub alike-true : (f : Bool) → f ≡ alike f true
 alike-true true = refl

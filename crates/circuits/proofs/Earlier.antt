@@ -15,42 +15,42 @@ use Rattle.tables.specs.Types.{noTy, isFixed, noCtx, tyAt, given}
 use Rattle.tables.proofs.Kept.{both}
 use Rattle.tables.proofs.Showing.{by-place, snoc-other}
 use Rattle.tables.proofs.Facts.{Ok, AllOk}
-use Rattle.circuits.specs.Cells.{choose, say, same, part, put}
-use Rattle.circuits.specs.Layout.{Layout, typeAt, placeAt, size, lay, layout, typeOf}
-use Rattle.circuits.specs.Meaning.{Acc, cellsAt, wordAt, widthAt, opWord, cellsE, stateWords, cellsOf, stsOf, evalLine, evalAll, noAcc, step}
-use Rattle.circuits.specs.Run.{rowOf, start}
+use Rattle.circuits.specs.Cells.{ifNonzero, eqOrNeq, sameCells, part, put}
+use Rattle.circuits.specs.Layout.{Layout, typeAt, placeAt, size, lay, layout, lineTypeIn}
+use Rattle.circuits.specs.Meaning.{Frame, cellsAt, wordAt, widthAt, opWord, cellsE, stateWords, cellsOf, statesAfter, evalLine, evalAll, noFrame, step}
+use Rattle.circuits.specs.Run.{rowLength, start}
 use Rattle.circuits.proofs.Laid.{more-types}
 use Rattle.circuits.proofs.Walked.{accAt, acc-suc, acc-lay, eval-append}
 
 -- ---- later lines leave the cells of earlier ones
 
-pub cells-kept : (p f : Bool) (σ ι : List ℕ) (A : Acc) (C : List Line) (a : ℕ) → a < length (A .env) → cellsAt (evalAll p f σ ι A C) a ≡ cellsAt A a
+pub cells-kept : (p f : Bool) (σ ι : List ℕ) (A : Frame) (C : List Line) (a : ℕ) → a < length (A .env) → cellsAt (evalAll p f σ ι A C) a ≡ cellsAt A a
 cells-kept p f σ ι A [] a h = refl
 cells-kept p f σ ι A (l ∷ C) a h =
     cells-kept p f σ ι (evalLine p f σ ι A l) C a (omega (arith, length-append (A .env) (cellsOf p f σ ι A l ∷ []))) ∙ List·getD-append (A .env) (cellsOf p f σ ι A l ∷ []) [] a h
 
-pub env-length : (p f : Bool) (σ ι : List ℕ) (A : Acc) (C : List Line) → length (evalAll p f σ ι A C .env) ≡ length (A .env) + length C
+pub env-length : (p f : Bool) (σ ι : List ℕ) (A : Frame) (C : List Line) → length (evalAll p f σ ι A C .env) ≡ length (A .env) + length C
 env-length p f σ ι A [] = omega arith
 env-length p f σ ι A (l ∷ C) = env-length p f σ ι (evalLine p f σ ι A l) C ∙ omega (arith, length-append (A .env) (cellsOf p f σ ι A l ∷ []))
 
 module _ (p f : Bool) (C : List Line) (σ ι : List ℕ) where
   rest : (i : ℕ) → step p f C σ ι ≡ evalAll p f σ ι (accAt p f σ ι C i) (drop i C)
   unfolding step
-  rest i = ap (evalAll p f σ ι noAcc) (sym (take-append-drop i C)) ∙ eval-append p f σ ι noAcc (take i C) (drop i C)
+  rest i = ap (evalAll p f σ ι noFrame) (sym (take-append-drop i C)) ∙ eval-append p f σ ι noFrame (take i C) (drop i C)
 
   long : (i : ℕ) → i ≤ length C → length (accAt p f σ ι C i .env) ≡ suc i
-  long i h = env-length p f σ ι noAcc (take i C) ∙ omega (arith, length-take-le i C h)
+  long i h = env-length p f σ ι noFrame (take i C) ∙ omega (arith, length-take-le i C h)
 
   -- the lines before the place i
   pub cells-first : (i a : ℕ) → i ≤ length C → a ≤ i → cellsAt (step p f C σ ι) a ≡ cellsAt (accAt p f σ ι C i) a
-  cells-first i a h k = ap (λ (A : Acc). cellsAt A a) (rest i) ∙ cells-kept p f σ ι (accAt p f σ ι C i) (drop i C) a (omega (arith, long i h))
+  cells-first i a h k = ap (λ (A : Frame). cellsAt A a) (rest i) ∙ cells-kept p f σ ι (accAt p f σ ι C i) (drop i C) a (omega (arith, long i h))
 
   -- the line at the place i, whose number is i + 1
-  pub cells-here : (i : ℕ) → i < length C → cellsAt (step p f C σ ι) (suc i) ≡ cellsOf p f σ ι (accAt p f σ ι C i) (getD C i Line.junk)
+  pub cells-here : (i : ℕ) → i < length C → cellsAt (step p f C σ ι) (suc i) ≡ cellsOf p f σ ι (accAt p f σ ι C i) (getD C i Line.unknown)
   cells-here i h =
       let A = accAt p f σ ι C i in
-      let l = getD C i Line.junk in
-      cells-first (suc i) (suc i) (omega arith) (omega arith) ∙ ap (λ (B : Acc). cellsAt B (suc i)) (acc-suc p f σ ι C i h)
+      let l = getD C i Line.unknown in
+      cells-first (suc i) (suc i) (omega arith) (omega arith) ∙ ap (λ (B : Frame). cellsAt B (suc i)) (acc-suc p f σ ι C i h)
       ∙ getD-at (A .env) (cellsOf p f σ ι A l) [] [] (suc i) (long i (omega arith))
 
 -- ---- lines whose cones hold no input and no state have the same cells in every walk
@@ -58,34 +58,34 @@ module _ (p f : Bool) (C : List Line) (σ ι : List ℕ) where
 -- the operands' cones hold no input and no state
 abbrev fixedBy : (ℕ → Ty) → Expr → Bool
 fixedBy L (Expr.const v) = true
-fixedBy L (Expr.one k a x y) = isFixed (L a)
-fixedBy L (Expr.two k a b) = isFixed (L a) && isFixed (L b)
-fixedBy L (Expr.cmp e a b) = isFixed (L a) && isFixed (L b)
+fixedBy L (Expr.unary k a x y) = isFixed (L a)
+fixedBy L (Expr.binary k a b) = isFixed (L a) && isFixed (L b)
+fixedBy L (Expr.equality e a b) = isFixed (L a) && isFixed (L b)
 fixedBy L (Expr.ite c a b) = isFixed (L c) && (isFixed (L a) && isFixed (L b))
 fixedBy L (Expr.read a i) = isFixed (L a) && isFixed (L i)
 fixedBy L (Expr.write a i v) = isFixed (L a) && (isFixed (L i) && isFixed (L v))
 
 -- the cells of an expression, by those of its operands
-module _ (p : Bool) (W : ℕ → ℕ) (L : ℕ → Ty) (X Y : ℕ → List ℕ) (alike : (a : ℕ) → L a .cls ≡ 2 → X a ≡ Y a) where
+module _ (p : Bool) (W : ℕ → ℕ) (L : ℕ → Ty) (X Y : ℕ → List ℕ) (alike : (a : ℕ) → L a .role ≡ 2 → X a ≡ Y a) where
   fixed : (a : ℕ) → isFixed (L a) ≡ true → X a ≡ Y a
-  fixed a e = alike a (eqb-true (L a .cls) 2 e)
+  fixed a e = alike a (eqb-true (L a .role) 2 e)
 
   word : (a : ℕ) → isFixed (L a) ≡ true → getD (X a) 0 0 ≡ getD (Y a) 0 0
   word a e = ap (λ (l : List ℕ). getD l 0 0) (fixed a e)
 
   pub expr-alike : (e : Expr) → fixedBy L e ≡ true → cellsE p W (λ a. getD (X a) 0 0) X e ≡ cellsE p W (λ a. getD (Y a) 0 0) Y e
   expr-alike (Expr.const v) q = refl
-  expr-alike (Expr.one k a x y) q = ap (λ (v : ℕ). opWord p k (W a) 64 v x y ∷ []) (word a q)
-  expr-alike (Expr.two k a b) q =
+  expr-alike (Expr.unary k a x y) q = ap (λ (v : ℕ). opWord p k (W a) 64 v x y ∷ []) (word a q)
+  expr-alike (Expr.binary k a b) q =
       let h = both (isFixed (L a)) _ q in
       ap₂ (λ (v w : ℕ). opWord p k (W a) (W b) v w 0 ∷ []) (word a (h .0)) (word b (h .1))
-  expr-alike (Expr.cmp e a b) q =
+  expr-alike (Expr.equality e a b) q =
       let h = both (isFixed (L a)) _ q in
-      ap₂ (λ (v w : List ℕ). bit (say e (same v w)) ∷ []) (fixed a (h .0)) (fixed b (h .1))
+      ap₂ (λ (v w : List ℕ). bit (eqOrNeq e (sameCells v w)) ∷ []) (fixed a (h .0)) (fixed b (h .1))
   expr-alike (Expr.ite c a b) q =
       let h = both (isFixed (L c)) _ q in
       let k = both (isFixed (L a)) _ (h .1) in
-      ap (λ (n : ℕ). choose n (X a) (X b)) (word c (h .0)) ∙ ap₂ (choose (getD (Y c) 0 0)) (fixed a (k .0)) (fixed b (k .1))
+      ap (λ (n : ℕ). ifNonzero n (X a) (X b)) (word c (h .0)) ∙ ap₂ (ifNonzero (getD (Y c) 0 0)) (fixed a (k .0)) (fixed b (k .1))
   expr-alike (Expr.read a i) q =
       let h = both (isFixed (L a)) _ q in
       ap₂ (λ (l : List ℕ) (n : ℕ). getD l n 0 ∷ []) (fixed a (h .0)) (word i (h .1))
@@ -99,40 +99,40 @@ fixed-two : (b : Bool) → _≡_ {A = ℕ} (pick b 2 3) 2 → b ≡ true
 fixed-two true e = refl
 fixed-two false e = absurd (omega arith)
 
-val-fixed : (p : Bool) (Y : Layout) (s : ℕ) (e : Expr) → typeOf p Y (Line.val s e) .cls ≡ 2 → fixedBy (tyAt (Y .ctx)) e ≡ true
+val-fixed : (p : Bool) (Y : Layout) (s : ℕ) (e : Expr) → lineTypeIn p Y (Line.value s e) .role ≡ 2 → fixedBy (tyAt (Y .ctx)) e ≡ true
 val-fixed p Y s (Expr.const v) q = refl
-val-fixed p Y s (Expr.one k a x y) q = fixed-two _ q
-val-fixed p Y s (Expr.two k a b) q = fixed-two _ q
-val-fixed p Y s (Expr.cmp e a b) q = fixed-two _ q
+val-fixed p Y s (Expr.unary k a x y) q = fixed-two _ q
+val-fixed p Y s (Expr.binary k a b) q = fixed-two _ q
+val-fixed p Y s (Expr.equality e a b) q = fixed-two _ q
 val-fixed p Y s (Expr.ite c a b) q = fixed-two _ q
 val-fixed p Y s (Expr.read a i) q = fixed-two _ q
 val-fixed p Y s (Expr.write a i v) q = fixed-two _ q
 
 -- two walks over the same lines
-record Alike (A B : Acc) : Type 0 where
+record Alike (A B : Frame) : Type 0 where
   lay : A .lay ≡ B .lay
   longA : length (A .env) ≡ length (A .lay .ctx .tys)
   longB : length (B .env) ≡ length (B .lay .ctx .tys)
-  cells : (a : ℕ) → typeAt (A .lay) a .cls ≡ 2 → cellsAt A a ≡ cellsAt B a
+  cells : (a : ℕ) → typeAt (A .lay) a .role ≡ 2 → cellsAt A a ≡ cellsAt B a
 
 module _ (p f f′ : Bool) (σ σ′ ι ι′ : List ℕ) where
-  cells-alike : (A B : Acc) → Alike A B → (l : Line) → typeOf p (A .lay) l .cls ≡ 2 → cellsOf p f σ ι A l ≡ cellsOf p f′ σ′ ι′ B l
+  cells-alike : (A B : Frame) → Alike A B → (l : Line) → lineTypeIn p (A .lay) l .role ≡ 2 → cellsOf p f σ ι A l ≡ cellsOf p f′ σ′ ι′ B l
   cells-alike A B k (Line.bitvec w) q = refl
   cells-alike A B k (Line.array i e) q = refl
   cells-alike A B k (Line.input s) q = absurd (omega arith)
   cells-alike A B k (Line.state s) q = absurd (omega arith)
-  cells-alike A B k (Line.val s e) q =
+  cells-alike A B k (Line.value s e) q =
       ap (λ (Y : Layout). cellsE p (λ a. typeAt Y a .w) (wordAt A) (cellsAt A) e) (k .lay)
       ∙ expr-alike p (widthAt B) (tyAt (A .lay .ctx)) (cellsAt A) (cellsAt B) (k .cells) e (val-fixed p (A .lay) s e q)
-  cells-alike A B k (Line.give m s x v) q = refl
-  cells-alike A B k (Line.mark m a) q = refl
+  cells-alike A B k (Line.initOrNext m s x v) q = refl
+  cells-alike A B k (Line.signal m a) q = refl
   cells-alike A B k (Line.output a) q = refl
-  cells-alike A B k Line.junk q = refl
+  cells-alike A B k Line.unknown q = refl
 
-  line-alike : (A B : Acc) (l : Line) → Alike A B → Alike (evalLine p f σ ι A l) (evalLine p f′ σ′ ι′ B l)
+  line-alike : (A B : Frame) (l : Line) → Alike A B → Alike (evalLine p f σ ι A l) (evalLine p f′ σ′ ι′ B l)
   line-alike A B l k =
       let n = length (A .lay .ctx .tys) in
-      let new : typeAt (lay p (A .lay) l) n ≡ typeOf p (A .lay) l = getD-at (A .lay .ctx .tys) (typeOf p (A .lay) l) [] noTy n refl in
+      let new : typeAt (lay p (A .lay) l) n ≡ lineTypeIn p (A .lay) l = getD-at (A .lay .ctx .tys) (lineTypeIn p (A .lay) l) [] noTy n refl in
       let eb : length (B .env) ≡ n = k .longB ∙ ap (λ (Y : Layout). length (Y .ctx .tys)) (sym (k .lay)) in
       record {
         lay = ap (λ (Y : Layout). lay p Y l) (k .lay);
@@ -141,48 +141,48 @@ module _ (p f f′ : Bool) (σ σ′ ι ι′ : List ℕ) where
         cells = λ a.
             by-place a n
             (λ e q.
-            let t : typeOf p (A .lay) l .cls ≡ 2 = sym (ap (λ (i : ℕ). typeAt (lay p (A .lay) l) i .cls) e ∙ ap (λ (t : Ty). t .cls) new) ∙ q in
+            let t : lineTypeIn p (A .lay) l .role ≡ 2 = sym (ap (λ (i : ℕ). typeAt (lay p (A .lay) l) i .role) e ∙ ap (λ (t : Ty). t .role) new) ∙ q in
             ap (λ (i : ℕ). getD (A .env ++ (cellsOf p f σ ι A l ∷ [])) i []) e ∙ getD-at (A .env) (cellsOf p f σ ι A l) [] [] n (k .longA) ∙ cells-alike A B k l t
             ∙ sym (ap (λ (i : ℕ). getD (B .env ++ (cellsOf p f′ σ′ ι′ B l ∷ [])) i []) e ∙ getD-at (B .env) (cellsOf p f′ σ′ ι′ B l) [] [] n eb))
             (λ e q.
-            let t : typeAt (A .lay) a .cls ≡ 2 = sym (ap (λ (t : Ty). t .cls) (snoc-other (A .lay .ctx .tys) (typeOf p (A .lay) l) noTy a e)) ∙ q in
+            let t : typeAt (A .lay) a .role ≡ 2 = sym (ap (λ (t : Ty). t .role) (snoc-other (A .lay .ctx .tys) (lineTypeIn p (A .lay) l) noTy a e)) ∙ q in
             snoc-other (A .env) (cellsOf p f σ ι A l) [] a (λ x. e (x ∙ k .longA)) ∙ k .cells a t ∙ sym (snoc-other (B .env) (cellsOf p f′ σ′ ι′ B l) [] a (λ x. e (x ∙ eb))));
       }
 
-  all-alike : (A B : Acc) (C : List Line) → Alike A B → Alike (evalAll p f σ ι A C) (evalAll p f′ σ′ ι′ B C)
+  all-alike : (A B : Frame) (C : List Line) → Alike A B → Alike (evalAll p f σ ι A C) (evalAll p f′ σ′ ι′ B C)
   all-alike A B [] k = k
   all-alike A B (l ∷ C) k = all-alike (evalLine p f σ ι A l) (evalLine p f′ σ′ ι′ B l) C (line-alike A B l k)
 
   -- an init value is the same as the run starts and at every step
-  pub fixed-alike : (C : List Line) (a : ℕ) → typeAt (layout p C) a .cls ≡ 2 → cellsAt (step p f C σ ι) a ≡ cellsAt (step p f′ C σ′ ι′) a
+  pub fixed-alike : (C : List Line) (a : ℕ) → typeAt (layout p C) a .role ≡ 2 → cellsAt (step p f C σ ι) a ≡ cellsAt (step p f′ C σ′ ι′) a
   unfolding step layout
   fixed-alike C a q =
-      let k = all-alike noAcc noAcc C (record { lay = refl; longA = refl; longB = refl; cells = λ x e. refl }) in
-      k .cells a (ap (λ (Y : Layout). typeAt Y a .cls) (acc-lay p f σ ι noAcc C) ∙ q)
+      let k = all-alike noFrame noFrame C (record { lay = refl; longA = refl; longB = refl; cells = λ x e. refl }) in
+      k .cells a (ap (λ (Y : Layout). typeAt Y a .role) (acc-lay p f σ ι noFrame C) ∙ q)
 
 -- ---- the state words that a run starts from depend on no input
 
 module _ (p : Bool) (σ ι ι′ : List ℕ) where
-  give-alike : (A B : Acc) → Alike A B → A .sts ≡ B .sts → (m : Bool) (s q v : ℕ) → Ok p (tyAt (A .lay .ctx)) (given (A .lay .ctx)) (Line.give m s q v)
-      → stsOf p true σ A (Line.give m s q v) ≡ stsOf p true σ B (Line.give m s q v)
+  give-alike : (A B : Frame) → Alike A B → A .sts ≡ B .sts → (m : Bool) (s q v : ℕ) → Ok p (tyAt (A .lay .ctx)) (given (A .lay .ctx)) (Line.initOrNext m s q v)
+      → statesAfter p true σ A (Line.initOrNext m s q v) ≡ statesAfter p true σ B (Line.initOrNext m s q v)
   give-alike A B k e true s q v ok =
-      ap₂ (λ (x : List ℕ) (Y : Layout). put x (placeAt Y q .at) (replicate (size (typeAt Y q)) (wordAt A v))) e (k .lay)
-      ∙ ap (λ (x : List ℕ). put (B .sts) (placeAt (B .lay) q .at) (replicate (size (typeAt (B .lay) q)) (getD x 0 0))) (k .cells v (ok .value .fixed))
+      ap₂ (λ (x : List ℕ) (Y : Layout). put x (placeAt Y q) (replicate (size (typeAt Y q)) (wordAt A v))) e (k .lay)
+      ∙ ap (λ (x : List ℕ). put (B .sts) (placeAt (B .lay) q) (replicate (size (typeAt (B .lay) q)) (getD x 0 0))) (k .cells v (ok .value .fixed))
   give-alike A B k e false s q v ok = e
 
-  sts-alike : (A B : Acc) → Alike A B → A .sts ≡ B .sts → (l : Line) → Ok p (tyAt (A .lay .ctx)) (given (A .lay .ctx)) l → stsOf p true σ A l ≡ stsOf p true σ B l
+  sts-alike : (A B : Frame) → Alike A B → A .sts ≡ B .sts → (l : Line) → Ok p (tyAt (A .lay .ctx)) (given (A .lay .ctx)) l → statesAfter p true σ A l ≡ statesAfter p true σ B l
   sts-alike A B k e (Line.bitvec w) ok = e
   sts-alike A B k e (Line.array i x) ok = e
   sts-alike A B k e (Line.input s) ok = e
   sts-alike A B k e (Line.state s) ok =
-      ap₂ (λ (x : List ℕ) (Y : Layout). x ++ stateWords p true (typeOf p Y (Line.state s) .w) (part σ (Y .counts .states) (size (typeOf p Y (Line.state s))))) e (k .lay)
-  sts-alike A B k e (Line.val s x) ok = e
-  sts-alike A B k e (Line.give m s q v) ok = give-alike A B k e m s q v ok
-  sts-alike A B k e (Line.mark m a) ok = e
+      ap₂ (λ (x : List ℕ) (Y : Layout). x ++ stateWords p true (lineTypeIn p Y (Line.state s) .w) (part σ (Y .counts .states) (size (lineTypeIn p Y (Line.state s))))) e (k .lay)
+  sts-alike A B k e (Line.value s x) ok = e
+  sts-alike A B k e (Line.initOrNext m s q v) ok = give-alike A B k e m s q v ok
+  sts-alike A B k e (Line.signal m a) ok = e
   sts-alike A B k e (Line.output a) ok = e
-  sts-alike A B k e Line.junk ok = e
+  sts-alike A B k e Line.unknown ok = e
 
-  starts-alike : (A B : Acc) (C : List Line) → Alike A B → A .sts ≡ B .sts → AllOk p (A .lay .ctx) C → evalAll p true σ ι A C .sts ≡ evalAll p true σ ι′ B C .sts
+  starts-alike : (A B : Frame) (C : List Line) → Alike A B → A .sts ≡ B .sts → AllOk p (A .lay .ctx) C → evalAll p true σ ι A C .sts ≡ evalAll p true σ ι′ B C .sts
   starts-alike A B [] k e h = e
   starts-alike A B (l ∷ C) k e h =
       starts-alike (evalLine p true σ ι A l) (evalLine p true σ ι′ B l) C (line-alike p true true σ σ ι ι′ A B l k) (sts-alike A B k e l (h .0)) (h .1)
@@ -191,4 +191,4 @@ module _ (p : Bool) (σ ι ι′ : List ℕ) where
 pub start-any-row : (p : Bool) (C : List Line) (S I J : List ℕ) → AllOk p noCtx C → start p C S I ≡ start p C S J
 unfolding start step
 start-any-row p C S I J h =
-    starts-alike p S (take (rowOf p C) I) (take (rowOf p C) J) noAcc noAcc C (record { lay = refl; longA = refl; longB = refl; cells = λ x e. refl }) refl h
+    starts-alike p S (take (rowLength p C) I) (take (rowLength p C) J) noFrame noFrame C (record { lay = refl; longA = refl; longB = refl; cells = λ x e. refl }) refl h

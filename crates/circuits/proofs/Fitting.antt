@@ -12,13 +12,13 @@ use Rattle.words.specs.Model.Classes.{Class, turn, wrap, meet, merge, test, pla
 use Rattle.words.specs.Model.Widths.{Widths, widthOf}
 use Rattle.tables.specs.declared.Ty.{Ty}
 use Rattle.tables.specs.Kinds.{rowOf, secondClass, thirdClass}
-use Rattle.tables.specs.Rules.{fitsOne, fitsTwo}
+use Rattle.tables.specs.Rules.{fitsUnary, fitsBinary}
 use Rattle.tables.specs.Tables.{unused}
 use Rattle.tables.proofs.Every.{at-each}
 use Rattle.tables.proofs.Kept.{both}
-use Rattle.tables.proofs.Facts.{OneKind, OkOne, OkTwo}
+use Rattle.tables.proofs.Facts.{OneKind, OkUnary, OkBinary}
 use Rattle.circuits.specs.Meaning.{opWord}
-use Rattle.circuits.specs.Model.{FitWord}
+use Rattle.circuits.specs.Model.Fits.{FitWord}
 
 -- ---- classes that ask alike
 
@@ -185,22 +185,22 @@ lt-or-ge a b = go (leb b a) refl
 -- ---- operators of one word
 
 module _ (k w u x y : ℕ) where
-  one-low : 11 ≤ k → k ≤ 14 → fitsOne k w u x y ≡ true → Suits (classOf (opOf k)) w u 64 x y
+  one-low : 11 ≤ k → k ≤ 14 → fitsUnary k w u x y ≡ true → Suits (classOf (opOf k)) w u 64 x y
   one-low h l r =
       suits-alone w u 64 x y (classOf (opOf k)) (at-kind (λ (n : ℕ). alone (classOf (opOf n))) 11 4 k (at-each (λ (m : ℕ). alone (classOf (opOf (m + 11)))) 4 tt) h (omega arith))
       (eqb-true w u (rw (le-leb k 14 l) at r))
 
-  one-mask : k ≡ 56 → fitsOne k w u x y ≡ true → Suits (classOf (opOf k)) w u 64 x y
-  one-mask e r = subst (λ (n : ℕ). Suits (classOf (opOf n)) w u 64 x y) (sym e) (record { widths = tt; width = eqb-true w u (subst (λ (n : ℕ). fitsOne n w u x y ≡ true) e r) })
+  one-mask : k ≡ 56 → fitsUnary k w u x y ≡ true → Suits (classOf (opOf k)) w u 64 x y
+  one-mask e r = subst (λ (n : ℕ). Suits (classOf (opOf n)) w u 64 x y) (sym e) (record { widths = tt; width = eqb-true w u (subst (λ (n : ℕ). fitsUnary n w u x y ≡ true) e r) })
 
-  one-test : 15 ≤ k → k ≤ 17 → fitsOne k w u x y ≡ true → Suits (classOf (opOf k)) w u 64 x y
+  one-test : 15 ≤ k → k ≤ 17 → fitsUnary k w u x y ≡ true → Suits (classOf (opOf k)) w u 64 x y
   one-test h l r =
       suits-test w u 64 x y (classOf (opOf k)) (at-kind (λ (n : ℕ). tests (classOf (opOf n))) 15 3 k (at-each (λ (m : ℕ). tests (classOf (opOf (m + 15)))) 3 tt) h (omega arith))
       (eqb-true w 1 (rw (lt-leb k 14 (omega arith), ne-eqb k 56 (λ e. omega arith), le-leb k 17 l) at r))
 
-  one-cut : k ≡ 18 → fitsOne k w u x y ≡ true → Suits (classOf (opOf k)) w u 64 x y
+  one-cut : k ≡ 18 → fitsUnary k w u x y ≡ true → Suits (classOf (opOf k)) w u 64 x y
   one-cut e r =
-      let q : fitsOne 18 w u x y ≡ true = subst (λ (n : ℕ). fitsOne n w u x y ≡ true) e r in
+      let q : fitsUnary 18 w u x y ≡ true = subst (λ (n : ℕ). fitsUnary n w u x y ≡ true) e r in
       let h₁ = both (leb y x) _ q in
       let h₂ = both (ltb x u) _ (h₁ .1) in
       let a : y ≤ x = leb-true y x (h₁ .0) in
@@ -208,23 +208,23 @@ module _ (k w u x y : ℕ) where
       let c : w + y ≡ suc x = eqb-true (w + y) (suc x) (h₂ .1) in
       subst (λ (n : ℕ). Suits (classOf (opOf n)) w u 64 x y) (sym e) (record { widths = (a, b); width = omega arith })
 
-  one-copy : k ≡ 19 → w ≤ 64 → fitsOne k w u x y ≡ true → Suits (classOf (opOf k)) w u 64 x y
+  one-copy : k ≡ 19 → w ≤ 64 → fitsUnary k w u x y ≡ true → Suits (classOf (opOf k)) w u 64 x y
   one-copy e h r =
-      let q : w ≡ u + x = eqb-true w (u + x) (subst (λ (n : ℕ). fitsOne n w u x y ≡ true) e r) in
+      let q : w ≡ u + x = eqb-true w (u + x) (subst (λ (n : ℕ). fitsUnary n w u x y ≡ true) e r) in
       subst (λ (n : ℕ). Suits (classOf (opOf n)) w u 64 x y) (sym e) (record { widths = omega arith; width = q })
 
-  one-extend : k ≡ 20 → w ≤ 64 → fitsOne k w u x y ≡ true → Suits (classOf (opOf k)) w u 64 x y
+  one-extend : k ≡ 20 → w ≤ 64 → fitsUnary k w u x y ≡ true → Suits (classOf (opOf k)) w u 64 x y
   one-extend e h r =
-      let q : w ≡ u + x = eqb-true w (u + x) (subst (λ (n : ℕ). fitsOne n w u x y ≡ true) e r) in
+      let q : w ≡ u + x = eqb-true w (u + x) (subst (λ (n : ℕ). fitsUnary n w u x y ≡ true) e r) in
       subst (λ (n : ℕ). Suits (classOf (opOf n)) w u 64 x y) (sym e) (record { widths = omega arith; width = q })
 
-  one-range : 11 ≤ k → k ≤ 20 → w ≤ 64 → fitsOne k w u x y ≡ true → Suits (classOf (opOf k)) w u 64 x y
+  one-range : 11 ≤ k → k ≤ 20 → w ≤ 64 → fitsUnary k w u x y ≡ true → Suits (classOf (opOf k)) w u 64 x y
   one-range h l m r =
       ⊎-elim (λ a. one-low h (omega arith) r)
       (λ a. ⊎-elim (λ b. one-test a (omega arith) r)
       (λ b. ⊎-elim (λ c. one-cut (omega arith) r) (λ c. ⊎-elim (λ d. one-copy (omega arith) m r) (λ d. one-extend (omega arith) m r) (lt-or-ge k 20)) (lt-or-ge k 19)) (lt-or-ge k 18)) (lt-or-ge k 15)
 
-  pub suits-one : (p : Bool) → OneKind p k → w ≤ 64 → fitsOne k w u x y ≡ true → Suits (classOf (opOf k)) w u 64 x y
+  pub suits-one : (p : Bool) → OneKind p k → w ≤ 64 → fitsUnary k w u x y ≡ true → Suits (classOf (opOf k)) w u 64 x y
   suits-one false h m r = one-range (h .0) (h .1) m r
   suits-one true (inl h) m r = one-range (h .0) (h .1) m r
   suits-one true (inr h) m r = one-mask h r
@@ -232,13 +232,13 @@ module _ (k w u x y : ℕ) where
 -- ---- operators of two words
 
 module _ (k w u v x y : ℕ) where
-  two-compare : 23 ≤ k → k ≤ 30 → fitsTwo k w u v ≡ true → Suits (classOf (opOf k)) w u v x y
+  two-compare : 23 ≤ k → k ≤ 30 → fitsBinary k w u v ≡ true → Suits (classOf (opOf k)) w u v x y
   two-compare h l r =
       let q = both (eqb w 1) (eqb v u) (rw (le-leb k 30 l) at r) in
       suits-compare w u v x y (classOf (opOf k)) (at-kind (λ (n : ℕ). compares (classOf (opOf n))) 23 8 k (at-each (λ (m : ℕ). compares (classOf (opOf (m + 23)))) 8 tt) h (omega arith))
       (eqb-true w 1 (q .0)) (sym (eqb-true v u (q .1)))
 
-  two-bits : 31 ≤ k → k ≤ 32 → fitsTwo k w u v ≡ true → Suits (classOf (opOf k)) w u v x y
+  two-bits : 31 ≤ k → k ≤ 32 → fitsBinary k w u v ≡ true → Suits (classOf (opOf k)) w u v x y
   two-bits h l r =
       let q = both (eqb w 1) (eqb u 1 && eqb v 1) (rw (lt-leb k 30 (omega arith), le-leb k 32 l) at r) in
       let q₂ = both (eqb u 1) (eqb v 1) (q .1) in
@@ -246,29 +246,29 @@ module _ (k w u v x y : ℕ) where
       suits-paired w u v x y (classOf (opOf k)) (at-kind (λ (n : ℕ). paired (classOf (opOf n))) 31 2 k (at-each (λ (m : ℕ). paired (classOf (opOf (m + 31)))) 2 tt) h (omega arith))
       (eqb-true w 1 (q .0) ∙ sym eu) (eu ∙ sym (eqb-true v 1 (q₂ .1)))
 
-  two-paired : 33 ≤ k → k ≤ 51 → fitsTwo k w u v ≡ true → Suits (classOf (opOf k)) w u v x y
+  two-paired : 33 ≤ k → k ≤ 51 → fitsBinary k w u v ≡ true → Suits (classOf (opOf k)) w u v x y
   two-paired h l r =
       let q = both (eqb u w) (eqb v w) (rw (lt-leb k 30 (omega arith), lt-leb k 32 (omega arith), le-leb k 51 l) at r) in
       let eu = eqb-true u w (q .0) in
       suits-paired w u v x y (classOf (opOf k)) (at-kind (λ (n : ℕ). paired (classOf (opOf n))) 33 19 k (at-each (λ (m : ℕ). paired (classOf (opOf (m + 33)))) 19 tt) h (omega arith))
       (sym eu) (eu ∙ sym (eqb-true v w (q .1)))
 
-  two-join : k ≡ 52 → w ≤ 64 → fitsTwo k w u v ≡ true → Suits (classOf (opOf k)) w u v x y
+  two-join : k ≡ 52 → w ≤ 64 → fitsBinary k w u v ≡ true → Suits (classOf (opOf k)) w u v x y
   two-join e h r =
-      let q : w ≡ u + v = eqb-true w (u + v) (subst (λ (n : ℕ). fitsTwo n w u v ≡ true) e r) in
+      let q : w ≡ u + v = eqb-true w (u + v) (subst (λ (n : ℕ). fitsBinary n w u v ≡ true) e r) in
       subst (λ (n : ℕ). Suits (classOf (opOf n)) w u v x y) (sym e) (record { widths = omega arith; width = q })
 
-  pub suits-two : 23 ≤ k → k ≤ 52 → w ≤ 64 → fitsTwo k w u v ≡ true → Suits (classOf (opOf k)) w u v x y
+  pub suits-two : 23 ≤ k → k ≤ 52 → w ≤ 64 → fitsBinary k w u v ≡ true → Suits (classOf (opOf k)) w u v x y
   suits-two h l m r =
       ⊎-elim (λ a. two-compare h (omega arith) r)
       (λ a. ⊎-elim (λ b. two-bits a (omega arith) r) (λ b. ⊎-elim (λ c. two-paired b (omega arith) r) (λ c. two-join (omega arith) m r) (lt-or-ge k 52)) (lt-or-ge k 33)) (lt-or-ge k 31)
 
 -- ---- lines that keep the rules
 
-pub fit-one : (p : Bool) (t a : Ty) (k x y : ℕ) → t .w ≤ 64 → OkOne p t k a x y → Suits (classOf (opOf k)) (t .w) (a .w) 64 x y
+pub fit-one : (p : Bool) (t a : Ty) (k x y : ℕ) → t .w ≤ 64 → OkUnary p t k a x y → Suits (classOf (opOf k)) (t .w) (a .w) 64 x y
 fit-one p t a k x y h ok = suits-one k (t .w) (a .w) x y p (ok .kind) h (ok .rule)
 
-pub fit-two : (t a b : Ty) (k x y : ℕ) → t .w ≤ 64 → OkTwo t k a b → Suits (classOf (opOf k)) (t .w) (a .w) (b .w) x y
+pub fit-two : (t a b : Ty) (k x y : ℕ) → t .w ≤ 64 → OkBinary t k a b → Suits (classOf (opOf k)) (t .w) (a .w) (b .w) x y
 fit-two t a b k x y h ok = suits-two k (t .w) (a .w) (b .w) x y (ok .least) (ok .most) h (ok .rule)
 
 pub least-one : (p : Bool) (k : ℕ) → OneKind p k → 11 ≤ k
@@ -298,7 +298,7 @@ module _ (k w u x y : ℕ) (s₂ : unused (secondClass (rowOf k)) x ≡ true) (s
   extra : eqb (thirdClass (rowOf k)) 0 ≡ true → u + x ≤ 64 → (x ≤ 64) × (y ≤ 64)
   extra e h = let b = zero-at (thirdClass (rowOf k)) y s₃ (eqb-true (thirdClass (rowOf k)) 0 e) in (omega arith, omega arith)
 
-  plain-range : 11 ≤ k → k ≤ 20 → u ≤ 64 → w ≤ 64 → fitsOne k w u x y ≡ true → (x ≤ 64) × (y ≤ 64)
+  plain-range : 11 ≤ k → k ≤ 20 → u ≤ 64 → w ≤ 64 → fitsUnary k w u x y ≡ true → (x ≤ 64) × (y ≤ 64)
   unfolding rowOf
   plain-range h l hu m r =
       ⊎-elim (λ a. bare (true-of (bare? k) (at-kind bare? 11 7 k (at-each (λ (n : ℕ). bare? (n + 11)) 7 tt) h (omega arith))))
@@ -311,7 +311,7 @@ module _ (k w u x y : ℕ) (s₂ : unused (secondClass (rowOf k)) x ≡ true) (s
   unfolding rowOf
   plain-mask e = bare (ap bare? e)
 
-pub plain-one : (p : Bool) (t a : Ty) (k x y : ℕ) → t .w ≤ 64 → a .w ≤ 64 → OkOne p t k a x y → (x < 2 ^ 64) × (y < 2 ^ 64)
+pub plain-one : (p : Bool) (t a : Ty) (k x y : ℕ) → t .w ≤ 64 → a .w ≤ 64 → OkUnary p t k a x y → (x < 2 ^ 64) × (y < 2 ^ 64)
 plain-one p t a k x y m hu ok = let h = go p (ok .kind) in (omega (arith, h .0), omega (arith, h .1))
   where
     go : (p : Bool) → OneKind p k → (x ≤ 64) × (y ≤ 64)

@@ -1,4 +1,4 @@
--- The work area holds the values of the lines so far, and the state words: a line's cells are what its type and place see of it. Assumes nothing.
+-- The work area holds the values of the lines so far, and the state words: a line's cells stand at its offset. Assumes nothing.
 use Prim.Native.Nat.{ℕ, _+_, _-_, _^_, _≤_, _<_}
 use mathlib.Core.Path.{_≡_, refl, sym, ap, ap₂, _∙_, subst}
 use mathlib.Core.Logic.{⊎-elim}
@@ -15,28 +15,30 @@ use Rattle.tables.specs.Types.{isValue}
 use Rattle.tables.proofs.Showing.{snoc-other, by-place}
 use Rattle.tables.proofs.Facts.{IsWord}
 use Rattle.circuits.specs.Cells.{part, put}
-use Rattle.circuits.specs.Layout.{Place, Layout, typeAt, placeAt, size, typeOf, placeOf, lay}
-use Rattle.circuits.specs.Meaning.{Acc}
+use Rattle.circuits.specs.Layout.{Layout, typeAt, size, lineTypeIn, lay}
+use Rattle.circuits.specs.Meaning.{Frame}
+use Rattle.circuits.specs.Model.Places.{offAt}
 use Rattle.circuits.proofs.Puts as laws
-use Rattle.circuits.proofs.Laid.{Sound, type-new, place-new, type-old, place-old, more-types}
+use Rattle.circuits.proofs.Offsets.{off-old, off-value}
+use Rattle.circuits.proofs.Laid.{Sound, low, type-new, type-old, more-types}
 
--- what a type and a place see of the work area
-abbrev pub seen : List ℕ → Ty → Place → List ℕ
-seen w t q = pick (isValue t) (part w (q .off) (size t)) []
+-- the cells of a line of the type t in the work area, from the word o on
+abbrev pub seen : List ℕ → Ty → (o : ℕ) → List ℕ
+seen w t o = pick (isValue t) (part w o (size t)) []
 
 -- ---- the lines' cells
 
 pub record Holds (p : Bool) (w : List ℕ) (Y : Layout) (env : List (List ℕ)) : Type 0 where
   pub lines : length env ≡ length (Y .ctx .tys)
-  pub cells : (a : ℕ) → getD env a [] ≡ seen w (typeAt Y a) (placeAt Y a)
+  pub cells : (a : ℕ) → getD env a [] ≡ seen w (typeAt Y a) (offAt Y a)
   -- a circuit's words are below 2 to their width
-  pub small : p ≡ false → (a : ℕ) → 2 ≤ typeAt Y a .cls → (j : ℕ) → j < size (typeAt Y a) → getD w (placeAt Y a .off + j) 0 < 2 ^ (typeAt Y a .w)
+  pub small : p ≡ false → (a : ℕ) → 2 ≤ typeAt Y a .role → (j : ℕ) → j < size (typeAt Y a) → getD w (offAt Y a + j) 0 < 2 ^ (typeAt Y a .w)
 
-seen-value : (w : List ℕ) (t : Ty) (q : Place) → 2 ≤ t .cls → seen w t q ≡ part w (q .off) (size t)
-seen-value w t q h = rw (le-leb 2 (t .cls) h)
+seen-value : (w : List ℕ) (t : Ty) (o : ℕ) → 2 ≤ t .role → seen w t o ≡ part w o (size t)
+seen-value w t o h = rw (le-leb 2 (t .role) h)
 
-seen-none : (w : List ℕ) (t : Ty) (q : Place) → t .cls < 2 → seen w t q ≡ []
-seen-none w t q h = rw (lt-leb 2 (t .cls) h)
+seen-none : (w : List ℕ) (t : Ty) (o : ℕ) → t .role < 2 → seen w t o ≡ []
+seen-none w t o h = rw (lt-leb 2 (t .role) h)
 
 seen-same : (b : Bool) (xs ys : List ℕ) → (b ≡ true → xs ≡ ys) → pick b xs [] ≡ pick b ys []
 seen-same true xs ys f = f refl
@@ -45,29 +47,29 @@ seen-same false xs ys f = refl
 module _ {p : Bool} {w : List ℕ} {Y : Layout} {env : List (List ℕ)} (S : Sound Y) (H : Holds p w Y env) where
   -- a work area that agrees with this one below all cells so far
   module _ (v : List ℕ) (n : ℕ) (below : Y .counts .cells ≤ n) (l : length v ≡ length w) (h : n ≤ length w) (same : (i : ℕ) → i < n → getD v i 0 ≡ getD w i 0) where
-    pub seen-alike : (a : ℕ) → seen v (typeAt Y a) (placeAt Y a) ≡ seen w (typeAt Y a) (placeAt Y a)
+    pub seen-alike : (a : ℕ) → seen v (typeAt Y a) (offAt Y a) ≡ seen w (typeAt Y a) (offAt Y a)
     seen-alike a =
-        seen-same (isValue (typeAt Y a)) (part v (placeAt Y a .off) (size (typeAt Y a))) (part w (placeAt Y a .off) (size (typeAt Y a)))
+        seen-same (isValue (typeAt Y a)) (part v (offAt Y a) (size (typeAt Y a))) (part w (offAt Y a) (size (typeAt Y a)))
         (λ e.
-        let b : placeAt Y a .off + size (typeAt Y a) ≤ Y .counts .cells = S .low a (leb-true 2 (typeAt Y a .cls) e) in
-        laws.part-ext v w (placeAt Y a .off) (placeAt Y a .off) (size (typeAt Y a)) (omega arith) (omega arith) (λ i k. same (placeAt Y a .off + i) (omega arith)))
+        let b : offAt Y a + size (typeAt Y a) ≤ Y .counts .cells = low S a (leb-true 2 (typeAt Y a .role) e) in
+        laws.part-ext v w (offAt Y a) (offAt Y a) (size (typeAt Y a)) (omega arith) (omega arith) (λ i k. same (offAt Y a + i) (omega arith)))
 
-    pub small-alike : p ≡ false → (a : ℕ) → 2 ≤ typeAt Y a .cls → (j : ℕ) → j < size (typeAt Y a) → getD v (placeAt Y a .off + j) 0 < 2 ^ (typeAt Y a .w)
+    pub small-alike : p ≡ false → (a : ℕ) → 2 ≤ typeAt Y a .role → (j : ℕ) → j < size (typeAt Y a) → getD v (offAt Y a + j) 0 < 2 ^ (typeAt Y a .w)
     small-alike e a q j k =
-        let b : placeAt Y a .off + size (typeAt Y a) ≤ Y .counts .cells = S .low a q in
-        subst (λ (x : ℕ). x < 2 ^ (typeAt Y a .w)) (sym (same (placeAt Y a .off + j) (omega arith))) (H .small e a q j k)
+        let b : offAt Y a + size (typeAt Y a) ≤ Y .counts .cells = low S a q in
+        subst (λ (x : ℕ). x < 2 ^ (typeAt Y a .w)) (sym (same (offAt Y a + j) (omega arith))) (H .small e a q j k)
 
     pub holds-alike : Holds p v Y env
     holds-alike = record { lines = H .lines; cells = λ a. H .cells a ∙ sym (seen-alike a); small = small-alike }
 
-  pub cells-at : (a : ℕ) → 2 ≤ typeAt Y a .cls → part w (placeAt Y a .off) (size (typeAt Y a)) ≡ getD env a []
-  cells-at a q = sym (H .cells a ∙ seen-value w (typeAt Y a) (placeAt Y a) q)
+  pub cells-at : (a : ℕ) → 2 ≤ typeAt Y a .role → part w (offAt Y a) (size (typeAt Y a)) ≡ getD env a []
+  cells-at a q = sym (H .cells a ∙ seen-value w (typeAt Y a) (offAt Y a) q)
 
-  pub word-at : (a : ℕ) → IsWord (typeAt Y a) → getD w (placeAt Y a .off) 0 ≡ getD (getD env a []) 0 0
+  pub word-at : (a : ℕ) → IsWord (typeAt Y a) → getD w (offAt Y a) 0 ≡ getD (getD env a []) 0 0
   word-at a q =
       let one : 1 ≡ size (typeAt Y a) = ap (λ (n : ℕ). 2 ^ n) (sym (q .flat)) in
-      let z : placeAt Y a .off + 0 ≡ placeAt Y a .off = omega arith in
-      sym (ap (λ (x : List ℕ). getD x 0 0) (sym (cells-at a (q .is))) ∙ laws.part-getD w (placeAt Y a .off) (size (typeAt Y a)) 0 (omega arith) ∙ ap (λ (n : ℕ). getD w n 0) z)
+      let z : offAt Y a + 0 ≡ offAt Y a = omega arith in
+      sym (ap (λ (x : List ℕ). getD x 0 0) (sym (cells-at a (q .is))) ∙ laws.part-getD w (offAt Y a) (size (typeAt Y a)) 0 (omega arith) ∙ ap (λ (n : ℕ). getD w n 0) z)
 
   module _ (l : Line) where
     env-new : (vs : List ℕ) → getD (env ++ (vs ∷ [])) (length (Y .ctx .tys)) [] ≡ vs
@@ -80,26 +82,26 @@ module _ {p : Bool} {w : List ℕ} {Y : Layout} {env : List (List ℕ)} (S : Sou
     lines-more vs = length-append env (vs ∷ []) ∙ ap (λ (n : ℕ). n + 1) (H .lines) ∙ sym (more-types p Y l)
 
     -- a line of no value
-    pub holds-quiet : typeOf p Y l .cls < 2 → Holds p w (lay p Y l) (env ++ ([] ∷ []))
+    pub holds-quiet : lineTypeIn p Y l .role < 2 → Holds p w (lay p Y l) (env ++ ([] ∷ []))
     holds-quiet q =
         record {
           lines = lines-more [];
           cells = λ a.
               by-place a (length (Y .ctx .tys))
-              (λ e. subst (λ (n : ℕ). getD (env ++ ([] ∷ [])) n [] ≡ seen w (typeAt (lay p Y l) n) (placeAt (lay p Y l) n)) (sym e)
-              (env-new [] ∙ sym (ap (λ (t : Ty). seen w t (placeAt (lay p Y l) (length (Y .ctx .tys)))) (type-new p Y l (S .long)) ∙ seen-none w (typeOf p Y l) (placeAt (lay p Y l) (length (Y .ctx .tys))) q)))
-              (λ n. env-old [] a n ∙ H .cells a ∙ sym (ap₂ (seen w) (type-old p Y l (S .long) a n) (place-old p Y l (S .long) a n)));
+              (λ e. subst (λ (n : ℕ). getD (env ++ ([] ∷ [])) n [] ≡ seen w (typeAt (lay p Y l) n) (offAt (lay p Y l) n)) (sym e)
+              (env-new [] ∙ sym (ap (λ (t : Ty). seen w t (offAt (lay p Y l) (length (Y .ctx .tys)))) (type-new p Y l (S .long)) ∙ seen-none w (lineTypeIn p Y l) (offAt (lay p Y l) (length (Y .ctx .tys))) q)))
+              (λ n. env-old [] a n ∙ H .cells a ∙ sym (ap₂ (seen w) (type-old p Y l (S .long) a n) (off-old p Y l a n)));
           small = λ f a.
               by-place a (length (Y .ctx .tys))
-              (λ e c. let t = ap (λ (n : ℕ). typeAt (lay p Y l) n .cls) e ∙ ap (λ (t : Ty). t .cls) (type-new p Y l (S .long)) in absurd (omega arith))
-              (λ n. rw (type-old p Y l (S .long) a n, place-old p Y l (S .long) a n) (H .small f a));
+              (λ e c. let t = ap (λ (n : ℕ). typeAt (lay p Y l) n .role) e ∙ ap (λ (t : Ty). t .role) (type-new p Y l (S .long)) in absurd (omega arith))
+              (λ n. rw (type-old p Y l (S .long) a n, off-old p Y l a n) (H .small f a));
         }
 
     -- a line whose cells are vs, put at the end of the cells so far
-    module _ (vs : List ℕ) (q : 2 ≤ typeOf p Y l .cls) (off : placeOf Y l .off ≡ Y .counts .cells) (len : length vs ≡ size (typeOf p Y l))
-        (below : p ≡ false → (j : ℕ) → getD vs j 0 < 2 ^ (typeOf p Y l .w)) (room : Y .counts .cells + size (typeOf p Y l) ≤ length w) where
-      o : ℕ
-      o = Y .counts .cells
+    module _ (vs : List ℕ) (q : 2 ≤ lineTypeIn p Y l .role) (len : length vs ≡ size (lineTypeIn p Y l))
+        (below : p ≡ false → (j : ℕ) → getD vs j 0 < 2 ^ (lineTypeIn p Y l .w)) (room : Y .counts .cells + size (lineTypeIn p Y l) ≤ length w) where
+      here : offAt (lay p Y l) (length (Y .ctx .tys)) ≡ Y .counts .cells
+      here = off-value p Y l (S .counted) q
 
       fits : Y .counts .cells + length vs ≤ length w
       fits = omega arith
@@ -110,10 +112,9 @@ module _ {p : Bool} {w : List ℕ} {Y : Layout} {env : List (List ℕ)} (S : Sou
       lput : length (put w (Y .counts .cells) vs) ≡ length w
       lput = laws.length-put w (Y .counts .cells) vs fits
 
-      mine : seen (put w (Y .counts .cells) vs) (typeOf p Y l) (placeOf Y l) ≡ vs
+      mine : seen (put w (Y .counts .cells) vs) (lineTypeIn p Y l) (Y .counts .cells) ≡ vs
       mine =
-          seen-value (put w (Y .counts .cells) vs) (typeOf p Y l) (placeOf Y l) q ∙ ap (λ (n : ℕ). part (put w (Y .counts .cells) vs) n (size (typeOf p Y l))) off
-          ∙ laws.self w (Y .counts .cells) (size (typeOf p Y l)) vs len room
+          seen-value (put w (Y .counts .cells) vs) (lineTypeIn p Y l) (Y .counts .cells) q ∙ laws.self w (Y .counts .cells) (size (lineTypeIn p Y l)) vs len room
 
       pub holds-value : Holds p (put w (Y .counts .cells) vs) (lay p Y l) (env ++ (vs ∷ []))
       holds-value =
@@ -121,16 +122,16 @@ module _ {p : Bool} {w : List ℕ} {Y : Layout} {env : List (List ℕ)} (S : Sou
             lines = lines-more vs;
             cells = λ a.
                 by-place a (length (Y .ctx .tys))
-                (λ e. subst (λ (n : ℕ). getD (env ++ (vs ∷ [])) n [] ≡ seen (put w (Y .counts .cells) vs) (typeAt (lay p Y l) n) (placeAt (lay p Y l) n)) (sym e)
-                (env-new vs ∙ sym (ap₂ (seen (put w (Y .counts .cells) vs)) (type-new p Y l (S .long)) (place-new p Y l (S .long)) ∙ mine)))
+                (λ e. subst (λ (n : ℕ). getD (env ++ (vs ∷ [])) n [] ≡ seen (put w (Y .counts .cells) vs) (typeAt (lay p Y l) n) (offAt (lay p Y l) n)) (sym e)
+                (env-new vs ∙ sym (ap₂ (seen (put w (Y .counts .cells) vs)) (type-new p Y l (S .long)) (here) ∙ mine)))
                 (λ n. env-old vs a n ∙ H .cells a ∙ sym (seen-alike (put w (Y .counts .cells) vs) (Y .counts .cells) (omega arith) lput (omega arith) kept a)
-                ∙ sym (ap₂ (seen (put w (Y .counts .cells) vs)) (type-old p Y l (S .long) a n) (place-old p Y l (S .long) a n)));
+                ∙ sym (ap₂ (seen (put w (Y .counts .cells) vs)) (type-old p Y l (S .long) a n) (off-old p Y l a n)));
             small = λ f a.
                 by-place a (length (Y .ctx .tys))
-                (λ e. subst (λ (n : ℕ). 2 ≤ typeAt (lay p Y l) n .cls → (j : ℕ) → j < size (typeAt (lay p Y l) n) → getD (put w (Y .counts .cells) vs) (placeAt (lay p Y l) n .off + j) 0 < 2 ^ (typeAt (lay p Y l) n .w)) (sym e)
-                (rw (type-new p Y l (S .long), place-new p Y l (S .long))
-                (λ c j k. subst (λ (x : ℕ). x < 2 ^ (typeOf p Y l .w)) (sym (ap (λ (n : ℕ). getD (put w (Y .counts .cells) vs) (n + j) 0) off ∙ laws.put-in w (Y .counts .cells) vs fits j (omega arith))) (below f j))))
-                (λ n. rw (type-old p Y l (S .long) a n, place-old p Y l (S .long) a n) (small-alike (put w (Y .counts .cells) vs) (Y .counts .cells) (omega arith) lput (omega arith) kept f a));
+                (λ e. subst (λ (n : ℕ). 2 ≤ typeAt (lay p Y l) n .role → (j : ℕ) → j < size (typeAt (lay p Y l) n) → getD (put w (Y .counts .cells) vs) (offAt (lay p Y l) n + j) 0 < 2 ^ (typeAt (lay p Y l) n .w)) (sym e)
+                (rw (type-new p Y l (S .long), here)
+                (λ c j k. subst (λ (x : ℕ). x < 2 ^ (lineTypeIn p Y l .w)) (sym (laws.put-in w (Y .counts .cells) vs fits j (omega arith))) (below f j))))
+                (λ n. rw (type-old p Y l (S .long) a n, off-old p Y l a n) (small-alike (put w (Y .counts .cells) vs) (Y .counts .cells) (omega arith) lput (omega arith) kept f a));
           }
 
 -- ---- the state words, from `all` on: the first n as the lines so far leave them
@@ -210,7 +211,7 @@ module _ {all : ℕ} {σ w sts : List ℕ} {n : ℕ} (k : Kept all σ w sts n) w
 
 -- ---- both
 
-pub record Held (p : Bool) (all : ℕ) (σ w : List ℕ) (A : Acc) : Type 0 where
+pub record Held (p : Bool) (all : ℕ) (σ w : List ℕ) (A : Frame) : Type 0 where
   pub sound : Sound (A .lay)
   pub holds : Holds p w (A .lay) (A .env)
   pub kept : Kept all σ w (A .sts) (A .lay .counts .states)

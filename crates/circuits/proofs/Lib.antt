@@ -1,6 +1,7 @@
 pub mod Puts
 pub mod Fitting
 pub mod Dispatch
+pub mod Offsets
 pub mod Laid
 pub mod Held
 pub mod Simulation

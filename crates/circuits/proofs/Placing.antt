@@ -11,124 +11,129 @@ use lib.Pow.{pow-lt, pow-mono}
 use lib.ListN.{length, take, getD, set, length-set, length-append}
 use lib.Seq.{getD-set-same, getD-set-other, take-suc-set, take-suc, take-length, length-take-le}
 use Rattle.tables.specs.declared.Ty.{Ty}
-use Rattle.tables.specs.Lines.{Line, Shape, isBitvec, isArray, isConst, isInput, isState, isOutput, isOne, isTwo, isIte, isRead, isWrite, isJunk, isGive, isMark, isCmp, shapeOf, build, lineOf, kindIn, sortIn, firstIn, secondIn, thirdIn}
+use Rattle.tables.specs.Lines.{Line, Shape, isBitvec, isArray, isConst, isInput, isState, isOutput, isUnary, isBinary, isIte, isRead, isWrite, isUnknown, isInitOrNext, isSignal, isEquality, shapeOf, build, lineOf, kindIn, sortIn, firstIn, secondIn, thirdIn}
 use Rattle.tables.specs.Layout.{recordAt, linesOf}
 use Rattle.tables.specs.Types.{tyAt, Ctx, growAll, context}
-use Rattle.tables.specs.Notes.{lookIn}
+use Rattle.tables.specs.Model.Notes.{lookIn}
 use Rattle.tables.proofs.Shapes.{KindOf, kind-of, line-as, no-junk}
 use Rattle.tables.proofs.Showing.{by-place}
-use Rattle.circuits.specs.Layout.{Place, Counts, Layout, place, noPlace, counting, typeAt, placeAt, size, typeOf, placeOf, countOf, noLayout, lay, layAll, layout}
-use Rattle.circuits.specs.Model.{laidAs, laidIn, Shows, countsOf, totalsOf, placeBy, Small, Noted, Ready, markOf, marks}
+use Rattle.circuits.specs.declared.Spot.{Spot}
+use Rattle.circuits.specs.Layout.{Counts, Layout, counting, typeAt, placeAt, size, lineTypeIn, placeOf, countsAfter, noLayout, lay, layAll, layout}
+use Rattle.circuits.specs.Model.Work.{laidAs, laidIn}
+use Rattle.circuits.specs.Model.Places.{offAt, ShowsAll, Ready}
+use Rattle.circuits.specs.Model.Passes.{Noted, countsOf, totalsOf, spot, noSpot, spotBy, Small}
+use Rattle.circuits.specs.Model.Signals.{markOf, marks}
 use Rattle.tables.specs.declared.Checked.the-variants.{Accepted}
 use Rattle.tables.specs.Tables.{checked}
 use Rattle.tables.proofs.Encoding.{fits-table}
 use Rattle.circuits.specs.declared.Totals.{Totals}
 use Rattle.circuits.proofs.Walked.{sound-at, ok-here, lay-next, later-at, number-at, lay-done, line-here, lines-many}
 use Rattle.circuits.proofs.Answering.{signals-many}
+use Rattle.circuits.proofs.Offsets.{off-new, off-old}
 use Rattle.circuits.proofs.Laid.{Sound, type-new, place-new, type-old, place-old, more-places, more-types, line-deep}
 
-pub place-by : (Y : Layout) (l : Line) → placeBy (Y .counts) l ≡ placeOf Y l
+pub place-by : (Y : Layout) (l : Line) → spotBy (Y .counts) l .at ≡ placeOf Y l
 place-by Y (Line.bitvec w) = refl
 place-by Y (Line.array i e) = refl
 place-by Y (Line.input s) = refl
 place-by Y (Line.state s) = refl
-place-by Y (Line.val s e) = refl
-place-by Y (Line.give m s q v) = refl
-place-by Y (Line.mark m a) = refl
+place-by Y (Line.value s e) = refl
+place-by Y (Line.initOrNext m s q v) = refl
+place-by Y (Line.signal m a) = refl
 place-by Y (Line.output a) = refl
-place-by Y Line.junk = refl
+place-by Y Line.unknown = refl
 
 -- ---- by the kind
 
 -- the counts after a record's line, and its place
-pub record Way (c : Counts) (m : ℕ) (r : List ℕ) (d : Counts) (q : Place) : Type 0 where
-  pub count : d ≡ countOf c m (lineOf r)
-  pub spot : q ≡ placeBy c (lineOf r)
+pub record Way (c : Counts) (m : ℕ) (r : List ℕ) (d : Counts) (q : Spot) : Type 0 where
+  pub count : d ≡ countsAfter c m (lineOf r)
+  pub spot : q ≡ spotBy c (lineOf r)
 
 module _ (r : List ℕ) (c : Counts) (m : ℕ) where
-  way-as : (S : Shape) → shapeOf (kindIn r) ≡ S → {d : Counts} {q : Place} → d ≡ countOf c m (build S (kindIn r) (sortIn r) (firstIn r) (secondIn r) (thirdIn r))
-      → q ≡ placeBy c (build S (kindIn r) (sortIn r) (firstIn r) (secondIn r) (thirdIn r)) → Way c m r d q
-  way-as S e hd hq = record { count = hd ∙ ap (countOf c m) (sym (line-as r S e)); spot = hq ∙ ap (placeBy c) (sym (line-as r S e)) }
+  way-as : (S : Shape) → shapeOf (kindIn r) ≡ S → {d : Counts} {q : Spot} → d ≡ countsAfter c m (build S (kindIn r) (sortIn r) (firstIn r) (secondIn r) (thirdIn r))
+      → q ≡ spotBy c (build S (kindIn r) (sortIn r) (firstIn r) (secondIn r) (thirdIn r)) → Way c m r d q
+  way-as S e hd hq = record { count = hd ∙ ap (countsAfter c m) (sym (line-as r S e)); spot = hq ∙ ap (spotBy c) (sym (line-as r S e)) }
 
-  pub way-input : kindIn r ≡ 4 → Way c m r (counting (c .cells + m) (c .states) (c .inputs + 1) (c .signals)) (place (c .cells) (c .inputs))
+  pub way-input : kindIn r ≡ 4 → Way c m r (counting (c .cells + m) (c .states) (c .inputs + 1) (c .signals)) (spot (c .cells) (c .inputs))
   way-input k = way-as isInput (ap shapeOf k) (ap (λ (n : ℕ). counting (c .cells + m) (c .states) n (c .signals)) (add-one (c .inputs))) refl
 
-  pub way-state : kindIn r ≡ 5 → Way c m r (counting (c .cells + m) (c .states + m) (c .inputs) (c .signals)) (place (c .cells) (c .states))
+  pub way-state : kindIn r ≡ 5 → Way c m r (counting (c .cells + m) (c .states + m) (c .inputs) (c .signals)) (spot (c .cells) (c .states))
   way-state k = way-as isState (ap shapeOf k) refl refl
 
-  pub way-const : kindIn r ≡ 3 → Way c m r (counting (c .cells + m) (c .states) (c .inputs) (c .signals)) (place (c .cells) 0)
+  pub way-const : kindIn r ≡ 3 → Way c m r (counting (c .cells + m) (c .states) (c .inputs) (c .signals)) (spot (c .cells) 0)
   way-const k = way-as isConst (ap shapeOf k) refl refl
 
-  pub way-mark : 8 ≤ kindIn r → kindIn r < 10 → Way c m r (counting (c .cells) (c .states) (c .inputs) (c .signals + 1)) (place 0 (c .signals))
+  pub way-mark : 8 ≤ kindIn r → kindIn r < 10 → Way c m r (counting (c .cells) (c .states) (c .inputs) (c .signals + 1)) (spot 0 (c .signals))
   way-mark h l = go (shapeOf (kindIn r)) refl (kind-of (kindIn r))
     where
       bump : counting (c .cells) (c .states) (c .inputs) (c .signals + 1) ≡ counting (c .cells) (c .states) (c .inputs) (suc (c .signals))
       bump = ap (counting (c .cells) (c .states) (c .inputs)) (add-one (c .signals))
 
-      go : (S : Shape) → shapeOf (kindIn r) ≡ S → KindOf S (kindIn r) → Way c m r (counting (c .cells) (c .states) (c .inputs) (c .signals + 1)) (place 0 (c .signals))
+      go : (S : Shape) → shapeOf (kindIn r) ≡ S → KindOf S (kindIn r) → Way c m r (counting (c .cells) (c .states) (c .inputs) (c .signals + 1)) (spot 0 (c .signals))
       go isBitvec e k = absurd (omega arith)
       go isArray e k = absurd (omega arith)
       go isConst e k = absurd (omega arith)
       go isInput e k = absurd (omega arith)
       go isState e k = absurd (omega arith)
       go isOutput e k = absurd (omega arith)
-      go isOne e (inl k) = absurd (omega arith)
-      go isOne e (inr k) = absurd (omega arith)
-      go isTwo e k = absurd (omega arith)
+      go isUnary e (inl k) = absurd (omega arith)
+      go isUnary e (inr k) = absurd (omega arith)
+      go isBinary e k = absurd (omega arith)
       go isIte e k = absurd (omega arith)
       go isRead e k = absurd (omega arith)
       go isWrite e k = absurd (omega arith)
-      go isJunk e k = absurd (no-junk (kindIn r) (omega arith) (omega arith) e)
-      go (isGive true) e k = absurd (omega arith)
-      go (isGive false) e k = absurd (omega arith)
-      go (isMark n) e k = way-as (isMark n) e bump refl
-      go (isCmp true) e k = absurd (omega arith)
-      go (isCmp false) e k = absurd (omega arith)
+      go isUnknown e k = absurd (no-junk (kindIn r) (omega arith) (omega arith) e)
+      go (isInitOrNext true) e k = absurd (omega arith)
+      go (isInitOrNext false) e k = absurd (omega arith)
+      go (isSignal n) e k = way-as (isSignal n) e bump refl
+      go (isEquality true) e k = absurd (omega arith)
+      go (isEquality false) e k = absurd (omega arith)
 
-  pub way-val : 11 ≤ kindIn r → kindIn r < 57 → Way c m r (counting (c .cells + m) (c .states) (c .inputs) (c .signals)) (place (c .cells) 0)
+  pub way-val : 11 ≤ kindIn r → kindIn r < 57 → Way c m r (counting (c .cells + m) (c .states) (c .inputs) (c .signals)) (spot (c .cells) 0)
   way-val h l = go (shapeOf (kindIn r)) refl (kind-of (kindIn r))
     where
-      go : (S : Shape) → shapeOf (kindIn r) ≡ S → KindOf S (kindIn r) → Way c m r (counting (c .cells + m) (c .states) (c .inputs) (c .signals)) (place (c .cells) 0)
+      go : (S : Shape) → shapeOf (kindIn r) ≡ S → KindOf S (kindIn r) → Way c m r (counting (c .cells + m) (c .states) (c .inputs) (c .signals)) (spot (c .cells) 0)
       go isBitvec e k = absurd (omega arith)
       go isArray e k = absurd (omega arith)
       go isConst e k = absurd (omega arith)
       go isInput e k = absurd (omega arith)
       go isState e k = absurd (omega arith)
       go isOutput e k = absurd (omega arith)
-      go isOne e k = way-as isOne e refl refl
-      go isTwo e k = way-as isTwo e refl refl
+      go isUnary e k = way-as isUnary e refl refl
+      go isBinary e k = way-as isBinary e refl refl
       go isIte e k = way-as isIte e refl refl
       go isRead e k = way-as isRead e refl refl
       go isWrite e k = way-as isWrite e refl refl
-      go isJunk e k = absurd (no-junk (kindIn r) (omega arith) (omega arith) e)
-      go (isGive true) e k = absurd (omega arith)
-      go (isGive false) e k = absurd (omega arith)
-      go (isMark true) e k = absurd (omega arith)
-      go (isMark false) e k = absurd (omega arith)
-      go (isCmp b) e k = way-as (isCmp b) e refl refl
+      go isUnknown e k = absurd (no-junk (kindIn r) (omega arith) (omega arith) e)
+      go (isInitOrNext true) e k = absurd (omega arith)
+      go (isInitOrNext false) e k = absurd (omega arith)
+      go (isSignal true) e k = absurd (omega arith)
+      go (isSignal false) e k = absurd (omega arith)
+      go (isEquality b) e k = way-as (isEquality b) e refl refl
 
-  pub way-none : (kindIn r ≡ 3 → ⊥) → (kindIn r ≡ 4 → ⊥) → (kindIn r ≡ 5 → ⊥) → (8 ≤ kindIn r → kindIn r ≤ 9 → ⊥) → (11 ≤ kindIn r → kindIn r ≤ 56 → ⊥) → Way c m r c noPlace
+  pub way-none : (kindIn r ≡ 3 → ⊥) → (kindIn r ≡ 4 → ⊥) → (kindIn r ≡ 5 → ⊥) → (8 ≤ kindIn r → kindIn r ≤ 9 → ⊥) → (11 ≤ kindIn r → kindIn r ≤ 56 → ⊥) → Way c m r c noSpot
   way-none n₃ n₄ n₅ n₈ n₁ = go (shapeOf (kindIn r)) refl (kind-of (kindIn r))
     where
-      go : (S : Shape) → shapeOf (kindIn r) ≡ S → KindOf S (kindIn r) → Way c m r c noPlace
+      go : (S : Shape) → shapeOf (kindIn r) ≡ S → KindOf S (kindIn r) → Way c m r c noSpot
       go isBitvec e k = way-as isBitvec e refl refl
       go isArray e k = way-as isArray e refl refl
       go isConst e k = absurd (n₃ k)
       go isInput e k = absurd (n₄ k)
       go isState e k = absurd (n₅ k)
       go isOutput e k = way-as isOutput e refl refl
-      go isOne e (inl k) = absurd (n₁ (k .0) (omega arith))
-      go isOne e (inr k) = absurd (n₁ (omega arith) (omega arith))
-      go isTwo e k = absurd (n₁ (omega arith) (omega arith))
+      go isUnary e (inl k) = absurd (n₁ (k .0) (omega arith))
+      go isUnary e (inr k) = absurd (n₁ (omega arith) (omega arith))
+      go isBinary e k = absurd (n₁ (omega arith) (omega arith))
       go isIte e k = absurd (n₁ (omega arith) (omega arith))
       go isRead e k = absurd (n₁ (omega arith) (omega arith))
       go isWrite e k = absurd (n₁ (omega arith) (omega arith))
-      go isJunk e k = way-as isJunk e refl refl
-      go (isGive b) e k = way-as (isGive b) e refl refl
-      go (isMark true) e k = absurd (n₈ (omega arith) (omega arith))
-      go (isMark false) e k = absurd (n₈ (omega arith) (omega arith))
-      go (isCmp true) e k = absurd (n₁ (omega arith) (omega arith))
-      go (isCmp false) e k = absurd (n₁ (omega arith) (omega arith))
+      go isUnknown e k = way-as isUnknown e refl refl
+      go (isInitOrNext b) e k = way-as (isInitOrNext b) e refl refl
+      go (isSignal true) e k = absurd (n₈ (omega arith) (omega arith))
+      go (isSignal false) e k = absurd (n₈ (omega arith) (omega arith))
+      go (isEquality true) e k = absurd (n₁ (omega arith) (omega arith))
+      go (isEquality false) e k = absurd (n₁ (omega arith) (omega arith))
 
 pub shift-one : (x : ℕ) → x ≤ 8 → 1 * 2 ^ x % 18446744073709551616 ≡ 2 ^ x
 shift-one x h = ap (λ (n : ℕ). n % 18446744073709551616) (one-mul (2 ^ x)) ∙ mod-eq-of-lt (pow-lt {i = x} {j = 64} (omega arith))
@@ -144,7 +149,8 @@ pub noted-types : (p : Bool) (t : List ℕ) (n : ℕ) {xs : List (List ℕ)} →
 unfolding context layout
 noted-types p t n k a = k .shows .types a ∙ ap (λ (c : Ctx). tyAt c a) (sym (lay-ctx p noLayout (linesOf p t n)))
 
-shows-none : (P : List (List ℕ)) → 0 < length P → Shows (set P 0 (laidAs 0 1 0 0)) noLayout
+shows-none : (P : List (List ℕ)) → 0 < length P → ShowsAll (set P 0 (laidAs 0 1 0 0)) noLayout
+unfolding offAt
 shows-none P h zero q =
     let e : laidIn (set P 0 (laidAs 0 1 0 0)) 0 ≡ laidAs 0 1 0 0 = getD-set-same P 0 (laidAs 0 1 0 0) [] h in
     record {
@@ -156,42 +162,43 @@ shows-none P h zero q =
     }
 shows-none P h (suc a) q = absurd (omega arith)
 
-shows-more : (p : Bool) (Y : Layout) (l : Line) (P : List (List ℕ)) (n o m at w : ℕ) → Sound Y → length (Y .ctx .tys) ≡ n → n ≤ 16384 → n < length P → o ≡ placeOf Y l .off → m ≡ size (typeOf p Y l)
-    → at ≡ placeOf Y l .at → w ≡ typeOf p Y l .w → Shows P Y → Shows (set P n (laidAs o m at w)) (lay p Y l)
-shows-more p Y l P n o m at w S en few h eo em ep ew pl a q =
-    let R = laidAs o m at w in
+shows-more : (p : Bool) (Y : Layout) (l : Line) (P : List (List ℕ)) (n m w : ℕ) (s : Spot) → Sound Y → length (Y .ctx .tys) ≡ n → n ≤ 16384 → n < length P → s ≡ spotBy (Y .counts) l → m ≡ size (lineTypeIn p Y l)
+    → w ≡ lineTypeIn p Y l .w → ShowsAll P Y → ShowsAll (set P n (laidAs (s .off) m (s .at) w)) (lay p Y l)
+shows-more p Y l P n m w s S en few h es em ew pl a q =
     by-place a (length (Y .ctx .tys))
     (λ e.
     let ea : a ≡ n = e ∙ en in
-    let et : typeAt (lay p Y l) a ≡ typeOf p Y l = ap (typeAt (lay p Y l)) e ∙ type-new p Y l (S .long) in
+    let et : typeAt (lay p Y l) a ≡ lineTypeIn p Y l = ap (typeAt (lay p Y l)) e ∙ type-new p Y l (S .long) in
+    let eo : offAt (lay p Y l) a ≡ spotBy (Y .counts) l .off = ap (offAt (lay p Y l)) e ∙ off-new p Y l (S .counted) in
     let eq : placeAt (lay p Y l) a ≡ placeOf Y l = ap (placeAt (lay p Y l)) e ∙ place-new p Y l (S .long) in
-    let er : laidIn (set P n (laidAs o m at w)) a ≡ laidAs o m at w = ap (laidIn (set P n (laidAs o m at w))) ea ∙ getD-set-same P n (laidAs o m at w) [] h in
+    let er : laidIn (set P n (laidAs (s .off) m (s .at) w)) a ≡ laidAs (s .off) m (s .at) w = ap (laidIn (set P n (laidAs (s .off) m (s .at) w))) ea ∙ getD-set-same P n (laidAs (s .off) m (s .at) w) [] h in
     record {
       known = omega arith;
-      isOff = ap (λ (r : List ℕ). getD r 0 0) er ∙ eo ∙ sym (ap (λ (x : Place). x .off) eq);
+      isOff = ap (λ (r : List ℕ). getD r 0 0) er ∙ ap (λ (x : Spot). x .off) es ∙ sym eo;
       isWid = ap (λ (r : List ℕ). getD r 3 0) er ∙ ew ∙ sym (ap (λ (x : Ty). x .w) et);
       isNum = ap (λ (r : List ℕ). getD r 1 0) er ∙ em ∙ sym (ap size et);
-      isPos = ap (λ (r : List ℕ). getD r 2 0) er ∙ ep ∙ sym (ap (λ (x : Place). x .at) eq);
+      isPos = ap (λ (r : List ℕ). getD r 2 0) er ∙ ap (λ (x : Spot). x .at) es ∙ place-by Y l ∙ sym eq;
     })
     (λ e.
     let ne : a ≡ n → ⊥ = λ x. e (x ∙ sym en) in
     let et = type-old p Y l (S .long) a e in
+    let eo = off-old p Y l a e in
     let eq = place-old p Y l (S .long) a e in
     let k = pl a (omega (arith, more-places p Y l, S .long, e)) in
-    let er : laidIn (set P n (laidAs o m at w)) a ≡ laidIn P a = getD-set-other P n a (laidAs o m at w) [] ne in
+    let er : laidIn (set P n (laidAs (s .off) m (s .at) w)) a ≡ laidIn P a = getD-set-other P n a (laidAs (s .off) m (s .at) w) [] ne in
     record {
       known = k .known;
-      isOff = ap (λ (r : List ℕ). getD r 0 0) er ∙ k .isOff ∙ sym (ap (λ (x : Place). x .off) eq);
+      isOff = ap (λ (r : List ℕ). getD r 0 0) er ∙ k .isOff ∙ sym eo;
       isWid = ap (λ (r : List ℕ). getD r 3 0) er ∙ k .isWid ∙ sym (ap (λ (x : Ty). x .w) et);
       isNum = ap (λ (r : List ℕ). getD r 1 0) er ∙ k .isNum ∙ sym (ap size et);
-      isPos = ap (λ (r : List ℕ). getD r 2 0) er ∙ k .isPos ∙ sym (ap (λ (x : Place). x .at) eq);
+      isPos = ap (λ (r : List ℕ). getD r 2 0) er ∙ k .isPos ∙ sym eq;
     })
 
 pub record Sofar (p : Bool) (t : List ℕ) (n i : ℕ) (tot : Totals) (P : List (List ℕ)) : Type 0 where
   pub most : i ≤ n
   pub long : length P ≡ 16385
   pub counts : tot ≡ totalsOf (layAll p noLayout (take i (linesOf p t n)) .counts)
-  pub shows : Shows P (layAll p noLayout (take i (linesOf p t n)))
+  pub shows : ShowsAll P (layAll p noLayout (take i (linesOf p t n)))
 
 module _ (p : Bool) (t : List ℕ) (n : ℕ) (xs : List (List ℕ)) (k : Noted p t n xs) where
   pub begun : (P : List (List ℕ)) {P′ : List (List ℕ)} → length P ≡ 16385 → P′ ≡ set P 0 (laidAs 0 1 0 0) → Sofar p t n 0 (record { cells = 0; states = 0; inputs = 0; signals = 0 }) P′
@@ -199,16 +206,16 @@ module _ (p : Bool) (t : List ℕ) (n : ℕ) (xs : List (List ℕ)) (k : Noted p
 
   module _ (i : ℕ) (h : i < n) where
     -- the note of the line at hand has its type
-    type-here : lookIn xs (i + 1) ≡ typeOf p (layAll p noLayout (take i (linesOf p t n))) (getD (linesOf p t n) i Line.junk)
+    type-here : lookIn xs (i + 1) ≡ lineTypeIn p (layAll p noLayout (take i (linesOf p t n))) (getD (linesOf p t n) i Line.unknown)
     type-here =
         let r = later-at p t n (k .accepted) i h in
         let S = sound-at p t n (k .accepted) i in
         let e = number-at p t n (k .accepted) i (omega arith) in
-        let lm = more-types p (layAll p noLayout (take i (linesOf p t n))) (getD (linesOf p t n) i Line.junk) in
-        noted-types p t n k (i + 1) ∙ r .type (i + 1) (omega arith) ∙ ap (typeAt (lay p (layAll p noLayout (take i (linesOf p t n))) (getD (linesOf p t n) i Line.junk))) (sym e) ∙ type-new p (layAll p noLayout (take i (linesOf p t n))) (getD (linesOf p t n) i Line.junk) (S .long)
+        let lm = more-types p (layAll p noLayout (take i (linesOf p t n))) (getD (linesOf p t n) i Line.unknown) in
+        noted-types p t n k (i + 1) ∙ r .type (i + 1) (omega arith) ∙ ap (typeAt (lay p (layAll p noLayout (take i (linesOf p t n))) (getD (linesOf p t n) i Line.unknown))) (sym e) ∙ type-new p (layAll p noLayout (take i (linesOf p t n))) (getD (linesOf p t n) i Line.unknown) (S .long)
 
     pub deep-here : lookIn xs (i + 1) .iw ≤ 8
-    deep-here = omega (arith, ap (λ (x : Ty). x .iw) type-here, line-deep p (layAll p noLayout (take i (linesOf p t n))) (getD (linesOf p t n) i Line.junk) (sound-at p t n (k .accepted) i .wide) (ok-here p t n (k .accepted) i h))
+    deep-here = omega (arith, ap (λ (x : Ty). x .iw) type-here, line-deep p (layAll p noLayout (take i (linesOf p t n))) (getD (linesOf p t n) i Line.unknown) (sound-at p t n (k .accepted) i .wide) (ok-here p t n (k .accepted) i h))
 
     pub small-here : {m : ℕ} {tot : Totals} {P : List (List ℕ)} → Sofar p t n i tot P → m ≡ size (lookIn xs (i + 1)) → Small (countsOf tot) m × (m ≤ 256)
     small-here {m} {tot} s em =
@@ -221,45 +228,45 @@ module _ (p : Bool) (t : List ℕ) (n : ℕ) (xs : List (List ℕ)) (k : Noted p
         (subst (λ (x : Totals). Small (countsOf x) m) (sym (s .counts)) q, hm)
 
     -- one line more: r is the record at hand, y its type
-    pub further : {r : List ℕ} {y : Ty} {m o at : ℕ} {tot tot′ : Totals} (P : List (List ℕ)) {P′ : List (List ℕ)} → Sofar p t n i tot P → r ≡ recordAt p t i → y ≡ lookIn xs (i + 1) → m ≡ size y
-        → o ≡ placeBy (countsOf tot) (lineOf r) .off → at ≡ placeBy (countsOf tot) (lineOf r) .at → tot′ ≡ totalsOf (countOf (countsOf tot) m (lineOf r)) → P′ ≡ set P (i + 1) (laidAs o m at (y .w))
+    pub further : {r : List ℕ} {y : Ty} {m : ℕ} {o : Spot} {tot tot′ : Totals} (P : List (List ℕ)) {P′ : List (List ℕ)} → Sofar p t n i tot P → r ≡ recordAt p t i → y ≡ lookIn xs (i + 1) → m ≡ size y
+        → o ≡ spotBy (countsOf tot) (lineOf r) → tot′ ≡ totalsOf (countsAfter (countsOf tot) m (lineOf r)) → P′ ≡ set P (i + 1) (laidAs (o .off) m (o .at) (y .w))
         → Sofar p t n (i + 1) tot′ P′
-    further {r} {y} {m} {o} {at} {tot} {tot′} P {P′} s er ey em eo ep et e =
+    further {r} {y} {m} {o} {tot} {tot′} P {P′} s er ey em eo et e =
         let Y = layAll p noLayout (take i (linesOf p t n)) in
-        let l = getD (linesOf p t n) i Line.junk in
+        let l = getD (linesOf p t n) i Line.unknown in
         let S = sound-at p t n (k .accepted) i in
         let el : lineOf r ≡ l = ap lineOf er ∙ sym (line-here p t n (k .accepted) i h) in
         let ec : countsOf tot ≡ Y .counts = ap countsOf (s .counts) in
-        let eq : placeBy (countsOf tot) (lineOf r) ≡ placeOf Y l = ap₂ placeBy ec el ∙ place-by Y l in
-        let ty : y ≡ typeOf p Y l = ey ∙ type-here in
-        let sm : m ≡ size (typeOf p Y l) = em ∙ ap size ty in
+        let eq : o ≡ spotBy (Y .counts) l = eo ∙ ap₂ spotBy ec el in
+        let ty : y ≡ lineTypeIn p Y l = ey ∙ type-here in
+        let sm : m ≡ size (lineTypeIn p Y l) = em ∙ ap size ty in
         let next : layAll p noLayout (take (i + 1) (linesOf p t n)) ≡ lay p Y l = ap (λ (j : ℕ). layAll p noLayout (take j (linesOf p t n))) (add-one i) ∙ lay-next p t n (k .accepted) i h in
         let f = fits-table p t n (k .accepted) in
         let hl = s .long in
         record {
           most = omega arith;
-          long = ap length e ∙ length-set P (i + 1) (laidAs o m at (y .w)) ∙ hl;
-          counts = et ∙ ap totalsOf (ap₂ (λ (c : Counts) (x : Line). countOf c m x) ec el ∙ ap (λ (x : ℕ). countOf (Y .counts) x l) sm) ∙ ap (λ (Z : Layout). totalsOf (Z .counts)) (sym next);
-          shows = subst (λ (Z : Layout). Shows P′ Z) (sym next)
-              (rw e (shows-more p Y l P (i + 1) o m at (y .w) S (number-at p t n (k .accepted) i (omega arith)) (omega arith) (omega arith) (eo ∙ ap (λ (x : Place). x .off) eq) sm (ep ∙ ap (λ (x : Place). x .at) eq) (ap (λ (x : Ty). x .w) ty) (s .shows)));
+          long = ap length e ∙ length-set P (i + 1) (laidAs (o .off) m (o .at) (y .w)) ∙ hl;
+          counts = et ∙ ap totalsOf (ap₂ (λ (c : Counts) (x : Line). countsAfter c m x) ec el ∙ ap (λ (x : ℕ). countsAfter (Y .counts) x l) sm) ∙ ap (λ (Z : Layout). totalsOf (Z .counts)) (sym next);
+          shows = subst (λ (Z : Layout). ShowsAll P′ Z) (sym next)
+              (rw e (shows-more p Y l P (i + 1) m (y .w) o S (number-at p t n (k .accepted) i (omega arith)) (omega arith) (omega arith) eq sm (ap (λ (x : Ty). x .w) ty) (s .shows)));
         }
 
-  pub laid : {i : ℕ} {tot : Totals} {P : List (List ℕ)} → n ≤ i → Sofar p t n i tot P → Shows P (layout p (linesOf p t n)) × (tot ≡ totalsOf (layout p (linesOf p t n) .counts))
+  pub laid : {i : ℕ} {tot : Totals} {P : List (List ℕ)} → n ≤ i → Sofar p t n i tot P → ShowsAll P (layout p (linesOf p t n)) × (tot ≡ totalsOf (layout p (linesOf p t n) .counts))
   laid {i} {tot} {P} h s =
       let e : i ≡ n = omega (arith, s .most) in
       let q : layAll p noLayout (take i (linesOf p t n)) ≡ layout p (linesOf p t n) = ap (λ (j : ℕ). layAll p noLayout (take j (linesOf p t n))) e ∙ lay-done p t n (k .accepted) in
-      (subst (λ (Z : Layout). Shows P Z) q (s .shows), s .counts ∙ ap (λ (Z : Layout). totalsOf (Z .counts)) q)
+      (subst (λ (Z : Layout). ShowsAll P Z) q (s .shows), s .counts ∙ ap (λ (Z : Layout). totalsOf (Z .counts)) q)
 
-pub place-small : (c : Counts) (m : ℕ) (l : Line) → Small c m → (placeBy c l .off < 4294967296) × (placeBy c l .at < 4294967296)
+pub place-small : (c : Counts) (m : ℕ) (l : Line) → Small c m → (spotBy c l .off < 4294967296) × (spotBy c l .at < 4294967296)
 place-small c m (Line.bitvec w) s = (omega arith, omega arith)
 place-small c m (Line.array i e) s = (omega arith, omega arith)
 place-small c m (Line.input x) s = (omega (arith, s .cells), omega (arith, s .inputs))
 place-small c m (Line.state x) s = (omega (arith, s .cells), omega (arith, s .states))
-place-small c m (Line.val x e) s = (omega (arith, s .cells), omega arith)
-place-small c m (Line.give n x q v) s = (omega arith, omega arith)
-place-small c m (Line.mark n a) s = (omega arith, omega (arith, s .signals))
+place-small c m (Line.value x e) s = (omega (arith, s .cells), omega arith)
+place-small c m (Line.initOrNext n x q v) s = (omega arith, omega arith)
+place-small c m (Line.signal n a) s = (omega arith, omega (arith, s .signals))
 place-small c m (Line.output a) s = (omega arith, omega arith)
-place-small c m Line.junk s = (omega arith, omega arith)
+place-small c m Line.unknown s = (omega arith, omega arith)
 
 -- ---- the classes of the signals
 
@@ -268,10 +275,10 @@ module _ (r : List ℕ) where
   mark-as S e = ap markOf (sym (line-as r S e))
 
   pub mark-bad : kindIn r ≡ 8 → 1 ∷ [] ≡ markOf (lineOf r)
-  mark-bad k = mark-as (isMark true) (ap shapeOf k)
+  mark-bad k = mark-as (isSignal true) (ap shapeOf k)
 
   pub mark-constraint : kindIn r ≡ 9 → 0 ∷ [] ≡ markOf (lineOf r)
-  mark-constraint k = mark-as (isMark false) (ap shapeOf k)
+  mark-constraint k = mark-as (isSignal false) (ap shapeOf k)
 
   pub mark-none : (kindIn r ≡ 8 → ⊥) → (kindIn r ≡ 9 → ⊥) → [] ≡ markOf (lineOf r)
   mark-none n₈ n₉ = go (shapeOf (kindIn r)) refl (kind-of (kindIn r))
@@ -283,16 +290,16 @@ module _ (r : List ℕ) where
       go isInput e k = mark-as isInput e
       go isState e k = mark-as isState e
       go isOutput e k = mark-as isOutput e
-      go isOne e k = mark-as isOne e
-      go isTwo e k = mark-as isTwo e
+      go isUnary e k = mark-as isUnary e
+      go isBinary e k = mark-as isBinary e
       go isIte e k = mark-as isIte e
       go isRead e k = mark-as isRead e
       go isWrite e k = mark-as isWrite e
-      go isJunk e k = mark-as isJunk e
-      go (isGive b) e k = mark-as (isGive b) e
-      go (isMark true) e k = absurd (n₈ k)
-      go (isMark false) e k = absurd (n₉ k)
-      go (isCmp b) e k = mark-as (isCmp b) e
+      go isUnknown e k = mark-as isUnknown e
+      go (isInitOrNext b) e k = mark-as (isInitOrNext b) e
+      go (isSignal true) e k = absurd (n₈ k)
+      go (isSignal false) e k = absurd (n₉ k)
+      go (isEquality b) e k = mark-as (isEquality b) e
 
 -- a signal's class goes to the place g
 pub noted : (r bad : List ℕ) (g : ℕ) {v : ℕ} → g < length bad → v ∷ [] ≡ markOf (lineOf r)
@@ -312,11 +319,11 @@ one-mark (Line.bitvec w) = omega arith
 one-mark (Line.array i e) = omega arith
 one-mark (Line.input s) = omega arith
 one-mark (Line.state s) = omega arith
-one-mark (Line.val s e) = omega arith
-one-mark (Line.give m s q v) = omega arith
-one-mark (Line.mark m a) = omega arith
+one-mark (Line.value s e) = omega arith
+one-mark (Line.initOrNext m s q v) = omega arith
+one-mark (Line.signal m a) = omega arith
 one-mark (Line.output a) = omega arith
-one-mark Line.junk = omega arith
+one-mark Line.unknown = omega arith
 
 marks-few : (C : List Line) → length (marks C) ≤ length C
 marks-few [] = omega arith
@@ -333,11 +340,11 @@ module _ (p : Bool) (t : List ℕ) (n : ℕ) (acc : checked p t n ≡ Accepted) 
   pub class-more : {r : List ℕ} (i g g′ : ℕ) (bad bad′ : List ℕ) → i < n → Classed (linesOf p t n) n i g bad → r ≡ recordAt p t i → length bad′ ≡ length bad
       → take g′ bad′ ≡ take g bad ++ markOf (lineOf r) → g′ ≡ g + length (markOf (lineOf r)) → Classed (linesOf p t n) n (i + 1) g′ bad′
   class-more {r} i g g′ bad bad′ h s er lb e₁ e₂ =
-      let l = getD (linesOf p t n) i Line.junk in
+      let l = getD (linesOf p t n) i Line.unknown in
       let el : lineOf r ≡ l = ap lineOf er ∙ sym (line-here p t n acc i h) in
       let q : i < length (linesOf p t n) = omega (arith, lines-many p t n acc) in
       let em : marks (take (i + 1) (linesOf p t n)) ≡ marks (take i (linesOf p t n)) ++ markOf l =
-      ap (λ (j : ℕ). marks (take j (linesOf p t n))) (add-one i) ∙ ap marks (take-suc (linesOf p t n) i Line.junk q) ∙ marks-append (take i (linesOf p t n)) (l ∷ []) ∙ ap (λ (x : List ℕ). marks (take i (linesOf p t n)) ++ x) (append-nil (markOf l)) in
+      ap (λ (j : ℕ). marks (take j (linesOf p t n))) (add-one i) ∙ ap marks (take-suc (linesOf p t n) i Line.unknown q) ∙ marks-append (take i (linesOf p t n)) (l ∷ []) ∙ ap (λ (x : List ℕ). marks (take i (linesOf p t n)) ++ x) (append-nil (markOf l)) in
       record {
         most = omega arith;
         few = omega (arith, s .few, e₂, one-mark (lineOf r));
@@ -378,7 +385,7 @@ module _ (p : Bool) (t : List ℕ) (n : ℕ) (acc : checked p t n ≡ Accepted) 
 
   -- ---- what the pass leaves is what the steps ask for
 
-  pub ready-laid : {P : List (List ℕ)} {tot : Totals} → Shows P (layout p (linesOf p t n)) → tot ≡ totalsOf (layout p (linesOf p t n) .counts) → Ready p t n P (tot .cells) (tot .states) (tot .inputs) (tot .signals)
+  pub ready-laid : {P : List (List ℕ)} {tot : Totals} → ShowsAll P (layout p (linesOf p t n)) → tot ≡ totalsOf (layout p (linesOf p t n) .counts) → Ready p t n P (tot .cells) (tot .states) (tot .inputs) (tot .signals)
   ready-laid sh e =
       record {
         accepted = acc;

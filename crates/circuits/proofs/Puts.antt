@@ -12,9 +12,9 @@ use borrow.Author.Tests.{eq-eqb, ne-eqb, ltb-true, ltb-false}
 use lib.ListN.{length, take, drop, getD, set, length-set, length-append, length-drop, List·getD-append, drop-of-length-le, take-append-drop}
 use lib.Seq.{drop-at, length-take-le, take-suc, drop-cons, getD-take, getD-drop, ext-getD, set-at, getD-at, set-split, getD-append-add, drop-drop, take-take}
 use Rattle.words.specs.Word.{Width}
-use Rattle.circuits.specs.Cells.{choose, part, put, lows, same}
+use Rattle.circuits.specs.Cells.{ifNonzero, part, put, maskWords, sameCells}
 use Rattle.tables.specs.Pick.{pick}
-use Rattle.circuits.specs.Model.{Apart}
+use Rattle.circuits.specs.Model.Work.{Apart}
 
 lt-or-ge-by : (a b : ℕ) (t : Bool) → ltb a b ≡ t → (a < b) ⊎ (b ≤ a)
 lt-or-ge-by a b true e = inl (ltb-true a b e)
@@ -109,36 +109,36 @@ part-more w x i h =
     ap (λ (n : ℕ). take n (drop x w)) (add-one i) ∙ take-suc (drop x w) i 0 (omega (arith, length-drop x w))
     ∙ ap (λ (v : ℕ). take i (drop x w) ++ (v ∷ [])) (getD-drop x w i 0)
 
--- ---- lows
+-- ---- masked words
 
-pub length-lows : (w : ℕ) (xs : List ℕ) → length (lows w xs) ≡ length xs
+pub length-lows : (w : ℕ) (xs : List ℕ) → length (maskWords w xs) ≡ length xs
 length-lows w [] = refl
 length-lows w (x ∷ xs) = ap suc (length-lows w xs)
 
-pub lows-append : (w : ℕ) (xs ys : List ℕ) → lows w (xs ++ ys) ≡ lows w xs ++ lows w ys
+pub lows-append : (w : ℕ) (xs ys : List ℕ) → maskWords w (xs ++ ys) ≡ maskWords w xs ++ maskWords w ys
 lows-append w [] ys = refl
 lows-append w (x ∷ xs) ys = ap (λ (l : List ℕ). x % 2 ^ w ∷ l) (lows-append w xs ys)
 
-pub lows-more : (w : ℕ) (c : List ℕ) (i : ℕ) → i < length c → set (lows w (take i c) ++ drop i c) i (getD c i 0 % 2 ^ w) ≡ lows w (take (i + 1) c) ++ drop (i + 1) c
+pub lows-more : (w : ℕ) (c : List ℕ) (i : ℕ) → i < length c → set (maskWords w (take i c) ++ drop i c) i (getD c i 0 % 2 ^ w) ≡ maskWords w (take (i + 1) c) ++ drop (i + 1) c
 lows-more w c i h =
-    ap (λ (l : List ℕ). set (lows w (take i c) ++ l) i (getD c i 0 % 2 ^ w)) (drop-cons c i 0 h)
-    ∙ set-at (lows w (take i c)) (getD c i 0) (drop (suc i) c) (getD c i 0 % 2 ^ w) i (length-lows w (take i c) ∙ length-take-le i c (omega arith))
-    ∙ sym (append-assoc (lows w (take i c)) (getD c i 0 % 2 ^ w ∷ []) (drop (suc i) c))
-    ∙ ap (λ (l : List ℕ). l ++ drop (suc i) c) (sym (lows-append w (take i c) (getD c i 0 ∷ [])) ∙ ap (lows w) (sym (take-suc c i 0 h)))
-    ∙ ap (λ (n : ℕ). lows w (take n c) ++ drop n c) (sym (add-one i))
+    ap (λ (l : List ℕ). set (maskWords w (take i c) ++ l) i (getD c i 0 % 2 ^ w)) (drop-cons c i 0 h)
+    ∙ set-at (maskWords w (take i c)) (getD c i 0) (drop (suc i) c) (getD c i 0 % 2 ^ w) i (length-lows w (take i c) ∙ length-take-le i c (omega arith))
+    ∙ sym (append-assoc (maskWords w (take i c)) (getD c i 0 % 2 ^ w ∷ []) (drop (suc i) c))
+    ∙ ap (λ (l : List ℕ). l ++ drop (suc i) c) (sym (lows-append w (take i c) (getD c i 0 ∷ [])) ∙ ap (maskWords w) (sym (take-suc c i 0 h)))
+    ∙ ap (λ (n : ℕ). maskWords w (take n c) ++ drop n c) (sym (add-one i))
 
--- ---- same, one word on
+-- ---- the same cells, one word on
 
-pub same-more : (xs ys : List ℕ) (i : ℕ) → i < length xs → i < length ys → getD xs i 0 ≡ getD ys i 0 → same (drop i xs) (drop i ys) ≡ same (drop (i + 1) xs) (drop (i + 1) ys)
+pub same-more : (xs ys : List ℕ) (i : ℕ) → i < length xs → i < length ys → getD xs i 0 ≡ getD ys i 0 → sameCells (drop i xs) (drop i ys) ≡ sameCells (drop (i + 1) xs) (drop (i + 1) ys)
 same-more xs ys i h k e =
-    ap₂ same (drop-cons xs i 0 h) (drop-cons ys i 0 k)
-    ∙ ap (λ (b : Bool). b && same (drop (suc i) xs) (drop (suc i) ys)) (eq-eqb (getD xs i 0) (getD ys i 0) e)
-    ∙ ap (λ (n : ℕ). same (drop n xs) (drop n ys)) (sym (add-one i))
+    ap₂ sameCells (drop-cons xs i 0 h) (drop-cons ys i 0 k)
+    ∙ ap (λ (b : Bool). b && sameCells (drop (suc i) xs) (drop (suc i) ys)) (eq-eqb (getD xs i 0) (getD ys i 0) e)
+    ∙ ap (λ (n : ℕ). sameCells (drop n xs) (drop n ys)) (sym (add-one i))
 
-pub same-not : (xs ys : List ℕ) (i : ℕ) → i < length xs → i < length ys → (getD xs i 0 ≡ getD ys i 0 → ⊥) → same (drop i xs) (drop i ys) ≡ false
+pub same-not : (xs ys : List ℕ) (i : ℕ) → i < length xs → i < length ys → (getD xs i 0 ≡ getD ys i 0 → ⊥) → sameCells (drop i xs) (drop i ys) ≡ false
 same-not xs ys i h k e =
-    ap₂ same (drop-cons xs i 0 h) (drop-cons ys i 0 k)
-    ∙ ap (λ (b : Bool). b && same (drop (suc i) xs) (drop (suc i) ys)) (ne-eqb (getD xs i 0) (getD ys i 0) e)
+    ap₂ sameCells (drop-cons xs i 0 h) (drop-cons ys i 0 k)
+    ∙ ap (λ (b : Bool). b && sameCells (drop (suc i) xs) (drop (suc i) ys)) (ne-eqb (getD xs i 0) (getD ys i 0) e)
 
 -- ---- copy
 
@@ -157,10 +157,10 @@ copy-more w w₀ x y n i q hx hy k e =
     ∙ put-more w₀ y vs (getD w₀ (x + i) 0) (omega arith)
     ∙ ap (put w₀ y) (sym (part-more w₀ x i (omega arith)))
 
-pub lows-rest : (w : ℕ) (c : List ℕ) (i : ℕ) → i < length c → getD (lows w (take i c) ++ drop i c) i 0 ≡ getD c i 0
+pub lows-rest : (w : ℕ) (c : List ℕ) (i : ℕ) → i < length c → getD (maskWords w (take i c) ++ drop i c) i 0 ≡ getD c i 0
 lows-rest w c i h =
-    ap (λ (l : List ℕ). getD (lows w (take i c) ++ l) i 0) (drop-cons c i 0 h)
-    ∙ getD-at (lows w (take i c)) (getD c i 0) (drop (suc i) c) 0 i (length-lows w (take i c) ∙ length-take-le i c (omega arith))
+    ap (λ (l : List ℕ). getD (maskWords w (take i c) ++ l) i 0) (drop-cons c i 0 h)
+    ∙ getD-at (maskWords w (take i c)) (getD c i 0) (drop (suc i) c) 0 i (length-lows w (take i c) ∙ length-take-le i c (omega arith))
 
 -- ---- what comes back of a part that was lent
 
@@ -249,20 +249,20 @@ written w x o m j v h k =
 
 pub loaded :
     (w : List ℕ) (s o m d : ℕ) → s + m ≤ length w
-    → put (put w s (lows d (part w s m))) o (part (put w s (lows d (part w s m))) s m) ≡ put (put w s (lows d (part w s m))) o (lows d (part w s m))
-loaded w s o m d h = ap (put (put w s (lows d (part w s m))) o) (self w s m (lows d (part w s m)) (length-lows d (part w s m) ∙ length-part w s m h) h)
+    → put (put w s (maskWords d (part w s m))) o (part (put w s (maskWords d (part w s m))) s m) ≡ put (put w s (maskWords d (part w s m))) o (maskWords d (part w s m))
+loaded w s o m d h = ap (put (put w s (maskWords d (part w s m))) o) (self w s m (maskWords d (part w s m)) (length-lows d (part w s m) ∙ length-part w s m h) h)
 
-choose-yes : {A : Type 0} (c : ℕ) (x y : A) → (c ≡ 0 → ⊥) → choose c x y ≡ x
+choose-yes : {A : Type 0} (c : ℕ) (x y : A) → (c ≡ 0 → ⊥) → ifNonzero c x y ≡ x
 choose-yes zero x y n = absurd (n refl)
 choose-yes (suc c) x y n = refl
 
-choose-no : {A : Type 0} (c : ℕ) (x y : A) → c ≡ 0 → choose c x y ≡ y
-choose-no c x y e = ap (λ (n : ℕ). choose n x y) e
+choose-no : {A : Type 0} (c : ℕ) (x y : A) → c ≡ 0 → ifNonzero c x y ≡ y
+choose-no c x y e = ap (λ (n : ℕ). ifNonzero n x y) e
 
-pub picked-yes : {A : Type 0} (w : List ℕ) {p q : ℕ} (x y : A) → p ≡ q → (getD w p 0 ≡ 0 → ⊥) → choose (getD w q 0) x y ≡ x
+pub picked-yes : {A : Type 0} (w : List ℕ) {p q : ℕ} (x y : A) → p ≡ q → (getD w p 0 ≡ 0 → ⊥) → ifNonzero (getD w q 0) x y ≡ x
 picked-yes w {p} {q} x y e n = choose-yes (getD w q 0) x y (λ z. n (ap (λ (i : ℕ). getD w i 0) e ∙ z))
 
-pub picked-no : {A : Type 0} (w : List ℕ) {p q : ℕ} (x y : A) → p ≡ q → getD w p 0 ≡ 0 → choose (getD w q 0) x y ≡ y
+pub picked-no : {A : Type 0} (w : List ℕ) {p q : ℕ} (x y : A) → p ≡ q → getD w p 0 ≡ 0 → ifNonzero (getD w q 0) x y ≡ y
 picked-no w {p} {q} x y e z = choose-no (getD w q 0) x y (ap (λ (i : ℕ). getD w i 0) (sym e) ∙ z)
 
 pub wide-as : {d w : ℕ} → d ≡ w → Width w → Width d
@@ -321,16 +321,16 @@ put-same w a m h =
     (lt-or-ge i a))
 
 -- state words, masked or not, and copied to the state's cells
-settled-length : (b : Bool) (d : ℕ) (xs : List ℕ) → length (pick b (lows d xs) xs) ≡ length xs
+settled-length : (b : Bool) (d : ℕ) (xs : List ℕ) → length (pick b (maskWords d xs) xs) ≡ length xs
 settled-length true d xs = length-lows d xs
 settled-length false d xs = refl
 
 pub loaded-as :
-    (w : List ℕ) {u r : List ℕ} {s s′ o o′ m m′ d d′ : ℕ} {b b′ : Bool} → u ≡ put w s (pick b (lows d (part w s m)) (part w s m)) → r ≡ put u o (part u s m)
+    (w : List ℕ) {u r : List ℕ} {s s′ o o′ m m′ d d′ : ℕ} {b b′ : Bool} → u ≡ put w s (pick b (maskWords d (part w s m)) (part w s m)) → r ≡ put u o (part u s m)
     → s ≡ s′ → o ≡ o′ → m ≡ m′ → d ≡ d′ → b ≡ b′ → s + m ≤ length w
-    → r ≡ put (put w s′ (pick b′ (lows d′ (part w s′ m′)) (part w s′ m′))) o′ (pick b′ (lows d′ (part w s′ m′)) (part w s′ m′))
+    → r ≡ put (put w s′ (pick b′ (maskWords d′ (part w s′ m′)) (part w s′ m′))) o′ (pick b′ (maskWords d′ (part w s′ m′)) (part w s′ m′))
 loaded-as w {u} {r} {s} {s′} {o} {o′} {m} {m′} {d} {d′} {b} {b′} eu er es eo em ed eb h =
-    let vs : List ℕ = pick b (lows d (part w s m)) (part w s m) in
+    let vs : List ℕ = pick b (maskWords d (part w s m)) (part w s m) in
     let e : put u o (part u s m) ≡ put (put w s vs) o vs =
     ap (λ (l : List ℕ). put l o (part l s m)) eu ∙ ap (put (put w s vs) o) (self w s m vs (settled-length b d (part w s m) ∙ length-part w s m h) h) in
     er ∙ e ∙ (cc)

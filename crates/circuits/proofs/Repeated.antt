@@ -9,8 +9,8 @@ use lib.ListN.{length, take, drop, length-append}
 use lib.Seq.{take-all, length-take-le, take-at, drop-drop}
 use Rattle.tables.specs.Lines.{Line}
 use Rattle.circuits.specs.Meaning.{step}
-use Rattle.circuits.specs.Run.{rowOf, start, steps, run, bytesOf, bytes}
-use Rattle.circuits.specs.Model.{Ready}
+use Rattle.circuits.specs.Run.{rowLength, start, steps, run, bytesOf, bytes}
+use Rattle.circuits.specs.Model.Places.{Ready}
 
 pub fewer : (k i n : ℕ) → i < k → (k - i) * n ≡ (k - (i + 1)) * n + n
 fewer k i n h =
@@ -39,7 +39,7 @@ ready-as e₁ e₂ e₃ r =
       signals = r .signals ∙ e₃;
     }
 
-module _ (p : Bool) (C : List Line) (ins : ℕ) (row : rowOf p C ≡ ins) where
+module _ (p : Bool) (C : List Line) (ins : ℕ) (row : rowLength p C ≡ ins) where
   pub run-more : (sigs k i : ℕ) (σ σ′ I X g₀ q ι : List ℕ) (r g : ℕ) → i < k → g + sigs ≤ length g₀ → length q ≡ sigs
       → X ≡ take g g₀ ++ bytes (steps p C (k - i) σ (drop r I)) → ι ≡ take ins (drop r I) → q ≡ bytesOf (step p false C σ ι .sigs) → σ′ ≡ step p false C σ ι .sts
       → X ≡ take (g + sigs) (take g g₀ ++ (q ++ drop (g + sigs - g) (drop g g₀))) ++ bytes (steps p C (k - (i + 1)) σ′ (drop (r + ins) I))

@@ -12,13 +12,13 @@ use Rattle.tables.specs.Pick.{pick}
 use Rattle.tables.proofs.Kept.{no-yes}
 use Rattle.circuits.specs.declared.Ran.{Ran}
 use Rattle.circuits.specs.declared.Ran.the-variants.{Nothing, Bad}
-use Rattle.circuits.specs.Meaning.{Sig, sig}
-use Rattle.circuits.specs.Run.{met, badAt, counted, firstBad}
-use Rattle.circuits.specs.Model.{zipSig, sigRows}
+use Rattle.circuits.specs.Meaning.{Signal, signalByte}
+use Rattle.circuits.specs.Run.{met, badAt, badOr, firstBad}
+use Rattle.circuits.specs.Model.Signals.{zipSig, sigRows}
 
 -- ---- one signal
 
-met-stop : (b : Bool) (v : ℕ) (g : List Sig) → pick b false (not (eqb v 1)) ≡ true → met (sig b v ∷ g) ≡ false
+met-stop : (b : Bool) (v : ℕ) (g : List Signal) → pick b false (not (eqb v 1)) ≡ true → met (signalByte b v ∷ g) ≡ false
 met-stop true v g e = absurd (no-yes e)
 met-stop false v g e = go (eqb v 1) e
   where
@@ -26,7 +26,7 @@ met-stop false v g e = go (eqb v 1) e
     go true q = absurd (no-yes q)
     go false q = refl
 
-met-pass : (b : Bool) (v : ℕ) (g : List Sig) → pick b false (not (eqb v 1)) ≡ false → met (sig b v ∷ g) ≡ met g
+met-pass : (b : Bool) (v : ℕ) (g : List Signal) → pick b false (not (eqb v 1)) ≡ false → met (signalByte b v ∷ g) ≡ met g
 met-pass true v g e = refl
 met-pass false v g e = go (eqb v 1) e
   where
@@ -34,19 +34,19 @@ met-pass false v g e = go (eqb v 1) e
     go true q = refl
     go false q = absurd (no-yes (sym q))
 
-bad-hit : (b : Bool) (v p : ℕ) (g : List Sig) → (b && eqb v 1) ≡ true → badAt p (sig b v ∷ g) ≡ p
+bad-hit : (b : Bool) (v p : ℕ) (g : List Signal) → (b && eqb v 1) ≡ true → badAt p (signalByte b v ∷ g) ≡ p
 bad-hit true v p g e = ap (λ (t : Bool). elim t as (λ x. ℕ) [ true ↦ p | false ↦ badAt (suc p) g ]) e
 bad-hit false v p g e = absurd (no-yes e)
 
-bad-pass : (b : Bool) (v p : ℕ) (g : List Sig) → (b && eqb v 1) ≡ false → badAt p (sig b v ∷ g) ≡ badAt (pick b (p + 1) p) g
+bad-pass : (b : Bool) (v p : ℕ) (g : List Signal) → (b && eqb v 1) ≡ false → badAt p (signalByte b v ∷ g) ≡ badAt (pick b (p + 1) p) g
 bad-pass true v p g e = ap (λ (t : Bool). elim t as (λ x. ℕ) [ true ↦ p | false ↦ badAt (suc p) g ]) e ∙ ap (λ (n : ℕ). badAt n g) (sym (add-one p))
 bad-pass false v p g e = refl
 
 -- ---- the signals from the place j on
 
 module _ (bs vs : List ℕ) (j : ℕ) (h : j < length bs) (k : j < length vs) where
-  zip-cons : zipSig (drop j bs) (drop j vs) ≡ sig (eqb (getD bs j 0) 1) (getD vs j 0) ∷ zipSig (drop (j + 1) bs) (drop (j + 1) vs)
-  zip-cons = ap₂ zipSig (drop-cons bs j 0 h) (drop-cons vs j 0 k) ∙ ap (λ (n : ℕ). sig (eqb (getD bs j 0) 1) (getD vs j 0) ∷ zipSig (drop n bs) (drop n vs)) (sym (add-one j))
+  zip-cons : zipSig (drop j bs) (drop j vs) ≡ signalByte (eqb (getD bs j 0) 1) (getD vs j 0) ∷ zipSig (drop (j + 1) bs) (drop (j + 1) vs)
+  zip-cons = ap₂ zipSig (drop-cons bs j 0 h) (drop-cons vs j 0 k) ∙ ap (λ (n : ℕ). signalByte (eqb (getD bs j 0) 1) (getD vs j 0) ∷ zipSig (drop n bs) (drop n vs)) (sym (add-one j))
 
   pub row-stops : pick (eqb (getD bs j 0) 1) false (not (eqb (getD vs j 0) 1)) ≡ true → met (zipSig (drop j bs) (drop j vs)) ≡ false
   row-stops e = ap met zip-cons ∙ met-stop (eqb (getD bs j 0) 1) (getD vs j 0) (zipSig (drop (j + 1) bs) (drop (j + 1) vs)) e
@@ -72,9 +72,9 @@ bad-ends bs vs j p h = ap (badAt p) (zip-none bs vs j h)
 
 -- ---- the steps
 
-first-step : (i : ℕ) (g : List Sig) (gs : List (List Sig)) (b : Bool) → met g ≡ b
-    → firstBad i (g ∷ gs) ≡ elim b as (λ x. Ran) [ false ↦ Nothing | true ↦ counted i (badAt 1 g) (firstBad (suc i) gs) ]
-first-step i g gs b e = ap (λ (t : Bool). elim t as (λ x. Ran) [ false ↦ Nothing | true ↦ counted i (badAt 1 g) (firstBad (suc i) gs) ]) e
+first-step : (i : ℕ) (g : List Signal) (gs : List (List Signal)) (b : Bool) → met g ≡ b
+    → firstBad i (g ∷ gs) ≡ elim b as (λ x. Ran) [ false ↦ Nothing | true ↦ badOr i (badAt 1 g) (firstBad (suc i) gs) ]
+first-step i g gs b e = ap (λ (t : Bool). elim t as (λ x. Ran) [ false ↦ Nothing | true ↦ badOr i (badAt 1 g) (firstBad (suc i) gs) ]) e
 
 module _ (bs g : List ℕ) (k i row : ℕ) where
   pub step-stops : i < k → met (zipSig bs (drop row g)) ≡ false → firstBad i (sigRows bs (k - i) (drop row g)) ≡ Nothing
@@ -83,16 +83,16 @@ module _ (bs g : List ℕ) (k i row : ℕ) where
       ap (λ (m : ℕ). firstBad i (sigRows bs m (drop row g))) u ∙ first-step i (zipSig bs (drop row g)) (sigRows bs (k - (i + 1)) (drop (length bs) (drop row g))) false e
 
   pub step-met : i < k → met (zipSig bs (drop row g)) ≡ true
-      → firstBad i (sigRows bs (k - i) (drop row g)) ≡ counted i (badAt 1 (zipSig bs (drop row g))) (firstBad (i + 1) (sigRows bs (k - (i + 1)) (drop (row + length bs) g)))
+      → firstBad i (sigRows bs (k - i) (drop row g)) ≡ badOr i (badAt 1 (zipSig bs (drop row g))) (firstBad (i + 1) (sigRows bs (k - (i + 1)) (drop (row + length bs) g)))
   step-met h e =
       let u : k - i ≡ suc (k - (i + 1)) = omega arith in
       ap (λ (m : ℕ). firstBad i (sigRows bs m (drop row g))) u ∙ first-step i (zipSig bs (drop row g)) (sigRows bs (k - (i + 1)) (drop (length bs) (drop row g))) true e
-      ∙ ap₂ (λ (x : ℕ) (y : List ℕ). counted i (badAt 1 (zipSig bs (drop row g))) (firstBad x (sigRows bs (k - (i + 1)) y))) (sym (add-one i)) (drop-drop (length bs) row g)
+      ∙ ap₂ (λ (x : ℕ) (y : List ℕ). badOr i (badAt 1 (zipSig bs (drop row g))) (firstBad x (sigRows bs (k - (i + 1)) y))) (sym (add-one i)) (drop-drop (length bs) row g)
 
   pub steps-end : k ≤ i → firstBad i (sigRows bs (k - i) (drop row g)) ≡ Nothing
   steps-end h = let u : k - i ≡ 0 = omega arith in rw u refl
 
-pub counted-hit : (i p : ℕ) (r : Ran) → 1 ≤ p → counted i p r ≡ Bad i p
+pub counted-hit : (i p : ℕ) (r : Ran) → 1 ≤ p → badOr i p r ≡ Bad i p
 counted-hit i zero r h = absurd (omega arith)
 counted-hit i (suc p) r h = refl
 

@@ -1,4 +1,6 @@
--- What a run answers and leaves: 1, 11 (20 for a program), 13, 14, 15, 16, 17, the first that holds; else the first counted bad. Assumes nothing.
+-- What a run answers and leaves: 1, 11 (20 for a program), 13, 14, 15, 16, 17, the first that holds; else the first counted bad. `program` says that the table t, of which
+-- n records count, is a program's, else it is a circuit's. The run takes k steps from the start words S with the inputs I; g signal bytes and w words of work area are lent.
+-- Assumes nothing.
 use Prim.Native.Nat.{ℕ, _+_, _*_}
 use mathlib.Core.Bool.{Bool}
 use mathlib.Core.List.{List, [], _∷_}
@@ -18,7 +20,7 @@ use Rattle.circuits.specs.declared.Ran.the-variants.{Nothing, Bad, Refus
 use Rattle.circuits.specs.Layout.{Counts, layout}
 use Rattle.circuits.specs.Run.{run, bytes, firstBad}
 
--- the tests after the table's: s start words, i input words, g signal bytes and w words of work area are lent for k steps
+-- the tests after the table's, where s start words, i input words, g signal bytes and w words of work area are lent for k steps
 abbrev pub lent : Counts → (k s i g w : ℕ) → Checked
 lent c k s i g w =
     pick (leb k 4096) (
@@ -33,8 +35,8 @@ andThen Accepted d = d
 andThen (Refused r) d = Refused r
 
 -- may a run start
-unfoldable pub ready : Bool → (t : List ℕ) (n k : ℕ) (S I : List ℕ) (g w : ℕ) → Checked
-ready p t n k S I g w = andThen (checked p t n) (lent (layout p (linesOf p t n) .counts) k (length S) (length I) g w)
+unfoldable pub ready : (program : Bool) (t : List ℕ) (n k : ℕ) (S I : List ℕ) (g w : ℕ) → Checked
+ready program t n k S I g w = andThen (checked program t n) (lent (layout program (linesOf program t n) .counts) k (length S) (length I) g w)
 
 abbrev pub answerOf : Checked → Ran → Ran
 answerOf Accepted r = r
@@ -45,11 +47,11 @@ leftOf Accepted g x = x
 leftOf (Refused r) g x = replicate g 0
 
 -- what a run answers, and the signal bytes that it leaves; the work area is zero after any call
-unfoldable pub ran : Bool → (t : List ℕ) (n k : ℕ) (S I : List ℕ) (g w : ℕ) → Ran
-ran p t n k S I g w = answerOf (ready p t n k S I g w) (firstBad 0 (run p (linesOf p t n) k S I))
+unfoldable pub ran : (program : Bool) (t : List ℕ) (n k : ℕ) (S I : List ℕ) (g w : ℕ) → Ran
+ran program t n k S I g w = answerOf (ready program t n k S I g w) (firstBad 0 (run program (linesOf program t n) k S I))
 
-unfoldable pub signalsLeft : Bool → (t : List ℕ) (n k : ℕ) (S I : List ℕ) (g w : ℕ) → List ℕ
-signalsLeft p t n k S I g w = leftOf (ready p t n k S I g w) g (bytes (run p (linesOf p t n) k S I))
+unfoldable pub signalsLeft : (program : Bool) (t : List ℕ) (n k : ℕ) (S I : List ℕ) (g w : ℕ) → List ℕ
+signalsLeft program t n k S I g w = leftOf (ready program t n k S I g w) g (bytes (run program (linesOf program t n) k S I))
 
 -- the request's number and values for what a run answers: 1, the step and the place of the first counted bad, or zeros
 abbrev pub toldRun : Ran → (left : List (List ℕ)) → Outcome
@@ -58,9 +60,9 @@ toldRun (Bad k p) left = outcome 0 1 k p left
 toldRun (RefusedRun r) left = outcome (numberOf r) 0 0 0 left
 
 -- of a run that may start: the first counted bad and the signal bytes of all steps; the work area, of w words, is zero
-abbrev pub started : Bool → List Line → (k : ℕ) (S I : List ℕ) (w : ℕ) → Outcome
-started p C k S I w = toldRun (firstBad 0 (run p C k S I)) (bytes (run p C k S I) ∷ replicate w 0 ∷ [])
+abbrev pub started : (program : Bool) (C : List Line) (k : ℕ) (S I : List ℕ) (w : ℕ) → Outcome
+started program C k S I w = toldRun (firstBad 0 (run program C k S I)) (bytes (run program C k S I) ∷ replicate w 0 ∷ [])
 
--- the outcome of a run of k steps from the start words S with the inputs I, where g signal bytes and w words of work area are lent
-unfoldable pub runs : Bool → (t : List ℕ) (n k : ℕ) (S I : List ℕ) (g w : ℕ) → Outcome
-runs p t n k S I g w = toldRun (ran p t n k S I g w) (signalsLeft p t n k S I g w ∷ replicate w 0 ∷ [])
+-- the outcome of a run
+unfoldable pub runs : (program : Bool) (t : List ℕ) (n k : ℕ) (S I : List ℕ) (g w : ℕ) → Outcome
+runs program t n k S I g w = toldRun (ran program t n k S I g w) (signalsLeft program t n k S I g w ∷ replicate w 0 ∷ [])

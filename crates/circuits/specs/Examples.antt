@@ -2,9 +2,10 @@
 use Prim.Native.Nat.{ℕ}
 use mathlib.Core.Path.{_≡_, refl}
 use mathlib.Core.Bool.{true, false}
-use mathlib.Core.List.{List, [], _∷_, _++_}
+use mathlib.Core.List.{List, [], _∷_}
 use Rattle.tables.specs.Kinds.{rowOf as kindRow}
 use Rattle.tables.specs.Lines.{fields}
+use Rattle.tables.specs.Layout.{filledBy, tableWith}
 use Rattle.tables.specs.Rules.{suits, fault}
 use Rattle.tables.specs.Tables.{checked}
 use Rattle.circuits.specs.declared.Ran.the-variants.{Bad}
@@ -17,32 +18,34 @@ use Rattle.circuits.specs.Answers.{ready, ran, signalsLeft}
 -- 1 sort bitvec 1, 2 sort bitvec 3, 3 sort array 1 2, 4 state 3, 5 input 1, 6 constd 2 5, 7 write 3 4 5 6, 8 next 3 4 7, 9 read 2 4 5, 10 eq 1 9 6, 11 bad 10
 abbrev pub circuit : List ℕ
 circuit =
-    fields 1 0 1 0 0 ++ fields 1 0 3 0 0 ++ fields 2 0 1 2 0 ++ fields 5 3 0 0 0 ++ fields 4 1 0 0 0 ++ fields 3 2 5 0 0 ++ fields 55 3 4 5 6 ++ fields 7 3 4 7 0 ++ fields 54 2 4 5 0 ++ fields 21 1 9 6 0
-    ++ fields 8 0 10 0 0
+    tableWith false
+    (fields 1 0 1 0 0 ∷ fields 1 0 3 0 0 ∷ fields 2 0 1 2 0 ∷ fields 5 3 0 0 0 ∷ fields 4 1 0 0 0 ∷ fields 3 2 5 0 0 ∷ fields 55 3 4 5 6 ∷ fields 7 3 4 7 0 ∷ fields 54 2 4 5 0 ∷ fields 21 1 9 6 0
+    ∷ fields 8 0 10 0 0 ∷ [])
 
 -- its flat circuit's program: the sixth record masks the input
 abbrev pub program : List ℕ
 program =
-    fields 3 1 0 0 0 ++ fields 3 1 1 0 0 ++ fields 5 3 0 0 0 ++ fields 5 3 0 0 0 ++ fields 4 1 0 0 0 ++ fields 56 1 5 0 0 ++ fields 3 3 5 0 0 ++ fields 21 1 6 1 0 ++ fields 53 3 8 7 3 ++ fields 21 1 6 2 0
-    ++ fields 53 3 10 7 4 ++ fields 7 3 3 9 0 ++ fields 7 3 4 11 0 ++ fields 21 1 6 1 0 ++ fields 53 3 14 3 4 ++ fields 21 1 15 7 0 ++ fields 8 0 16 0 0
+    tableWith true
+    (fields 3 1 0 0 0 ∷ fields 3 1 1 0 0 ∷ fields 5 3 0 0 0 ∷ fields 5 3 0 0 0 ∷ fields 4 1 0 0 0 ∷ fields 56 1 5 0 0 ∷ fields 3 3 5 0 0 ∷ fields 21 1 6 1 0 ∷ fields 53 3 8 7 3 ∷ fields 21 1 6 2 0
+    ∷ fields 53 3 10 7 4 ∷ fields 7 3 3 9 0 ∷ fields 7 3 4 11 0 ∷ fields 21 1 6 1 0 ∷ fields 53 3 14 3 4 ∷ fields 21 1 15 7 0 ∷ fields 8 0 16 0 0 ∷ [])
 
 circuit-signals : signalsLeft false circuit 11 3 (0 ∷ 0 ∷ []) (0 ∷ 0 ∷ 1 ∷ []) 3 17 ≡ 0 ∷ 1 ∷ 0 ∷ []
-unfolding signalsLeft ready checked fault suits kindRow layout run start steps step put
+unfolding filledBy signalsLeft ready checked fault suits kindRow layout run start steps step put
 circuit-signals = refl
 
 circuit-bad : ran false circuit 11 3 (0 ∷ 0 ∷ []) (0 ∷ 0 ∷ 1 ∷ []) 3 17 ≡ Bad 1 1
-unfolding ran ready checked fault suits kindRow layout run start steps step put
+unfolding filledBy ran ready checked fault suits kindRow layout run start steps step put
 circuit-bad = refl
 
 program-signals : signalsLeft true program 17 3 (0 ∷ 0 ∷ []) (0 ∷ 0 ∷ 1 ∷ []) 3 17 ≡ 0 ∷ 1 ∷ 0 ∷ []
-unfolding signalsLeft ready checked fault suits kindRow layout run start steps step put
+unfolding filledBy signalsLeft ready checked fault suits kindRow layout run start steps step put
 program-signals = refl
 
 program-bad : ran true program 17 3 (0 ∷ 0 ∷ []) (0 ∷ 0 ∷ 1 ∷ []) 3 17 ≡ Bad 1 1
-unfolding ran ready checked fault suits kindRow layout run start steps step put
+unfolding filledBy ran ready checked fault suits kindRow layout run start steps step put
 program-bad = refl
 
 -- a program's start words are masked: a state of width 1 that starts from 2, and a bad of it
-start-masked : signalsLeft true (fields 5 1 0 0 0 ++ fields 8 0 1 0 0) 2 1 (2 ∷ []) [] 1 2 ≡ 0 ∷ []
-unfolding signalsLeft ready checked fault suits kindRow layout run start steps step put
+start-masked : signalsLeft true (tableWith true (fields 5 1 0 0 0 ∷ fields 8 0 1 0 0 ∷ [])) 2 1 (2 ∷ []) [] 1 2 ≡ 0 ∷ []
+unfolding filledBy signalsLeft ready checked fault suits kindRow layout run start steps step put
 start-masked = refl

@@ -11,7 +11,9 @@ ghost use Prim.Native.Nat.{_+_, _<_};
 ghost use lib.ListN.{length, replicate};
 ghost use Rattle.tables.specs.Layout.{linesOf};
 ghost use Rattle.circuits.specs.Answers.{lent as lentOf, toldRun, started};
-ghost use Rattle.circuits.specs.Model.{countsOf, Ready, Noted, lentRuns};
+ghost use Rattle.circuits.specs.Model.Places.{Ready};
+ghost use Rattle.circuits.specs.Model.Passes.{countsOf, Noted};
+ghost use Rattle.circuits.specs.Model.Answers.{lentRuns};
 
 // 13 to 17: s start words, i input words, g signal bytes and w words of work area are lent for k steps.
 fn lent(t: Totals, k: usize, s: usize, i: usize, g: usize, w: usize) -> Checked
@@ -74,7 +76,7 @@ fn run_lent(
         &mut work[..used],
     );
     let mut marks = [0u8; 16385];
-    places::classes(program, table, count, &mut marks);
+    places::bad_marks(program, table, count, &mut marks);
     let n = t.signals;
     bad::first_bad(k, signals, &marks[..n])
 }

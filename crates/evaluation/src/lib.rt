@@ -6,9 +6,10 @@ ghost use mathlib.Core.List.{[], _∷_};
 ghost use lib.ListN.{length, getD};
 ghost use Rattle.circuits.specs.Meaning.{opWord, inputWord};
 ghost use Rattle.tables.specs.Lines.{Expr};
-ghost use Rattle.circuits.specs.Model.{FitWord, Word, offIn, FitInput, posIn, widIn, exprIn, FitOne, FitTwo, FitCmp, FitRead, Run, FitIte, FitWrite};
+ghost use Rattle.circuits.specs.Model.Work.{offIn, posIn, widIn, exprIn};
+ghost use Rattle.circuits.specs.Model.Fits.{FitWord, WordBelow, FitInput, FitUnary, FitBinary, FitEquality, FitRead, RunBelow, FitIte, FitWrite};
 ghost use Rattle.words.specs.Word.{Width, bit};
-ghost use Rattle.circuits.specs.Cells.{say, put};
+ghost use Rattle.circuits.specs.Cells.{eqOrNeq, put};
 
 // A word operator, of a program or of a circuit.
 pub fn word(program: bool, k: u64, w: u64, u: u64, v: u64, a: u64, b: u64, c: u64) -> u64
@@ -34,7 +35,7 @@ fn input_word(program: bool, w: u64, x: u64) -> u64
 
 // What eq (true) and neq say of values that are the same, or not.
 pub fn says(e: bool, r: bool) -> u64
-    ensures { λ v. ⌜ v ≡ bit (say e r) ⌝ }
+    ensures { λ v. ⌜ v ≡ bit (eqOrNeq e r) ⌝ }
 {
     if e {
         if r { 1 } else { 0 }
@@ -44,7 +45,7 @@ pub fn says(e: bool, r: bool) -> u64
 }
 
 pub fn line_const(a: u64, n: usize, laid: &[[u32; LAID]; 16385], work: &mut [u64])
-    requires { ⌜ Word (now laid) (length (now work)) n ⌝ }
+    requires { ⌜ WordBelow (now laid) (length (now work)) n ⌝ }
     ensures { λ _. ⌜ now (work .exit) ≡ put (now (work .entry)) (offIn (now (laid .entry)) n) (a ∷ []) ⌝ }
 {
     let o = area::off(laid, n);
@@ -68,7 +69,7 @@ pub fn line_input(
     work[o] = input_word(program, area::width(laid, n), v);
 }
 
-pub fn line_one(
+pub fn line_unary(
     program: bool,
     k: u64,
     a: usize,
@@ -78,8 +79,8 @@ pub fn line_one(
     laid: &[[u32; LAID]; 16385],
     work: &mut [u64],
 )
-    requires { ⌜ Word (now laid) (length (now work)) n × FitOne program (now laid) (now work) n k a x y ⌝ }
-    ensures { λ _. ⌜ now (work .exit) ≡ put (now (work .entry)) (offIn (now (laid .entry)) n) (exprIn program (now (laid .entry)) (now (work .entry)) (Expr.one k a x y)) ⌝ }
+    requires { ⌜ WordBelow (now laid) (length (now work)) n × FitUnary program (now laid) (now work) n k a x y ⌝ }
+    ensures { λ _. ⌜ now (work .exit) ≡ put (now (work .entry)) (offIn (now (laid .entry)) n) (exprIn program (now (laid .entry)) (now (work .entry)) (Expr.unary k a x y)) ⌝ }
 {
     let o = area::off(laid, n);
     let p = area::off(laid, a);
@@ -96,7 +97,7 @@ pub fn line_one(
     );
 }
 
-pub fn line_two(
+pub fn line_binary(
     program: bool,
     k: u64,
     a: usize,
@@ -105,8 +106,8 @@ pub fn line_two(
     laid: &[[u32; LAID]; 16385],
     work: &mut [u64],
 )
-    requires { ⌜ Word (now laid) (length (now work)) n × FitTwo program (now laid) (now work) n k a b ⌝ }
-    ensures { λ _. ⌜ now (work .exit) ≡ put (now (work .entry)) (offIn (now (laid .entry)) n) (exprIn program (now (laid .entry)) (now (work .entry)) (Expr.two k a b)) ⌝ }
+    requires { ⌜ WordBelow (now laid) (length (now work)) n × FitBinary program (now laid) (now work) n k a b ⌝ }
+    ensures { λ _. ⌜ now (work .exit) ≡ put (now (work .entry)) (offIn (now (laid .entry)) n) (exprIn program (now (laid .entry)) (now (work .entry)) (Expr.binary k a b)) ⌝ }
 {
     let o = area::off(laid, n);
     let p = area::off(laid, a);
@@ -125,7 +126,7 @@ pub fn line_two(
     );
 }
 
-pub fn line_cmp(
+pub fn line_equality(
     e: bool,
     a: usize,
     b: usize,
@@ -133,8 +134,8 @@ pub fn line_cmp(
     laid: &[[u32; LAID]; 16385],
     work: &mut [u64],
 )
-    requires { ⌜ Word (now laid) (length (now work)) n × FitCmp (now laid) n a b ⌝ }
-    ensures { λ _. ⌜ now (work .exit) ≡ put (now (work .entry)) (offIn (now (laid .entry)) n) (exprIn false (now (laid .entry)) (now (work .entry)) (Expr.cmp e a b)) ⌝ }
+    requires { ⌜ WordBelow (now laid) (length (now work)) n × FitEquality (now laid) n a b ⌝ }
+    ensures { λ _. ⌜ now (work .exit) ≡ put (now (work .entry)) (offIn (now (laid .entry)) n) (exprIn false (now (laid .entry)) (now (work .entry)) (Expr.equality e a b)) ⌝ }
 {
     let o = area::off(laid, n);
     let x = area::off(laid, a);
@@ -145,7 +146,7 @@ pub fn line_cmp(
 }
 
 pub fn line_read(a: usize, i: usize, n: usize, laid: &[[u32; LAID]; 16385], work: &mut [u64])
-    requires { ⌜ Word (now laid) (length (now work)) n × FitRead (now laid) (now work) n a i ⌝ }
+    requires { ⌜ WordBelow (now laid) (length (now work)) n × FitRead (now laid) (now work) n a i ⌝ }
     ensures { λ _. ⌜ now (work .exit) ≡ put (now (work .entry)) (offIn (now (laid .entry)) n) (exprIn false (now (laid .entry)) (now (work .entry)) (Expr.read a i)) ⌝ }
 {
     let o = area::off(laid, n);
@@ -164,7 +165,7 @@ pub fn line_ite(
     laid: &[[u32; LAID]; 16385],
     work: &mut [u64],
 )
-    requires { ⌜ Run (now laid) (length (now work)) n × FitIte (now laid) n c a b ⌝ }
+    requires { ⌜ RunBelow (now laid) (length (now work)) n × FitIte (now laid) n c a b ⌝ }
     ensures { λ _. ⌜ now (work .exit) ≡ put (now (work .entry)) (offIn (now (laid .entry)) n) (exprIn false (now (laid .entry)) (now (work .entry)) (Expr.ite c a b)) ⌝ }
 {
     let o = area::off(laid, n);
@@ -185,7 +186,7 @@ pub fn line_write(
     laid: &[[u32; LAID]; 16385],
     work: &mut [u64],
 )
-    requires { ⌜ Run (now laid) (length (now work)) n × FitWrite (now laid) (now work) n a i v ⌝ }
+    requires { ⌜ RunBelow (now laid) (length (now work)) n × FitWrite (now laid) (now work) n a i v ⌝ }
     ensures { λ _. ⌜ now (work .exit) ≡ put (now (work .entry)) (offIn (now (laid .entry)) n) (exprIn false (now (laid .entry)) (now (work .entry)) (Expr.write a i v)) ⌝ }
 {
     let o = area::off(laid, n);

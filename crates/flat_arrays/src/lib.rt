@@ -7,13 +7,14 @@ use flattening::Made;
 use records::notes::BYTES;
 ghost use mathlib.Core.Path.{_≡_};
 ghost use lib.ListN.{length};
-ghost use Rattle.flattening.specs.Making.{made, notes, Fit, Laid};
-ghost use Rattle.tables.specs.Lines.{cmpKind, Line, Expr};
+ghost use Rattle.flattening.specs.Model.Lines.{madeAs, notes};
+ghost use Rattle.flattening.specs.Model.Fits.{Fit, MadeFlat};
+ghost use Rattle.tables.specs.Lines.{equalityKind, Line, Expr};
 ghost use Rattle.flattening.specs.Flat.{joinKind};
 
 // Nothing is kept of a line that has no value.
-pub fn no_value(q: usize) -> Made
-    ensures { λ r. ⌜ r ≡ made q 0 0 0 0 0 ⌝ }
+fn no_value(q: usize) -> Made
+    ensures { λ r. ⌜ r ≡ madeAs q 0 0 0 0 0 ⌝ }
 {
     Made {
         next: q,
@@ -26,8 +27,8 @@ pub fn no_value(q: usize) -> Made
 }
 
 // The kinds of eq and neq, and of and and or.
-pub fn cmp_kind(e: bool) -> u64
-    ensures { λ r. ⌜ r ≡ cmpKind e ⌝ }
+fn equality_kind(e: bool) -> u64
+    ensures { λ r. ⌜ r ≡ equalityKind e ⌝ }
 {
     if e {
         return 21;
@@ -35,7 +36,7 @@ pub fn cmp_kind(e: bool) -> u64
     22
 }
 
-pub fn join_kind(e: bool) -> u64
+fn join_kind(e: bool) -> u64
     ensures { λ r. ⌜ r ≡ joinKind e ⌝ }
 {
     if e {
@@ -53,7 +54,7 @@ pub fn line_state(
     target: &mut [u64],
 ) -> Made
     requires { ⌜ Fit (notes (now kept) (now types)) p (Line.state s) (length (now target)) ⌝ }
-    ensures { λ r. ⌜ Laid (notes (now (kept .entry)) (now (types .entry))) p (Line.state s) (now (target .entry)) (now (target .exit)) r ⌝ }
+    ensures { λ r. ⌜ MadeFlat (notes (now (kept .entry)) (now (types .entry))) p (Line.state s) (now (target .entry)) (now (target .exit)) r ⌝ }
 {
     let n = sources::size(types, s);
     let z = sources::run(0, 0);
@@ -69,7 +70,7 @@ pub fn line_state(
 }
 
 // eq and neq: a test for each cell, then ands or ors.
-pub fn line_cmp(
+pub fn line_equality(
     e: bool,
     s: u64,
     x: u64,
@@ -79,13 +80,13 @@ pub fn line_cmp(
     p: usize,
     target: &mut [u64],
 ) -> Made
-    requires { ⌜ Fit (notes (now kept) (now types)) p (Line.val s (Expr.cmp e x y)) (length (now target)) ⌝ }
-    ensures { λ r. ⌜ Laid (notes (now (kept .entry)) (now (types .entry))) p (Line.val s (Expr.cmp e x y)) (now (target .entry)) (now (target .exit)) r ⌝ }
+    requires { ⌜ Fit (notes (now kept) (now types)) p (Line.value s (Expr.equality e x y)) (length (now target)) ⌝ }
+    ensures { λ r. ⌜ MadeFlat (notes (now (kept .entry)) (now (types .entry))) p (Line.value s (Expr.equality e x y)) (now (target .entry)) (now (target .exit)) r ⌝ }
 {
     let n = sources::size(types, x);
-    flat_chains::cmp_lines(
+    flat_chains::equality_lines(
         kept,
-        cmp_kind(e),
+        equality_kind(e),
         join_kind(e),
         cells::entry(kept, 0, s),
         x,
@@ -116,8 +117,8 @@ pub fn line_ite(
     p: usize,
     target: &mut [u64],
 ) -> Made
-    requires { ⌜ Fit (notes (now kept) (now types)) p (Line.val s (Expr.ite c x y)) (length (now target)) ⌝ }
-    ensures { λ r. ⌜ Laid (notes (now (kept .entry)) (now (types .entry))) p (Line.val s (Expr.ite c x y)) (now (target .entry)) (now (target .exit)) r ⌝ }
+    requires { ⌜ Fit (notes (now kept) (now types)) p (Line.value s (Expr.ite c x y)) (length (now target)) ⌝ }
+    ensures { λ r. ⌜ MadeFlat (notes (now (kept .entry)) (now (types .entry))) p (Line.value s (Expr.ite c x y)) (now (target .entry)) (now (target .exit)) r ⌝ }
 {
     let n = sources::size(types, x);
     rows::rows(
@@ -151,8 +152,8 @@ pub fn line_read(
     p: usize,
     target: &mut [u64],
 ) -> Made
-    requires { ⌜ Fit (notes (now kept) (now types)) p (Line.val s (Expr.read a i)) (length (now target)) ⌝ }
-    ensures { λ r. ⌜ Laid (notes (now (kept .entry)) (now (types .entry))) p (Line.val s (Expr.read a i)) (now (target .entry)) (now (target .exit)) r ⌝ }
+    requires { ⌜ Fit (notes (now kept) (now types)) p (Line.value s (Expr.read a i)) (length (now target)) ⌝ }
+    ensures { λ r. ⌜ MadeFlat (notes (now (kept .entry)) (now (types .entry))) p (Line.value s (Expr.read a i)) (now (target .entry)) (now (target .exit)) r ⌝ }
 {
     let c = cells::entry(kept, 4, i);
     let b = cells::entry(kept, 1, s);
@@ -199,8 +200,8 @@ pub fn line_write(
     p: usize,
     target: &mut [u64],
 ) -> Made
-    requires { ⌜ Fit (notes (now kept) (now types)) p (Line.val s (Expr.write a i v)) (length (now target)) ⌝ }
-    ensures { λ r. ⌜ Laid (notes (now (kept .entry)) (now (types .entry))) p (Line.val s (Expr.write a i v)) (now (target .entry)) (now (target .exit)) r ⌝ }
+    requires { ⌜ Fit (notes (now kept) (now types)) p (Line.value s (Expr.write a i v)) (length (now target)) ⌝ }
+    ensures { λ r. ⌜ MadeFlat (notes (now (kept .entry)) (now (types .entry))) p (Line.value s (Expr.write a i v)) (now (target .entry)) (now (target .exit)) r ⌝ }
 {
     let c = cells::entry(kept, 4, i);
     let o = cells::entry(kept, 1, s);
@@ -239,7 +240,7 @@ pub fn line_write(
 }
 
 // init and next: one line for each cell.
-pub fn line_give(
+pub fn line_init_or_next(
     m: bool,
     s: u64,
     q: u64,
@@ -249,8 +250,8 @@ pub fn line_give(
     p: usize,
     target: &mut [u64],
 ) -> Made
-    requires { ⌜ Fit (notes (now kept) (now types)) p (Line.give m s q v) (length (now target)) ⌝ }
-    ensures { λ r. ⌜ Laid (notes (now (kept .entry)) (now (types .entry))) p (Line.give m s q v) (now (target .entry)) (now (target .exit)) r ⌝ }
+    requires { ⌜ Fit (notes (now kept) (now types)) p (Line.initOrNext m s q v) (length (now target)) ⌝ }
+    ensures { λ r. ⌜ MadeFlat (notes (now (kept .entry)) (now (types .entry))) p (Line.initOrNext m s q v) (now (target .entry)) (now (target .exit)) r ⌝ }
 {
     let n = sources::size(types, q);
     let t = cells::entry(kept, 0, s);

@@ -2,7 +2,8 @@
 use flattening::Source;
 ghost use mathlib.Core.Path.{_≡_};
 ghost use Prim.Native.Nat.{_<_};
-ghost use Rattle.flattening.specs.Model.{keptOf, cellIn, Sound, turnAt, sourceAt, Tame};
+ghost use Rattle.flattening.specs.Model.Cells.{keptOf, cellIn, Sound};
+ghost use Rattle.flattening.specs.Model.Rows.{turnAt, sourceAt, Tame};
 
 // The numbers kept of a line.
 pub const KEPT: usize = 5;
@@ -35,7 +36,7 @@ pub fn cell(kept: &[[u64; KEPT]], a: u64, j: u64) -> u64
 }
 
 // The place of the word j of a source.
-pub fn turn(s: Source, j: u64) -> u64
+fn turn(s: Source, j: u64) -> u64
     ensures { λ r. ⌜ r ≡ turnAt s j ⌝ }
 {
     if !s.falling {
@@ -48,7 +49,7 @@ pub fn turn(s: Source, j: u64) -> u64
 }
 
 // The word j of a source.
-pub fn source(kept: &[[u64; KEPT]], s: Source, j: u64) -> u64
+pub(crate) fn source(kept: &[[u64; KEPT]], s: Source, j: u64) -> u64
     requires { ⌜ Sound (now kept) × (Tame s × (j < 256)) ⌝ }
     ensures { λ r. ⌜ r ≡ sourceAt (now (kept .entry)) s j ⌝ }
 {

@@ -10,7 +10,8 @@ ghost use Prim.Native.Nat.{_+_, _≤_, _<_, _*_};
 ghost use lib.ListN.{length};
 ghost use Rattle.tables.specs.Layout.{held};
 ghost use Rattle.flattening.specs.Placed.{putFlat};
-ghost use Rattle.flattening.specs.Model.{Sound, Tame, rowsFor, rowAt, pairAt};
+ghost use Rattle.flattening.specs.Model.Cells.{Sound};
+ghost use Rattle.flattening.specs.Model.Rows.{Tame, rowsFor, rowAt, pairAt};
 
 // The record of a flat line goes to the place i.
 pub fn put(target: &mut [u64], i: usize, rec: [u64; WORDS])

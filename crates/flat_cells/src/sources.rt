@@ -4,11 +4,11 @@ use records::notes;
 use records::notes::BYTES;
 ghost use mathlib.Core.Path.{_≡_};
 ghost use Prim.Native.Nat.{_^_, _≤_, _-_};
-ghost use Rattle.tables.specs.Notes.{lookIn};
-ghost use Rattle.flattening.specs.Making.{run, of, runDown, ofDown};
+ghost use Rattle.tables.specs.Model.Notes.{lookIn};
+ghost use Rattle.flattening.specs.Model.Rows.{stepping, of, runDown, ofDown};
 
 // 2 to the power of w.
-pub fn power(w: u8) -> usize
+fn power(w: u8) -> usize
     requires { ⌜ w ≤ 8 ⌝ }
     ensures { λ r. ⌜ r ≡ 2 ^ w ⌝ }
 {
@@ -45,7 +45,7 @@ pub fn index_size(types: &[[u8; BYTES]], a: u64) -> usize
 
 // A row of numbers, base + step * j.
 pub fn run(base: u64, step: u64) -> Source
-    ensures { λ r. ⌜ r ≡ run base step ⌝ }
+    ensures { λ r. ⌜ r ≡ stepping base step ⌝ }
 {
     Source {
         line: 0,

@@ -9,8 +9,8 @@ ghost use Prim.Native.Nat.{_+_, _≤_, _-_, _*_};
 ghost use lib.ListN.{length};
 ghost use Rattle.tables.specs.Layout.{held};
 ghost use Rattle.flattening.specs.Placed.{putFlat};
-ghost use Rattle.flattening.specs.Model.{Sound};
-ghost use Rattle.flattening.specs.Making.{arrayRecords, joinRecords, cmpRecords, readRecords};
+ghost use Rattle.flattening.specs.Model.Cells.{Sound};
+ghost use Rattle.flattening.specs.Model.Rows.{arrayRecords, joinRecords, equalityRecords, readRecords};
 
 // An array sort of n cells, whose index sort has the flat line s: a width-1 sort, then the index constants.
 pub fn array_lines(kept: &[[u64; KEPT]], s: u64, n: usize, p: usize, target: &mut [u64])
@@ -23,7 +23,7 @@ pub fn array_lines(kept: &[[u64; KEPT]], s: u64, n: usize, p: usize, target: &mu
 }
 
 // The ands, or ors, of n tests that begin at the place p, from the left.
-pub fn join_lines(kept: &[[u64; KEPT]], j: u64, s: u64, n: usize, p: usize, target: &mut [u64])
+fn join_lines(kept: &[[u64; KEPT]], j: u64, s: u64, n: usize, p: usize, target: &mut [u64])
     requires { ⌜ Sound (now kept) × ((n ≤ 256) × ((p ≤ 65536) × (p + (n + (n - 1)) ≤ held false (length (now target))))) ⌝ }
     ensures { λ _. ⌜ now (target .exit) ≡ putFlat (now (target .entry)) (p + n) (joinRecords (now (kept .entry)) p j s n) ⌝ }
 {
@@ -49,7 +49,7 @@ pub fn join_lines(kept: &[[u64; KEPT]], j: u64, s: u64, n: usize, p: usize, targ
 }
 
 // eq or neq, of the kind k, of two values of n cells: a test for each cell, then their ands, or ors, of the kind j.
-pub fn cmp_lines(
+pub fn equality_lines(
     kept: &[[u64; KEPT]],
     k: u64,
     j: u64,
@@ -61,7 +61,7 @@ pub fn cmp_lines(
     target: &mut [u64],
 )
     requires { ⌜ Sound (now kept) × ((n ≤ 256) × ((p ≤ 65536) × (p + (n + (n - 1)) ≤ held false (length (now target))))) ⌝ }
-    ensures { λ _. ⌜ now (target .exit) ≡ putFlat (now (target .entry)) p (cmpRecords (now (kept .entry)) p k j s x y n) ⌝ }
+    ensures { λ _. ⌜ now (target .exit) ≡ putFlat (now (target .entry)) p (equalityRecords (now (kept .entry)) p k j s x y n) ⌝ }
 {
     rows::rows(
         kept,

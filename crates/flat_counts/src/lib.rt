@@ -7,12 +7,13 @@ use tables::WORDS;
 ghost use mathlib.Core.Path.{_≡_};
 ghost use mathlib.Core.Bool.{true, false};
 ghost use Prim.Native.Nat.{_≤_, _+_, _-_};
-ghost use Rattle.flattening.specs.Making.{readCount, writeCount, notes, flatCount, Deep, Shallow};
+ghost use Rattle.flattening.specs.Model.Lines.{readCount, writeCount, notes, flatCount};
+ghost use Rattle.flattening.specs.Model.Fits.{Deep, Shallow};
 ghost use Rattle.tables.specs.Lines.{lineOf, kindIn};
 ghost use Rattle.tables.specs.Tables.{known as knownOf};
 
 // A read of n cells, by an index of which c is kept: by a constant it leaves no line.
-pub fn count_read(c: u64, n: usize) -> usize
+fn count_read(c: u64, n: usize) -> usize
     requires { ⌜ n ≤ 256 ⌝ }
     ensures { λ r. ⌜ r ≡ readCount c n ⌝ }
 {
@@ -23,7 +24,7 @@ pub fn count_read(c: u64, n: usize) -> usize
 }
 
 // A write of n cells.
-pub fn count_write(c: u64, n: usize) -> usize
+fn count_write(c: u64, n: usize) -> usize
     requires { ⌜ n ≤ 256 ⌝ }
     ensures { λ r. ⌜ r ≡ writeCount c n ⌝ }
 {
@@ -57,7 +58,7 @@ pub fn count_line(rec: [u64; WORDS], kept: &[[u64; KEPT]], types: &[[u8; BYTES]]
 }
 
 // The tests of n cells and their joins.
-pub fn count_tests(n: usize) -> usize
+fn count_tests(n: usize) -> usize
     requires { ⌜ n ≤ 256 ⌝ }
     ensures { λ r. ⌜ r ≡ n + (n - 1) ⌝ }
 {

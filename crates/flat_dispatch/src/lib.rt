@@ -9,7 +9,8 @@ ghost use Prim.Native.Nat.{_<_};
 ghost use lib.ListN.{length};
 ghost use Rattle.tables.specs.Lines.{lineOf, kindIn};
 ghost use Rattle.tables.specs.Tables.{known as knownOf};
-ghost use Rattle.flattening.specs.Making.{notes, Fit, Laid};
+ghost use Rattle.flattening.specs.Model.Lines.{notes};
+ghost use Rattle.flattening.specs.Model.Fits.{Fit, MadeFlat};
 
 // The line of a record of an operator.
 fn operator(
@@ -20,7 +21,7 @@ fn operator(
     target: &mut [u64],
 ) -> Made
     requires { ⌜ (knownOf false (kindIn rec) ≡ true) × ((10 < kindIn rec) × Fit (notes (now kept) (now types)) p (lineOf rec) (length (now target))) ⌝ }
-    ensures { λ r. ⌜ Laid (notes (now (kept .entry)) (now (types .entry))) p (lineOf rec) (now (target .entry)) (now (target .exit)) r ⌝ }
+    ensures { λ r. ⌜ MadeFlat (notes (now (kept .entry)) (now (types .entry))) p (lineOf rec) (now (target .entry)) (now (target .exit)) r ⌝ }
 {
     let k = rec[0];
     let s = rec[1];
@@ -28,16 +29,16 @@ fn operator(
     let b = rec[3];
     let c = rec[4];
     if k <= 20 {
-        return flat_lines::line_one(k, s, a, b, c, kept, types, p, target);
+        return flat_lines::line_unary(k, s, a, b, c, kept, types, p, target);
     }
     if k <= 22 {
-        return flat_arrays::line_cmp(k == 21, s, a, b, kept, types, p, target);
+        return flat_arrays::line_equality(k == 21, s, a, b, kept, types, p, target);
     }
     match k {
         53 => flat_arrays::line_ite(s, a, b, c, kept, types, p, target),
         54 => flat_arrays::line_read(s, a, b, kept, types, p, target),
         55 => flat_arrays::line_write(s, a, b, c, kept, types, p, target),
-        _ => flat_lines::line_two(k, s, a, b, kept, types, p, target),
+        _ => flat_lines::line_binary(k, s, a, b, kept, types, p, target),
     }
 }
 
@@ -50,7 +51,7 @@ pub fn line(
     target: &mut [u64],
 ) -> Made
     requires { ⌜ (knownOf false (kindIn rec) ≡ true) × Fit (notes (now kept) (now types)) p (lineOf rec) (length (now target)) ⌝ }
-    ensures { λ r. ⌜ Laid (notes (now (kept .entry)) (now (types .entry))) p (lineOf rec) (now (target .entry)) (now (target .exit)) r ⌝ }
+    ensures { λ r. ⌜ MadeFlat (notes (now (kept .entry)) (now (types .entry))) p (lineOf rec) (now (target .entry)) (now (target .exit)) r ⌝ }
 {
     let k = rec[0];
     if 10 < k {
@@ -63,7 +64,7 @@ pub fn line(
         if k == 10 {
             return flat_lines::line_output(a, kept, types, p, target);
         }
-        return flat_lines::line_mark(k == 8, a, kept, types, p, target);
+        return flat_lines::line_signal(k == 8, a, kept, types, p, target);
     }
     match k {
         1 => flat_lines::line_bitvec(a, kept, types, p, target),
@@ -71,6 +72,6 @@ pub fn line(
         3 => flat_lines::line_const(s, a, kept, types, p, target),
         4 => flat_lines::line_input(s, kept, types, p, target),
         5 => flat_arrays::line_state(s, kept, types, p, target),
-        _ => flat_arrays::line_give(k == 6, s, a, b, kept, types, p, target),
+        _ => flat_arrays::line_init_or_next(k == 6, s, a, b, kept, types, p, target),
     }
 }

@@ -14,20 +14,13 @@ ghost use lib.ListN.{length};
 ghost use Rattle.tables.specs.Lines.{Line, Expr};
 ghost use Rattle.tables.specs.Layout.{held};
 ghost use Rattle.flattening.specs.Placed.{putFlat};
-ghost use Rattle.flattening.specs.Making.{made, small as smallOf, notes, Fit, Laid};
+ghost use Rattle.flattening.specs.Model.Lines.{madeAs, small as smallOf, notes};
+ghost use Rattle.flattening.specs.Model.Fits.{Fit, MadeFlat};
 
 // A line that leaves one flat line.
-pub fn single(
-    rec: [u64; WORDS],
-    p: usize,
-    a: u64,
-    b: u64,
-    k: u64,
-    c: u64,
-    target: &mut [u64],
-) -> Made
+fn single(rec: [u64; WORDS], p: usize, a: u64, b: u64, k: u64, c: u64, target: &mut [u64]) -> Made
     requires { ⌜ p < held false (length (now target)) ⌝ }
-    ensures { λ r. ⌜ (r ≡ made (p + 1) a b 0 k c) × (now (target .exit) ≡ putFlat (now (target .entry)) p (rec ∷ [])) ⌝ }
+    ensures { λ r. ⌜ (r ≡ madeAs (p + 1) a b 0 k c) × (now (target .exit) ≡ putFlat (now (target .entry)) p (rec ∷ [])) ⌝ }
 {
     rows::put(target, p, rec);
     Made {
@@ -41,7 +34,7 @@ pub fn single(
 }
 
 // A small constant is kept as its value plus one.
-pub fn small(v: u64) -> u64
+fn small(v: u64) -> u64
     ensures { λ r. ⌜ r ≡ smallOf v ⌝ }
 {
     if v < 256 {
@@ -59,7 +52,7 @@ pub fn line_bitvec(
     target: &mut [u64],
 ) -> Made
     requires { ⌜ Fit (notes (now kept) (now types)) p (Line.bitvec w) (length (now target)) ⌝ }
-    ensures { λ r. ⌜ Laid (notes (now (kept .entry)) (now (types .entry))) p (Line.bitvec w) (now (target .entry)) (now (target .exit)) r ⌝ }
+    ensures { λ r. ⌜ MadeFlat (notes (now (kept .entry)) (now (types .entry))) p (Line.bitvec w) (now (target .entry)) (now (target .exit)) r ⌝ }
 {
     single(
         records::of(1, 0, w, 0, 0),
@@ -82,7 +75,7 @@ pub fn line_array(
     target: &mut [u64],
 ) -> Made
     requires { ⌜ Fit (notes (now kept) (now types)) p (Line.array i e) (length (now target)) ⌝ }
-    ensures { λ r. ⌜ Laid (notes (now (kept .entry)) (now (types .entry))) p (Line.array i e) (now (target .entry)) (now (target .exit)) r ⌝ }
+    ensures { λ r. ⌜ MadeFlat (notes (now (kept .entry)) (now (types .entry))) p (Line.array i e) (now (target .entry)) (now (target .exit)) r ⌝ }
 {
     let n = sources::index_size(types, i);
     flat_chains::array_lines(kept, cells::entry(kept, 0, i), n, p, target);
@@ -105,7 +98,7 @@ pub fn line_input(
     target: &mut [u64],
 ) -> Made
     requires { ⌜ Fit (notes (now kept) (now types)) p (Line.input s) (length (now target)) ⌝ }
-    ensures { λ r. ⌜ Laid (notes (now (kept .entry)) (now (types .entry))) p (Line.input s) (now (target .entry)) (now (target .exit)) r ⌝ }
+    ensures { λ r. ⌜ MadeFlat (notes (now (kept .entry)) (now (types .entry))) p (Line.input s) (now (target .entry)) (now (target .exit)) r ⌝ }
 {
     single(
         records::of(4, cells::entry(kept, 0, s), 0, 0, 0),
@@ -127,8 +120,8 @@ pub fn line_const(
     p: usize,
     target: &mut [u64],
 ) -> Made
-    requires { ⌜ Fit (notes (now kept) (now types)) p (Line.val s (Expr.const v)) (length (now target)) ⌝ }
-    ensures { λ r. ⌜ Laid (notes (now (kept .entry)) (now (types .entry))) p (Line.val s (Expr.const v)) (now (target .entry)) (now (target .exit)) r ⌝ }
+    requires { ⌜ Fit (notes (now kept) (now types)) p (Line.value s (Expr.const v)) (length (now target)) ⌝ }
+    ensures { λ r. ⌜ MadeFlat (notes (now (kept .entry)) (now (types .entry))) p (Line.value s (Expr.const v)) (now (target .entry)) (now (target .exit)) r ⌝ }
 {
     single(
         records::of(3, cells::entry(kept, 0, s), v, 0, 0),
@@ -142,7 +135,7 @@ pub fn line_const(
 }
 
 // An operator of one word is copied.
-pub fn line_one(
+pub fn line_unary(
     k: u64,
     s: u64,
     a: u64,
@@ -153,8 +146,8 @@ pub fn line_one(
     p: usize,
     target: &mut [u64],
 ) -> Made
-    requires { ⌜ Fit (notes (now kept) (now types)) p (Line.val s (Expr.one k a x y)) (length (now target)) ⌝ }
-    ensures { λ r. ⌜ Laid (notes (now (kept .entry)) (now (types .entry))) p (Line.val s (Expr.one k a x y)) (now (target .entry)) (now (target .exit)) r ⌝ }
+    requires { ⌜ Fit (notes (now kept) (now types)) p (Line.value s (Expr.unary k a x y)) (length (now target)) ⌝ }
+    ensures { λ r. ⌜ MadeFlat (notes (now (kept .entry)) (now (types .entry))) p (Line.value s (Expr.unary k a x y)) (now (target .entry)) (now (target .exit)) r ⌝ }
 {
     single(
         records::of(k, cells::entry(kept, 0, s), cells::cell(kept, a, 0), x, y),
@@ -168,7 +161,7 @@ pub fn line_one(
 }
 
 // An operator of two words is copied.
-pub fn line_two(
+pub fn line_binary(
     k: u64,
     s: u64,
     a: u64,
@@ -178,8 +171,8 @@ pub fn line_two(
     p: usize,
     target: &mut [u64],
 ) -> Made
-    requires { ⌜ Fit (notes (now kept) (now types)) p (Line.val s (Expr.two k a b)) (length (now target)) ⌝ }
-    ensures { λ r. ⌜ Laid (notes (now (kept .entry)) (now (types .entry))) p (Line.val s (Expr.two k a b)) (now (target .entry)) (now (target .exit)) r ⌝ }
+    requires { ⌜ Fit (notes (now kept) (now types)) p (Line.value s (Expr.binary k a b)) (length (now target)) ⌝ }
+    ensures { λ r. ⌜ MadeFlat (notes (now (kept .entry)) (now (types .entry))) p (Line.value s (Expr.binary k a b)) (now (target .entry)) (now (target .exit)) r ⌝ }
 {
     single(
         records::of(
@@ -199,7 +192,7 @@ pub fn line_two(
 }
 
 // bad and constraint are copied.
-pub fn line_mark(
+pub fn line_signal(
     m: bool,
     a: u64,
     kept: &[[u64; KEPT]],
@@ -207,8 +200,8 @@ pub fn line_mark(
     p: usize,
     target: &mut [u64],
 ) -> Made
-    requires { ⌜ Fit (notes (now kept) (now types)) p (Line.mark m a) (length (now target)) ⌝ }
-    ensures { λ r. ⌜ Laid (notes (now (kept .entry)) (now (types .entry))) p (Line.mark m a) (now (target .entry)) (now (target .exit)) r ⌝ }
+    requires { ⌜ Fit (notes (now kept) (now types)) p (Line.signal m a) (length (now target)) ⌝ }
+    ensures { λ r. ⌜ MadeFlat (notes (now (kept .entry)) (now (types .entry))) p (Line.signal m a) (now (target .entry)) (now (target .exit)) r ⌝ }
 {
     let x = cells::cell(kept, a, 0);
     if m {
@@ -226,7 +219,7 @@ pub fn line_output(
     target: &mut [u64],
 ) -> Made
     requires { ⌜ Fit (notes (now kept) (now types)) p (Line.output a) (length (now target)) ⌝ }
-    ensures { λ r. ⌜ Laid (notes (now (kept .entry)) (now (types .entry))) p (Line.output a) (now (target .entry)) (now (target .exit)) r ⌝ }
+    ensures { λ r. ⌜ MadeFlat (notes (now (kept .entry)) (now (types .entry))) p (Line.output a) (now (target .entry)) (now (target .exit)) r ⌝ }
 {
     single(
         records::of(10, 0, cells::cell(kept, a, 0), 0, 0),

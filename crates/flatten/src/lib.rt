@@ -1,5 +1,5 @@
 // Flattening: a circuit with arrays becomes a circuit of words alone.
-pub mod whole; // the pass over the lines
+mod whole; // the pass over the lines
 
 use flat_cells::cells::KEPT;
 use records::notes::BYTES;
@@ -12,7 +12,7 @@ ghost use Prim.Native.Nat.{_<_};
 ghost use lib.ListN.{length};
 ghost use Rattle.tables.specs.Answers.{told};
 ghost use Rattle.flattening.specs.Answers.{flattens};
-ghost use Rattle.flattening.specs.Begun.{Clear, Blank};
+ghost use Rattle.flattening.specs.Model.Start.{Clear, Blank};
 
 // The flat circuit of a table goes to the target. A small circuit takes small lists, which are sooner zero.
 pub fn flatten(table: &[u64], count: usize, target: &mut [u64]) -> Answer

@@ -8,7 +8,7 @@ ghost use mathlib.Core.List.{[], _∷_};
 ghost use lib.ListN.{length};
 ghost use Rattle.tables.specs.Answers.{told};
 ghost use Rattle.flattening.specs.Answers.{flattens};
-ghost use Rattle.flattening.specs.Begun.{Begun};
+ghost use Rattle.flattening.specs.Model.Start.{Begun};
 
 // The lines of an accepted table.
 pub fn all_lines(

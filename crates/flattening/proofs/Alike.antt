@@ -6,12 +6,12 @@ use mathlib.Core.List.{List, [], _∷_, _++_}
 use native.Mathlib.Nat.{le-refl, le-trans}
 use native.Mathlib.Omega.{arith}
 use lib.ListN.{length, take, drop, replicate, length-replicate}
-use Rattle.tables.specs.Lines.{Line, Expr, bitvec, array, input, state, val, give, mark, output, junk, const, one, two, cmp, ite, read, write}
+use Rattle.tables.specs.Lines.{Line, Expr, bitvec, array, input, state, value, initOrNext, signal, output, unknown, const, unary, binary, equality, ite, read, write}
 use Rattle.tables.specs.Types.{tyAt, given, noCtx}
 use Rattle.tables.proofs.Facts.{Ok, AllOk}
 use Rattle.circuits.specs.Layout.{Layout, layAll, layout}
-use Rattle.circuits.specs.Meaning.{Acc, Sig, noAcc, step}
-use Rattle.circuits.specs.Run.{rowOf, start, steps, run}
+use Rattle.circuits.specs.Meaning.{Frame, Signal, noFrame, step}
+use Rattle.circuits.specs.Run.{rowLength, start, steps, run}
 use Rattle.flattening.specs.Flat.{Info, noInfo, chunk, flattenFrom, flatten}
 use Rattle.flattening.proofs.Walk.{Alike, alike-refl, ev1, evs, evs-append, len-all, states-all, ok-append}
 use Rattle.flattening.proofs.Rel.{Inv, rel-none}
@@ -19,41 +19,41 @@ use Rattle.flattening.proofs.SimWords.{Keeps, sim-bitvec, sim-array, si
 use Rattle.flattening.proofs.SimStates.{sim-state, sim-give}
 use Rattle.flattening.proofs.SimArrays.{sim-ite, sim-cmp, sim-read, sim-write}
 
-no-state : (q : ℕ) → tyAt noCtx q .cls ≡ 4 → ⊥
+no-state : (q : ℕ) → tyAt noCtx q .role ≡ 4 → ⊥
 no-state zero e = omega arith
 no-state (suc q) e = omega arith
 
 module _ (f : Bool) (σ ι : List ℕ) where
-  sim-val : {A B : Acc} {I : List Info} {b : ℕ} (s : ℕ) (x : Expr) → Inv A B I → b ≡ length (B .env) → Ok false (tyAt (A .lay .ctx)) (given (A .lay .ctx)) (val s x)
-      → Keeps f σ ι A B I (val s x) (chunk I b (val s x))
+  sim-val : {A B : Frame} {I : List Info} {b : ℕ} (s : ℕ) (x : Expr) → Inv A B I → b ≡ length (B .env) → Ok false (tyAt (A .lay .ctx)) (given (A .lay .ctx)) (value s x)
+      → Keeps f σ ι A B I (value s x) (chunk I b (value s x))
   sim-val s (const c) v e k = sim-const f σ ι s c v e k
-  sim-val s (one h a x y) v e k = sim-one f σ ι s h a x y v e k
-  sim-val s (two h x y) v e k = sim-two f σ ι s h x y v e k
-  sim-val s (cmp t x y) v e k = sim-cmp f σ ι s t x y v e k
+  sim-val s (unary h a x y) v e k = sim-one f σ ι s h a x y v e k
+  sim-val s (binary h x y) v e k = sim-two f σ ι s h x y v e k
+  sim-val s (equality t x y) v e k = sim-cmp f σ ι s t x y v e k
   sim-val s (ite d x y) v e k = sim-ite f σ ι s d x y v e k
   sim-val s (read a i) v e k = sim-read f σ ι s a i v e k
   sim-val s (write a i x) v e k = sim-write f σ ι s a i x v e k
 
   -- any line
-  pub sim-line : {A B : Acc} {I : List Info} {b : ℕ} (l : Line) → Inv A B I → b ≡ length (B .env) → Ok false (tyAt (A .lay .ctx)) (given (A .lay .ctx)) l
+  pub sim-line : {A B : Frame} {I : List Info} {b : ℕ} (l : Line) → Inv A B I → b ≡ length (B .env) → Ok false (tyAt (A .lay .ctx)) (given (A .lay .ctx)) l
       → ev1 f σ ι A l .lay .counts .states ≤ length σ → Keeps f σ ι A B I l (chunk I b l)
   sim-line (bitvec w) v e k h = sim-bitvec f σ ι w v e k
   sim-line (array i el) v e k h = sim-array f σ ι i el v e k
   sim-line (input s) v e k h = sim-input f σ ι s v e k
   sim-line (state s) v e k h = sim-state f σ ι s v e k h
-  sim-line (val s x) v e k h = sim-val s x v e k
-  sim-line (give m s q a) v e k h = sim-give f σ ι m s q a v e k
-  sim-line (mark m a) v e k h = sim-mark f σ ι m a v e k
+  sim-line (value s x) v e k h = sim-val s x v e k
+  sim-line (initOrNext m s q a) v e k h = sim-give f σ ι m s q a v e k
+  sim-line (signal m a) v e k h = sim-mark f σ ι m a v e k
   sim-line (output a) v e k h = sim-output f σ ι a v e k
-  sim-line junk v e k h = absurd k
+  sim-line unknown v e k h = absurd k
 
-  record Flattens (A B : Acc) (ls fs : List Line) : Type 0 where
+  record Flattens (A B : Frame) (ls fs : List Line) : Type 0 where
     alike : Alike (evs f σ ι A ls) (evs f σ ι B fs)
     many : length (evs f σ ι A ls .sts) ≡ evs f σ ι A ls .lay .counts .states
     ok : AllOk false (B .lay .ctx) fs
 
   -- all lines: σ has a word for every state cell
-  sim-all : {A B : Acc} {I : List Info} {b : ℕ} (ls : List Line) → Inv A B I → b ≡ length (B .env) → AllOk false (A .lay .ctx) ls → evs f σ ι A ls .lay .counts .states ≤ length σ
+  sim-all : {A B : Frame} {I : List Info} {b : ℕ} (ls : List Line) → Inv A B I → b ≡ length (B .env) → AllOk false (A .lay .ctx) ls → evs f σ ι A ls .lay .counts .states ≤ length σ
       → Flattens A B ls (flattenFrom I b ls)
   sim-all [] v e k h = record { alike = v .alike; many = v .many; ok = tt }
   sim-all {A} {B} {I} {b} (l ∷ ls) v e k h =
@@ -63,12 +63,12 @@ module _ (f : Bool) (σ ι : List ℕ) where
       let s = sim-line l v e (k .0) (le-trans (states-all f σ ι (ev1 f σ ι A l) ls) h) in
       let r = sim-all {b = b + length L} ls (s .inv) (omega (arith, len-all f σ ι B L)) (k .1) h in
       record {
-        alike = subst⁻¹ (λ (X : Acc). Alike (evs f σ ι A (l ∷ ls)) X) (evs-append f σ ι B L R) (r .alike);
+        alike = subst⁻¹ (λ (X : Frame). Alike (evs f σ ι A (l ∷ ls)) X) (evs-append f σ ι B L R) (r .alike);
         many = r .many;
         ok = ok-append f σ ι B L R (s .ok) (r .ok);
       }
 
-  pub at-start : Inv noAcc noAcc (noInfo ∷ [])
+  pub at-start : Inv noFrame noFrame (noInfo ∷ [])
   at-start =
       record {
         evenA = record { types = refl; places = refl };
@@ -83,13 +83,13 @@ module _ (f : Bool) (σ ι : List ℕ) where
       }
 
   -- the places of lines depend on no value
-  evs-lay : (A : Acc) (ls : List Line) → evs f σ ι A ls .lay ≡ layAll false (A .lay) ls
+  evs-lay : (A : Frame) (ls : List Line) → evs f σ ι A ls .lay ≡ layAll false (A .lay) ls
   evs-lay A [] = refl
   evs-lay A (l ∷ ls) = evs-lay (ev1 f σ ι A l) ls
 
 pub step-lay : (f : Bool) (C : List Line) (σ ι : List ℕ) → step false f C σ ι .lay ≡ layout false C
 unfolding step layout
-step-lay f C σ ι = evs-lay f σ ι noAcc C
+step-lay f C σ ι = evs-lay f σ ι noFrame C
 
 -- what the rest of a run sees of a step, and how many state words it leaves
 record StepAlike (C : List Line) (f : Bool) (σ ι : List ℕ) : Type 0 where
@@ -141,19 +141,19 @@ steps-alike : (C : List Line) → AllOk false noCtx C → (k : ℕ) (σ I : List
 unfolding steps
 steps-alike C a zero σ I h = refl
 steps-alike C a (suc k) σ I h =
-    let n = rowOf false C in
+    let n = rowLength false C in
     let s = step-alike C a false σ (take n I) h in
     let D = step false false C σ (take n I) in
     ap (λ (m : ℕ). step false false (flatten C) σ (take m I) .sigs ∷ steps false (flatten C) k (step false false (flatten C) σ (take m I) .sts) (drop m I)) (counts-alike C a .inputs)
-    ∙ ap₂ (λ (g : List Sig) (t : List ℕ). g ∷ steps false (flatten C) k t (drop n I)) (s .alike .sigs) (s .alike .sts)
-    ∙ ap (λ (r : List (List Sig)). D .sigs ∷ r)
+    ∙ ap₂ (λ (g : List Signal) (t : List ℕ). g ∷ steps false (flatten C) k t (drop n I)) (s .alike .sigs) (s .alike .sts)
+    ∙ ap (λ (r : List (List Signal)). D .sigs ∷ r)
     (steps-alike C a k (D .sts) (drop n I) (subst⁻¹ (λ (m : ℕ). layout false C .counts .states ≤ m) (s .many) (le-refl (layout false C .counts .states))))
 
 -- the signals of every step, with their classes, for all steps and inputs, and for start words of every state cell
 pub runs-alike : (C : List Line) → AllOk false noCtx C → (k : ℕ) (S I : List ℕ) → layout false C .counts .states ≤ length S → run false (flatten C) k S I ≡ run false C k S I
 unfolding run start
 runs-alike C a k S I h =
-    let n = rowOf false C in
+    let n = rowLength false C in
     let s = step-alike C a true S (take n I) h in
     ap (λ (m : ℕ). steps false (flatten C) k (step false true (flatten C) S (take m I) .sts) I) (counts-alike C a .inputs)
     ∙ ap (λ (t : List ℕ). steps false (flatten C) k t I) (s .alike .sts)

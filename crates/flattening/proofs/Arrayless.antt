@@ -1,16 +1,15 @@
 -- No line of a flat circuit is an array sort, so no record of its table has kind 2. Assumes nothing.
-use Prim.Native.Nat.{ℕ, zero, suc, _+_, _^_}
-use mathlib.Core.Path.{_≡_, refl}
+use Prim.Native.Nat.{ℕ, zero, suc, _+_, _-_, _^_}
 use mathlib.Core.Logic.{_≢_}
 use mathlib.Core.Bool.{Bool, true, false}
 use mathlib.Core.Option.{Option, none, some}
 use mathlib.Core.List.{List, [], _∷_, _++_, map}
 use native.Mathlib.Omega.{arith}
 use lib.ListN.{length, getD, replicate}
-use Rattle.tables.specs.Lines.{Line, bitvec, array, input, state, val, give, mark, output, junk, const, one, two, cmp, ite, read, write, wordsOf, kindIn}
+use Rattle.tables.specs.Lines.{Line, bitvec, array, input, state, value, initOrNext, signal, output, unknown, const, unary, binary, equality, ite, read, write, wordsOf, kindIn}
 use Rattle.tables.specs.Types.{Ctx, tyAt, given, grow}
 use Rattle.tables.proofs.Facts.{Ok, AllOk}
-use Rattle.flattening.specs.Flat.{from, Info, noInfo, infoAt, linesAt, lineAt, chunk, chunkRead, chunkWrite, constLines, iteLines, cmpLines, joinLines, joinAll, writeLines, readLines, giveLines, givenLines, flattenFrom, flatten}
+use Rattle.flattening.specs.Flat.{from, Info, noInfo, infoAt, linesAt, lineAt, chunk, chunkRead, chunkWrite, constLines, iteLines, equalityLines, joinLines, writeLines, readChain, initOrNextLines, valueLines, flattenFrom, flatten}
 
 -- a line that is no array sort
 abbrev pub Plain : Line → Type 0
@@ -18,11 +17,11 @@ Plain (bitvec w) = Unit {0}
 Plain (array i e) = ⊥
 Plain (input s) = Unit {0}
 Plain (state s) = Unit {0}
-Plain (val s e) = Unit {0}
-Plain (give m s q v) = Unit {0}
-Plain (mark m a) = Unit {0}
+Plain (value s e) = Unit {0}
+Plain (initOrNext m s q v) = Unit {0}
+Plain (signal m a) = Unit {0}
 Plain (output a) = Unit {0}
-Plain junk = Unit {0}
+Plain unknown = Unit {0}
 
 abbrev pub AllPlain : List Line → Type 0
 AllPlain [] = Unit {0}
@@ -40,7 +39,7 @@ states-plain : (n s : ℕ) → AllPlain (replicate n (state s))
 states-plain zero s = tt
 states-plain (suc n) s = (tt, states-plain n s)
 
-gives-plain : (m : Bool) (s : ℕ) (qs vs : List ℕ) → AllPlain (giveLines m s qs vs)
+gives-plain : (m : Bool) (s : ℕ) (qs vs : List ℕ) → AllPlain (initOrNextLines m s qs vs)
 gives-plain m s [] vs = tt
 gives-plain m s (q ∷ qs) [] = tt
 gives-plain m s (q ∷ qs) (v ∷ vs) = (tt, gives-plain m s qs vs)
@@ -50,7 +49,7 @@ ites-plain s c [] qs = tt
 ites-plain s c (p ∷ ps) [] = tt
 ites-plain s c (p ∷ ps) (q ∷ qs) = (tt, ites-plain s c ps qs)
 
-cmps-plain : (e : Bool) (s : ℕ) (ps qs : List ℕ) → AllPlain (cmpLines e s ps qs)
+cmps-plain : (e : Bool) (s : ℕ) (ps qs : List ℕ) → AllPlain (equalityLines e s ps qs)
 cmps-plain e s [] qs = tt
 cmps-plain e s (p ∷ ps) [] = tt
 cmps-plain e s (p ∷ ps) (q ∷ qs) = (tt, cmps-plain e s ps qs)
@@ -59,24 +58,18 @@ joins-plain : (e : Bool) (s r b : ℕ) (ps : List ℕ) → AllPlain (joinLines e
 joins-plain e s r b [] = tt
 joins-plain e s r b (p ∷ ps) = (tt, joins-plain e s b (suc b) ps)
 
-all-joins-plain : (e : Bool) (s b : ℕ) (ps : List ℕ) → AllPlain (joinAll e s b ps)
-all-joins-plain e s b [] = tt
-all-joins-plain e s b (p ∷ ps) = joins-plain e s p b ps
-
 writes-plain : (o s i v b : ℕ) (ks ps : List ℕ) → AllPlain (writeLines o s i v b ks ps)
 writes-plain o s i v b [] ps = tt
 writes-plain o s i v b (k ∷ ks) [] = tt
 writes-plain o s i v b (k ∷ ks) (p ∷ ps) = (tt, (tt, writes-plain o s i v (suc (suc b)) ks ps))
 
-reads-plain : (o s i b : ℕ) (ks : List ℕ) (p : ℕ) (ps : List ℕ) → AllPlain (readLines o s i b ks p ps .made)
-reads-plain o s i b ks p [] = tt
-reads-plain o s i b [] p (q ∷ ps) = tt
-reads-plain o s i b (k ∷ ks) p (q ∷ ps) = plain-append (readLines o s i b ks q ps .made) _ (reads-plain o s i b ks q ps) (tt, (tt, tt))
+reads-plain : (o s i : ℕ) (ks ps : List ℕ) (r b k : ℕ) → AllPlain (readChain o s i ks ps r b k)
+reads-plain o s i ks ps r b zero = tt
+reads-plain o s i ks ps r b (suc k) = (tt, (tt, reads-plain o s i ks ps (suc b) (suc (suc b)) k))
 
-read-plain : (f g : Info) (c : Option ℕ) (i b : ℕ) (ps : List ℕ) → g .cells ≡ ps → AllPlain (chunkRead f g c i b .lines)
-read-plain f g (some k) i b ps e = tt
-read-plain f g none i b [] e = rw e tt
-read-plain f g none i b (p ∷ ps) e = rw e (reads-plain (g .bit) (f .elem) i b (g .index) p ps)
+read-plain : (f g : Info) (c : Option ℕ) (i b : ℕ) → AllPlain (chunkRead f g c i b .lines)
+read-plain f g (some k) i b = tt
+read-plain f g none i b = let k = length (g .cells) - 1 in reads-plain (g .bit) (f .elem) i (g .index) (g .cells) (getD (g .cells) k 0) b k
 
 write-plain : (f : Info) (ps : List ℕ) (c : Option ℕ) (i v b : ℕ) → AllPlain (chunkWrite f ps c i v b .lines)
 write-plain f ps (some k) i v b = tt
@@ -87,20 +80,20 @@ chunk-plain I b (bitvec w) = (tt, tt)
 chunk-plain I b (array i e) = (tt, consts-plain (infoAt I i .elem) (from 0 (2 ^ (infoAt I i .width))))
 chunk-plain I b (input s) = (tt, tt)
 chunk-plain I b (state s) = states-plain (infoAt I s .size) (infoAt I s .elem)
-chunk-plain I b (val s (const v)) = (tt, tt)
-chunk-plain I b (val s (one k a x y)) = (tt, tt)
-chunk-plain I b (val s (two k x y)) = (tt, tt)
-chunk-plain I b (val s (cmp e x y)) =
+chunk-plain I b (value s (const v)) = (tt, tt)
+chunk-plain I b (value s (unary k a x y)) = (tt, tt)
+chunk-plain I b (value s (binary k x y)) = (tt, tt)
+chunk-plain I b (value s (equality e x y)) =
     let n = length (linesAt I x) in
-    plain-append (cmpLines e (infoAt I s .elem) (linesAt I x) (linesAt I y)) _ (cmps-plain e (infoAt I s .elem) (linesAt I x) (linesAt I y))
-    (all-joins-plain e (infoAt I s .elem) (b + n) (from b n))
-chunk-plain I b (val s (ite c x y)) = ites-plain (infoAt I s .elem) (lineAt I c) (linesAt I x) (linesAt I y)
-chunk-plain I b (val s (read a i)) = read-plain (infoAt I s) (infoAt I a) (infoAt I i .known) (lineAt I i) b (linesAt I a) refl
-chunk-plain I b (val s (write a i v)) = write-plain (infoAt I s) (linesAt I a) (infoAt I i .known) (lineAt I i) (lineAt I v) b
-chunk-plain I b (give m s q v) = gives-plain m (infoAt I s .elem) (linesAt I q) (givenLines I m (length (linesAt I q)) v)
-chunk-plain I b (mark m a) = (tt, tt)
+    plain-append (equalityLines e (infoAt I s .elem) (linesAt I x) (linesAt I y)) _ (cmps-plain e (infoAt I s .elem) (linesAt I x) (linesAt I y))
+    (joins-plain e (infoAt I s .elem) b (b + n) (from (suc b) (n - 1)))
+chunk-plain I b (value s (ite c x y)) = ites-plain (infoAt I s .elem) (lineAt I c) (linesAt I x) (linesAt I y)
+chunk-plain I b (value s (read a i)) = read-plain (infoAt I s) (infoAt I a) (infoAt I i .known) (lineAt I i) b
+chunk-plain I b (value s (write a i v)) = write-plain (infoAt I s) (linesAt I a) (infoAt I i .known) (lineAt I i) (lineAt I v) b
+chunk-plain I b (initOrNext m s q v) = gives-plain m (infoAt I s .elem) (linesAt I q) (valueLines I m (length (linesAt I q)) v)
+chunk-plain I b (signal m a) = (tt, tt)
 chunk-plain I b (output a) = (tt, tt)
-chunk-plain I b junk = (tt, tt)
+chunk-plain I b unknown = (tt, tt)
 
 all-plain : (I : List Info) (b : ℕ) (ls : List Line) → AllPlain (flattenFrom I b ls)
 all-plain I b [] = tt
@@ -119,20 +112,20 @@ plain-kind c (bitvec w) h k e = omega arith
 plain-kind c (array i x) h k e = h
 plain-kind c (input s) h k e = omega arith
 plain-kind c (state s) h k e = omega arith
-plain-kind c (val s (const v)) h k e = omega arith
-plain-kind c (val s (one n a x y)) h k e = let l = k .kind .0 in omega arith
-plain-kind c (val s (two n x y)) h k e = let l = k .least in omega arith
-plain-kind c (val s (cmp true x y)) h k e = omega arith
-plain-kind c (val s (cmp false x y)) h k e = omega arith
-plain-kind c (val s (ite d x y)) h k e = omega arith
-plain-kind c (val s (read a i)) h k e = omega arith
-plain-kind c (val s (write a i v)) h k e = omega arith
-plain-kind c (give true s q v) h k e = omega arith
-plain-kind c (give false s q v) h k e = omega arith
-plain-kind c (mark true a) h k e = omega arith
-plain-kind c (mark false a) h k e = omega arith
+plain-kind c (value s (const v)) h k e = omega arith
+plain-kind c (value s (unary n a x y)) h k e = let l = k .kind .0 in omega arith
+plain-kind c (value s (binary n x y)) h k e = let l = k .least in omega arith
+plain-kind c (value s (equality true x y)) h k e = omega arith
+plain-kind c (value s (equality false x y)) h k e = omega arith
+plain-kind c (value s (ite d x y)) h k e = omega arith
+plain-kind c (value s (read a i)) h k e = omega arith
+plain-kind c (value s (write a i v)) h k e = omega arith
+plain-kind c (initOrNext true s q v) h k e = omega arith
+plain-kind c (initOrNext false s q v) h k e = omega arith
+plain-kind c (signal true a) h k e = omega arith
+plain-kind c (signal false a) h k e = omega arith
 plain-kind c (output a) h k e = omega arith
-plain-kind c junk h k e = k
+plain-kind c unknown h k e = k
 
 -- the kind of every record
 pub no-kind-two : (c : Ctx) (ls : List Line) → AllPlain ls → AllOk false c ls → (i : ℕ) → kindIn (getD (map wordsOf ls) i []) ≢ 2

@@ -1,21 +1,35 @@
 -- Lists of cells: what a write's and a read's chains of ites come to, and an eq's chain of ands; cells stay words. Assumes nothing.
-use Prim.Native.Nat.{ℕ, zero, suc, _+_, _%_, _^_, _≤_, _<_}
+use Prim.Native.Nat.{ℕ, zero, suc, _+_, _-_, _%_, _^_, _≤_, _<_}
 use mathlib.Core.Path.{_≡_, refl, sym, ap, ap₂, _∙_, subst}
 use mathlib.Core.Logic.{_≢_}
 use mathlib.Core.Bool.{Bool, true, false, _&&_}
 use mathlib.Core.List.{List, [], _∷_}
-use native.Mathlib.Nat.{mod-lt, le-of-suc-le-suc, not-suc-le-zero}
+use native.Mathlib.Nat.{mod-lt}
 use native.Mathlib.Omega.{arith}
+use native.Mathlib.Decide.{decLt}
 use lib.Dec.{T, eqb, eqb→eq, eqb-refl}
 use lib.Pow.{pow-pos}
 use lib.ListN.{length, getD, set, take, replicate}
 use lib.Seq.{drop-cons}
 use Rattle.words.specs.Word.{bit}
-use Rattle.circuits.specs.Cells.{choose, say, same, lows, part}
-use Rattle.circuits.specs.Meaning.{Acc, stateWords}
+use Rattle.circuits.specs.Cells.{ifNonzero, eqOrNeq, sameCells, maskWords, part}
+use Rattle.circuits.specs.Meaning.{Frame, stateWords}
 use Rattle.flattening.specs.Flat.{from}
 use Rattle.flattening.proofs.Walk.{Word, Holds, none, more, Small}
 use Rattle.flattening.proofs.Chains.{hit, writes, picks, chooses, cmpVals, joinVal, joinVals}
+
+-- ---- numbers in a row
+
+pub length-from : (b n : ℕ) → length (from b n) ≡ n
+length-from b zero = refl
+length-from b (suc n) = ap suc (length-from (suc b) n)
+
+pub from-at : (b n j : ℕ) → j < n → getD (from b n) j 0 ≡ b + j
+from-at b zero j h = absurd (omega arith)
+from-at b (suc n) zero h = omega arith
+from-at b (suc n) (suc j) h = from-at (suc b) n j (omega arith) ∙ omega arith
+
+-- ---- is the index the constant
 
 T-true : (b : Bool) → T b → b ≡ true
 T-true true t = refl
@@ -50,20 +64,40 @@ writes-set i v cs = writes-at i 0 i v cs (omega arith)
 
 -- ---- read
 
-picks-at : (i k j : ℕ) (c : ℕ) (cs : List ℕ) → i ≡ k + j → j < suc (length cs) → picks i (from k (suc (length cs))) c cs ≡ getD (c ∷ cs) j 0
-picks-at i k zero c [] e h = refl
-picks-at i k (suc j) c [] e h = absurd (not-suc-le-zero (le-of-suc-le-suc h))
-picks-at i k zero c (d ∷ cs) e h =
-    let z : i ≡ k = omega arith in
-    rw (z, hit-same k)
-picks-at i k (suc j) c (d ∷ cs) e h = rw (hit-other i k (omega arith)) (picks-at i (suc k) j d cs (omega arith) (le-of-suc-le-suc h))
+-- the constant k is the number k
+constant : (n k : ℕ) → k < n → getD (from 0 n) k 0 ≡ k
+constant n k h = from-at 0 n k h ∙ omega arith
 
-pub picks-get : (i : ℕ) (c : ℕ) (cs : List ℕ) → i < suc (length cs) → picks i (from 0 (suc (length cs))) c cs ≡ getD (c ∷ cs) i 0
-picks-get i c cs h = picks-at i 0 i c cs (omega arith) h
+picks-past : (i n v k : ℕ) (cs : List ℕ) → k ≤ i → k ≤ n → picks i (from 0 n) cs v k ≡ v
+picks-past i n v zero cs h l = refl
+picks-past i n v (suc k) cs h l =
+    ap (λ (x : ℕ). picks i (from 0 n) cs (ifNonzero x (getD cs k 0) v) k) (ap (hit i) (constant n k l) ∙ hit-other i k (λ e. omega arith))
+    ∙ picks-past i n v k cs (omega arith) (omega arith)
+
+picks-at : (i n v k : ℕ) (cs : List ℕ) → i < k → k ≤ n → picks i (from 0 n) cs v k ≡ getD cs i 0
+picks-at i n v zero cs h l = absurd (omega arith)
+picks-at i n v (suc k) cs h l = go (λ q. picks-at i n (ifNonzero (hit i (getD (from 0 n) k 0)) (getD cs k 0) v) k cs q (omega arith)) (decLt i k)
+  where
+    go : (i < k → picks i (from 0 n) cs v (suc k) ≡ getD cs i 0) → Dec (i < k) → picks i (from 0 n) cs v (suc k) ≡ getD cs i 0
+    go r (yes q) = r q
+    go r (no q) =
+        let e : i ≡ k = omega arith in
+        picks-past i n (ifNonzero (hit i (getD (from 0 n) k 0)) (getD cs k 0) v) k cs (omega arith) (omega arith)
+        ∙ ap (λ (x : ℕ). ifNonzero x (getD cs k 0) v) (ap (hit i) (constant n k l ∙ sym e) ∙ hit-same i) ∙ ap (λ (x : ℕ). getD cs x 0) (sym e)
+
+-- from the last cell on
+pub picks-get : (i n : ℕ) (cs : List ℕ) → i < n → picks i (from 0 n) cs (getD cs (n - 1) 0) (n - 1) ≡ getD cs i 0
+picks-get i n cs h = go (decLt i (n - 1))
+  where
+    go : Dec (i < n - 1) → picks i (from 0 n) cs (getD cs (n - 1) 0) (n - 1) ≡ getD cs i 0
+    go (yes q) = picks-at i n (getD cs (n - 1) 0) (n - 1) cs q (omega arith)
+    go (no q) =
+        let e : n - 1 ≡ i = omega arith in
+        picks-past i n (getD cs (n - 1) 0) (n - 1) cs (omega arith) (omega arith) ∙ ap (λ (x : ℕ). getD cs x 0) e
 
 -- ---- eq and neq
 
-join-bit : (e u q : Bool) → joinVal e (bit (say e u)) (bit (say e (q && true))) ≡ bit (say e (u && q))
+join-bit : (e u q : Bool) → joinVal e (bit (eqOrNeq e u)) (bit (eqOrNeq e (q && true))) ≡ bit (eqOrNeq e (u && q))
 join-bit true true true = refl
 join-bit true true false = refl
 join-bit true false true = refl
@@ -77,33 +111,22 @@ and-assoc : (a b c : Bool) → (a && b) && c ≡ a && (b && c)
 and-assoc true b c = refl
 and-assoc false b c = refl
 
-joins-from : (e u : Bool) (xs ys : List ℕ) → length xs ≡ length ys → joinVals e (bit (say e u)) (cmpVals e xs ys) ≡ bit (say e (u && same xs ys))
+joins-from : (e u : Bool) (xs ys : List ℕ) → length xs ≡ length ys → joinVals e (bit (eqOrNeq e u)) (cmpVals e xs ys) ≡ bit (eqOrNeq e (u && sameCells xs ys))
 joins-from e true [] ys n = refl
 joins-from e false [] ys n = refl
 joins-from e u (x ∷ xs) [] n = absurd (omega arith)
 joins-from e u (x ∷ xs) (y ∷ ys) n =
     ap (λ (v : ℕ). joinVals e v (cmpVals e xs ys)) (join-bit e u (eqb x y))
     ∙ joins-from e (u && eqb x y) xs ys (omega arith)
-    ∙ ap (λ (b : Bool). bit (say e b)) (and-assoc u (eqb x y) (same xs ys))
+    ∙ ap (λ (b : Bool). bit (eqOrNeq e b)) (and-assoc u (eqb x y) (sameCells xs ys))
 
 pub joins-agree : (e : Bool) (x y : ℕ) (xs ys : List ℕ) → length xs ≡ length ys
-    → joinVals e (bit (say e (same (x ∷ []) (y ∷ [])))) (cmpVals e xs ys) ≡ bit (say e (same (x ∷ xs) (y ∷ ys)))
-joins-agree e x y xs ys n = joins-from e (eqb x y && true) xs ys n ∙ ap (λ (b : Bool). bit (say e b)) (and-assoc (eqb x y) true (same xs ys))
-
--- ---- lengths
-
-pub length-from : (b n : ℕ) → length (from b n) ≡ n
-length-from b zero = refl
-length-from b (suc n) = ap suc (length-from (suc b) n)
-
-pub from-at : (b n j : ℕ) → j < n → getD (from b n) j 0 ≡ b + j
-from-at b zero j h = absurd (omega arith)
-from-at b (suc n) zero h = omega arith
-from-at b (suc n) (suc j) h = from-at (suc b) n j (omega arith) ∙ omega arith
+    → joinVals e (bit (eqOrNeq e (sameCells (x ∷ []) (y ∷ [])))) (cmpVals e xs ys) ≡ bit (eqOrNeq e (sameCells (x ∷ xs) (y ∷ ys)))
+joins-agree e x y xs ys n = joins-from e (eqb x y && true) xs ys n ∙ ap (λ (b : Bool). bit (eqOrNeq e b)) (and-assoc (eqb x y) true (sameCells xs ys))
 
 -- ---- ite
 
-pub chooses-choose : (d : ℕ) (xs ys : List ℕ) → length xs ≡ length ys → chooses d xs ys ≡ choose d xs ys
+pub chooses-choose : (d : ℕ) (xs ys : List ℕ) → length xs ≡ length ys → chooses d xs ys ≡ ifNonzero d xs ys
 chooses-choose zero [] [] n = refl
 chooses-choose (suc d) [] ys n = refl
 chooses-choose zero [] (y ∷ ys) n = absurd (omega arith)
@@ -112,7 +135,7 @@ chooses-choose zero (x ∷ xs) (y ∷ ys) n = ap (λ (l : List ℕ). y ∷ l) (c
 chooses-choose (suc d) (x ∷ xs) (y ∷ ys) n = ap (λ (l : List ℕ). x ∷ l) (chooses-choose (suc d) xs ys (omega arith))
 
 -- what holds of both lists holds of the one chosen
-pub choose-has : (P : List ℕ → Type 0) (d : ℕ) {xs ys : List ℕ} → P xs → P ys → P (choose d xs ys)
+pub choose-has : (P : List ℕ → Type 0) (d : ℕ) {xs ys : List ℕ} → P xs → P ys → P (ifNonzero d xs ys)
 choose-has P zero x y = y
 choose-has P (suc d) x y = x
 
@@ -123,13 +146,13 @@ abbrev pub taken : List ℕ → (a n w : ℕ) → List ℕ
 taken σ a zero w = []
 taken σ a (suc n) w = getD σ a 0 % 2 ^ w ∷ taken σ (suc a) n w
 
-pub lows-taken : (σ : List ℕ) (a n w : ℕ) → a + n ≤ length σ → lows w (part σ a n) ≡ taken σ a n w
+pub lows-taken : (σ : List ℕ) (a n w : ℕ) → a + n ≤ length σ → maskWords w (part σ a n) ≡ taken σ a n w
 lows-taken σ a zero w h = refl
 lows-taken σ a (suc n) w h =
-    ap (λ (l : List ℕ). lows w (take (suc n) l)) (drop-cons σ a 0 (omega arith)) ∙ ap (λ (l : List ℕ). getD σ a 0 % 2 ^ w ∷ l) (lows-taken σ (suc a) n w (omega arith))
+    ap (λ (l : List ℕ). maskWords w (take (suc n) l)) (drop-cons σ a 0 (omega arith)) ∙ ap (λ (l : List ℕ). getD σ a 0 % 2 ^ w ∷ l) (lows-taken σ (suc a) n w (omega arith))
 
 -- in a circuit state words are always taken modulo 2 ^ w
-pub state-lows : (f : Bool) (w : ℕ) (xs : List ℕ) → stateWords false f w xs ≡ lows w xs
+pub state-lows : (f : Bool) (w : ℕ) (xs : List ℕ) → stateWords false f w xs ≡ maskWords w xs
 state-lows true w xs = refl
 state-lows false w xs = refl
 
@@ -163,16 +186,11 @@ small-bit false = omega arith
 
 -- ---- a constant index
 
-pub holds-at : {u : Bool} {A : Acc} {w : ℕ} {ps cs : List ℕ} (j : ℕ) → Holds A u w ps cs → j < length cs → Word A u (getD ps j 0) w (getD cs j 0)
-holds-at j none h = absurd (not-suc-le-zero h)
-holds-at zero (more x r) h = x
-holds-at (suc j) (more x r) h = holds-at j r (le-of-suc-le-suc h)
-
-pub holds-set : {u : Bool} {A : Acc} {w p v : ℕ} {ps cs : List ℕ} (j : ℕ) → Holds A u w ps cs → Word A u p w v → Holds A u w (set ps j p) (set cs j v)
+pub holds-set : {u : Bool} {A : Frame} {w p v : ℕ} {ps cs : List ℕ} (j : ℕ) → Holds A u w ps cs → Word A u p w v → Holds A u w (set ps j p) (set cs j v)
 holds-set j none h = none
 holds-set zero (more x r) h = more h r
 holds-set (suc j) (more x r) h = more x (holds-set j r h)
 
-pub holds-replicate : {u : Bool} {A : Acc} {w p v : ℕ} (n : ℕ) → Word A u p w v → Holds A u w (replicate n p) (replicate n v)
+pub holds-replicate : {u : Bool} {A : Frame} {w p v : ℕ} (n : ℕ) → Word A u p w v → Holds A u w (replicate n p) (replicate n v)
 holds-replicate zero h = none
 holds-replicate (suc n) h = more h (holds-replicate n h)

@@ -11,14 +11,14 @@ use lib.ListN.{length, getD, replicate}
 use borrow.Author.Tests.{ne-eqb}
 use Rattle.tables.specs.declared.Ty.{Ty}
 use Rattle.tables.specs.Pick.{pick, among, alike}
-use Rattle.tables.specs.Lines.{Line, state, give}
+use Rattle.tables.specs.Lines.{Line, state, initOrNext}
 use Rattle.tables.specs.Types.{givenBy}
 use Rattle.tables.specs.Rules.{valueIndex}
 use Rattle.tables.proofs.Facts.{OkValue, AllOk}
-use Rattle.circuits.specs.Cells.{lows, part, put}
-use Rattle.circuits.specs.Layout.{Place, typeAt, placeAt, size}
-use Rattle.circuits.specs.Meaning.{Acc, stateCells, givenWords}
-use Rattle.flattening.specs.Flat.{from, giveLines}
+use Rattle.circuits.specs.Cells.{maskWords, part, put}
+use Rattle.circuits.specs.Layout.{typeAt, placeAt, size}
+use Rattle.circuits.specs.Meaning.{Frame, stateCells, givenWords}
+use Rattle.flattening.specs.Flat.{from, initOrNextLines}
 use Rattle.flattening.proofs.Walk.{Even, Ext, ext-refl, ext-trans, SortAt, Word, Holds, StateAt, States, none, more, sort-ext, word-ext, word-val, word-ok, state-ext, ev1, evs, len1, ext-line, new-type, new-place, new-word, gave-same}
 use Rattle.flattening.proofs.CellLaws.{taken, lows-taken, state-lows}
 use Rattle.flattening.proofs.Stores.{stored-none, stored-more, length-stored}
@@ -41,10 +41,10 @@ among-one : (x q : ℕ) → x ≢ q → among x (q ∷ []) ≡ false
 among-one x q n = rw (ne-eqb x q n)
 
 -- a state and those whose state words come after its own are different lines
-fresh-more : {O : Acc} {lo w a k q : ℕ} {qs : List ℕ} (d : List ℕ) → StateAt O lo a w q → States O lo w k qs → a < k → Fresh d qs → Fresh (d ++ (q ∷ [])) qs
+fresh-more : {O : Frame} {lo w a k q : ℕ} {qs : List ℕ} (d : List ℕ) → StateAt O lo a w q → States O lo w k qs → a < k → Fresh d qs → Fresh (d ++ (q ∷ [])) qs
 fresh-more d s none h g = tt
 fresh-more {O} {a = a} {k} {q} d s (more {p = p} t r) h g =
-    let differ : p ≢ q = λ e. let z : k ≡ a = sym (t .at) ∙ ap (λ (n : ℕ). placeAt (O .lay) n .at) e ∙ s .at in omega arith in
+    let differ : p ≢ q = λ e. let z : k ≡ a = sym (t .at) ∙ ap (placeAt (O .lay)) e ∙ s .at in omega arith in
     (among-append p d (q ∷ []) (g .0) (among-one p q differ), fresh-more d s r (omega arith) (g .1))
 
 -- ---- what an init or a next is given
@@ -62,15 +62,15 @@ inits-tail : (m u : Bool) (lo v : ℕ) (vs : List ℕ) → Inits m u lo (v ∷ v
 inits-tail true u lo v vs h = (h .0, h .1 .1)
 inits-tail false u lo v vs h = tt
 
-give-value : {A : Acc} {u : Bool} {w c lo q v : ℕ} (m : Bool) (vs : List ℕ) → Inits m u lo (v ∷ vs) → Word A u v w c → lo ≤ q → OkValue m q v (typeAt (A .lay) v)
-give-value {A} {v = v} true vs i h l = record { word = word-ok h; below = le-trans (i .1 .0) l; fixed = eqb→eq (typeAt (A .lay) v .cls) 2 (h .fixed (i .0)) }
+give-value : {A : Frame} {u : Bool} {w c lo q v : ℕ} (m : Bool) (vs : List ℕ) → Inits m u lo (v ∷ vs) → Word A u v w c → lo ≤ q → OkValue m q v (typeAt (A .lay) v)
+give-value {A} {v = v} true vs i h l = record { word = word-ok h; below = le-trans (i .1 .0) l; fixed = eqb→eq (typeAt (A .lay) v .role) 2 (h .fixed (i .0)) }
 give-value false vs i h l = record { is = h .is }
 
 value-index : (m : Bool) (t : Ty) → t .iw ≡ 0 → 0 ≡ valueIndex m t
 value-index true t e = refl
 value-index false t e = sym e
 
-one-given : {A : Acc} {u : Bool} {w c v : ℕ} (m : Bool) → Word A u v w c → givenWords A m 1 v ≡ c ∷ []
+one-given : {A : Frame} {u : Bool} {w c v : ℕ} (m : Bool) → Word A u v w c → givenWords A m 1 v ≡ c ∷ []
 one-given true h = ap (λ (x : ℕ). x ∷ []) (word-val h)
 one-given false h = h .cells
 
@@ -88,7 +88,7 @@ alike-self false = refl
 
 module _ (f : Bool) (σ ι : List ℕ) where
   -- after the lines ls, which keep the rules, there are k state words so far, and these are the words that they leave
-  pub record Left (A : Acc) (ls : List Line) (k : ℕ) (ws : List ℕ) : Type 0 where
+  pub record Left (A : Frame) (ls : List Line) (k : ℕ) (ws : List ℕ) : Type 0 where
     pub ext : Ext A (evs f σ ι A ls)
     pub states : evs f σ ι A ls .lay .counts .states ≡ k
     pub inputs : evs f σ ι A ls .lay .counts .inputs ≡ A .lay .counts .inputs
@@ -99,32 +99,32 @@ module _ (f : Bool) (σ ι : List ℕ) where
 
   -- ---- states
 
-  pub record StatesRun (A : Acc) (ls : List Line) (lo b n w : ℕ) (cs : List ℕ) : Type 0 where
+  pub record StatesRun (A : Frame) (ls : List Line) (lo b n w : ℕ) (cs : List ℕ) : Type 0 where
     pub left : Left A ls (A .lay .counts .states + n) (A .sts ++ cs)
     pub gave : (m : Bool) → givenBy m (evs f σ ι A ls .lay .ctx) ≡ givenBy m (A .lay .ctx)
     pub holds : Holds (evs f σ ι A ls) false w (from b n) cs
     pub places : States (evs f σ ι A ls) lo w (A .lay .counts .states) (from b n)
 
-  state-cells : {A : Acc} {s w : ℕ} → SortAt A s w → A .lay .counts .states < length σ → stateCells false f σ A (state s) ≡ getD σ (A .lay .counts .states) 0 % 2 ^ w ∷ []
+  state-cells : {A : Frame} {s w : ℕ} → SortAt A s w → A .lay .counts .states < length σ → stateCells false f σ A (state s) ≡ getD σ (A .lay .counts .states) 0 % 2 ^ w ∷ []
   state-cells {A} {s} {w} hs h =
       let a = A .lay .counts .states in
       let t = typeAt (A .lay) s in
-      state-lows f (t .w) (part σ a (size t)) ∙ ap₂ (λ (x i : ℕ). lows x (part σ a (2 ^ i))) (hs .wide) (hs .flat) ∙ lows-taken σ a 1 w (omega arith)
+      state-lows f (t .w) (part σ a (size t)) ∙ ap₂ (λ (x i : ℕ). maskWords x (part σ a (2 ^ i))) (hs .wide) (hs .flat) ∙ lows-taken σ a 1 w (omega arith)
 
-  state-place : {A : Acc} {lo b s w : ℕ} → lo ≤ b → Even A → b ≡ length (A .env) → SortAt A s w → StateAt (ev1 f σ ι A (state s)) lo (A .lay .counts .states) w b
+  state-place : {A : Frame} {lo b s w : ℕ} → lo ≤ b → Even A → b ≡ length (A .env) → SortAt A s w → StateAt (ev1 f σ ι A (state s)) lo (A .lay .counts .states) w b
   state-place {A} {lo} {b} {s} g ev e hs =
       let h = new-type f σ ι ev (state s) b e in
       record {
         inb = omega (arith, len1 f σ ι A (state s));
-        is = ap (λ (t : Ty). t .cls) h;
+        is = ap (λ (t : Ty). t .role) h;
         flat = ap (λ (t : Ty). t .iw) h ∙ hs .flat;
         wide = ap (λ (t : Ty). t .w) h ∙ hs .wide;
-        at = ap (λ (x : Place). x .at) (new-place f σ ι ev (state s) b e);
+        at = new-place f σ ι ev (state s) b e;
         low = g;
         room = rw (hs .flat) (omega arith);
       }
 
-  pub run-states : {O A : Acc} {lo b s w : ℕ} (n : ℕ) → lo ≤ b → Ext O A → b ≡ length (A .env) → SortAt O s w → A .lay .counts .states + n ≤ length σ
+  pub run-states : {O A : Frame} {lo b s w : ℕ} (n : ℕ) → lo ≤ b → Ext O A → b ≡ length (A .env) → SortAt O s w → A .lay .counts .states + n ≤ length σ
       → StatesRun A (replicate n (state s)) lo b n w (taken σ (A .lay .counts .states) n w)
   run-states {A = A} zero g x e hs r =
       record {
@@ -174,18 +174,18 @@ module _ (f : Bool) (σ ι : List ℕ) where
 
   -- ---- init and next
 
-  pub record Gives (A : Acc) (m : Bool) (ls : List Line) (qs ws : List ℕ) : Type 0 where
+  pub record Gives (A : Frame) (m : Bool) (ls : List Line) (qs ws : List ℕ) : Type 0 where
     pub left : Left A ls (A .lay .counts .states) ws
     pub gave : (n : Bool) → givenBy n (evs f σ ι A ls .lay .ctx) ≡ pick (alike n m) (givenBy n (A .lay .ctx) ++ qs) (givenBy n (A .lay .ctx))
 
-  pub gave-give : (A : Acc) (m : Bool) (s q v : ℕ) (n : Bool)
-      → givenBy n (ev1 f σ ι A (give m s q v) .lay .ctx) ≡ pick (alike n m) (givenBy n (A .lay .ctx) ++ (q ∷ [])) (givenBy n (A .lay .ctx))
+  pub gave-give : (A : Frame) (m : Bool) (s q v : ℕ) (n : Bool)
+      → givenBy n (ev1 f σ ι A (initOrNext m s q v) .lay .ctx) ≡ pick (alike n m) (givenBy n (A .lay .ctx) ++ (q ∷ [])) (givenBy n (A .lay .ctx))
   gave-give A m s q v true = refl
   gave-give A m s q v false = refl
 
-  pub run-gives : {O A : Acc} {lo a s w : ℕ} {u : Bool} {qs vs cs : List ℕ} (m : Bool) → Ext O A → SortAt O s w → States O lo w a qs → Holds O u w vs cs → length qs ≡ length vs
+  pub run-gives : {O A : Frame} {lo a s w : ℕ} {u : Bool} {qs vs cs : List ℕ} (m : Bool) → Ext O A → SortAt O s w → States O lo w a qs → Holds O u w vs cs → length qs ≡ length vs
       → Inits m u lo vs → Fresh (givenBy m (A .lay .ctx)) qs → a + length qs ≤ length (A .sts)
-      → Gives A m (giveLines m s qs vs) qs (pick (alike f m) (put (A .sts) a cs) (A .sts))
+      → Gives A m (initOrNextLines m s qs vs) qs (pick (alike f m) (put (A .sts) a cs) (A .sts))
   run-gives {A = A} {a = a} m x hs none none n i g r =
       record {
         left =
@@ -195,7 +195,7 @@ module _ (f : Bool) (σ ι : List ℕ) where
   run-gives m x hs none (more h t) n i g r = absurd (omega arith)
   run-gives m x hs (more p ps) none n i g r = absurd (omega arith)
   run-gives {A = A} {lo} {a} {s} {w} {u} m x hs (more {p = q} {ps = qs} p ps) (more {p = v} {c = c} {ps = vs} {cs = cs} h t) n i g r =
-      let l = give m s q v in
+      let l = initOrNext m s q v in
       let y = ext-line f σ ι (x .even) l in
       let hA = sort-ext x hs in
       let pA = state-ext x p in

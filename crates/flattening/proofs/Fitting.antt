@@ -16,11 +16,11 @@ use Rattle.words.specs.Model.Widths.{Widths, widthOf}
 use Rattle.words.proofs.Bounds.{circ-lt}
 use Rattle.tables.specs.declared.Ty.{Ty}
 use Rattle.tables.specs.Kinds.{rowOf, secondClass, thirdClass}
-use Rattle.tables.specs.Rules.{fitsOne, fitsTwo}
+use Rattle.tables.specs.Rules.{fitsUnary, fitsBinary}
 use Rattle.tables.specs.Tables.{unused}
 use Rattle.tables.proofs.Every.{at-each}
 use Rattle.tables.proofs.Kept.{both}
-use Rattle.tables.proofs.Facts.{OkOne, OkTwo}
+use Rattle.tables.proofs.Facts.{OkUnary, OkBinary}
 
 -- a test that is computed for n kinds from i on
 from-to : (f : ℕ → Bool) (i n k : ℕ) → ((m : ℕ) → m < n → T (f (m + i))) → i ≤ k → k < n + i → T (f k)
@@ -52,7 +52,7 @@ two-class? clear k = false
 two-class : (k : ℕ) → 23 ≤ k → k ≤ 52 → T (two-class? (classOf (opOf k)) k)
 two-class k h l = from-to (λ k. two-class? (classOf (opOf k)) k) 23 30 k (at-each (λ m. two-class? (classOf (opOf (m + 23))) (m + 23)) 30 tt) h (omega arith)
 
-module _ (k w u v : ℕ) (e : fitsTwo k w u v ≡ true) where
+module _ (k w u v : ℕ) (e : fitsBinary k w u v ≡ true) where
   two-bit : k ≤ 30 → (w ≡ 1) × (v ≡ u)
   two-bit h = let g = both (eqb w 1) (eqb v u) (rw (le-leb k 30 h) at e) in (eqb-true w 1 (g .0), eqb-true v u (g .1))
 
@@ -90,7 +90,7 @@ module _ (k w u v : ℕ) (e : fitsTwo k w u v ≡ true) where
   two-fit clear b c t m = absurd t
 
 -- the result of an operator of two words that keeps the rules
-pub two-lt : {t a b : Ty} (k x y : ℕ) → OkTwo t k a b → Width (t .w) → Width (a .w) → x < 2 ^ (a .w) → y < 2 ^ (b .w) → circ (opOf k) (a .w) (b .w) x y 0 < 2 ^ (t .w)
+pub two-lt : {t a b : Ty} (k x y : ℕ) → OkBinary t k a b → Width (t .w) → Width (a .w) → x < 2 ^ (a .w) → y < 2 ^ (b .w) → circ (opOf k) (a .w) (b .w) x y 0 < 2 ^ (t .w)
 two-lt {t} {a} {b} k x y o wt wa hx hy =
     let q = classOf (opOf k) in
     let r = two-fit k (t .w) (a .w) (b .w) (o .rule) q y 0 (two-class k (o .least) (o .most)) (wt .most) in
@@ -118,7 +118,7 @@ one-class? clear k = false
 one-class : (k : ℕ) → 11 ≤ k → k ≤ 20 → T (one-class? (classOf (opOf k)) k)
 one-class k h l = from-to (λ k. one-class? (classOf (opOf k)) k) 11 10 k (at-each (λ m. one-class? (classOf (opOf (m + 11))) (m + 11)) 10 tt) h (omega arith)
 
-module _ (k w u x y : ℕ) (l : k ≤ 20) (e : fitsOne k w u x y ≡ true) where
+module _ (k w u x y : ℕ) (l : k ≤ 20) (e : fitsUnary k w u x y ≡ true) where
   not-mask : eqb k 56 ≡ false
   not-mask = ne-eqb k 56 (λ z. omega arith)
 
@@ -133,7 +133,7 @@ module _ (k w u x y : ℕ) (l : k ≤ 20) (e : fitsOne k w u x y ≡ true) where
 
   one-cut : k ≡ 18 → (y ≤ x) × ((x < u) × (w + y ≡ suc x))
   one-cut z =
-      let g : (leb y x && (ltb x u && eqb (w + y) (suc x))) ≡ true = subst (λ (n : ℕ). fitsOne n w u x y ≡ true) z e in
+      let g : (leb y x && (ltb x u && eqb (w + y) (suc x))) ≡ true = subst (λ (n : ℕ). fitsUnary n w u x y ≡ true) z e in
       let g₁ = both (leb y x) _ g in
       let g₂ = both (ltb x u) _ (g₁ .1) in
       (leb-true y x (g₁ .0), (ltb-true x u (g₂ .0), eqb-true (w + y) (suc x) (g₂ .1)))
@@ -183,7 +183,7 @@ by-or false b t f g = g t
 few : (n : ℕ) → n ≤ 64 → n < 2 ^ 64
 few n h = lt-of-le-of-lt h (lit< tt)
 
-module _ {t a : Ty} (k x y : ℕ) (o : OkOne false t k a x y) (wt : Width (t .w)) (wa : Width (a .w)) where
+module _ {t a : Ty} (k x y : ℕ) (o : OkUnary false t k a x y) (wt : Width (t .w)) (wa : Width (a .w)) where
   second-lt : x < 2 ^ 64
   second-lt = go (leb k 17) refl
     where

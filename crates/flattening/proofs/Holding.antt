@@ -11,8 +11,8 @@ use lib.ListN.{length, getD, replicate}
 use borrow.Author.Tests.{eqb-true, eqb-false, eq-eqb, ne-eqb}
 use Rattle.tables.specs.Pick.{pick}
 use Rattle.flattening.specs.declared.Source.{Source}
-use Rattle.flattening.specs.Model.{Held, nothing, keptOf, atOf, oldOf, keyOf, cellBy, cellIn, Sound, Tame, turnAt, sourceAt}
-use Rattle.flattening.specs.Making.{run, of, runDown, ofDown}
+use Rattle.flattening.specs.Model.Cells.{Held, nothing, keptOf, atOf, oldOf, keyOf, cellBy, cellIn, Sound}
+use Rattle.flattening.specs.Model.Rows.{Tame, turnAt, sourceAt, stepping, of, runDown, ofDown}
 
 -- a step of a row
 pub product : (x j : ℕ) → x ≤ 256 → j < 256 → x * j ≤ 65536
@@ -100,7 +100,7 @@ source-own H s j i t e = ap (λ (x : ℕ). s .base + s .step * x) t ∙ rw (eq-e
 pub source-cell : (H : Held) (s : Source) (j i r : ℕ) → i ≡ turnAt s j → s .line ≢ 0 → r ≡ cellIn H (s .line) i → r ≡ sourceAt H s j
 source-cell H s j i r t d e = e ∙ ap (λ (x : ℕ). cellIn H (s .line) x) t ∙ rw (ne-eqb (s .line) 0 d)
 
-pub tame-run : (b s : ℕ) → b ≤ 1048576 → s ≤ 256 → Tame (run b s)
+pub tame-run : (b s : ℕ) → b ≤ 1048576 → s ≤ 256 → Tame (stepping b s)
 tame-run b s h l = record { base = h; step = l; top = omega arith }
 
 pub tame-of : (a : ℕ) → Tame (of a)

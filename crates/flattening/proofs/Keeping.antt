@@ -1,9 +1,9 @@
 -- What the code keeps of a line, put to the lists, tells what the definition keeps of it; and of earlier lines it still does. Assumes nothing.
-use Prim.Native.Nat.{ℕ, zero, suc, _+_, _-_, _*_, _≤_, _<_}
+use Prim.Native.Nat.{ℕ, zero, suc, _+_, _*_, _≤_, _<_}
 use mathlib.Core.Path.{_≡_, refl, sym, ap, ap₂, _∙_, subst⁻¹}
 use mathlib.Core.Logic.{_≢_}
 use mathlib.Core.Bool.{Bool, true, false}
-use mathlib.Core.List.{List, [], _∷_}
+use mathlib.Core.List.{List, []}
 use native.Mathlib.Omega.{arith}
 use native.Mathlib.Decide.{decLt}
 use lib.Dec.{eqb}
@@ -14,9 +14,9 @@ use Rattle.tables.specs.declared.Ty.{Ty}
 use Rattle.tables.specs.Pick.{pick}
 use Rattle.tables.specs.Lines.{fields}
 use Rattle.flattening.specs.declared.Made.{Made}
-use Rattle.flattening.specs.Flat.{from, Info, writeCells, joined, joinedAll}
-use Rattle.flattening.specs.Model.{Held, nothing, keptOf, atOf, oldOf, keyOf, cellBy, cellIn, Sound}
-use Rattle.flattening.specs.Making.{Notes, notes}
+use Rattle.flattening.specs.Flat.{Info, writeCells}
+use Rattle.flattening.specs.Model.Cells.{Held, nothing, keptOf, atOf, oldOf, keyOf, cellBy, cellIn, Sound}
+use Rattle.flattening.specs.Model.Lines.{Notes, notes}
 use Rattle.flattening.proofs.Holding.{cell-own, cell-new, cell-old}
 use Rattle.flattening.proofs.Agreeing.{KnownNote, NoteRel}
 
@@ -150,24 +150,11 @@ module _ (N : Notes) (n : ℕ) (m : Made) where
 
 -- ---- the flat lines of chains
 
-pub write-cell : (b : ℕ) (ks ps : List ℕ) → length ks ≡ length ps → (j : ℕ) → j < length ps → getD (writeCells b ks ps) j 0 ≡ suc (b + 2 * j)
-write-cell b [] [] e j l = absurd (omega arith)
-write-cell b [] (p ∷ ps) e j l = absurd (omega arith)
-write-cell b (k ∷ ks) [] e j l = absurd (omega arith)
-write-cell b (k ∷ ks) (p ∷ ps) e zero l = omega arith
-write-cell b (k ∷ ks) (p ∷ ps) e (suc j) l = write-cell (suc (suc b)) ks ps (omega arith) j (omega arith) ∙ omega arith
+pub write-cell : (b n j : ℕ) → j < n → getD (writeCells b n) j 0 ≡ suc (b + 2 * j)
+write-cell b zero j l = absurd (omega arith)
+write-cell b (suc n) zero l = omega arith
+write-cell b (suc n) (suc j) l = write-cell (suc (suc b)) n j (omega arith) ∙ omega arith
 
-pub write-length : (b : ℕ) (ks ps : List ℕ) → length ks ≡ length ps → length (writeCells b ks ps) ≡ length ps
-write-length b [] [] e = refl
-write-length b [] (p ∷ ps) e = absurd (omega arith)
-write-length b (k ∷ ks) [] e = absurd (omega arith)
-write-length b (k ∷ ks) (p ∷ ps) e = ap suc (write-length (suc (suc b)) ks ps (omega arith))
-
-joined-end : (c q n : ℕ) → joined c (suc c) (from q n) ≡ c + n
-joined-end c q zero = omega arith
-joined-end c q (suc n) = joined-end (suc c) (suc q) n ∙ omega arith
-
-pub joined-all : (p n : ℕ) → 0 < n → joinedAll (suc p + n) (from (suc p) n) ≡ p + (n + (n - 1))
-joined-all p zero h = absurd (omega arith)
-joined-all p (suc zero) h = omega arith
-joined-all p (suc (suc m)) h = joined-end (suc p + suc (suc m)) (suc (suc (suc p))) m ∙ omega arith
+pub write-length : (b n : ℕ) → length (writeCells b n) ≡ n
+write-length b zero = refl
+write-length b (suc n) = ap suc (write-length (suc (suc b)) n)

@@ -9,13 +9,15 @@ use lib.Dec.{eqb}
 use lib.Pow.{pow-mono}
 use borrow.Author.Tests.{eq-eqb, ne-eqb, eqb-true, eqb-false, le-leb, lt-leb}
 use lib.Arith.{lt-of-le-ne}
-use Rattle.tables.specs.Lines.{Line, Expr, Shape, isBitvec, isArray, isConst, isInput, isState, isOutput, isOne, isTwo, isIte, isRead, isWrite, isJunk, isGive, isMark, isCmp, shapeOf, build, fields, lineOf, kindIn, sortIn as sortOf, firstIn, secondIn, thirdIn}
+use Rattle.tables.specs.Lines.{Line, Expr, Shape, isBitvec, isArray, isConst, isInput, isState, isOutput, isUnary, isBinary, isIte, isRead, isWrite, isUnknown, isInitOrNext, isSignal, isEquality, shapeOf, build, fields, lineOf, kindIn, sortIn as sortOf, firstIn, secondIn, thirdIn}
 use Rattle.tables.specs.Tables.{known}
 use Rattle.tables.proofs.Laws.{past, within}
 use Rattle.tables.proofs.Shapes.{KindOf, kind-of, line-as, shape-one, shape-two, range}
 use Rattle.flattening.specs.declared.Made.{Made}
-use Rattle.flattening.specs.Model.{Held, cellIn, rowsFor, rowAt}
-use Rattle.flattening.specs.Making.{run, still, joinRecords, Notes, sortIn, wordIn, bitIn, conIn, sizeIn, made, flatCount, lineRecords, flatMade, readRecords, writeRecords, Fit, Laid}
+use Rattle.flattening.specs.Model.Cells.{Held, cellIn}
+use Rattle.flattening.specs.Model.Rows.{rowsFor, rowAt, stepping, still, joinRecords, readRecords, writeRecords}
+use Rattle.flattening.specs.Model.Lines.{Notes, sortLine, wordLine, bitIn, conIn, sizeIn, madeAs, flatCount, lineRecords, flatMade}
+use Rattle.flattening.specs.Model.Fits.{Fit, MadeFlat}
 
 -- an index width of at most 8 means at most 256 cells
 pub size-le : (w : ℕ) → w ≤ 8 → 2 ^ w ≤ 256
@@ -39,40 +41,40 @@ eight w h a b c d e f g i = top h (past (past (past (past (past (past (past (pas
 pub join-none : (H : Held) (p j s n : ℕ) → n < 2 → joinRecords H p j s n ≡ []
 join-none H p j s n h = rw (lt-leb 2 n h)
 
-pub join-some : (H : Held) (p j s n : ℕ) → 2 ≤ n → joinRecords H p j s n ≡ fields j s (p + 1) (p + 2) 0 ∷ rowsFor (n - 2) (rowAt H j s (run (p + n + 1) 1) (run (p + 3) 1) (still 0))
+pub join-some : (H : Held) (p j s n : ℕ) → 2 ≤ n → joinRecords H p j s n ≡ fields j s (p + 1) (p + 2) 0 ∷ rowsFor (n - 2) (rowAt H j s (stepping (p + n + 1) 1) (stepping (p + 3) 1) (still 0))
 join-some H p j s n h = rw (le-leb 2 n h)
 
 module _ (N : Notes) (p s a i : ℕ) where
   -- by a constant index
-  pub read-con : conIn N i ≢ 0 → flatMade N p (Line.val s (Expr.read a i)) ≡ made p (cellIn (N .held) a (conIn N i - 1)) (bitIn N s) 0 1 0
-  read-con d = let e : p + 0 ≡ p = omega arith in rw (ne-eqb (conIn N i) 0 d) (ap (λ (q : ℕ). made q (cellIn (N .held) a (conIn N i - 1)) (bitIn N s) 0 1 0) e)
+  pub read-con : conIn N i ≢ 0 → flatMade N p (Line.value s (Expr.read a i)) ≡ madeAs p (cellIn (N .held) a (conIn N i - 1)) (bitIn N s) 0 1 0
+  read-con d = let e : p + 0 ≡ p = omega arith in rw (ne-eqb (conIn N i) 0 d) (ap (λ (q : ℕ). madeAs q (cellIn (N .held) a (conIn N i - 1)) (bitIn N s) 0 1 0) e)
 
-  pub read-con-records : conIn N i ≢ 0 → lineRecords N p (Line.val s (Expr.read a i)) ≡ []
+  pub read-con-records : conIn N i ≢ 0 → lineRecords N p (Line.value s (Expr.read a i)) ≡ []
   read-con-records d = rw (ne-eqb (conIn N i) 0 d)
 
   -- by any other
-  pub read-any : conIn N i ≡ 0 → flatMade N p (Line.val s (Expr.read a i)) ≡ made (p + 2 * (sizeIn N a - 1)) (p + 2 * (sizeIn N a - 1)) (bitIn N s) 0 1 0
+  pub read-any : conIn N i ≡ 0 → flatMade N p (Line.value s (Expr.read a i)) ≡ madeAs (p + 2 * (sizeIn N a - 1)) (p + 2 * (sizeIn N a - 1)) (bitIn N s) 0 1 0
   read-any e = rw (eq-eqb (conIn N i) 0 e)
 
-  pub read-any-count : conIn N i ≡ 0 → flatCount N (Line.val s (Expr.read a i)) ≡ 2 * (sizeIn N a - 1)
+  pub read-any-count : conIn N i ≡ 0 → flatCount N (Line.value s (Expr.read a i)) ≡ 2 * (sizeIn N a - 1)
   read-any-count e = rw (eq-eqb (conIn N i) 0 e)
 
-  pub read-any-records : conIn N i ≡ 0 → lineRecords N p (Line.val s (Expr.read a i)) ≡ readRecords (N .held) p (bitIn N a) (wordIn N i) (sortIn N s) a (sizeIn N a)
+  pub read-any-records : conIn N i ≡ 0 → lineRecords N p (Line.value s (Expr.read a i)) ≡ readRecords (N .held) p (bitIn N a) (wordLine N i) (sortLine N s) a (sizeIn N a)
   read-any-records e = rw (eq-eqb (conIn N i) 0 e)
 
-  pub write-con : (v : ℕ) → conIn N i ≢ 0 → flatMade N p (Line.val s (Expr.write a i v)) ≡ made p (wordIn N v) (bitIn N s) a (conIn N i - 1) 0
-  write-con v d = let e : p + 0 ≡ p = omega arith in rw (ne-eqb (conIn N i) 0 d) (ap (λ (q : ℕ). made q (wordIn N v) (bitIn N s) a (conIn N i - 1) 0) e)
+  pub write-con : (v : ℕ) → conIn N i ≢ 0 → flatMade N p (Line.value s (Expr.write a i v)) ≡ madeAs p (wordLine N v) (bitIn N s) a (conIn N i - 1) 0
+  write-con v d = let e : p + 0 ≡ p = omega arith in rw (ne-eqb (conIn N i) 0 d) (ap (λ (q : ℕ). madeAs q (wordLine N v) (bitIn N s) a (conIn N i - 1) 0) e)
 
-  pub write-con-records : (v : ℕ) → conIn N i ≢ 0 → lineRecords N p (Line.val s (Expr.write a i v)) ≡ []
+  pub write-con-records : (v : ℕ) → conIn N i ≢ 0 → lineRecords N p (Line.value s (Expr.write a i v)) ≡ []
   write-con-records v d = rw (ne-eqb (conIn N i) 0 d)
 
-  pub write-any : (v : ℕ) → conIn N i ≡ 0 → flatMade N p (Line.val s (Expr.write a i v)) ≡ made (p + 2 * sizeIn N s) (p + 2) (bitIn N s) 0 2 0
+  pub write-any : (v : ℕ) → conIn N i ≡ 0 → flatMade N p (Line.value s (Expr.write a i v)) ≡ madeAs (p + 2 * sizeIn N s) (p + 2) (bitIn N s) 0 2 0
   write-any v e = rw (eq-eqb (conIn N i) 0 e)
 
-  pub write-any-count : (v : ℕ) → conIn N i ≡ 0 → flatCount N (Line.val s (Expr.write a i v)) ≡ 2 * sizeIn N s
+  pub write-any-count : (v : ℕ) → conIn N i ≡ 0 → flatCount N (Line.value s (Expr.write a i v)) ≡ 2 * sizeIn N s
   write-any-count v e = rw (eq-eqb (conIn N i) 0 e)
 
-  pub write-any-records : (v : ℕ) → conIn N i ≡ 0 → lineRecords N p (Line.val s (Expr.write a i v)) ≡ writeRecords (N .held) p (bitIn N s) (wordIn N i) (sortIn N s) (wordIn N v) a (sizeIn N s)
+  pub write-any-records : (v : ℕ) → conIn N i ≡ 0 → lineRecords N p (Line.value s (Expr.write a i v)) ≡ writeRecords (N .held) p (bitIn N s) (wordLine N i) (sortLine N s) (wordLine N v) a (sizeIn N s)
   write-any-records v e = rw (eq-eqb (conIn N i) 0 e)
 
 -- ---- by the kind of a record
@@ -80,18 +82,18 @@ module _ (N : Notes) (p s a i : ℕ) where
 pub fit-as : {N : Notes} {p len : ℕ} {l m : Line} → l ≡ m → Fit N p l len → Fit N p m len
 fit-as {N} {p} {len} e h = subst (λ (x : Line). Fit N p x len) e h
 
-pub laid-as : {N : Notes} {p : ℕ} {t u : List ℕ} {r : Made} {l m : Line} → l ≡ m → Laid N p m t u r → Laid N p l t u r
-laid-as {N} {p} {t} {u} {r} e h = subst⁻¹ (λ (x : Line). Laid N p x t u r) e h
+pub laid-as : {N : Notes} {p : ℕ} {t u : List ℕ} {r : Made} {l m : Line} → l ≡ m → MadeFlat N p m t u r → MadeFlat N p l t u r
+laid-as {N} {p} {t} {u} {r} e h = subst⁻¹ (λ (x : Line). MadeFlat N p x t u r) e h
 
 pub as-key : (r : List ℕ) (n : ℕ) → kindIn r ≡ n → lineOf r ≡ build (shapeOf n) (kindIn r) (sortOf r) (firstIn r) (secondIn r) (thirdIn r)
 as-key r n e = line-as r (shapeOf n) (ap shapeOf e)
 
-pub as-one : (r : List ℕ) → 10 < kindIn r → kindIn r ≤ 20 → lineOf r ≡ build isOne (kindIn r) (sortOf r) (firstIn r) (secondIn r) (thirdIn r)
-as-one r h l = line-as r isOne (shape-one (kindIn r) h l)
+pub as-one : (r : List ℕ) → 10 < kindIn r → kindIn r ≤ 20 → lineOf r ≡ build isUnary (kindIn r) (sortOf r) (firstIn r) (secondIn r) (thirdIn r)
+as-one r h l = line-as r isUnary (shape-one (kindIn r) h l)
 
 pub as-two : (r : List ℕ) → 22 < kindIn r → known false (kindIn r) ≡ true → (kindIn r ≡ 53 → ⊥) → (kindIn r ≡ 54 → ⊥) → (kindIn r ≡ 55 → ⊥)
-    → lineOf r ≡ build isTwo (kindIn r) (sortOf r) (firstIn r) (secondIn r) (thirdIn r)
-as-two r h e c d f = line-as r isTwo (shape-two (kindIn r) h (fewer (fewer (fewer (range 1 55 (kindIn r) e .1) f) d) c))
+    → lineOf r ≡ build isBinary (kindIn r) (sortOf r) (firstIn r) (secondIn r) (thirdIn r)
+as-two r h e c d f = line-as r isBinary (shape-two (kindIn r) h (fewer (fewer (fewer (range 1 55 (kindIn r) e .1) f) d) c))
   where
     fewer : {k n : ℕ} → k ≤ suc n → (k ≡ suc n → ⊥) → k ≤ n
     fewer x y = within (lt-of-le-ne x y)
@@ -107,16 +109,16 @@ as-either r n F h l f g = go (eqb (kindIn r) n) refl
         top : suc n ≤ kindIn r → kindIn r ≤ suc n → kindIn r ≡ suc n
         top x y = omega arith
 
-pub as-cmp : (r : List ℕ) → 20 < kindIn r → kindIn r ≤ 22 → lineOf r ≡ Line.val (sortOf r) (Expr.cmp (eqb (kindIn r) 21) (firstIn r) (secondIn r))
-as-cmp r h l = as-either r 21 (λ b. Line.val (sortOf r) (Expr.cmp b (firstIn r) (secondIn r))) h l (as-key r 21) (as-key r 22)
+pub as-cmp : (r : List ℕ) → 20 < kindIn r → kindIn r ≤ 22 → lineOf r ≡ Line.value (sortOf r) (Expr.equality (eqb (kindIn r) 21) (firstIn r) (secondIn r))
+as-cmp r h l = as-either r 21 (λ b. Line.value (sortOf r) (Expr.equality b (firstIn r) (secondIn r))) h l (as-key r 21) (as-key r 22)
 
-pub as-mark : (r : List ℕ) → 7 < kindIn r → kindIn r ≤ 10 → (kindIn r ≡ 10 → ⊥) → lineOf r ≡ Line.mark (eqb (kindIn r) 8) (firstIn r)
-as-mark r h l d = as-either r 8 (λ b. Line.mark b (firstIn r)) h (within (lt-of-le-ne l d)) (as-key r 8) (as-key r 9)
+pub as-mark : (r : List ℕ) → 7 < kindIn r → kindIn r ≤ 10 → (kindIn r ≡ 10 → ⊥) → lineOf r ≡ Line.signal (eqb (kindIn r) 8) (firstIn r)
+as-mark r h l d = as-either r 8 (λ b. Line.signal b (firstIn r)) h (within (lt-of-le-ne l d)) (as-key r 8) (as-key r 9)
 
 pub as-give : (r : List ℕ) → known false (kindIn r) ≡ true → kindIn r ≤ 7 → (kindIn r ≡ 1 → ⊥) → (kindIn r ≡ 2 → ⊥) → (kindIn r ≡ 3 → ⊥) → (kindIn r ≡ 4 → ⊥) → (kindIn r ≡ 5 → ⊥)
-    → lineOf r ≡ Line.give (eqb (kindIn r) 6) (sortOf r) (firstIn r) (secondIn r)
+    → lineOf r ≡ Line.initOrNext (eqb (kindIn r) 6) (sortOf r) (firstIn r) (secondIn r)
 as-give r e l a₁ a₂ a₃ a₄ a₅ =
-    as-either r 6 (λ b. Line.give b (sortOf r) (firstIn r) (secondIn r)) (past (past (past (past (past (range 1 55 (kindIn r) e .0) a₁) a₂) a₃) a₄) a₅) l (as-key r 6) (as-key r 7)
+    as-either r 6 (λ b. Line.initOrNext b (sortOf r) (firstIn r) (secondIn r)) (past (past (past (past (past (range 1 55 (kindIn r) e .0) a₁) a₂) a₃) a₄) a₅) l (as-key r 6) (as-key r 7)
 
 -- the kinds that leave one flat line
 pub count-rest : (N : Notes) (r : List ℕ) → known false (kindIn r) ≡ true → (kindIn r ≡ 2 → ⊥) → (kindIn r ≡ 5 → ⊥) → (kindIn r ≡ 6 → ⊥) → (kindIn r ≡ 7 → ⊥) → (kindIn r ≡ 21 → ⊥) → (kindIn r ≡ 22 → ⊥)
@@ -133,14 +135,14 @@ count-rest N r e a₂ a₅ a₆ a₇ b₁ b₂ c₃ c₄ c₅ = go (shapeOf (kin
     go isInput q h = made-one isInput q refl
     go isState q h = absurd (a₅ h)
     go isOutput q h = made-one isOutput q refl
-    go isOne q h = made-one isOne q refl
-    go isTwo q h = made-one isTwo q refl
+    go isUnary q h = made-one isUnary q refl
+    go isBinary q h = made-one isBinary q refl
     go isIte q h = absurd (c₃ h)
     go isRead q h = absurd (c₄ h)
     go isWrite q h = absurd (c₅ h)
-    go isJunk q h = made-one isJunk q refl
-    go (isGive true) q h = absurd (a₆ h)
-    go (isGive false) q h = absurd (a₇ h)
-    go (isMark m) q h = made-one (isMark m) q refl
-    go (isCmp true) q h = absurd (b₁ h)
-    go (isCmp false) q h = absurd (b₂ h)
+    go isUnknown q h = made-one isUnknown q refl
+    go (isInitOrNext true) q h = absurd (a₆ h)
+    go (isInitOrNext false) q h = absurd (a₇ h)
+    go (isSignal m) q h = made-one (isSignal m) q refl
+    go (isEquality true) q h = absurd (b₁ h)
+    go (isEquality false) q h = absurd (b₂ h)

@@ -8,6 +8,7 @@ use native.Mathlib.Omega.{arith}
 use lib.Dec.{leb}
 use lib.ListN.{length, getD}
 use borrow.Author.Tests.{leb-true}
+use Rattle.tables.specs.Answers.{ifAccepted, leftBy}
 use Rattle.tables.specs.declared.Refusal.{Refusal}
 use Rattle.tables.specs.declared.Refusal.the-variants.{NotATable, TargetTooSmall}
 use Rattle.tables.specs.declared.Checked.{Checked}
@@ -28,7 +29,7 @@ use Rattle.circuits.specs.Layout.{layout}
 use Rattle.circuits.specs.Run.{run, bytes, firstBad}
 use Rattle.flattening.specs.Flat.{flatten, flatLines, flatRecords}
 use Rattle.flattening.specs.Placed.{flatFilled}
-use Rattle.flattening.specs.Answers.{answerOf, flattened, leftOf, targetLeft}
+use Rattle.flattening.specs.Answers.{flattened, flatLeft}
 use Rattle.flattening.proofs.Alike.{flat-ok, SameCounts, counts-alike, runs-alike}
 use Rattle.flattening.proofs.Arrayless.{flat-plain, no-kind-two}
 use Rattle.flattening.proofs.Placing.{length-flat-filled, records-flat, accepted-flat, lines-flat}
@@ -54,7 +55,7 @@ answered t n len m e = go (whole false (length t) && whole false len) (checked f
     M = length (flatLines t n)
 
     go : (a : Bool) (c : Checked) (b : Bool) → (whole false (length t) && whole false len) ≡ a → checked false t n ≡ c → leb M (room false len) ≡ b
-        → pick a (answerOf c (pick b (Done M) (Refused TargetTooSmall 0))) (Refused NotATable 0) ≡ Done m → Answered t n len m
+        → pick a (ifAccepted c (pick b (Done M) (Refused TargetTooSmall 0))) (Refused NotATable 0) ≡ Done m → Answered t n len m
     go true Accepted true p q r z =
         let d = done-count M m z in
         record { accepted = q; even = both (whole false (length t)) (whole false len) p .1; count = d; fits = subst (λ (x : ℕ). x ≤ room false len) d (leb-true M (room false len) r) }
@@ -76,9 +77,9 @@ module _ (t : List ℕ) (n len m : ℕ) (e : flattened t n len ≡ Done m) where
   okF : AllOk false noCtx F
   okF = flat-ok (linesOf false t n) ok
 
-  left : targetLeft t n len ≡ flatFilled len (map wordsOf F)
-  unfolding targetLeft flatRecords
-  left = ap (λ (r : Answer). leftOf r len (map wordsOf (flatLines t n))) e
+  left : flatLeft t n len ≡ flatFilled len (map wordsOf F)
+  unfolding flatLeft flatRecords
+  left = ap (λ (r : Answer). leftBy r len (flatFilled len (map wordsOf (flatLines t n)))) e
 
   small : (m ≤ 16384) × (m ≤ held false len)
   small = roomy false len m (a .fits)
@@ -87,37 +88,37 @@ module _ (t : List ℕ) (n len m : ℕ) (e : flattened t n len ≡ Done m) where
   fits = omega (arith, a .count, small .1)
 
   -- the target keeps its length
-  pub target-length : length (targetLeft t n len) ≡ len
+  pub target-length : length (flatLeft t n len) ≡ len
   target-length = ap length left ∙ length-flat-filled len (map wordsOf F)
 
   -- the flat table with the count answered is accepted
-  pub flat-accepted : checked false (targetLeft t n len) m ≡ Accepted
+  pub flat-accepted : checked false (flatLeft t n len) m ≡ Accepted
   flat-accepted =
       ap₂ (λ (x : List ℕ) (k : ℕ). checked false x k) left (sym (a .count)) ∙ accepted-flat F len fits okF (omega (arith, a .count, small .0)) (a .even)
 
   -- and its lines are the flat circuit's
-  pub flat-lines : linesOf false (targetLeft t n len) m ≡ flatten (linesOf false t n)
+  pub flat-lines : linesOf false (flatLeft t n len) m ≡ flatten (linesOf false t n)
   flat-lines = ap₂ (λ (x : List ℕ) (k : ℕ). linesOf false x k) left (sym (a .count)) ∙ lines-flat F len fits okF
 
   -- none of its records has kind 2
-  pub flat-kinds : (i : ℕ) → i < m → kindIn (recordAt false (targetLeft t n len) i) ≢ 2
+  pub flat-kinds : (i : ℕ) → i < m → kindIn (recordAt false (flatLeft t n len) i) ≢ 2
   flat-kinds i h z = no-kind-two noCtx F (flat-plain (linesOf false t n)) okF i (ap kindIn (sym same) ∙ z)
     where
-      same : recordAt false (targetLeft t n len) i ≡ getD (map wordsOf F) i []
+      same : recordAt false (flatLeft t n len) i ≡ getD (map wordsOf F) i []
       same =
-          sym (record-at false (targetLeft t n len) m i h)
+          sym (record-at false (flatLeft t n len) m i h)
           ∙ ap (λ (rs : List (List ℕ)). getD rs i []) (ap₂ (λ (x : List ℕ) (k : ℕ). recordsOf false x k) left (sym (a .count)) ∙ records-flat F len fits)
 
   -- it has as many state words, inputs and signals
-  pub flat-counts : SameCounts (linesOf false t n) (linesOf false (targetLeft t n len) m)
+  pub flat-counts : SameCounts (linesOf false t n) (linesOf false (flatLeft t n len) m)
   flat-counts = subst⁻¹ (λ (x : List Line). SameCounts (linesOf false t n) x) flat-lines (counts-alike (linesOf false t n) ok)
 
   -- and the same run: signals with their classes, hence bytes and the first counted bad
-  pub flat-run : (k : ℕ) (S I : List ℕ) → layout false (linesOf false t n) .counts .states ≤ length S → run false (linesOf false (targetLeft t n len) m) k S I ≡ run false (linesOf false t n) k S I
+  pub flat-run : (k : ℕ) (S I : List ℕ) → layout false (linesOf false t n) .counts .states ≤ length S → run false (linesOf false (flatLeft t n len) m) k S I ≡ run false (linesOf false t n) k S I
   flat-run k S I h = ap (λ (C : List Line). run false C k S I) flat-lines ∙ runs-alike (linesOf false t n) ok k S I h
 
-  pub flat-bytes : (k : ℕ) (S I : List ℕ) → layout false (linesOf false t n) .counts .states ≤ length S → bytes (run false (linesOf false (targetLeft t n len) m) k S I) ≡ bytes (run false (linesOf false t n) k S I)
+  pub flat-bytes : (k : ℕ) (S I : List ℕ) → layout false (linesOf false t n) .counts .states ≤ length S → bytes (run false (linesOf false (flatLeft t n len) m) k S I) ≡ bytes (run false (linesOf false t n) k S I)
   flat-bytes k S I h = ap bytes (flat-run k S I h)
 
-  pub flat-bad : (k : ℕ) (S I : List ℕ) → layout false (linesOf false t n) .counts .states ≤ length S → firstBad 0 (run false (linesOf false (targetLeft t n len) m) k S I) ≡ firstBad 0 (run false (linesOf false t n) k S I)
+  pub flat-bad : (k : ℕ) (S I : List ℕ) → layout false (linesOf false t n) .counts .states ≤ length S → firstBad 0 (run false (linesOf false (flatLeft t n len) m) k S I) ≡ firstBad 0 (run false (linesOf false t n) k S I)
   flat-bad k S I h = ap (firstBad 0) (flat-run k S I h)

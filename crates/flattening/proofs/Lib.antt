@@ -21,5 +21,8 @@ pub mod Agreeing
 pub mod Keeping
 pub mod Remembering
 pub mod Passing
+pub mod Counting
 pub mod Pass
+pub mod Depths
+pub mod Going
 pub mod Refusing

@@ -6,17 +6,17 @@ use lib.ListN.{getD}
 use Rattle.tables.specs.declared.Answer.{Answer}
 use Rattle.tables.specs.Answers.{told}
 use Rattle.tables.proofs.Outcomes.{told-as, told-answer, told-left}
-use Rattle.flattening.specs.Answers.{flattened, targetLeft, flattens}
+use Rattle.flattening.specs.Answers.{flattened, flatLeft, flattens}
 
 module _ (t : List ℕ) (n len : ℕ) where
-  pub flattens-as : {r : Answer} {x : List ℕ} → r ≡ flattened t n len → x ≡ targetLeft t n len → told r (x ∷ []) ≡ flattens t n len
+  pub flattens-as : {r : Answer} {x : List ℕ} → r ≡ flattened t n len → x ≡ flatLeft t n len → told r (x ∷ []) ≡ flattens t n len
   unfolding flattens
   flattens-as e f = told-as e (ap (λ (y : List ℕ). y ∷ []) f)
 
   pub flattens-answer : (r : Answer) (x : List ℕ) → told r (x ∷ []) ≡ flattens t n len → r ≡ flattened t n len
   unfolding flattens
-  flattens-answer r x e = told-answer r (flattened t n len) (x ∷ []) (targetLeft t n len ∷ []) e
+  flattens-answer r x e = told-answer r (flattened t n len) (x ∷ []) (flatLeft t n len ∷ []) e
 
-  pub flattens-left : (r : Answer) (x : List ℕ) → told r (x ∷ []) ≡ flattens t n len → x ≡ targetLeft t n len
+  pub flattens-left : (r : Answer) (x : List ℕ) → told r (x ∷ []) ≡ flattens t n len → x ≡ flatLeft t n len
   unfolding flattens
-  flattens-left r x e = ap (λ (l : List (List ℕ)). getD l 0 []) (told-left r (flattened t n len) (x ∷ []) (targetLeft t n len ∷ []) e)
+  flattens-left r x e = ap (λ (l : List (List ℕ)). getD l 0 []) (told-left r (flattened t n len) (x ∷ []) (flatLeft t n len ∷ []) e)

@@ -17,7 +17,8 @@ use Rattle.tables.proofs.Places.{put-append, length-put, filled-none, length-fi
 use Rattle.tables.proofs.Encoding.{records-lines, lines-accepted, lines-back}
 use Rattle.flattening.specs.declared.Source.{Source}
 use Rattle.flattening.specs.Placed.{putFlat, flatFilled}
-use Rattle.flattening.specs.Model.{Held, sourceAt, rowsFor, rowAt, pairAt}
+use Rattle.flattening.specs.Model.Cells.{Held}
+use Rattle.flattening.specs.Model.Rows.{sourceAt, rowsFor, rowAt, pairAt}
 
 -- ---- records are put
 

@@ -12,23 +12,24 @@ use Rattle.tables.specs.declared.Answer.{Answer}
 use Rattle.tables.specs.declared.Answer.the-variants.{Refused}
 use Rattle.tables.specs.Layout.{whole, linesOf}
 use Rattle.tables.specs.Types.{context}
-use Rattle.tables.specs.Notes.{blank, Shows}
+use Rattle.tables.specs.Model.Notes.{blank, Shows}
 use Rattle.tables.specs.Tables.{checked}
-use Rattle.tables.specs.Answers.{told}
+use Rattle.tables.specs.Answers.{told, leftBy}
 use Rattle.tables.proofs.Checking.{fresh}
 use Rattle.tables.proofs.Encoding.{fits-table}
 use Rattle.flattening.specs.Flat.{flatRecords}
-use Rattle.flattening.specs.Model.{nothing}
-use Rattle.flattening.specs.Begun.{Begun, Clear, Blank}
-use Rattle.flattening.specs.Answers.{flattened, leftOf, targetLeft, flattens}
+use Rattle.flattening.specs.Model.Cells.{nothing}
+use Rattle.flattening.specs.Model.Start.{Begun, Clear, Blank}
+use Rattle.flattening.specs.Placed.{flatFilled}
+use Rattle.flattening.specs.Answers.{flattened, flatLeft, flattens}
 use Rattle.flattening.proofs.Outcomes.{flattens-as}
 
 -- ---- refusals leave zeros
 
 module _ (t : List ℕ) (n len : ℕ) {left : List ℕ} (zeros : left ≡ replicate len 0) where
   refused-as : (r : Refusal) → Refused r 0 ≡ flattened t n len → told (Refused r 0) (left ∷ []) ≡ flattens t n len
-  unfolding targetLeft
-  refused-as r e = flattens-as t n len e (zeros ∙ ap (λ (x : Answer). leftOf x len (flatRecords t n)) e)
+  unfolding flatLeft
+  refused-as r e = flattens-as t n len e (zeros ∙ ap (λ (x : Answer). leftBy x len (flatFilled len (flatRecords t n))) e)
 
   pub first-refused : whole false (length t) ≡ false → told (Refused NotATable 0) (left ∷ []) ≡ flattens t n len
   unfolding flattened

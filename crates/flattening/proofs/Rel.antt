@@ -17,18 +17,18 @@ use Rattle.tables.specs.Pick.{pick, among}
 use Rattle.tables.specs.Lines.{Line, wordsOf, firstIn, secondIn, thirdIn}
 use Rattle.tables.specs.Types.{ty, noTy, isFixed, fixedExpr, givenBy, given}
 use Rattle.tables.proofs.Facts.{IsWord}
-use Rattle.circuits.specs.Layout.{Place, typeAt, placeAt, size, typeOf, placeOf}
-use Rattle.circuits.specs.Meaning.{Acc, cellsAt, wordAt, cellsOf}
+use Rattle.circuits.specs.Layout.{typeAt, placeAt, size, lineTypeIn, placeOf}
+use Rattle.circuits.specs.Meaning.{Frame, cellsAt, wordAt, cellsOf}
 use Rattle.flattening.specs.Flat.{from, Info, noInfo, infoAt, linesAt, lineAt, valInfo}
 use Rattle.flattening.proofs.Walk as W
-use Rattle.flattening.proofs.Walk.{Even, Ext, SortAt, Word, Holds, States, Small, Alike, alike-trans, alike-sym, sort-ext, holds-ext, word-weak, holds-weak, states-ext, ev1, ext-line, length-snoc, Grew, quiet, gives, quiet-gives, gave-same, grew-line, len1, new-type, new-place, new-cells}
-use Rattle.flattening.proofs.CellLaws.{holds-at, small-at}
+use Rattle.flattening.proofs.Walk.{Even, Ext, SortAt, Word, Holds, States, Small, Alike, alike-trans, alike-sym, sort-ext, holds-ext, word-weak, holds-weak, states-ext, ev1, ext-line, length-snoc, Grew, quiet, gives, quiet-gives, gave-same, grew-line, len1, new-type, new-place, new-cells, holds-at}
+use Rattle.flattening.proofs.CellLaws.{small-at}
 
-pub record ArrRel (B : Acc) (t : Ty) (f : Info) : Type 0 where
+pub record ArrRel (B : Frame) (t : Ty) (f : Info) : Type 0 where
   pub bit : SortAt B (f .bit) 1
   pub index : Holds B true (t .iw) (f .index) (from 0 (2 ^ (t .iw)))
 
-pub record SortRel (B : Acc) (t : Ty) (f : Info) : Type 0 where
+pub record SortRel (B : Frame) (t : Ty) (f : Info) : Type 0 where
   pub elem : SortAt B (f .elem) (t .w)
   pub size : f .size ≡ 2 ^ (t .iw)
   pub wide : f .width ≡ t .w
@@ -40,26 +40,26 @@ abbrev pub KnownRel : Option ℕ → List ℕ → Type 0
 KnownRel none cs = Unit {0}
 KnownRel (some k) cs = cs ≡ k ∷ []
 
-pub record ValRel (B : Acc) (t : Ty) (at : ℕ) (cs : List ℕ) (f : Info) : Type 0 where
+pub record ValRel (B : Frame) (t : Ty) (at : ℕ) (cs : List ℕ) (f : Info) : Type 0 where
   pub sort : SortRel B t f
   pub held : Holds B (isFixed t) (t .w) (f .cells) cs
   pub len : length cs ≡ 2 ^ (t .iw)
   pub small : Small (t .w) cs
   pub known : KnownRel (f .known) cs
-  pub states : t .cls ≡ 4 → States B (getD (f .cells) 0 0) (t .w) at (f .cells)
+  pub states : t .role ≡ 4 → States B (getD (f .cells) 0 0) (t .w) at (f .cells)
 
 -- of a line of the type t, whose place is at and whose cells are cs
-pub record Rel (B : Acc) (t : Ty) (at : ℕ) (cs : List ℕ) (f : Info) : Type 0 where
-  pub sort : t .cls ≡ 1 → SortRel B t f
-  pub value : 2 ≤ t .cls → ValRel B t at cs f
+pub record Rel (B : Frame) (t : Ty) (at : ℕ) (cs : List ℕ) (f : Info) : Type 0 where
+  pub sort : t .role ≡ 1 → SortRel B t f
+  pub value : 2 ≤ t .role → ValRel B t at cs f
 
-arr-ext : {B B′ : Acc} {t : Ty} {f : Info} → Ext B B′ → ArrRel B t f → ArrRel B′ t f
+arr-ext : {B B′ : Frame} {t : Ty} {f : Info} → Ext B B′ → ArrRel B t f → ArrRel B′ t f
 arr-ext x r = record { bit = sort-ext x (r .bit); index = holds-ext x (r .index) }
 
-pub sortrel-ext : {B B′ : Acc} {t : Ty} {f : Info} → Ext B B′ → SortRel B t f → SortRel B′ t f
+pub sortrel-ext : {B B′ : Frame} {t : Ty} {f : Info} → Ext B B′ → SortRel B t f → SortRel B′ t f
 sortrel-ext x r = record { elem = sort-ext x (r .elem); size = r .size; wide = r .wide; width = r .width; arr = λ h. arr-ext x (r .arr h) }
 
-valrel-ext : {B B′ : Acc} {t : Ty} {at : ℕ} {cs : List ℕ} {f : Info} → Ext B B′ → ValRel B t at cs f → ValRel B′ t at cs f
+valrel-ext : {B B′ : Frame} {t : Ty} {at : ℕ} {cs : List ℕ} {f : Info} → Ext B B′ → ValRel B t at cs f → ValRel B′ t at cs f
 valrel-ext x r =
     record {
       sort = sortrel-ext x (r .sort);
@@ -70,17 +70,17 @@ valrel-ext x r =
       states = λ s. states-ext x (r .states s);
     }
 
-rel-ext : {B B′ : Acc} {t : Ty} {at : ℕ} {cs : List ℕ} {f : Info} → Ext B B′ → Rel B t at cs f → Rel B′ t at cs f
+rel-ext : {B B′ : Frame} {t : Ty} {at : ℕ} {cs : List ℕ} {f : Info} → Ext B B′ → Rel B t at cs f → Rel B′ t at cs f
 rel-ext x r = record { sort = λ s. sortrel-ext x (r .sort s); value = λ s. valrel-ext x (r .value s) }
 
-pub rel-none : {B : Acc} {at : ℕ} {cs : List ℕ} {f : Info} → Rel B noTy at cs f
+pub rel-none : {B : Frame} {at : ℕ} {cs : List ℕ} {f : Info} → Rel B noTy at cs f
 rel-none = record { sort = λ s. absurd (omega arith); value = λ s. absurd (omega arith) }
 
-pub rel-sort : {B : Acc} {i w at : ℕ} {cs : List ℕ} {f : Info} → SortRel B (ty 1 i w) f → Rel B (ty 1 i w) at cs f
+pub rel-sort : {B : Frame} {i w at : ℕ} {cs : List ℕ} {f : Info} → SortRel B (ty 1 i w) f → Rel B (ty 1 i w) at cs f
 rel-sort r = record { sort = λ s. r; value = λ s. absurd (omega arith) }
 
 -- a value's Info starts as its sort's
-pub sort-of-val : {B : Acc} {t : Ty} {f : Info} {c : ℕ} {ps : List ℕ} {k : Option ℕ} → SortRel B t f → SortRel B (ty c (t .iw) (t .w)) (valInfo f ps k)
+pub sort-of-val : {B : Frame} {t : Ty} {f : Info} {c : ℕ} {ps : List ℕ} {k : Option ℕ} → SortRel B t f → SortRel B (ty c (t .iw) (t .w)) (valInfo f ps k)
 sort-of-val r =
     record { elem = r .elem; size = r .size; wide = r .wide; width = r .width; arr = λ h. record { bit = r .arr h .bit; index = r .arr h .index } }
 
@@ -98,7 +98,7 @@ fixed-back : (x : Bool) → T (eqb (pick x 2 3) 2) → T x
 fixed-back true t = tt
 fixed-back false t = absurd t
 
-pub val-rel : {B : Acc} {t : Ty} {f : Info} {at : ℕ} {cs ps : List ℕ} (x : Bool) (k : Option ℕ) → SortRel B t f → Holds B x (t .w) ps cs → length cs ≡ 2 ^ (t .iw) → Small (t .w) cs
+pub val-rel : {B : Frame} {t : Ty} {f : Info} {at : ℕ} {cs ps : List ℕ} (x : Bool) (k : Option ℕ) → SortRel B t f → Holds B x (t .w) ps cs → length cs ≡ 2 ^ (t .iw) → Small (t .w) cs
     → KnownRel k cs → Rel B (ty (pick x 2 3) (t .iw) (t .w)) at cs (valInfo f ps k)
 val-rel x k r h n s c =
     record {
@@ -107,39 +107,39 @@ val-rel x k r h n s c =
     }
 
 -- whose sort is a word's
-pub word-rel : {B : Acc} {t : Ty} {f : Info} {at p v : ℕ} (x : Bool) (k : Option ℕ) → SortRel B t f → t .iw ≡ 0 → Word B x p (t .w) v → v < 2 ^ (t .w) → KnownRel k (v ∷ [])
+pub word-rel : {B : Frame} {t : Ty} {f : Info} {at p v : ℕ} (x : Bool) (k : Option ℕ) → SortRel B t f → t .iw ≡ 0 → Word B x p (t .w) v → v < 2 ^ (t .w) → KnownRel k (v ∷ [])
     → Rel B (ty (pick x 2 3) (t .iw) (t .w)) at (v ∷ []) (valInfo f (p ∷ []) k)
 word-rel x k r e h s c = val-rel x k r (W.more h W.none) (rw e) (s, tt) c
 
 -- ---- all lines
 
-pub record Inv (A B : Acc) (I : List Info) : Type 0 where
+pub record Inv (A B : Frame) (I : List Info) : Type 0 where
   pub evenA : Even A
   pub evenB : Even B
   pub lenI : length I ≡ length (A .env)
   pub alike : Alike A B
   pub many : length (A .sts) ≡ A .lay .counts .states
-  pub rel : (i : ℕ) → Rel B (typeAt (A .lay) i) (placeAt (A .lay) i .at) (cellsAt A i) (infoAt I i)
+  pub rel : (i : ℕ) → Rel B (typeAt (A .lay) i) (placeAt (A .lay) i) (cellsAt A i) (infoAt I i)
   -- what stands before a state is held below the state's lines
-  pub below : (q : ℕ) → typeAt (A .lay) q .cls ≡ 4 → (i : ℕ) → i < q → 2 ≤ typeAt (A .lay) i .cls → (j : ℕ) → j < length (linesAt I i) → getD (linesAt I i) j 0 < lineAt I q
+  pub below : (q : ℕ) → typeAt (A .lay) q .role ≡ 4 → (i : ℕ) → i < q → 2 ≤ typeAt (A .lay) i .role → (j : ℕ) → j < length (linesAt I i) → getD (linesAt I i) j 0 < lineAt I q
   -- a state that has no init or next has none for its cells; and no line that is still to come has one
-  pub free : (m : Bool) (q : ℕ) → typeAt (A .lay) q .cls ≡ 4 → given (A .lay .ctx) m q ≡ false → (j : ℕ) → j < length (linesAt I q) → given (B .lay .ctx) m (getD (linesAt I q) j 0) ≡ false
+  pub free : (m : Bool) (q : ℕ) → typeAt (A .lay) q .role ≡ 4 → given (A .lay .ctx) m q ≡ false → (j : ℕ) → j < length (linesAt I q) → given (B .lay .ctx) m (getD (linesAt I q) j 0) ≡ false
   pub bound : (m : Bool) (p : ℕ) → length (B .env) ≤ p → given (B .lay .ctx) m p ≡ false
 
 -- a word of the circuit is held by its flat line
-pub word-of : {A B : Acc} {I : List Info} → Inv A B I → (a : ℕ) → IsWord (typeAt (A .lay) a) → Word B (isFixed (typeAt (A .lay) a)) (lineAt I a) (typeAt (A .lay) a .w) (wordAt A a)
+pub word-of : {A B : Frame} {I : List Info} → Inv A B I → (a : ℕ) → IsWord (typeAt (A .lay) a) → Word B (isFixed (typeAt (A .lay) a)) (lineAt I a) (typeAt (A .lay) a .w) (wordAt A a)
 word-of v a k = let r = v .rel a .value (k .is) in holds-at 0 (r .held) (omega (arith, rw (k .flat) at (r .len)))
 
 -- the same where less is said to be fixed
-pub word-for : {A B : Acc} {I : List Info} {u : Bool} {w : ℕ} → Inv A B I → (a : ℕ) → IsWord (typeAt (A .lay) a) → (T u → T (isFixed (typeAt (A .lay) a))) → typeAt (A .lay) a .w ≡ w
+pub word-for : {A B : Frame} {I : List Info} {u : Bool} {w : ℕ} → Inv A B I → (a : ℕ) → IsWord (typeAt (A .lay) a) → (T u → T (isFixed (typeAt (A .lay) a))) → typeAt (A .lay) a .w ≡ w
     → Word B u (lineAt I a) w (wordAt A a)
 word-for {A} {B} {I} {u} v a k f e = subst (λ (w : ℕ). Word B u (lineAt I a) w (wordAt A a)) e (word-weak f (word-of v a k))
 
-pub cells-for : {B : Acc} {t : Ty} {at : ℕ} {cs : List ℕ} {f : Info} {u : Bool} {w : ℕ} → ValRel B t at cs f → (T u → T (isFixed t)) → t .w ≡ w → Holds B u w (f .cells) cs
+pub cells-for : {B : Frame} {t : Ty} {at : ℕ} {cs : List ℕ} {f : Info} {u : Bool} {w : ℕ} → ValRel B t at cs f → (T u → T (isFixed t)) → t .w ≡ w → Holds B u w (f .cells) cs
 cells-for {B} {cs = cs} {f = f} {u} r g e = subst (λ (w : ℕ). Holds B u w (f .cells) cs) e (holds-weak g (r .held))
 
 -- a word fits its width
-pub word-small : {A B : Acc} {I : List Info} → Inv A B I → (a : ℕ) → 2 ≤ typeAt (A .lay) a .cls → wordAt A a < 2 ^ (typeAt (A .lay) a .w)
+pub word-small : {A B : Frame} {I : List Info} → Inv A B I → (a : ℕ) → 2 ≤ typeAt (A .lay) a .role → wordAt A a < 2 ^ (typeAt (A .lay) a .w)
 word-small {A} v a h = small-at (typeAt (A .lay) a .w) (cellsAt A a) 0 (v .rel a .value h .small)
 
 -- ---- one more line
@@ -158,7 +158,7 @@ spot n i = go (decLt i n) (decLt n i)
     go (no h) (yes k) = past k
     go (no h) (no k) = new (omega arith)
 
-rel-at : {B : Acc} {t t′ : Ty} {at at′ : ℕ} {cs cs′ : List ℕ} {g g′ : Info} → t′ ≡ t → at′ ≡ at → cs′ ≡ cs → g′ ≡ g → Rel B t at cs g → Rel B t′ at′ cs′ g′
+rel-at : {B : Frame} {t t′ : Ty} {at at′ : ℕ} {cs cs′ : List ℕ} {g g′ : Info} → t′ ≡ t → at′ ≡ at → cs′ ≡ cs → g′ ≡ g → Rel B t at cs g → Rel B t′ at′ cs′ g′
 rel-at {B} {t = t} {t′} {at = at} {at′} {cs = cs} {cs′} {g = g} {g′} e₁ e₂ e₃ e₄ r =
     subst⁻¹ (λ (x : Ty). Rel B x at′ cs′ g′) e₁ (subst⁻¹ (λ (x : ℕ). Rel B t x cs′ g′) e₂ (subst⁻¹ (λ (x : List ℕ). Rel B t at x g′) e₃ (subst⁻¹ (λ (x : Info). Rel B t at cs x) e₄ r)))
 
@@ -169,32 +169,32 @@ below-at {x} {y′ = y′} e₁ e₂ h =
     (subst⁻¹ (λ (z : Info). (j : ℕ) → j < length (x .cells) → getD (x .cells) j 0 < getD (z .cells) 0 0) e₂ h)
 
 -- what a new state is: none of its lines has been given an init or a next, and every value so far is held below them
-pub record NewState (A B : Acc) (I : List Info) (g : Info) : Type 0 where
-  pub below : (i : ℕ) → 2 ≤ typeAt (A .lay) i .cls → (j : ℕ) → j < length (linesAt I i) → getD (linesAt I i) j 0 < getD (g .cells) 0 0
+pub record NewState (A B : Frame) (I : List Info) (g : Info) : Type 0 where
+  pub below : (i : ℕ) → 2 ≤ typeAt (A .lay) i .role → (j : ℕ) → j < length (linesAt I i) → getD (linesAt I i) j 0 < getD (g .cells) 0 0
   pub free : (m : Bool) (j : ℕ) → j < length (g .cells) → given (B .lay .ctx) m (getD (g .cells) j 0) ≡ false
 
 -- the states of A, after a line more
-pub record Once (A A′ B′ : Acc) (I : List Info) : Type 0 where
-  pub free : (m : Bool) (q : ℕ) → typeAt (A .lay) q .cls ≡ 4 → given (A′ .lay .ctx) m q ≡ false → (j : ℕ) → j < length (linesAt I q) → given (B′ .lay .ctx) m (getD (linesAt I q) j 0) ≡ false
+pub record Once (A A′ B′ : Frame) (I : List Info) : Type 0 where
+  pub free : (m : Bool) (q : ℕ) → typeAt (A .lay) q .role ≡ 4 → given (A′ .lay .ctx) m q ≡ false → (j : ℕ) → j < length (linesAt I q) → given (B′ .lay .ctx) m (getD (linesAt I q) j 0) ≡ false
   pub bound : (m : Bool) (p : ℕ) → length (B′ .env) ≤ p → given (B′ .lay .ctx) m p ≡ false
 
-quiet-state : (A : Acc) (l : Line) → T (quiet l) → typeOf false (A .lay) l .cls ≡ 4 → ⊥
+quiet-state : (A : Frame) (l : Line) → T (quiet l) → lineTypeIn false (A .lay) l .role ≡ 4 → ⊥
 quiet-state A (Line.bitvec w) q t = omega arith
 quiet-state A (Line.array i e) q t = omega arith
 quiet-state A (Line.input s) q t = q
 quiet-state A (Line.state s) q t = q
-quiet-state A (Line.val s x) q t =
+quiet-state A (Line.value s x) q t =
     let L = typeAt (A .lay) in
-    let r = wordsOf (Line.val s x) in
+    let r = wordsOf (Line.value s x) in
     no-state (fixedExpr x (L (firstIn r)) (L (secondIn r)) (L (thirdIn r))) t
-quiet-state A (Line.give m s p v) q t = q
-quiet-state A (Line.mark m a) q t = q
+quiet-state A (Line.initOrNext m s p v) q t = q
+quiet-state A (Line.signal m a) q t = q
 quiet-state A (Line.output a) q t = omega arith
-quiet-state A Line.junk q t = omega arith
+quiet-state A Line.unknown q t = omega arith
 
 module _ (f : Bool) (σ ι : List ℕ) where
-  pub extend : {A B B′ : Acc} {I : List Info} (l : Line) (g : Info) → Inv A B I → Ext B B′ → Alike (ev1 f σ ι A l) B′ → length (ev1 f σ ι A l .sts) ≡ ev1 f σ ι A l .lay .counts .states
-      → Rel B′ (typeOf false (A .lay) l) (placeOf (A .lay) l .at) (cellsOf false f σ ι A l) g → (typeOf false (A .lay) l .cls ≡ 4 → NewState A B′ I g) → Once A (ev1 f σ ι A l) B′ I
+  pub extend : {A B B′ : Frame} {I : List Info} (l : Line) (g : Info) → Inv A B I → Ext B B′ → Alike (ev1 f σ ι A l) B′ → length (ev1 f σ ι A l .sts) ≡ ev1 f σ ι A l .lay .counts .states
+      → Rel B′ (lineTypeIn false (A .lay) l) (placeOf (A .lay) l) (cellsOf false f σ ι A l) g → (lineTypeIn false (A .lay) l .role ≡ 4 → NewState A B′ I g) → Once A (ev1 f σ ι A l) B′ I
       → Inv (ev1 f σ ι A l) B′ (I ++ (g ∷ []))
   extend {A} {B} {B′} {I} l g v x al mn r st on =
       record {
@@ -209,7 +209,7 @@ module _ (f : Bool) (σ ι : List ℕ) where
         bound = on .bound;
       }
     where
-      A′ : Acc
+      A′ : Frame
       A′ = ev1 f σ ι A l
 
       J : List Info
@@ -229,41 +229,41 @@ module _ (f : Bool) (σ ι : List ℕ) where
 
       type-past : (i : ℕ) → N < i → typeAt (A′ .lay) i ≡ noTy
       type-past i h =
-          List·getD-eq-default (A .lay .ctx .tys ++ (typeOf false (A .lay) l ∷ [])) noTy {n = i} (omega (arith, length-snoc (A .lay .ctx .tys) (typeOf false (A .lay) l), v .evenA .types))
+          List·getD-eq-default (A .lay .ctx .tys ++ (lineTypeIn false (A .lay) l ∷ [])) noTy {n = i} (omega (arith, length-snoc (A .lay .ctx .tys) (lineTypeIn false (A .lay) l), v .evenA .types))
 
-      rel-by : (i : ℕ) → Spot N i → Rel B′ (typeAt (A′ .lay) i) (placeAt (A′ .lay) i .at) (cellsAt A′ i) (infoAt J i)
-      rel-by i (old h) = rel-at (y .type i h) (ap (λ (p : Place). p .at) (y .place i h)) (y .cells i h) (info-old i h) (rel-ext x (v .rel i))
+      rel-by : (i : ℕ) → Spot N i → Rel B′ (typeAt (A′ .lay) i) (placeAt (A′ .lay) i) (cellsAt A′ i) (infoAt J i)
+      rel-by i (old h) = rel-at (y .type i h) (y .place i h) (y .cells i h) (info-old i h) (rel-ext x (v .rel i))
       rel-by i (new e) =
-          rel-at (new-type f σ ι (v .evenA) l i e) (ap (λ (p : Place). p .at) (new-place f σ ι (v .evenA) l i e)) (new-cells f σ ι (v .evenA) l i e) (info-new i e) r
+          rel-at (new-type f σ ι (v .evenA) l i e) (new-place f σ ι (v .evenA) l i e) (new-cells f σ ι (v .evenA) l i e) (info-new i e) r
       rel-by i (past h) = rel-at (type-past i h) refl refl refl rel-none
 
-      no-past : (q : ℕ) → N < q → typeAt (A′ .lay) q .cls ≡ 4 → ⊥
-      no-past q h s = let z : _≡_ {A = ℕ} 0 4 = sym (ap (λ (t : Ty). t .cls) (type-past q h)) ∙ s in omega arith
+      no-past : (q : ℕ) → N < q → typeAt (A′ .lay) q .role ≡ 4 → ⊥
+      no-past q h s = let z : _≡_ {A = ℕ} 0 4 = sym (ap (λ (t : Ty). t .role) (type-past q h)) ∙ s in omega arith
 
-      below-by : (q : ℕ) → typeAt (A′ .lay) q .cls ≡ 4 → (i : ℕ) → i < q → 2 ≤ typeAt (A′ .lay) i .cls → (j : ℕ) → Spot N q → j < length (linesAt J i) → getD (linesAt J i) j 0 < lineAt J q
+      below-by : (q : ℕ) → typeAt (A′ .lay) q .role ≡ 4 → (i : ℕ) → i < q → 2 ≤ typeAt (A′ .lay) i .role → (j : ℕ) → Spot N q → j < length (linesAt J i) → getD (linesAt J i) j 0 < lineAt J q
       below-by q s i h k j (past z) b = absurd (no-past q z s)
       below-by q s i h k j (old z) b =
           let zi : i < N = omega arith in
-          let s′ = sym (ap (λ (t : Ty). t .cls) (y .type q z)) ∙ s in
-          let k′ = subst (λ (t : Ty). 2 ≤ t .cls) (y .type i zi) k in
+          let s′ = sym (ap (λ (t : Ty). t .role) (y .type q z)) ∙ s in
+          let k′ = subst (λ (t : Ty). 2 ≤ t .role) (y .type i zi) k in
           below-at (info-old i zi) (info-old q z) (v .below q s′ i h k′) j b
       below-by q s i h k j (new e) b =
           let zi : i < N = omega arith in
-          let s′ = sym (ap (λ (t : Ty). t .cls) (new-type f σ ι (v .evenA) l q e)) ∙ s in
-          let k′ = subst (λ (t : Ty). 2 ≤ t .cls) (y .type i zi) k in
+          let s′ = sym (ap (λ (t : Ty). t .role) (new-type f σ ι (v .evenA) l q e)) ∙ s in
+          let k′ = subst (λ (t : Ty). 2 ≤ t .role) (y .type i zi) k in
           below-at (info-old i zi) (info-new q e) (st s′ .below i k′) j b
 
-      free-by : (m : Bool) (q : ℕ) → typeAt (A′ .lay) q .cls ≡ 4 → given (A′ .lay .ctx) m q ≡ false → (j : ℕ) → Spot N q → j < length (linesAt J q) → given (B′ .lay .ctx) m (getD (linesAt J q) j 0) ≡ false
+      free-by : (m : Bool) (q : ℕ) → typeAt (A′ .lay) q .role ≡ 4 → given (A′ .lay .ctx) m q ≡ false → (j : ℕ) → Spot N q → j < length (linesAt J q) → given (B′ .lay .ctx) m (getD (linesAt J q) j 0) ≡ false
       free-by m q s h j (past z) b = absurd (no-past q z s)
       free-by m q s h j (old z) b =
-          let s′ = sym (ap (λ (t : Ty). t .cls) (y .type q z)) ∙ s in
+          let s′ = sym (ap (λ (t : Ty). t .role) (y .type q z)) ∙ s in
           subst⁻¹ (λ (x : Info). j < length (x .cells) → given (B′ .lay .ctx) m (getD (x .cells) j 0) ≡ false) (info-old q z) (on .free m q s′ h j) b
       free-by m q s h j (new e) b =
-          let s′ = sym (ap (λ (t : Ty). t .cls) (new-type f σ ι (v .evenA) l q e)) ∙ s in
+          let s′ = sym (ap (λ (t : Ty). t .role) (new-type f σ ι (v .evenA) l q e)) ∙ s in
           subst⁻¹ (λ (x : Info). j < length (x .cells) → given (B′ .lay .ctx) m (getD (x .cells) j 0) ≡ false) (info-new q e) (st s′ .free m j) b
 
   -- lines that give nothing to a state
-  pub same-given : {A B B′ : Acc} {I : List Info} (l : Line) → gives l ≡ false → Inv A B I → length (B .env) ≤ length (B′ .env)
+  pub same-given : {A B B′ : Frame} {I : List Info} (l : Line) → gives l ≡ false → Inv A B I → length (B .env) ≤ length (B′ .env)
       → ((m : Bool) → givenBy m (B′ .lay .ctx) ≡ givenBy m (B .lay .ctx)) → Once A (ev1 f σ ι A l) B′ I
   same-given {A} {B} {B′} {I} l e v n g =
       record {
@@ -272,8 +272,8 @@ module _ (f : Bool) (σ ι : List ℕ) where
         bound = λ m p h. ap (λ (d : List ℕ). among p d) (g m) ∙ v .bound m p (le-trans n h);
       }
 
-  pub extend-quiet : {A B B′ : Acc} {I : List Info} (l : Line) (g : Info) → T (quiet l) → Inv A B I → Grew B B′
-      → Rel B′ (typeOf false (A .lay) l) (placeOf (A .lay) l .at) (cellsOf false f σ ι A l) g → Inv (ev1 f σ ι A l) B′ (I ++ (g ∷ []))
+  pub extend-quiet : {A B B′ : Frame} {I : List Info} (l : Line) (g : Info) → T (quiet l) → Inv A B I → Grew B B′
+      → Rel B′ (lineTypeIn false (A .lay) l) (placeOf (A .lay) l) (cellsOf false f σ ι A l) g → Inv (ev1 f σ ι A l) B′ (I ++ (g ∷ []))
   extend-quiet {A} l g q v w r =
       let a = grew-line f σ ι (v .evenA) l q in
       extend l g v (w .ext) (alike-trans (alike-sym (a .alike)) (alike-trans (v .alike) (w .alike))) (ap length (a .alike .sts) ∙ v .many ∙ sym (a .alike .states)) r

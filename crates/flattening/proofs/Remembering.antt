@@ -9,25 +9,25 @@ use native.Mathlib.Omega.{arith}
 use lib.Dec.{ltb}
 use lib.ListN.{length, getD, set, length-set}
 use lib.Pow.{pow-pos}
-use borrow.Author.Tests.{ltb-true, ne-eqb}
+use borrow.Author.Tests.{ltb-true}
 use Rattle.tables.specs.declared.Ty.{Ty}
 use Rattle.tables.specs.Pick.{pick}
 use Rattle.tables.specs.Lines.{Line, Expr}
 use Rattle.tables.specs.Types.{noTy, isFixed, tyAt, given}
 use Rattle.tables.proofs.Facts.{IsWord, Ok}
-use Rattle.circuits.specs.Layout.{typeAt, typeOf}
-use Rattle.circuits.specs.Meaning.{Acc, cellsAt}
+use Rattle.circuits.specs.Layout.{typeAt, lineTypeIn}
+use Rattle.circuits.specs.Meaning.{Frame, cellsAt}
 use Rattle.flattening.specs.declared.Made.{Made}
-use Rattle.flattening.specs.Flat.{from, Info, noInfo, infoAt, linesAt, lineAt, valInfo, chunk, chunkRead, chunkWrite, readAll, writeCells}
-use Rattle.flattening.specs.Model.{cellIn}
-use Rattle.flattening.specs.Making.{deepIn, Notes, wordIn, bitIn, conIn, sizeIn, small, made, flatCount, flatMade, Neat}
+use Rattle.flattening.specs.Flat.{from, Info, noInfo, infoAt, linesAt, lineAt, valInfo, chunk, chunkRead, chunkWrite, writeCells}
+use Rattle.flattening.specs.Model.Cells.{cellIn}
+use Rattle.flattening.specs.Model.Lines.{deepIn, Notes, wordLine, bitIn, conIn, sizeIn, small, madeAs, flatCount, flatMade}
+use Rattle.flattening.specs.Model.Fits.{Neat}
 use Rattle.flattening.proofs.CellLaws.{from-at, length-from}
 use Rattle.flattening.proofs.Rel.{Inv, KnownRel, no-sort, word-small}
 use Rattle.flattening.proofs.SimStates.{held-below}
 use Rattle.flattening.proofs.Laying.{size-two, read-con, read-any, read-any-count, write-con, write-any, write-any-count}
-use Rattle.flattening.proofs.Rowing.{before, read-records}
-use Rattle.flattening.proofs.Agreeing.{KnownNote, NoteRel, Told, is-line, size-of, cell-of, word-line, elem-of, index-small, con-some, index-length, index-sort}
-use Rattle.flattening.proofs.Keeping.{noted, Holds, kept-new, sound-new, cell-step, cell-swap, write-cell, write-length, joined-all}
+use Rattle.flattening.proofs.Agreeing.{KnownNote, NoteRel, Told, is-line, size-of, cell-of, word-line, elem-of, index-small, con-some}
+use Rattle.flattening.proofs.Keeping.{noted, Holds, kept-new, sound-new, cell-step, cell-swap, write-cell, write-length}
 
 -- what is kept of the line n, and that the numbers stay small
 pub record LineKept (N : Notes) (n : ℕ) (m : Made) (t : Ty) (f : Info) : Type 0 where
@@ -56,7 +56,7 @@ module _ (N : Notes) (n : ℕ) (h : Holds N n) where
   con-new m = kept-new N n m h 4
 
   -- a value of the sort f, whose cells are the flat lines ps
-  val-note : (m : Made) (f : Info) (ps : List ℕ) (k : Option ℕ) (t : Ty) → t .cls ≢ 1 → m .bit ≡ f .bit → f .index ≡ from (suc (f .bit)) (length (f .index)) → KnownNote k (m .con)
+  val-note : (m : Made) (f : Info) (ps : List ℕ) (k : Option ℕ) (t : Ty) → t .role ≢ 1 → m .bit ≡ f .bit → f .index ≡ from (suc (f .bit)) (length (f .index)) → KnownNote k (m .con)
       → ((j : ℕ) → j < length ps → cellIn (noted N n m .held) n j ≡ getD ps j 0) → NoteRel (noted N n m) t n (valInfo f ps k)
   val-note m f ps k t d eb ei ek ec =
       record {
@@ -75,17 +75,17 @@ module _ (N : Notes) (n : ℕ) (h : Holds N n) where
   none-note : (m : Made) → m .bit ≡ 0 → m .con ≡ 0 → NoteRel (noted N n m) noTy n noInfo
   none-note m eb ek = record { elem = λ e. absurd (omega arith); bit = bit-new m ∙ eb; index = refl; cells = λ j l. absurd (omega arith); known = con-new m ∙ ek }
 
-module _ {A B : Acc} {I : List Info} (v : Inv A B I) (N : Notes) (ne : Neat N) (tl : Told A N) (nr : (a : ℕ) → NoteRel N (typeAt (A .lay) a) a (infoAt I a)) (p : ℕ) (n : ℕ) (hn : Holds N n)
-    (base : suc p ≡ length (B .env)) (below : (a : ℕ) → 1 ≤ typeAt (A .lay) a .cls → a < n) where
+module _ {A B : Frame} {I : List Info} (v : Inv A B I) (N : Notes) (ne : Neat N) (tl : Told A N) (nr : (a : ℕ) → NoteRel N (typeAt (A .lay) a) a (infoAt I a)) (p : ℕ) (n : ℕ) (hn : Holds N n)
+    (base : suc p ≡ length (B .env)) (below : (a : ℕ) → 1 ≤ typeAt (A .lay) a .role → a < n) where
   -- a flat line that holds a cell
-  line-low : (a j : ℕ) → 2 ≤ typeAt (A .lay) a .cls → j < sizeIn N a → cellIn (N .held) a j ≤ p
+  line-low : (a j : ℕ) → 2 ≤ typeAt (A .lay) a .role → j < sizeIn N a → cellIn (N .held) a j ≤ p
   line-low a j h l =
       let e = cell-of v N ne tl nr p a h j l in
       let q = held-below v a h j (subst⁻¹ (λ (x : ℕ). j < x) (size-of v N ne tl nr p a h) l) in
       omega arith
 
   -- a word of the sort s, at the flat line x
-  word-kept : (m : Made) (s x : ℕ) (k : Option ℕ) (t : Ty) → t .cls ≢ 1 → m .old ≡ 0 → m .key ≡ 1 → m .at ≡ x → m .bit ≡ bitIn N s → KnownNote k (m .con) → m .con ≤ 256 → x ≤ 65536
+  word-kept : (m : Made) (s x : ℕ) (k : Option ℕ) (t : Ty) → t .role ≢ 1 → m .old ≡ 0 → m .key ≡ 1 → m .at ≡ x → m .bit ≡ bitIn N s → KnownNote k (m .con) → m .con ≤ 256 → x ≤ 65536
       → LineKept N n m t (valInfo (infoAt I s) (x ∷ []) k)
   word-kept m s x k t d eo ekey ea eb ek ec lx =
       record {
@@ -98,7 +98,7 @@ module _ {A B : Acc} {I : List Info} (v : Inv A B I) (N : Notes) (ne : Neat N) (
       }
 
   -- a run of flat lines
-  run-kept : (m : Made) (s c : ℕ) (t : Ty) → t .cls ≢ 1 → m .old ≡ 0 → m .key ≡ 1 → m .at ≡ p + 1 → m .bit ≡ bitIn N s → m .con ≡ 0 → p ≤ 60000 → LineKept N n m t (valInfo (infoAt I s) (from (suc p) c) none)
+  run-kept : (m : Made) (s c : ℕ) (t : Ty) → t .role ≢ 1 → m .old ≡ 0 → m .key ≡ 1 → m .at ≡ p + 1 → m .bit ≡ bitIn N s → m .con ≡ 0 → p ≤ 60000 → LineKept N n m t (valInfo (infoAt I s) (from (suc p) c) none)
   run-kept m s c t d eo ekey ea eb ek lp =
       record {
         falls = no-old eo;
@@ -119,38 +119,27 @@ module _ {A B : Acc} {I : List Info} (v : Inv A B I) (N : Notes) (ne : Neat N) (
   kept-as : {m m′ : Made} {t : Ty} {f : Info} → m ≡ m′ → LineKept N n m′ t f → LineKept N n m t f
   kept-as {t = t} {f} e k = subst⁻¹ (λ (x : Made). LineKept N n x t f) e k
 
-  kept-info : {m : Made} {t : Ty} {f f′ : Info} → f ≡ f′ → LineKept N n m t f′ → LineKept N n m t f
-  kept-info {m} {t} e k = subst⁻¹ (λ (x : Info). LineKept N n m t x) e k
-
   -- ---- reads and writes
 
-  read-end : (o s i c : ℕ) (ks ps : List ℕ) → 2 ≤ c → length ps ≡ c → c ≤ suc (length ks) → readAll o s i (suc p) ks ps .end ≡ p + 2 * (c - 1)
-  read-end o s i c ks [] h e l = absurd (omega arith)
-  read-end o s i c ks (q ∷ qs) h e l =
-      let m = length qs in
-      let r = read-records o s i (suc p) ks q qs (omega arith) in
-      let f : before (suc p) m (q ∷ qs) m ≡ suc p + (2 * m - 1) = ap (λ (b : Bool). pick b (getD (q ∷ qs) m 0) (suc p + (2 * m - 1))) (ne-eqb m 0 (λ z. omega arith)) in
-      r .end ∙ f ∙ omega arith
-
-  deep-index : (a i : ℕ) → 1 ≤ typeAt (A .lay) a .cls → typeAt (A .lay) i .w ≡ typeAt (A .lay) a .iw → typeAt (A .lay) i .w ≤ 8
+  deep-index : (a i : ℕ) → 1 ≤ typeAt (A .lay) a .role → typeAt (A .lay) i .w ≡ typeAt (A .lay) a .iw → typeAt (A .lay) i .w ≤ 8
   deep-index a i h e = let q : deepIn N a ≡ typeAt (A .lay) a .iw = tl .iw a h in let f = ne .deep a in omega arith
 
   -- a constant index lies among the cells
-  index-in : (a i k : ℕ) → 1 ≤ typeAt (A .lay) a .cls → IsWord (typeAt (A .lay) i) → typeAt (A .lay) i .w ≡ typeAt (A .lay) a .iw → cellsAt A i ≡ k ∷ [] → k < sizeIn N a
+  index-in : (a i k : ℕ) → 1 ≤ typeAt (A .lay) a .role → IsWord (typeAt (A .lay) i) → typeAt (A .lay) i .w ≡ typeAt (A .lay) a .iw → cellsAt A i ≡ k ∷ [] → k < sizeIn N a
   index-in a i k h w e c =
       let z : getD (cellsAt A i) 0 0 < 2 ^ (typeAt (A .lay) i .w) = word-small v i (w .is) in
       let q : getD (cellsAt A i) 0 0 ≡ k = ap (λ (x : List ℕ). getD x 0 0) c in
       subst (λ (x : ℕ). k < x) (ap (λ (x : ℕ). 2 ^ x) (e ∙ sym (tl .iw a h))) (subst (λ (x : ℕ). x < 2 ^ (typeAt (A .lay) i .w)) q z)
 
-  read-kept : (s a i : ℕ) (t : Ty) → t .cls ≢ 1 → Ok false (tyAt (A .lay .ctx)) (given (A .lay .ctx)) (Line.val s (Expr.read a i)) → p + flatCount N (Line.val s (Expr.read a i)) ≤ 16384
-      → LineKept N n (flatMade N p (Line.val s (Expr.read a i))) t (chunk I (suc p) (Line.val s (Expr.read a i)) .info)
+  read-kept : (s a i : ℕ) (t : Ty) → t .role ≢ 1 → Ok false (tyAt (A .lay .ctx)) (given (A .lay .ctx)) (Line.value s (Expr.read a i)) → p + flatCount N (Line.value s (Expr.read a i)) ≤ 16384
+      → LineKept N n (flatMade N p (Line.value s (Expr.read a i))) t (chunk I (suc p) (Line.value s (Expr.read a i)) .info)
   read-kept s a i t d k top = go (infoAt I i .known) (v .rel i .value (k .index .is) .known) (nr i .known)
     where
-      ha : 2 ≤ typeAt (A .lay) a .cls
+      ha : 2 ≤ typeAt (A .lay) a .role
       ha = k .arr .is
 
       go : (c : Option ℕ) → KnownRel c (cellsAt A i) → KnownNote c (conIn N i)
-          → LineKept N n (flatMade N p (Line.val s (Expr.read a i))) t (chunkRead (infoAt I s) (infoAt I a) c (lineAt I i) (suc p) .info)
+          → LineKept N n (flatMade N p (Line.value s (Expr.read a i))) t (chunkRead (infoAt I s) (infoAt I a) c (lineAt I i) (suc p) .info)
       go (some x) r z =
           let l = index-in a i x (omega arith) (k .index) (k .iw) r in
           let q = con-some v N ne tl nr p i x (conIn N i) (index-small v N ne tl nr p i x (k .index) (deep-index a i (omega arith) (k .iw)) r) z in
@@ -158,36 +147,34 @@ module _ {A B : Acc} {I : List Info} (v : Inv A B I) (N : Notes) (ne : Neat N) (
           let at : cellIn (N .held) a (conIn N i - 1) ≡ getD (linesAt I a) x 0 = ap (cellIn (N .held) a) y ∙ cell-of v N ne tl nr p a ha x l in
           let low = line-low a x ha l in
           kept-as (read-con N p s a i (λ w. omega arith))
-          (word-kept (made p (cellIn (N .held) a (conIn N i - 1)) (bitIn N s) 0 1 0) s (getD (linesAt I a) x 0) none t d refl refl at refl refl (omega arith) (omega (arith, cell-of v N ne tl nr p a ha x l)))
+          (word-kept (madeAs p (cellIn (N .held) a (conIn N i - 1)) (bitIn N s) 0 1 0) s (getD (linesAt I a) x 0) none t d refl refl at refl refl (omega arith) (omega (arith, cell-of v N ne tl nr p a ha x l)))
       go none r z =
           let c = sizeIn N a in
           let two : 2 ≤ c = size-two (deepIn N a) (let e : deepIn N a ≡ typeAt (A .lay) a .iw = tl .iw a (omega arith) in let d : 0 < typeAt (A .lay) a .iw = k .arr .deep in omega arith) in
-          let e = read-end (infoAt I a .bit) (infoAt I s .elem) (lineAt I i) c (infoAt I a .index) (linesAt I a) two (size-of v N ne tl nr p a ha) (omega (arith, index-length v N ne tl nr p a ha (k .arr .deep))) in
+          let last = length (linesAt I a) - 1 in
+          let e : suc p + (2 * last - 1) ≡ p + 2 * (c - 1) = omega (arith, size-of v N ne tl nr p a ha) in
           let f = read-any-count N p s a i z in
           kept-as (read-any N p s a i z)
-          (word-kept (made (p + 2 * (c - 1)) (p + 2 * (c - 1)) (bitIn N s) 0 1 0) s (readAll (infoAt I a .bit) (infoAt I s .elem) (lineAt I i) (suc p) (infoAt I a .index) (linesAt I a) .end) none t d refl refl (sym e) refl refl (omega arith) (omega arith))
+          (word-kept (madeAs (p + 2 * (c - 1)) (p + 2 * (c - 1)) (bitIn N s) 0 1 0) s (suc p + (2 * last - 1)) none t d refl refl (sym e) refl refl (omega arith) (omega arith))
 
-  write-kept : (s a i x : ℕ) (t : Ty) → t .cls ≢ 1 → Ok false (tyAt (A .lay .ctx)) (given (A .lay .ctx)) (Line.val s (Expr.write a i x)) → p + flatCount N (Line.val s (Expr.write a i x)) ≤ 16384
-      → LineKept N n (flatMade N p (Line.val s (Expr.write a i x))) t (chunk I (suc p) (Line.val s (Expr.write a i x)) .info)
+  write-kept : (s a i x : ℕ) (t : Ty) → t .role ≢ 1 → Ok false (tyAt (A .lay .ctx)) (given (A .lay .ctx)) (Line.value s (Expr.write a i x)) → p + flatCount N (Line.value s (Expr.write a i x)) ≤ 16384
+      → LineKept N n (flatMade N p (Line.value s (Expr.write a i x))) t (chunk I (suc p) (Line.value s (Expr.write a i x)) .info)
   write-kept s a i x t d k top = go (infoAt I i .known) (v .rel i .value (k .index .is) .known) (nr i .known)
     where
-      ha : 2 ≤ typeAt (A .lay) a .cls
+      ha : 2 ≤ typeAt (A .lay) a .role
       ha = k .arr .is
 
-      hs : 1 ≤ typeAt (A .lay) s .cls
-      hs = let e : typeAt (A .lay) s .cls ≡ 1 = k .sort .is in omega arith
-
-      same : length (linesAt I a) ≡ sizeIn N s
-      same = size-of v N ne tl nr p a ha ∙ ap (λ (j : ℕ). 2 ^ j) (tl .iw a (omega arith) ∙ k .same .iw ∙ sym (tl .iw s hs))
+      hs : 1 ≤ typeAt (A .lay) s .role
+      hs = let e : typeAt (A .lay) s .role ≡ 1 = k .sort .is in omega arith
 
       go : (c : Option ℕ) → KnownRel c (cellsAt A i) → KnownNote c (conIn N i)
-          → LineKept N n (flatMade N p (Line.val s (Expr.write a i x))) t (chunkWrite (infoAt I s) (linesAt I a) c (lineAt I i) (lineAt I x) (suc p) .info)
+          → LineKept N n (flatMade N p (Line.value s (Expr.write a i x))) t (chunkWrite (infoAt I s) (linesAt I a) c (lineAt I i) (lineAt I x) (suc p) .info)
       go (some y) r z =
           let q = con-some v N ne tl nr p i y (conIn N i) (index-small v N ne tl nr p i y (k .index) (deep-index s i hs (k .iw)) r) z in
           let small-y = index-small v N ne tl nr p i y (k .index) (deep-index s i hs (k .iw)) r in
           let e : conIn N i - 1 ≡ y = omega arith in
           let w = word-line v N ne tl nr p x (k .value) in
-          let m = made p (wordIn N x) (bitIn N s) a (conIn N i - 1) 0 in
+          let m = madeAs p (wordLine N x) (bitIn N s) a (conIn N i - 1) 0 in
           let lo = line-low x 0 (k .value .is) (pow-pos (deepIn N x)) in
           let an = below a (omega arith) in
           let sK = sound-new N n m hn (ne .sound) (λ u. an) (omega arith) (omega arith) in
@@ -206,8 +193,7 @@ module _ {A B : Acc} {I : List Info} (v : Inv A B I) (N : Notes) (ne : Neat N) (
           })
       go none r z =
           let c = sizeIn N s in
-          let m = made (p + 2 * c) (p + 2) (bitIn N s) 0 2 0 in
-          let li : length (infoAt I s .index) ≡ length (linesAt I a) = index-sort v N ne tl nr p s (k .sort .is) (k .sort .deep) ∙ sym same in
+          let m = madeAs (p + 2 * c) (p + 2) (bitIn N s) 0 2 0 in
           let f = write-any-count N p s a i x z in
           kept-as (write-any N p s a i x z)
           (record {
@@ -217,8 +203,8 @@ module _ {A B : Acc} {I : List Info} (v : Inv A B I) (N : Notes) (ne : Neat N) (
             bit = ne .bit s;
             con = omega arith;
             note =
-                val-note N n hn m (infoAt I s) (writeCells (suc p) (infoAt I s .index) (linesAt I a)) none t d (nr s .bit) (nr s .index) refl
-                (λ j l. cell-step N n m hn refl j ∙ sym (write-cell (suc p) (infoAt I s .index) (linesAt I a) li j (subst (λ (u : ℕ). j < u) (write-length (suc p) (infoAt I s .index) (linesAt I a) li) l) ∙ omega arith));
+                val-note N n hn m (infoAt I s) (writeCells (suc p) (length (linesAt I a))) none t d (nr s .bit) (nr s .index) refl
+                (λ j l. cell-step N n m hn refl j ∙ sym (write-cell (suc p) (length (linesAt I a)) j (subst (λ (u : ℕ). j < u) (write-length (suc p) (length (linesAt I a))) l) ∙ omega arith));
           })
 
   -- ---- any line
@@ -226,7 +212,7 @@ module _ {A B : Acc} {I : List Info} (v : Inv A B I) (N : Notes) (ne : Neat N) (
   not-sort : (x : Bool) → pick {A = ℕ} x 2 3 ≢ 1
   not-sort x e = no-sort x e
 
-  pub line-kept : (l : Line) → Ok false (tyAt (A .lay .ctx)) (given (A .lay .ctx)) l → p + flatCount N l ≤ 16384 → LineKept N n (flatMade N p l) (typeOf false (A .lay) l) (chunk I (suc p) l .info)
+  pub line-kept : (l : Line) → Ok false (tyAt (A .lay .ctx)) (given (A .lay .ctx)) l → p + flatCount N l ≤ 16384 → LineKept N n (flatMade N p l) (lineTypeIn false (A .lay) l) (chunk I (suc p) l .info)
   line-kept (Line.bitvec w) k top =
       let m = flatMade N p (Line.bitvec w) in
       record {
@@ -255,24 +241,24 @@ module _ {A B : Acc} {I : List Info} (v : Inv A B I) (N : Notes) (ne : Neat N) (
               known = con-new N n hn m;
             };
       }
-  line-kept (Line.input s) k top = word-kept (flatMade N p (Line.input s)) s (suc p) none (typeOf false (A .lay) (Line.input s)) (λ e. omega arith) refl refl (omega arith) refl refl (omega arith) (omega arith)
-  line-kept (Line.state s) k top = run-kept (flatMade N p (Line.state s)) s (infoAt I s .size) (typeOf false (A .lay) (Line.state s)) (λ e. omega arith) refl refl refl refl refl (omega arith)
-  line-kept (Line.val s (Expr.const c)) k top = word-kept (flatMade N p (Line.val s (Expr.const c))) s (suc p) (some c) (typeOf false (A .lay) (Line.val s (Expr.const c))) (λ e. omega arith) refl refl (omega arith) refl refl (small-le c) (omega arith)
-  line-kept (Line.val s (Expr.one h a x y)) k top =
-      word-kept (flatMade N p (Line.val s (Expr.one h a x y))) s (suc p) none (typeOf false (A .lay) (Line.val s (Expr.one h a x y))) (not-sort (isFixed (typeAt (A .lay) a))) refl refl (omega arith) refl refl (omega arith) (omega arith)
-  line-kept (Line.val s (Expr.two h a b)) k top =
-      word-kept (flatMade N p (Line.val s (Expr.two h a b))) s (suc p) none (typeOf false (A .lay) (Line.val s (Expr.two h a b))) (not-sort (isFixed (typeAt (A .lay) a) && isFixed (typeAt (A .lay) b))) refl refl (omega arith) refl refl (omega arith) (omega arith)
-  line-kept (Line.val s (Expr.cmp e a b)) k top =
+  line-kept (Line.input s) k top = word-kept (flatMade N p (Line.input s)) s (suc p) none (lineTypeIn false (A .lay) (Line.input s)) (λ e. omega arith) refl refl (omega arith) refl refl (omega arith) (omega arith)
+  line-kept (Line.state s) k top = run-kept (flatMade N p (Line.state s)) s (infoAt I s .size) (lineTypeIn false (A .lay) (Line.state s)) (λ e. omega arith) refl refl refl refl refl (omega arith)
+  line-kept (Line.value s (Expr.const c)) k top = word-kept (flatMade N p (Line.value s (Expr.const c))) s (suc p) (some c) (lineTypeIn false (A .lay) (Line.value s (Expr.const c))) (λ e. omega arith) refl refl (omega arith) refl refl (small-le c) (omega arith)
+  line-kept (Line.value s (Expr.unary h a x y)) k top =
+      word-kept (flatMade N p (Line.value s (Expr.unary h a x y))) s (suc p) none (lineTypeIn false (A .lay) (Line.value s (Expr.unary h a x y))) (not-sort (isFixed (typeAt (A .lay) a))) refl refl (omega arith) refl refl (omega arith) (omega arith)
+  line-kept (Line.value s (Expr.binary h a b)) k top =
+      word-kept (flatMade N p (Line.value s (Expr.binary h a b))) s (suc p) none (lineTypeIn false (A .lay) (Line.value s (Expr.binary h a b))) (not-sort (isFixed (typeAt (A .lay) a) && isFixed (typeAt (A .lay) b))) refl refl (omega arith) refl refl (omega arith) (omega arith)
+  line-kept (Line.value s (Expr.equality e a b)) k top =
       let c = length (linesAt I a) in
       let ec = size-of v N ne tl nr p a (k .left .is) in
-      let q = joined-all p c (subst⁻¹ (λ (x : ℕ). 0 < x) ec (pow-pos (deepIn N a))) ∙ ap (λ (x : ℕ). p + (x + (x - 1))) ec in
-      word-kept (flatMade N p (Line.val s (Expr.cmp e a b))) s _ none (typeOf false (A .lay) (Line.val s (Expr.cmp e a b))) (not-sort (isFixed (typeAt (A .lay) a) && isFixed (typeAt (A .lay) b))) refl refl (sym q) refl refl (omega arith) (omega (arith, q))
-  line-kept (Line.val s (Expr.ite c a b)) k top =
-      run-kept (flatMade N p (Line.val s (Expr.ite c a b))) s (length (linesAt I a)) (typeOf false (A .lay) (Line.val s (Expr.ite c a b))) (not-sort (isFixed (typeAt (A .lay) c) && (isFixed (typeAt (A .lay) a) && isFixed (typeAt (A .lay) b)))) refl refl refl refl refl (omega arith)
-  line-kept (Line.val s (Expr.read a i)) k top = read-kept s a i (typeOf false (A .lay) (Line.val s (Expr.read a i))) (not-sort (isFixed (typeAt (A .lay) a) && isFixed (typeAt (A .lay) i))) k top
-  line-kept (Line.val s (Expr.write a i x)) k top =
-      write-kept s a i x (typeOf false (A .lay) (Line.val s (Expr.write a i x))) (not-sort (isFixed (typeAt (A .lay) a) && (isFixed (typeAt (A .lay) i) && isFixed (typeAt (A .lay) x)))) k top
-  line-kept (Line.give m s q a) k top = none-kept (flatMade N p (Line.give m s q a)) refl refl refl refl refl
-  line-kept (Line.mark m a) k top = none-kept (flatMade N p (Line.mark m a)) refl refl refl refl refl
+      let q : suc p + 2 * (c - 1) ≡ p + (sizeIn N a + (sizeIn N a - 1)) = omega (arith, ec, pow-pos (deepIn N a)) in
+      word-kept (flatMade N p (Line.value s (Expr.equality e a b))) s _ none (lineTypeIn false (A .lay) (Line.value s (Expr.equality e a b))) (not-sort (isFixed (typeAt (A .lay) a) && isFixed (typeAt (A .lay) b))) refl refl (sym q) refl refl (omega arith) (omega (arith, q))
+  line-kept (Line.value s (Expr.ite c a b)) k top =
+      run-kept (flatMade N p (Line.value s (Expr.ite c a b))) s (length (linesAt I a)) (lineTypeIn false (A .lay) (Line.value s (Expr.ite c a b))) (not-sort (isFixed (typeAt (A .lay) c) && (isFixed (typeAt (A .lay) a) && isFixed (typeAt (A .lay) b)))) refl refl refl refl refl (omega arith)
+  line-kept (Line.value s (Expr.read a i)) k top = read-kept s a i (lineTypeIn false (A .lay) (Line.value s (Expr.read a i))) (not-sort (isFixed (typeAt (A .lay) a) && isFixed (typeAt (A .lay) i))) k top
+  line-kept (Line.value s (Expr.write a i x)) k top =
+      write-kept s a i x (lineTypeIn false (A .lay) (Line.value s (Expr.write a i x))) (not-sort (isFixed (typeAt (A .lay) a) && (isFixed (typeAt (A .lay) i) && isFixed (typeAt (A .lay) x)))) k top
+  line-kept (Line.initOrNext m s q a) k top = none-kept (flatMade N p (Line.initOrNext m s q a)) refl refl refl refl refl
+  line-kept (Line.signal m a) k top = none-kept (flatMade N p (Line.signal m a)) refl refl refl refl refl
   line-kept (Line.output a) k top = none-kept (flatMade N p (Line.output a)) refl refl refl refl refl
-  line-kept Line.junk k top = absurd k
+  line-kept Line.unknown k top = absurd k

@@ -1,15 +1,13 @@
 -- The records of the lines for each cell, as rows. Assumes nothing.
-use Prim.Native.Nat.{ℕ, zero, suc, _+_, _-_, _*_, _≤_, _<_}
+use Prim.Native.Nat.{ℕ, zero, suc, _+_, _-_, _*_, _<_}
 use mathlib.Core.Path.{_≡_, refl, sym, ap, ap₂, _∙_}
-use mathlib.Core.Bool.{Bool, true}
-use mathlib.Core.List.{List, [], _∷_, _++_, append-assoc, append-nil, map, map-append}
+use mathlib.Core.Bool.{Bool}
+use mathlib.Core.List.{List, [], _∷_, _++_, append-assoc, append-nil, map}
 use native.Mathlib.Omega.{arith}
-use lib.Dec.{eqb, eqb·suc-zero}
 use lib.ListN.{length, getD, replicate}
-use Rattle.tables.specs.Pick.{pick}
-use Rattle.tables.specs.Lines.{Line, Expr, fields, wordsOf, giveKind, cmpKind}
-use Rattle.flattening.specs.Flat.{from, constLines, giveLines, iteLines, cmpLines, joinKind, joinLines, writeLines, Chain, readLines}
-use Rattle.flattening.specs.Model.{rowsFor}
+use Rattle.tables.specs.Lines.{Line, fields, wordsOf, initOrNextKind, equalityKind}
+use Rattle.flattening.specs.Flat.{from, constLines, initOrNextLines, iteLines, equalityLines, joinKind, joinLines, writeLines, readChain}
+use Rattle.flattening.specs.Model.Rows.{rowsFor}
 
 pub rows-ext : (n : ℕ) (g h : ℕ → List (List ℕ)) → ((j : ℕ) → j < n → g j ≡ h j) → rowsFor n g ≡ rowsFor n h
 rows-ext zero g h e = refl
@@ -37,22 +35,22 @@ pub state-records : (s n : ℕ) → map wordsOf (replicate n (Line.state s)) ≡
 state-records s zero = refl
 state-records s (suc n) = front n (λ j. fields 5 s 0 0 0 ∷ []) (fields 5 s 0 0 0 ∷ []) (map wordsOf (replicate n (Line.state s))) refl (state-records s n)
 
-pub give-records : (m : Bool) (s : ℕ) (qs vs : List ℕ) → length qs ≡ length vs → map wordsOf (giveLines m s qs vs) ≡ rowsFor (length qs) (λ j. fields (giveKind m) s (getD qs j 0) (getD vs j 0) 0 ∷ [])
+pub give-records : (m : Bool) (s : ℕ) (qs vs : List ℕ) → length qs ≡ length vs → map wordsOf (initOrNextLines m s qs vs) ≡ rowsFor (length qs) (λ j. fields (initOrNextKind m) s (getD qs j 0) (getD vs j 0) 0 ∷ [])
 give-records m s [] vs n = refl
 give-records m s (q ∷ qs) [] n = absurd (omega arith)
 give-records m s (q ∷ qs) (v ∷ vs) n =
-    front (length qs) (λ j. fields (giveKind m) s (getD (q ∷ qs) j 0) (getD (v ∷ vs) j 0) 0 ∷ []) (fields (giveKind m) s q v 0 ∷ []) (map wordsOf (giveLines m s qs vs)) refl (give-records m s qs vs (omega arith))
+    front (length qs) (λ j. fields (initOrNextKind m) s (getD (q ∷ qs) j 0) (getD (v ∷ vs) j 0) 0 ∷ []) (fields (initOrNextKind m) s q v 0 ∷ []) (map wordsOf (initOrNextLines m s qs vs)) refl (give-records m s qs vs (omega arith))
 
 pub ite-records : (s c : ℕ) (ps qs : List ℕ) → length ps ≡ length qs → map wordsOf (iteLines s c ps qs) ≡ rowsFor (length ps) (λ j. fields 53 s c (getD ps j 0) (getD qs j 0) ∷ [])
 ite-records s c [] qs n = refl
 ite-records s c (p ∷ ps) [] n = absurd (omega arith)
 ite-records s c (p ∷ ps) (q ∷ qs) n = front (length ps) (λ j. fields 53 s c (getD (p ∷ ps) j 0) (getD (q ∷ qs) j 0) ∷ []) (fields 53 s c p q ∷ []) (map wordsOf (iteLines s c ps qs)) refl (ite-records s c ps qs (omega arith))
 
-pub cmp-records : (e : Bool) (s : ℕ) (ps qs : List ℕ) → length ps ≡ length qs → map wordsOf (cmpLines e s ps qs) ≡ rowsFor (length ps) (λ j. fields (cmpKind e) s (getD ps j 0) (getD qs j 0) 0 ∷ [])
+pub cmp-records : (e : Bool) (s : ℕ) (ps qs : List ℕ) → length ps ≡ length qs → map wordsOf (equalityLines e s ps qs) ≡ rowsFor (length ps) (λ j. fields (equalityKind e) s (getD ps j 0) (getD qs j 0) 0 ∷ [])
 cmp-records e s [] qs n = refl
 cmp-records e s (p ∷ ps) [] n = absurd (omega arith)
 cmp-records e s (p ∷ ps) (q ∷ qs) n =
-    front (length ps) (λ j. fields (cmpKind e) s (getD (p ∷ ps) j 0) (getD (q ∷ qs) j 0) 0 ∷ []) (fields (cmpKind e) s p q 0 ∷ []) (map wordsOf (cmpLines e s ps qs)) refl (cmp-records e s ps qs (omega arith))
+    front (length ps) (λ j. fields (equalityKind e) s (getD (p ∷ ps) j 0) (getD (q ∷ qs) j 0) 0 ∷ []) (fields (equalityKind e) s p q 0 ∷ []) (map wordsOf (equalityLines e s ps qs)) refl (cmp-records e s ps qs (omega arith))
 
 -- joins, each of the one before it
 pub join-records : (e : Bool) (s c q n : ℕ) → map wordsOf (joinLines e s c (suc c) (from q n)) ≡ rowsFor n (λ j. fields (joinKind e) s (c + j) (q + j) 0 ∷ [])
@@ -82,40 +80,30 @@ write-records o s i v b (k ∷ ks) (p ∷ ps) n =
     ∙ rows-ext (length ps) (writePair o s i v (suc (suc b)) ks ps) (λ j. writePair o s i v b (k ∷ ks) (p ∷ ps) (suc j))
     (λ j l. let q : suc (suc b) + 2 * j ≡ b + 2 * suc j = omega arith in ap (λ (x : ℕ). fields 21 o i (getD ks j 0) 0 ∷ fields 53 s x v (getD ps j 0) ∷ []) q))
 
--- a read's pair t, of the cells after the first one, m of them: the constants fall
-abbrev pub before : (b m : ℕ) (ps : List ℕ) → ℕ → ℕ
-before b m ps t = pick (eqb t 0) (getD ps m 0) (b + (2 * t - 1))
+-- a read's pair t, where m cells lie before the last: the constants fall, and before the pair t stands the ite of the pair before it
+abbrev pub soFar : (r b t : ℕ) → ℕ
+soFar r b zero = r
+soFar r b (suc t) = b + suc (2 * t)
 
-abbrev pub readPair : (o s i b m : ℕ) (ks ps : List ℕ) → ℕ → List (List ℕ)
-readPair o s i b m ks ps t = fields 21 o i (getD ks (m - 1 - t) 0) 0 ∷ fields 53 s (b + 2 * t) (getD ps (m - 1 - t) 0) (before b m ps t) ∷ []
+abbrev pub readPair : (o s i : ℕ) (ks ps : List ℕ) (r b m t : ℕ) → List (List ℕ)
+readPair o s i ks ps r b m t = fields 21 o i (getD ks (m - 1 - t) 0) 0 ∷ fields 53 s (b + 2 * t) (getD ps (m - 1 - t) 0) (soFar r b t) ∷ []
 
-pub record ReadRecords (o s i b m : ℕ) (ks ps : List ℕ) (r : Chain) : Type 0 where
-  pub lines : map wordsOf (r .made) ≡ rowsFor m (readPair o s i b m ks ps)
-  pub top : r .top ≡ b + 2 * m
-  pub end : r .end ≡ before b m ps m
+read-shift : (o s i : ℕ) (ks ps : List ℕ) (r b m t : ℕ) → readPair o s i ks ps (suc b) (suc (suc b)) m t ≡ readPair o s i ks ps r b (suc m) (suc t)
+read-shift o s i ks ps r b m t =
+    let e : m - 1 - t ≡ suc m - 1 - suc t = omega arith in
+    let f : suc (suc b) + 2 * t ≡ b + 2 * suc t = omega arith in
+    λ l. fields 21 o i (getD ks (e l) 0) 0 ∷ fields 53 s (f l) (getD ps (e l) 0) (so-far t l) ∷ []
+  where
+    so-far : (t : ℕ) → soFar (suc b) (suc (suc b)) t ≡ soFar r b (suc t)
+    so-far zero = omega arith
+    so-far (suc t) = omega arith
 
-read-shift : (o s i b m k p : ℕ) (ks ps : List ℕ) (t : ℕ) → t < m → readPair o s i b m ks ps t ≡ readPair o s i b (suc m) (k ∷ ks) (p ∷ ps) t
-read-shift o s i b m k p ks ps t l =
-    let e : suc m - 1 - t ≡ suc (m - 1 - t) = omega arith in
-    ap (λ (x : ℕ). fields 21 o i (getD (k ∷ ks) x 0) 0 ∷ fields 53 s (b + 2 * t) (getD (p ∷ ps) x 0) (before b m ps t) ∷ []) (sym e)
-
-pub read-records : (o s i b : ℕ) (ks : List ℕ) (p : ℕ) (ps : List ℕ) → length ps ≤ length ks → ReadRecords o s i b (length ps) ks (p ∷ ps) (readLines o s i b ks p ps)
-read-records o s i b ks p [] h = record { lines = refl; top = omega arith; end = refl }
-read-records o s i b [] p (q ∷ ps) h = absurd (omega arith)
-read-records o s i b (k ∷ ks) p (q ∷ ps) h =
-    let m = length ps in
-    let r = readLines o s i b ks q ps in
-    let w = read-records o s i b ks q ps (omega arith) in
-    let g = readPair o s i b (suc m) (k ∷ ks) (p ∷ q ∷ ps) in
-    let z : suc m - 1 - m ≡ 0 = omega arith in
-    record {
-      lines =
-          map-append wordsOf (r .made) (Line.val o (Expr.cmp true i k) ∷ Line.val s (Expr.ite (r .top) p (r .end)) ∷ [])
-          ∙ ap₂ (λ (x y : List (List ℕ)). x ++ y) (w .lines ∙ rows-ext m (readPair o s i b m ks (q ∷ ps)) g (read-shift o s i b m k p ks (q ∷ ps)))
-          ((λ j. fields 21 o i k 0 ∷ fields 53 s (w .top j) p (w .end j) ∷ []) ∙ ap (λ (x : ℕ). fields 21 o i (getD (k ∷ ks) x 0) 0 ∷ fields 53 s (b + 2 * m) (getD (p ∷ q ∷ ps) x 0) (before b m (q ∷ ps) m) ∷ []) (sym z));
-      top = omega (arith, w .top);
-      end =
-          let e = w .top in
-          let f : suc (r .top) ≡ b + (2 * suc m - 1) = omega arith in
-          f ∙ ap (λ (c : Bool). pick c (getD (p ∷ q ∷ ps) (suc m) 0) (b + (2 * suc m - 1))) (sym (eqb·suc-zero m));
-    }
+pub read-records : (o s i : ℕ) (ks ps : List ℕ) (r b m : ℕ) → map wordsOf (readChain o s i ks ps r b m) ≡ rowsFor m (readPair o s i ks ps r b m)
+read-records o s i ks ps r b zero = refl
+read-records o s i ks ps r b (suc m) =
+    let e : m ≡ suc m - 1 - 0 = omega arith in
+    let f : b ≡ b + 2 * 0 = omega arith in
+    front m (readPair o s i ks ps r b (suc m)) (fields 21 o i (getD ks m 0) 0 ∷ fields 53 s b (getD ps m 0) r ∷ []) (map wordsOf (readChain o s i ks ps (suc b) (suc (suc b)) m))
+    (λ l. fields 21 o i (getD ks (e l) 0) 0 ∷ fields 53 s (f l) (getD ps (e l) 0) r ∷ [])
+    (read-records o s i ks ps (suc b) (suc (suc b)) m
+    ∙ rows-ext m (readPair o s i ks ps (suc b) (suc (suc b)) m) (λ t. readPair o s i ks ps r b (suc m) (suc t)) (λ t l. read-shift o s i ks ps r b m t))

@@ -1,34 +1,33 @@
 -- ite, eq and neq, read and write: the circuit's walk over such a line and the flat circuit's walk over its chunk keep `Inv`. Assumes nothing.
-use Prim.Native.Nat.{ℕ, suc, _+_, _^_, _<_}
+use Prim.Native.Nat.{ℕ, zero, suc, _+_, _-_, _*_, _^_, _≤_, _<_}
 use mathlib.Core.Path.{_≡_, refl, sym, ap, _∙_, subst, subst⁻¹}
 use mathlib.Core.Bool.{Bool, false, _&&_}
 use mathlib.Core.Option.{Option, none, some}
 use mathlib.Core.List.{List, [], _∷_, _++_}
-use native.Mathlib.Nat.{not-suc-le-zero}
 use native.Mathlib.Omega.{arith}
-use lib.Pow.{pow-pos}
+use lib.Pow.{pow-pos, pow-mono}
 use lib.ListN.{length, getD, set, length-set}
 use Rattle.words.specs.Word.{bit}
 use Rattle.tables.specs.declared.Ty.{Ty}
-use Rattle.tables.specs.Lines.{val, cmp, ite, read, write}
+use Rattle.tables.specs.Lines.{value, equality, ite, read, write}
 use Rattle.tables.specs.Types.{isFixed, tyAt, given}
 use Rattle.tables.proofs.Facts.{Ok}
-use Rattle.circuits.specs.Cells.{say, same}
+use Rattle.circuits.specs.Cells.{eqOrNeq, sameCells}
 use Rattle.circuits.specs.Layout.{typeAt, placeAt}
-use Rattle.circuits.specs.Meaning.{Acc, cellsAt, wordAt}
-use Rattle.flattening.specs.Flat.{from, Info, infoAt, linesAt, lineAt, valInfo, chunk, cmpLines, joinAll, joinedAll, joinLines, joined, readAll, readLines, writeCells, chunkRead, chunkWrite}
+use Rattle.circuits.specs.Meaning.{Frame, cellsAt, wordAt}
+use Rattle.flattening.specs.Flat.{from, Info, infoAt, linesAt, lineAt, valInfo, chunk, equalityLines, joinLines, readChain, writeCells, chunkRead, chunkWrite}
 use Rattle.flattening.proofs.Walk as W
-use Rattle.flattening.proofs.Walk.{both, holds-weak, Even, SortAt, Word, Holds, Small, ext-refl, sort-ext, holds-head, holds-tail, holds-length, ok-append, evs, evs-append, len-all, Grew, grew-refl, grew-trans}
-use Rattle.flattening.proofs.Chains.{Ends, Reads, writes, run-ites, run-cmps, run-joins, run-writes, run-reads}
-use Rattle.flattening.proofs.CellLaws.{chooses-choose, choose-has, writes-set, picks-get, joins-agree, small-at, small-set, small-bit, holds-at, holds-set}
+use Rattle.flattening.proofs.Walk.{both, holds-weak, Even, SortAt, Word, Holds, Small, ext-refl, sort-ext, holds-head, holds-tail, holds-length, holds-at, ok-append, evs, evs-append, len-all, Grew, grew-refl, grew-trans}
+use Rattle.flattening.proofs.Chains.{Ends, writes, picks, cmpVals, lastLine, run-ites, run-cmps, run-joins, run-writes, run-reads}
+use Rattle.flattening.proofs.CellLaws.{length-from, chooses-choose, choose-has, writes-set, picks-get, joins-agree, small-at, small-set, small-bit, holds-set}
 use Rattle.flattening.proofs.Rel.{SortRel, KnownRel, ValRel, Inv, sortrel-ext, val-rel, word-rel, word-for, word-small, cells-for, extend-quiet}
 use Rattle.flattening.proofs.SimWords.{Keeps}
 
 module _ (f : Bool) (σ ι : List ℕ) where
   -- ---- ite
 
-  pub sim-ite : {A B : Acc} {I : List Info} {b : ℕ} (s d x y : ℕ) → Inv A B I → b ≡ length (B .env) → Ok false (tyAt (A .lay .ctx)) (given (A .lay .ctx)) (val s (ite d x y))
-      → Keeps f σ ι A B I (val s (ite d x y)) (chunk I b (val s (ite d x y)))
+  pub sim-ite : {A B : Frame} {I : List Info} {b : ℕ} (s d x y : ℕ) → Inv A B I → b ≡ length (B .env) → Ok false (tyAt (A .lay .ctx)) (given (A .lay .ctx)) (value s (ite d x y))
+      → Keeps f σ ι A B I (value s (ite d x y)) (chunk I b (value s (ite d x y)))
   sim-ite {A} {B} {I} {b} s d x y v e k =
       let t = typeAt (A .lay) s in
       let fd = isFixed (typeAt (A .lay) d) in
@@ -46,10 +45,10 @@ module _ (f : Bool) (σ ι : List ℕ) where
       let r = run-ites f σ ι {u = u} (ext-refl (v .evenB)) e (rs .elem) (word-for v d (k .cond) (λ z. both fd (fx && fy) z .0) (k .bit))
       (cells-for rx (λ z. both fx fy (both fd (fx && fy) z .1) .0) (k .sameA .w)) (cells-for ry (λ z. both fx fy (both fd (fx && fy) z .1) .1) (k .sameB .w)) (nx ∙ sym ny) in
       let ps = from b (length (linesAt I x)) in
-      let B′ = evs f σ ι B (chunk I b (val s (ite d x y)) .lines) in
+      let B′ = evs f σ ι B (chunk I b (value s (ite d x y)) .lines) in
       record {
         inv =
-            extend-quiet f σ ι (val s (ite d x y)) (valInfo (infoAt I s) ps none) tt v (r .grew)
+            extend-quiet f σ ι (value s (ite d x y)) (valInfo (infoAt I s) ps none) tt v (r .grew)
             (val-rel u none (sortrel-ext (r .grew .ext) rs)
             (subst (λ (l : List ℕ). Holds B′ u (t .w) ps l) (chooses-choose c xs ys (nx ∙ sym ny)) (r .holds))
             (choose-has (λ (l : List ℕ). length l ≡ 2 ^ (t .iw)) c nx ny)
@@ -59,34 +58,43 @@ module _ (f : Bool) (σ ι : List ℕ) where
 
   -- ---- eq and neq
 
-  len-cmps : (t : Bool) (s : ℕ) (ps qs : List ℕ) → length ps ≡ length qs → length (cmpLines t s ps qs) ≡ length ps
+  len-cmps : (t : Bool) (s : ℕ) (ps qs : List ℕ) → length ps ≡ length qs → length (equalityLines t s ps qs) ≡ length ps
   len-cmps t s [] qs n = refl
   len-cmps t s (p ∷ ps) [] n = absurd (omega arith)
   len-cmps t s (p ∷ ps) (q ∷ qs) n = ap suc (len-cmps t s ps qs (omega arith))
 
-  run-agree : {B : Acc} {u : Bool} {b s w : ℕ} {ps qs xs ys : List ℕ} (t : Bool) → Even B → b ≡ length (B .env) → SortAt B s 1 → Holds B u w ps xs → Holds B u w qs ys
-      → length xs ≡ length ys → 0 < length xs
-      → Ends f σ ι B (cmpLines t s ps qs ++ joinAll t s (b + length ps) (from b (length ps))) u (joinedAll (b + length ps) (from b (length ps))) 1 (bit (say t (same xs ys)))
-  run-agree t ev e hs W.none hq n z = absurd (not-suc-le-zero z)
-  run-agree t ev e hs (W.more hp hr) W.none n z = absurd (omega arith)
-  run-agree {B} {u} {b} {s} t ev e hs (W.more {p = p} {c = x} {ps = ps} {cs = xs} hp hr) (W.more {p = q} {c = y} {ps = qs} {cs = ys} hq hu) n z =
-      let L = cmpLines t s (p ∷ ps) (q ∷ qs) in
+  -- the first of the cells, and k others
+  run-agree : {B : Frame} {u : Bool} {b s w : ℕ} {ps qs xs ys : List ℕ} (t : Bool) (k : ℕ) → Even B → b ≡ length (B .env) → SortAt B s 1 → Holds B u w ps xs → Holds B u w qs ys
+      → length xs ≡ length ys → suc k ≡ length ps
+      → Ends f σ ι B (equalityLines t s ps qs ++ joinLines t s b (b + length ps) (from (suc b) k)) u (b + 2 * k) 1 (bit (eqOrNeq t (sameCells xs ys)))
+  run-agree t k ev e hs W.none hq n z = absurd (omega arith)
+  run-agree t k ev e hs (W.more hp hr) W.none n z = absurd (omega arith)
+  run-agree {B} {u} {b} {s} t k ev e hs (W.more {p = p} {c = x} {ps = ps} {cs = xs} hp hr) (W.more {p = q} {c = y} {ps = qs} {cs = ys} hq hu) n z =
+      let L = equalityLines t s (p ∷ ps) (q ∷ qs) in
       let m = b + suc (length ps) in
-      let J = joinLines t s b m (from (suc b) (length ps)) in
+      let J = joinLines t s b m (from (suc b) k) in
       let r = run-cmps f σ ι t (ext-refl ev) e hs (W.more hp hr) (W.more hq hu) n in
       let top : m ≡ length (evs f σ ι B L .env) = omega (arith, len-all f σ ι B L, len-cmps t s (p ∷ ps) (q ∷ qs) (omega (arith, holds-length hr, holds-length hu))) in
-      let j = run-joins f σ ι t (ext-refl (r .grew .ext .even)) top (sort-ext (r .grew .ext) hs) (holds-head (r .holds)) (holds-tail (r .holds)) in
+      let ek : length ps ≡ k = omega arith in
+      let tests = subst (λ (i : ℕ). Holds (evs f σ ι B L) u 1 (from (suc b) i) (cmpVals t xs ys)) ek (holds-tail (r .holds)) in
+      let j = run-joins f σ ι t (ext-refl (r .grew .ext .even)) top (sort-ext (r .grew .ext) hs) (holds-head (r .holds)) tests in
       let E = evs-append f σ ι B L J in
+      let v = bit (eqOrNeq t (sameCells (x ∷ xs) (y ∷ ys))) in
       record {
-        grew = subst⁻¹ (λ (C : Acc). Grew B C) E (grew-trans (r .grew) (j .grew));
+        grew = subst⁻¹ (λ (C : Frame). Grew B C) E (grew-trans (r .grew) (j .grew));
         word =
-            subst⁻¹ (λ (C : Acc). Word C u (joined b m (from (suc b) (length ps))) 1 (bit (say t (same (x ∷ xs) (y ∷ ys))))) E
-            (subst (λ (v : ℕ). Word (evs f σ ι (evs f σ ι B L) J) u (joined b m (from (suc b) (length ps))) 1 v) (joins-agree t x y xs ys (omega arith)) (j .word));
+            subst⁻¹ (λ (C : Frame). Word C u (b + 2 * k) 1 v) E
+            (subst (λ (i : ℕ). Word (evs f σ ι (evs f σ ι B L) J) u i 1 v) (ap (lastLine b m) (length-from (suc b) k) ∙ last-join b m k (omega arith))
+            (subst (λ (v : ℕ). Word (evs f σ ι (evs f σ ι B L) J) u (lastLine b m (length (from (suc b) k))) 1 v) (joins-agree t x y xs ys (omega arith)) (j .word)));
         ok = ok-append f σ ι B L J (r .ok) (j .ok);
       }
+    where
+      last-join : (b m k : ℕ) → m ≡ b + suc k → lastLine b m k ≡ b + 2 * k
+      last-join b m zero e = omega arith
+      last-join b m (suc k) e = omega arith
 
-  pub sim-cmp : {A B : Acc} {I : List Info} {b : ℕ} (s : ℕ) (t : Bool) (x y : ℕ) → Inv A B I → b ≡ length (B .env) → Ok false (tyAt (A .lay .ctx)) (given (A .lay .ctx)) (val s (cmp t x y))
-      → Keeps f σ ι A B I (val s (cmp t x y)) (chunk I b (val s (cmp t x y)))
+  pub sim-cmp : {A B : Frame} {I : List Info} {b : ℕ} (s : ℕ) (t : Bool) (x y : ℕ) → Inv A B I → b ≡ length (B .env) → Ok false (tyAt (A .lay .ctx)) (given (A .lay .ctx)) (value s (equality t x y))
+      → Keeps f σ ι A B I (value s (equality t x y)) (chunk I b (value s (equality t x y)))
   sim-cmp {A} {B} {I} {b} s t x y v e k =
       let g = infoAt I s in
       let rs = v .rel s .sort (k .sort .is) in
@@ -98,29 +106,43 @@ module _ (f : Bool) (σ ι : List ℕ) where
       let hs : SortAt B (g .elem) 1 = subst (λ (w : ℕ). SortAt B (g .elem) w) (k .bit) (rs .elem) in
       let fx = isFixed (typeAt (A .lay) x) in
       let fy = isFixed (typeAt (A .lay) y) in
-      let r = run-agree {u = fx && fy} t (v .evenB) e hs (cells-for rx (λ z. both fx fy z .0) refl) (cells-for ry (λ z. both fx fy z .1) (k .same .w)) n (omega (arith, rx .len, pow-pos (typeAt (A .lay) x .iw))) in
-      let B′ = evs f σ ι B (chunk I b (val s (cmp t x y)) .lines) in
-      let p = joinedAll (b + length (linesAt I x)) (from b (length (linesAt I x))) in
-      let c = bit (say t (same xs ys)) in
+      let hx = cells-for rx (λ z. both fx fy z .0) refl in
+      let r = run-agree {u = fx && fy} t (length (linesAt I x) - 1) (v .evenB) e hs hx (cells-for ry (λ z. both fx fy z .1) (k .same .w)) n (omega (arith, holds-length hx, rx .len, pow-pos (typeAt (A .lay) x .iw))) in
+      let B′ = evs f σ ι B (chunk I b (value s (equality t x y)) .lines) in
+      let p = b + 2 * (length (linesAt I x) - 1) in
+      let c = bit (eqOrNeq t (sameCells xs ys)) in
       record {
         inv =
-            extend-quiet f σ ι (val s (cmp t x y)) (valInfo g (p ∷ []) none) tt v (r .grew)
+            extend-quiet f σ ι (value s (equality t x y)) (valInfo g (p ∷ []) none) tt v (r .grew)
             (word-rel (fx && fy) none (sortrel-ext (r .grew .ext) rs) (k .sort .flat) (subst⁻¹ (λ (w : ℕ). Word B′ (fx && fy) p w c) (k .bit) (r .word))
-            (subst⁻¹ (λ (w : ℕ). c < 2 ^ w) (k .bit) (small-bit (say t (same xs ys)))) tt);
+            (subst⁻¹ (λ (w : ℕ). c < 2 ^ w) (k .bit) (small-bit (eqOrNeq t (sameCells xs ys)))) tt);
         ok = r .ok;
       }
 
   -- ---- read
 
-  run-readAll : {B : Acc} {u : Bool} {b one s i w iw iv n : ℕ} {ks ps cs : List ℕ} → Even B → b ≡ length (B .env) → SortAt B one 1 → SortAt B s w → Word B u i iw iv
-      → Holds B u iw ks (from 0 n) → Holds B u w ps cs → length cs ≡ n → iv < length cs → Reads f σ ι B (readAll one s i b ks ps) u w (getD cs iv 0)
-  run-readAll ev e ho hs hi hk W.none n h = absurd (not-suc-le-zero h)
-  run-readAll {B} {u} {b} {one} {s} {i} {w} {iw} {iv} {n = n} {ks = ks} ev e ho hs hi hk (W.more {p = p} {c = c} {ps = ps} {cs = cs} hp hr) en h =
-      subst (λ (v : ℕ). Reads f σ ι B (readLines one s i b ks p ps) u w v) (picks-get iv c cs h)
-      (run-reads f σ ι ev e ho hs hi (subst⁻¹ (λ (m : ℕ). Holds B u iw ks (from 0 m)) en hk) hp hr)
+  -- from the last cell on: k cells lie before it
+  run-read : {B : Frame} {u : Bool} {b one s i w iw iv n : ℕ} {ks ps cs : List ℕ} (k : ℕ) → Even B → b ≡ length (B .env) → SortAt B one 1 → SortAt B s w → Word B u i iw iv
+      → Holds B u iw ks (from 0 n) → Holds B u w ps cs → length cs ≡ n → iv < n → k ≡ n - 1 → 0 < k
+      → Ends f σ ι B (readChain one s i ks ps (getD ps k 0) b k) u (b + (2 * k - 1)) w (getD cs iv 0)
+  run-read {B} {u} {b} {one} {s} {i} {w} {iw} {iv} {n} {ks} {ps} {cs} k ev e ho hs hi hk hp en h ek few =
+      let r = run-reads f σ ι (ext-refl ev) e ho hs hi hk hp (holds-at k hp (omega arith)) k (omega (arith, length-from 0 n)) (omega arith) in
+      let v : picks iv (from 0 n) cs (getD cs k 0) k ≡ getD cs iv 0 = ap (λ (m : ℕ). picks iv (from 0 n) cs (getD cs m 0) m) ek ∙ picks-get iv n cs h in
+      let L = readChain one s i ks ps (getD ps k 0) b k in
+      record {
+        grew = r .grew;
+        word =
+            subst (λ (x : ℕ). Word (evs f σ ι B L) u x w (getD cs iv 0)) (last-some (getD ps k 0) b (2 * k) (omega arith))
+            (subst (λ (x : ℕ). Word (evs f σ ι B L) u (lastLine (getD ps k 0) b (2 * k)) w x) v (r .word));
+        ok = r .ok;
+      }
+    where
+      last-some : (r b m : ℕ) → 0 < m → lastLine r b m ≡ b + (m - 1)
+      last-some r b zero q = absurd (omega arith)
+      last-some r b (suc m) q = omega arith
 
-  pub sim-read : {A B : Acc} {I : List Info} {b : ℕ} (s a i : ℕ) → Inv A B I → b ≡ length (B .env) → Ok false (tyAt (A .lay .ctx)) (given (A .lay .ctx)) (val s (read a i))
-      → Keeps f σ ι A B I (val s (read a i)) (chunk I b (val s (read a i)))
+  pub sim-read : {A B : Frame} {I : List Info} {b : ℕ} (s a i : ℕ) → Inv A B I → b ≡ length (B .env) → Ok false (tyAt (A .lay .ctx)) (given (A .lay .ctx)) (value s (read a i))
+      → Keeps f σ ι A B I (value s (read a i)) (chunk I b (value s (read a i)))
   sim-read {A} {B} {I} {b} s a i v e k = go (infoAt I i .known) (v .rel i .value (k .index .is) .known)
     where
       h : Info
@@ -141,7 +163,7 @@ module _ (f : Bool) (σ ι : List ℕ) where
       rs : SortRel B t h
       rs = v .rel s .sort (k .sort .is)
 
-      ra : ValRel B (typeAt (A .lay) a) (placeAt (A .lay) a .at) cs g
+      ra : ValRel B (typeAt (A .lay) a) (placeAt (A .lay) a) cs g
       ra = v .rel a .value (k .arr .is)
 
       inside : iv < length cs
@@ -159,29 +181,32 @@ module _ (f : Bool) (σ ι : List ℕ) where
       fits : getD cs iv 0 < 2 ^ (t .w)
       fits = small-at (t .w) cs iv (subst (λ (w : ℕ). Small w cs) (k .wide) (ra .small))
 
-      go : (c : Option ℕ) → KnownRel c (cellsAt A i) → Keeps f σ ι A B I (val s (read a i)) (chunkRead h g c (lineAt I i) b)
+      go : (c : Option ℕ) → KnownRel c (cellsAt A i) → Keeps f σ ι A B I (value s (read a i)) (chunkRead h g c (lineAt I i) b)
       go (some j) z =
           let ej : iv ≡ j = ap (λ (l : List ℕ). getD l 0 0) z in
           record {
             inv =
-                extend-quiet f σ ι (val s (read a i)) (valInfo h (getD (g .cells) j 0 ∷ []) none) tt v (grew-refl (v .evenB))
+                extend-quiet f σ ι (value s (read a i)) (valInfo h (getD (g .cells) j 0 ∷ []) none) tt v (grew-refl (v .evenB))
                 (word-rel (fa && fi) none rs (k .sort .flat) (subst (λ (m : ℕ). Word B (fa && fi) (getD (g .cells) m 0) (t .w) (getD cs iv 0)) ej (holds-at iv held inside)) fits tt);
             ok = tt;
           }
       go none z =
-          let r = run-readAll (v .evenB) e (ra .sort .arr (k .arr .deep) .bit) (rs .elem) (word-for v i (k .index) (λ z. both fa fi z .1) (k .iw))
-          (holds-weak (λ z. tt) (ra .sort .arr (k .arr .deep) .index)) held (ra .len) inside in
+          let last = length (g .cells) - 1 in
+          let many : 2 ≤ 2 ^ (typeAt (A .lay) a .iw) = pow-mono (k .arr .deep) in
+          let r = run-read last (v .evenB) e (ra .sort .arr (k .arr .deep) .bit) (rs .elem) (word-for v i (k .index) (λ z. both fa fi z .1) (k .iw))
+          (holds-weak (λ z. tt) (ra .sort .arr (k .arr .deep) .index)) held (ra .len) (subst (λ (n : ℕ). iv < n) (ra .len) inside)
+          (ap (λ (n : ℕ). n - 1) (holds-length held ∙ ra .len)) (omega (arith, holds-length held, ra .len)) in
           record {
             inv =
-                extend-quiet f σ ι (val s (read a i)) (valInfo h (readAll (g .bit) (h .elem) (lineAt I i) b (g .index) (g .cells) .end ∷ []) none) tt v (r .ends .grew)
-                (word-rel (fa && fi) none (sortrel-ext (r .ends .grew .ext) rs) (k .sort .flat) (r .ends .word) fits tt);
-            ok = r .ends .ok;
+                extend-quiet f σ ι (value s (read a i)) (valInfo h ((b + (2 * last - 1)) ∷ []) none) tt v (r .grew)
+                (word-rel (fa && fi) none (sortrel-ext (r .grew .ext) rs) (k .sort .flat) (r .word) fits tt);
+            ok = r .ok;
           }
 
   -- ---- write
 
-  pub sim-write : {A B : Acc} {I : List Info} {b : ℕ} (s a i x : ℕ) → Inv A B I → b ≡ length (B .env) → Ok false (tyAt (A .lay .ctx)) (given (A .lay .ctx)) (val s (write a i x))
-      → Keeps f σ ι A B I (val s (write a i x)) (chunk I b (val s (write a i x)))
+  pub sim-write : {A B : Frame} {I : List Info} {b : ℕ} (s a i x : ℕ) → Inv A B I → b ≡ length (B .env) → Ok false (tyAt (A .lay .ctx)) (given (A .lay .ctx)) (value s (write a i x))
+      → Keeps f σ ι A B I (value s (write a i x)) (chunk I b (value s (write a i x)))
   sim-write {A} {B} {I} {b} s a i x v e k = go (infoAt I i .known) (v .rel i .value (k .index .is) .known)
     where
       h : Info
@@ -205,7 +230,7 @@ module _ (f : Bool) (σ ι : List ℕ) where
       rs : SortRel B t h
       rs = v .rel s .sort (k .sort .is)
 
-      ra : ValRel B (typeAt (A .lay) a) (placeAt (A .lay) a .at) cs (infoAt I a)
+      ra : ValRel B (typeAt (A .lay) a) (placeAt (A .lay) a) cs (infoAt I a)
       ra = v .rel a .value (k .arr .is)
 
       fa : Bool
@@ -233,24 +258,24 @@ module _ (f : Bool) (σ ι : List ℕ) where
       many : length cs ≡ 2 ^ (t .iw)
       many = ra .len ∙ ap (λ (n : ℕ). 2 ^ n) (k .same .iw)
 
-      go : (c : Option ℕ) → KnownRel c (cellsAt A i) → Keeps f σ ι A B I (val s (write a i x)) (chunkWrite h ps c (lineAt I i) (lineAt I x) b)
+      go : (c : Option ℕ) → KnownRel c (cellsAt A i) → Keeps f σ ι A B I (value s (write a i x)) (chunkWrite h ps c (lineAt I i) (lineAt I x) b)
       go (some j) z =
           let ej : iv ≡ j = ap (λ (l : List ℕ). getD l 0 0) z in
           record {
             inv =
-                extend-quiet f σ ι (val s (write a i x)) (valInfo h (set ps j (lineAt I x)) none) tt v (grew-refl (v .evenB))
+                extend-quiet f σ ι (value s (write a i x)) (valInfo h (set ps j (lineAt I x)) none) tt v (grew-refl (v .evenB))
                 (val-rel u none rs (subst (λ (m : ℕ). Holds B u (t .w) (set ps m (lineAt I x)) (set cs iv xv)) ej (holds-set iv held wx)) (length-set cs iv xv ∙ many) fits tt);
             ok = tt;
           }
       go none z =
           let r = run-writes f σ ι (ext-refl (v .evenB)) e (rs .arr (k .sort .deep) .bit) (rs .elem) (word-for v i (k .index) (λ z. both fi fx (both fa (fi && fx) z .1) .0) (k .iw)) wx
-          (holds-weak (λ z. tt) (rs .arr (k .sort .deep) .index)) held in
+          (holds-weak (λ z. tt) (rs .arr (k .sort .deep) .index)) held (length-from 0 (2 ^ (t .iw)) ∙ sym many) in
           let B′ = evs f σ ι B (chunkWrite h ps none (lineAt I i) (lineAt I x) b .lines) in
           record {
             inv =
-                extend-quiet f σ ι (val s (write a i x)) (valInfo h (writeCells b (h .index) ps) none) tt v (r .grew)
+                extend-quiet f σ ι (value s (write a i x)) (valInfo h (writeCells b (length ps)) none) tt v (r .grew)
                 (val-rel u none (sortrel-ext (r .grew .ext) rs)
-                (subst (λ (ds : List ℕ). Holds B′ u (t .w) (writeCells b (h .index) ps) ds) (ap (λ (n : ℕ). writes iv (from 0 n) xv cs) (sym many) ∙ writes-set iv xv cs) (r .holds))
+                (subst (λ (ds : List ℕ). Holds B′ u (t .w) (writeCells b (length ps)) ds) (ap (λ (n : ℕ). writes iv (from 0 n) xv cs) (sym many) ∙ writes-set iv xv cs) (r .holds))
                 (length-set cs iv xv ∙ many) fits tt);
             ok = r .ok;
           }

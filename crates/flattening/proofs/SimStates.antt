@@ -14,17 +14,17 @@ use lib.ListN.{length, getD, replicate, length-append, length-replicate}
 use borrow.Author.Tests.{eqb-false, ne-eqb, eq-eqb}
 use Rattle.tables.specs.declared.Ty.{Ty}
 use Rattle.tables.specs.Pick.{pick, among, alike}
-use Rattle.tables.specs.Lines.{state, give}
+use Rattle.tables.specs.Lines.{state, initOrNext}
 use Rattle.tables.specs.Types.{isFixed, tyAt, given, givenBy}
 use Rattle.tables.specs.Rules.{valueIndex}
 use Rattle.tables.proofs.Kept.{no-yes}
 use Rattle.tables.proofs.Facts.{Ok, OkValue}
 use Rattle.circuits.specs.Cells.{part, put}
 use Rattle.circuits.specs.Layout.{typeAt, placeAt, size}
-use Rattle.circuits.specs.Meaning.{Acc, cellsAt, wordAt, stateCells, givenWords}
-use Rattle.flattening.specs.Flat.{from, Info, noInfo, infoAt, linesAt, lineAt, valInfo, chunk, givenLines, giveLines}
-use Rattle.flattening.proofs.Walk.{Holds, States, Small, none, more, ext-refl, holds-length, states-room, ev1, evs}
-use Rattle.flattening.proofs.CellLaws.{from-at, length-from, taken, lows-taken, state-lows, length-taken, small-taken, holds-at, holds-replicate}
+use Rattle.circuits.specs.Meaning.{Frame, cellsAt, wordAt, stateCells, givenWords}
+use Rattle.flattening.specs.Flat.{from, Info, noInfo, infoAt, linesAt, lineAt, valInfo, chunk, valueLines, initOrNextLines}
+use Rattle.flattening.proofs.Walk.{Holds, States, Small, none, more, ext-refl, holds-length, states-room, ev1, evs, holds-at}
+use Rattle.flattening.proofs.CellLaws.{from-at, length-from, taken, lows-taken, state-lows, length-taken, small-taken, holds-replicate}
 use Rattle.flattening.proofs.Stores.{length-stored}
 use Rattle.flattening.proofs.Effects.{Fresh, Under, Inits, Gives, among-append, run-states, run-gives, gave-give}
 use Rattle.flattening.proofs.Rel.{SortRel, ValRel, Inv, sortrel-ext, sort-of-val, rel-none, word-for, cells-for, extend, same-given}
@@ -65,25 +65,25 @@ among-back : (x : ℕ) (d e : List ℕ) → among x (d ++ e) ≡ false → among
 among-back x [] e h = h
 among-back x (y ∷ d) e h = among-back x d e (or-right (eqb x y) h)
 
-states-low : {A : Acc} {lo w a : ℕ} {qs : List ℕ} → States A lo w a qs → (j : ℕ) → j < length qs → lo ≤ getD qs j 0
+states-low : {A : Frame} {lo w a : ℕ} {qs : List ℕ} → States A lo w a qs → (j : ℕ) → j < length qs → lo ≤ getD qs j 0
 states-low none j h = absurd (omega arith)
 states-low (more s r) zero h = s .low
 states-low (more s r) (suc j) h = states-low r j (omega arith)
 
 -- every flat line that holds a cell is one of the flat walk's
-pub held-below : {A B : Acc} {I : List Info} → Inv A B I → (i : ℕ) → 2 ≤ typeAt (A .lay) i .cls → (j : ℕ) → j < length (linesAt I i) → getD (linesAt I i) j 0 < length (B .env)
+pub held-below : {A B : Frame} {I : List Info} → Inv A B I → (i : ℕ) → 2 ≤ typeAt (A .lay) i .role → (j : ℕ) → j < length (linesAt I i) → getD (linesAt I i) j 0 < length (B .env)
 held-below v i h j l = let r = v .rel i .value h in holds-at j (r .held) (subst (λ (n : ℕ). j < n) (holds-length (r .held)) l) .inb
 
 -- ---- a value that an init or a next gives
 
-record GivenRel (B : Acc) (u m : Bool) (lo w : ℕ) (qs vs cs : List ℕ) : Type 0 where
+record GivenRel (B : Frame) (u m : Bool) (lo w : ℕ) (qs vs cs : List ℕ) : Type 0 where
   held : Holds B u w vs cs
   len : length qs ≡ length vs
   inits : Inits m u lo vs
 
-given-rel : {A B : Acc} {I : List Info} {lo n : ℕ} (v : Inv A B I) (m : Bool) (t : Ty) (q a : ℕ) (qs : List ℕ) → length qs ≡ n → 2 ^ (t .iw) ≡ n → OkValue m q a (typeAt (A .lay) a)
+given-rel : {A B : Frame} {I : List Info} {lo n : ℕ} (v : Inv A B I) (m : Bool) (t : Ty) (q a : ℕ) (qs : List ℕ) → length qs ≡ n → 2 ^ (t .iw) ≡ n → OkValue m q a (typeAt (A .lay) a)
     → typeAt (A .lay) a .w ≡ t .w → typeAt (A .lay) a .iw ≡ valueIndex m t → (a < q → lineAt I a < lo)
-    → GivenRel B (isFixed (typeAt (A .lay) a)) m lo (t .w) qs (givenLines I m (length qs) a) (givenWords A m n a)
+    → GivenRel B (isFixed (typeAt (A .lay) a)) m lo (t .w) qs (valueLines I m (length qs) a) (givenWords A m n a)
 given-rel {A} {B} {I} {lo} {n} v true t q a qs e d k ew ei h =
     let c = wordAt A a in
     let p = lineAt I a in
@@ -92,7 +92,7 @@ given-rel {A} {B} {I} {lo} {n} v true t q a qs e d k ew ei h =
           subst (λ (x : ℕ). Holds B (isFixed (typeAt (A .lay) a)) (t .w) (replicate (length qs) p) (replicate x c)) e
           (holds-replicate (length qs) (word-for v a (k .word) (λ z. z) ew));
       len = sym (length-replicate (length qs) p);
-      inits = (subst⁻¹ T (eq-eqb (typeAt (A .lay) a .cls) 2 (k .fixed)) tt, under-all lo (length qs) p (h (k .below)));
+      inits = (subst⁻¹ T (eq-eqb (typeAt (A .lay) a .role) 2 (k .fixed)) tt, under-all lo (length qs) p (h (k .below)));
     }
 given-rel {A} {B} {I} v false t q a qs e d k ew ei h =
     let r = v .rel a .value (k .is) in
@@ -103,7 +103,7 @@ given-rel {A} {B} {I} v false t q a qs e d k ew ei h =
     }
 
 module _ (f : Bool) (σ ι : List ℕ) where
-  pub sim-state : {A B : Acc} {I : List Info} {b : ℕ} (s : ℕ) → Inv A B I → b ≡ length (B .env) → Ok false (tyAt (A .lay .ctx)) (given (A .lay .ctx)) (state s)
+  pub sim-state : {A B : Frame} {I : List Info} {b : ℕ} (s : ℕ) → Inv A B I → b ≡ length (B .env) → Ok false (tyAt (A .lay .ctx)) (given (A .lay .ctx)) (state s)
       → ev1 f σ ι A (state s) .lay .counts .states ≤ length σ → Keeps f σ ι A B I (state s) (chunk I b (state s))
   sim-state {A} {B} {I} {b} s v e k room =
       let t = typeAt (A .lay) s in
@@ -156,12 +156,12 @@ module _ (f : Bool) (σ ι : List ℕ) where
         ok = r .left .ok;
       }
 
-  pub sim-give : {A B : Acc} {I : List Info} {b : ℕ} (m : Bool) (s q a : ℕ) → Inv A B I → b ≡ length (B .env) → Ok false (tyAt (A .lay .ctx)) (given (A .lay .ctx)) (give m s q a)
-      → Keeps f σ ι A B I (give m s q a) (chunk I b (give m s q a))
+  pub sim-give : {A B : Frame} {I : List Info} {b : ℕ} (m : Bool) (s q a : ℕ) → Inv A B I → b ≡ length (B .env) → Ok false (tyAt (A .lay .ctx)) (given (A .lay .ctx)) (initOrNext m s q a)
+      → Keeps f σ ι A B I (initOrNext m s q a) (chunk I b (initOrNext m s q a))
   sim-give {A} {B} {I} m s q a v e k =
       record {
         inv =
-            extend f σ ι (give m s q a) noInfo v (r .left .ext)
+            extend f σ ι (initOrNext m s q a) noInfo v (r .left .ext)
             (record {
               states = r .left .states ∙ v .alike .states;
               inputs = r .left .inputs ∙ v .alike .inputs;
@@ -182,13 +182,13 @@ module _ (f : Bool) (σ ι : List ℕ) where
       t = typeAt (A .lay) s
 
       at : ℕ
-      at = placeAt (A .lay) q .at
+      at = placeAt (A .lay) q
 
       qs : List ℕ
       qs = linesAt I q
 
-      is : 2 ≤ typeAt (A .lay) q .cls
-      is = let h : typeAt (A .lay) q .cls ≡ 4 = k .state in omega arith
+      is : 2 ≤ typeAt (A .lay) q .role
+      is = let h : typeAt (A .lay) q .role ≡ 4 = k .state in omega arith
 
       rs : SortRel B t (infoAt I s)
       rs = v .rel s .sort (k .sort .is)
@@ -211,7 +211,7 @@ module _ (f : Bool) (σ ι : List ℕ) where
       cs : List ℕ
       cs = givenWords A m n a
 
-      value : (m : Bool) → OkValue m q a (typeAt (A .lay) a) → 2 ≤ typeAt (A .lay) a .cls
+      value : (m : Bool) → OkValue m q a (typeAt (A .lay) a) → 2 ≤ typeAt (A .lay) a .role
       value true h = h .word .is
       value false h = h .is
 
@@ -220,25 +220,25 @@ module _ (f : Bool) (σ ι : List ℕ) where
           let ra = v .rel a .value (value m (k .value)) in
           v .below q (k .state) a h (value m (k .value)) 0 (omega (arith, holds-length (ra .held), ra .len, pow-pos (typeAt (A .lay) a .iw)))
 
-      gr : GivenRel B (isFixed (typeAt (A .lay) a)) m (lineAt I q) (t .w) qs (givenLines I m (length qs) a) cs
+      gr : GivenRel B (isFixed (typeAt (A .lay) a)) m (lineAt I q) (t .w) qs (valueLines I m (length qs) a) cs
       gr = given-rel v m t q a qs many (ap (λ (i : ℕ). 2 ^ i) (sym (k .same .iw))) (k .value) (k .w) (k .iw) before
 
       room : at + length qs ≤ length (A .sts)
       room = let h = states-room places pos in omega (arith, h, v .many, v .alike .states)
 
-      r : Gives f σ ι B m (giveLines m (infoAt I s .elem) qs (givenLines I m (length qs) a)) qs (pick (alike f m) (put (B .sts) at cs) (B .sts))
+      r : Gives f σ ι B m (initOrNextLines m (infoAt I s .elem) qs (valueLines I m (length qs) a)) qs (pick (alike f m) (put (B .sts) at cs) (B .sts))
       r =
           run-gives f σ ι m (ext-refl (v .evenB)) (rs .elem) places (gr .held) (gr .len) (gr .inits) (fresh-all (givenBy m (B .lay .ctx)) qs (v .free m q (k .state) (k .once)))
           (subst⁻¹ (λ (x : List ℕ). at + length qs ≤ length x) (v .alike .sts) room)
 
-      B′ : Acc
-      B′ = evs f σ ι B (giveLines m (infoAt I s .elem) qs (givenLines I m (length qs) a))
+      B′ : Frame
+      B′ = evs f σ ι B (initOrNextLines m (infoAt I s .elem) qs (valueLines I m (length qs) a))
 
       -- the lines of another state are not those of q
-      apart : (p : ℕ) → typeAt (A .lay) p .cls ≡ 4 → p ≢ q → (j : ℕ) → j < length (linesAt I p) → among (getD (linesAt I p) j 0) qs ≡ false
+      apart : (p : ℕ) → typeAt (A .lay) p .role ≡ 4 → p ≢ q → (j : ℕ) → j < length (linesAt I p) → among (getD (linesAt I p) j 0) qs ≡ false
       apart p h d j l = not-among (getD (linesAt I p) j 0) qs (λ i g. by-order (decLt p q) i g)
         where
-          val-p : 2 ≤ typeAt (A .lay) p .cls
+          val-p : 2 ≤ typeAt (A .lay) p .role
           val-p = omega arith
 
           by-order : Dec (p < q) → (i : ℕ) → i < length qs → getD qs i 0 ≢ getD (linesAt I p) j 0
@@ -248,7 +248,7 @@ module _ (f : Bool) (σ ι : List ℕ) where
               let y = states-low (v .rel p .value val-p .states h) j l in
               omega arith
 
-      free-by : (n : Bool) (p : ℕ) → typeAt (A .lay) p .cls ≡ 4 → (j : ℕ) → j < length (linesAt I p) → (c : Bool) → alike n m ≡ c → given (ev1 f σ ι A (give m s q a) .lay .ctx) n p ≡ false
+      free-by : (n : Bool) (p : ℕ) → typeAt (A .lay) p .role ≡ 4 → (j : ℕ) → j < length (linesAt I p) → (c : Bool) → alike n m ≡ c → given (ev1 f σ ι A (initOrNext m s q a) .lay .ctx) n p ≡ false
           → given (B′ .lay .ctx) n (getD (linesAt I p) j 0) ≡ false
       free-by n p h j l true e g =
           let x = getD (linesAt I p) j 0 in

@@ -11,12 +11,12 @@ use lib.ListN.{length, getD}
 use Rattle.words.specs.Op.{opOf}
 use Rattle.words.specs.Circuit.{circ}
 use Rattle.tables.specs.declared.Ty.{Ty}
-use Rattle.tables.specs.Lines.{Line, bitvec, array, input, val, mark, output, const, one, two}
+use Rattle.tables.specs.Lines.{Line, bitvec, array, input, value, signal, output, const, unary, binary}
 use Rattle.tables.specs.Types.{isFixed, tyAt, given}
 use Rattle.tables.proofs.Facts.{Ok, AllOk}
-use Rattle.circuits.specs.Cells.{choose}
+use Rattle.circuits.specs.Cells.{ifNonzero}
 use Rattle.circuits.specs.Layout.{typeAt}
-use Rattle.circuits.specs.Meaning.{Acc, Sig, sig, wordAt}
+use Rattle.circuits.specs.Meaning.{Frame, Signal, signalByte, wordAt}
 use Rattle.flattening.specs.Flat.{from, Info, noInfo, Chunk, infoAt, lineAt, bitvecInfo, arrayInfo, valInfo, chunk, constLines}
 use Rattle.flattening.proofs.Walk.{both, join, Even, SortAt, ext-refl, ext-trans, sort-ext, word-val, sort-ok, word-ok, ev1, evs, ext-line, new-type, new-word, new-val, len1, gave-same, grew-trans, grew-line}
 use Rattle.flattening.proofs.Chains.{Run, run-consts}
@@ -26,23 +26,23 @@ use Rattle.flattening.proofs.Fitting.{one-lt, two-lt}
 
 module _ (f : Bool) (σ ι : List ℕ) where
   -- what is shown of each line l, whose chunk is c
-  pub record Keeps (A B : Acc) (I : List Info) (l : Line) (c : Chunk) : Type 0 where
+  pub record Keeps (A B : Frame) (I : List Info) (l : Line) (c : Chunk) : Type 0 where
     pub inv : Inv (ev1 f σ ι A l) (evs f σ ι B (c .lines)) (I ++ (c .info ∷ []))
     pub ok : AllOk false (B .lay .ctx) (c .lines)
 
   -- ---- sorts
 
-  new-sort : {A : Acc} {b : ℕ} → Even A → (w : ℕ) → b ≡ length (A .env) → SortAt (ev1 f σ ι A (bitvec w)) b w
+  new-sort : {A : Frame} {b : ℕ} → Even A → (w : ℕ) → b ≡ length (A .env) → SortAt (ev1 f σ ι A (bitvec w)) b w
   new-sort {A} {b} ev w e =
       let h = new-type f σ ι ev (bitvec w) b e in
       record {
         inb = omega (arith, len1 f σ ι A (bitvec w));
-        is = ap (λ (t : Ty). t .cls) h;
+        is = ap (λ (t : Ty). t .role) h;
         wide = ap (λ (t : Ty). t .w) h;
         flat = ap (λ (t : Ty). t .iw) h;
       }
 
-  pub sim-bitvec : {A B : Acc} {I : List Info} {b : ℕ} (w : ℕ) → Inv A B I → b ≡ length (B .env) → Ok false (tyAt (A .lay .ctx)) (given (A .lay .ctx)) (bitvec w)
+  pub sim-bitvec : {A B : Frame} {I : List Info} {b : ℕ} (w : ℕ) → Inv A B I → b ≡ length (B .env) → Ok false (tyAt (A .lay .ctx)) (given (A .lay .ctx)) (bitvec w)
       → Keeps A B I (bitvec w) (chunk I b (bitvec w))
   sim-bitvec {b = b} w v e k =
       record {
@@ -60,13 +60,13 @@ module _ (f : Bool) (σ ι : List ℕ) where
       }
 
   -- the constants of an array sort whose index width is u in the Info and w in the circuit
-  index-consts : {B : Acc} {b s w u : ℕ} → Even B → b ≡ length (B .env) → SortAt B s w → u ≡ w → Run f σ ι B (constLines s (from 0 (2 ^ u))) true w (from b (2 ^ u)) (from 0 (2 ^ w))
+  index-consts : {B : Frame} {b s w u : ℕ} → Even B → b ≡ length (B .env) → SortAt B s w → u ≡ w → Run f σ ι B (constLines s (from 0 (2 ^ u))) true w (from b (2 ^ u)) (from 0 (2 ^ w))
   index-consts {B} {b} {s} {w} {u} ev e hs q =
       subst⁻¹ (λ (x : ℕ). Run f σ ι B (constLines s (from 0 (2 ^ x))) true w (from b (2 ^ x)) (from 0 (2 ^ w))) q
       (subst (λ (n : ℕ). Run f σ ι B (constLines s (from 0 (2 ^ w))) true w (from b n) (from 0 (2 ^ w))) (length-from 0 (2 ^ w))
       (run-consts f σ ι (ext-refl ev) e hs (from 0 (2 ^ w)) (small-from w 0 (2 ^ w) (omega arith))))
 
-  pub sim-array : {A B : Acc} {I : List Info} {b : ℕ} (i el : ℕ) → Inv A B I → b ≡ length (B .env) → Ok false (tyAt (A .lay .ctx)) (given (A .lay .ctx)) (array i el)
+  pub sim-array : {A B : Frame} {I : List Info} {b : ℕ} (i el : ℕ) → Inv A B I → b ≡ length (B .env) → Ok false (tyAt (A .lay .ctx)) (given (A .lay .ctx)) (array i el)
       → Keeps A B I (array i el) (chunk I b (array i el))
   sim-array {A} {B} {I} {b} i el v e k =
       let ri = v .rel i .sort (k .index .is) in
@@ -89,7 +89,7 @@ module _ (f : Bool) (σ ι : List ℕ) where
 
   -- ---- words
 
-  pub sim-input : {A B : Acc} {I : List Info} {b : ℕ} (s : ℕ) → Inv A B I → b ≡ length (B .env) → Ok false (tyAt (A .lay .ctx)) (given (A .lay .ctx)) (input s)
+  pub sim-input : {A B : Frame} {I : List Info} {b : ℕ} (s : ℕ) → Inv A B I → b ≡ length (B .env) → Ok false (tyAt (A .lay .ctx)) (given (A .lay .ctx)) (input s)
       → Keeps A B I (input s) (chunk I b (input s))
   sim-input {A} {B} {I} {b} s v e k =
       let rs = v .rel s .sort (k .is) in
@@ -107,30 +107,30 @@ module _ (f : Bool) (σ ι : List ℕ) where
         ok = (sort-ok (rs .elem), tt);
       }
 
-  pub sim-const : {A B : Acc} {I : List Info} {b : ℕ} (s c : ℕ) → Inv A B I → b ≡ length (B .env) → Ok false (tyAt (A .lay .ctx)) (given (A .lay .ctx)) (val s (const c))
-      → Keeps A B I (val s (const c)) (chunk I b (val s (const c)))
+  pub sim-const : {A B : Frame} {I : List Info} {b : ℕ} (s c : ℕ) → Inv A B I → b ≡ length (B .env) → Ok false (tyAt (A .lay .ctx)) (given (A .lay .ctx)) (value s (const c))
+      → Keeps A B I (value s (const c)) (chunk I b (value s (const c)))
   sim-const {A} {B} {I} {b} s c v e k =
       let rs = v .rel s .sort (k .sort .is) in
-      let l = val (infoAt I s .elem) (const c) in
+      let l = value (infoAt I s .elem) (const c) in
       let g = grew-line f σ ι (v .evenB) l tt in
       record {
         inv =
-            extend-quiet f σ ι (val s (const c)) (valInfo (infoAt I s) (b ∷ []) (some c)) tt v g
+            extend-quiet f σ ι (value s (const c)) (valInfo (infoAt I s) (b ∷ []) (some c)) tt v g
             (word-rel true (some c) (sortrel-ext (g .ext) rs) (k .sort .flat) (new-val f σ ι true (v .evenB) l e (rs .elem) refl refl (λ z. tt)) (k .fits) refl);
         ok = (record { sort = sort-ok (rs .elem); fits = rw (rs .elem .wide) (k .fits) }, tt);
       }
 
-  pub sim-one : {A B : Acc} {I : List Info} {b : ℕ} (s h a x y : ℕ) → Inv A B I → b ≡ length (B .env) → Ok false (tyAt (A .lay .ctx)) (given (A .lay .ctx)) (val s (one h a x y))
-      → Keeps A B I (val s (one h a x y)) (chunk I b (val s (one h a x y)))
+  pub sim-one : {A B : Frame} {I : List Info} {b : ℕ} (s h a x y : ℕ) → Inv A B I → b ≡ length (B .env) → Ok false (tyAt (A .lay .ctx)) (given (A .lay .ctx)) (value s (unary h a x y))
+      → Keeps A B I (value s (unary h a x y)) (chunk I b (value s (unary h a x y)))
   sim-one {A} {B} {I} {b} s h a x y v e k =
       let rs = v .rel s .sort (k .sort .is) in
       let ra = v .rel a .value (k .arg .is) in
       let wa = word-of v a (k .arg) in
-      let l = val (infoAt I s .elem) (one h (lineAt I a) x y) in
+      let l = value (infoAt I s .elem) (unary h (lineAt I a) x y) in
       let g = grew-line f σ ι (v .evenB) l tt in
       record {
         inv =
-            extend-quiet f σ ι (val s (one h a x y)) (valInfo (infoAt I s) (b ∷ []) none) tt v g
+            extend-quiet f σ ι (value s (unary h a x y)) (valInfo (infoAt I s) (b ∷ []) none) tt v g
             (word-rel (isFixed (typeAt (A .lay) a)) none (sortrel-ext (g .ext) rs) (k .sort .flat)
             (new-val f σ ι (isFixed (typeAt (B .lay) (lineAt I a))) (v .evenB) l e (rs .elem) refl
             (ap₂ (λ (u w : ℕ). circ (opOf h) u 64 w x y ∷ []) (wa .wide) (word-val wa)) (wa .fixed))
@@ -148,8 +148,8 @@ module _ (f : Bool) (σ ι : List ℕ) where
         );
       }
 
-  pub sim-two : {A B : Acc} {I : List Info} {b : ℕ} (s h x y : ℕ) → Inv A B I → b ≡ length (B .env) → Ok false (tyAt (A .lay .ctx)) (given (A .lay .ctx)) (val s (two h x y))
-      → Keeps A B I (val s (two h x y)) (chunk I b (val s (two h x y)))
+  pub sim-two : {A B : Frame} {I : List Info} {b : ℕ} (s h x y : ℕ) → Inv A B I → b ≡ length (B .env) → Ok false (tyAt (A .lay .ctx)) (given (A .lay .ctx)) (value s (binary h x y))
+      → Keeps A B I (value s (binary h x y)) (chunk I b (value s (binary h x y)))
   sim-two {A} {B} {I} {b} s h x y v e k =
       let rs = v .rel s .sort (k .sort .is) in
       let wx = word-of v x (k .left) in
@@ -158,11 +158,11 @@ module _ (f : Bool) (σ ι : List ℕ) where
       let fy = isFixed (typeAt (A .lay) y) in
       let gx = isFixed (typeAt (B .lay) (lineAt I x)) in
       let gy = isFixed (typeAt (B .lay) (lineAt I y)) in
-      let l = val (infoAt I s .elem) (two h (lineAt I x) (lineAt I y)) in
+      let l = value (infoAt I s .elem) (binary h (lineAt I x) (lineAt I y)) in
       let g = grew-line f σ ι (v .evenB) l tt in
       record {
         inv =
-            extend-quiet f σ ι (val s (two h x y)) (valInfo (infoAt I s) (b ∷ []) none) tt v g
+            extend-quiet f σ ι (value s (binary h x y)) (valInfo (infoAt I s) (b ∷ []) none) tt v g
             (word-rel (fx && fy) none (sortrel-ext (g .ext) rs) (k .sort .flat)
             (new-val f σ ι (gx && gy) (v .evenB) l e (rs .elem) refl (rw (wx .wide, wy .wide, word-val wx, word-val wy))
             (λ z. let w = both fx fy z in join gx gy (wx .fixed (w .0)) (wy .fixed (w .1))))
@@ -180,27 +180,27 @@ module _ (f : Bool) (σ ι : List ℕ) where
         );
       }
 
-  pub sim-mark : {A B : Acc} {I : List Info} {b : ℕ} (m : Bool) (a : ℕ) → Inv A B I → b ≡ length (B .env) → Ok false (tyAt (A .lay .ctx)) (given (A .lay .ctx)) (mark m a)
-      → Keeps A B I (mark m a) (chunk I b (mark m a))
+  pub sim-mark : {A B : Frame} {I : List Info} {b : ℕ} (m : Bool) (a : ℕ) → Inv A B I → b ≡ length (B .env) → Ok false (tyAt (A .lay .ctx)) (given (A .lay .ctx)) (signal m a)
+      → Keeps A B I (signal m a) (chunk I b (signal m a))
   sim-mark {A} {B} {I} {b} m a v e k =
       let h = word-of v a (k .word) in
-      let l = mark m (lineAt I a) in
+      let l = signal m (lineAt I a) in
       let x = ext-line f σ ι (v .evenB) l in
       record {
         inv =
-            extend f σ ι (mark m a) noInfo v x
+            extend f σ ι (signal m a) noInfo v x
             (record {
               states = v .alike .states;
               inputs = v .alike .inputs;
               signals = ap suc (v .alike .signals);
               sts = v .alike .sts;
-              sigs = ap₂ (λ (g : List Sig) (c : ℕ). g ++ (sig m (choose c 1 0) ∷ [])) (v .alike .sigs) (word-val h);
+              sigs = ap₂ (λ (g : List Signal) (c : ℕ). g ++ (signalByte m (ifNonzero c 1 0) ∷ [])) (v .alike .sigs) (word-val h);
             })
-            (v .many) rel-none (λ z. absurd (omega arith)) (same-given f σ ι (mark m a) refl v (x .len) (gave-same f σ ι B l refl));
+            (v .many) rel-none (λ z. absurd (omega arith)) (same-given f σ ι (signal m a) refl v (x .len) (gave-same f σ ι B l refl));
         ok = (record { word = word-ok h; bit = h .wide ∙ k .bit }, tt);
       }
 
-  pub sim-output : {A B : Acc} {I : List Info} {b : ℕ} (a : ℕ) → Inv A B I → b ≡ length (B .env) → Ok false (tyAt (A .lay .ctx)) (given (A .lay .ctx)) (output a)
+  pub sim-output : {A B : Frame} {I : List Info} {b : ℕ} (a : ℕ) → Inv A B I → b ≡ length (B .env) → Ok false (tyAt (A .lay .ctx)) (given (A .lay .ctx)) (output a)
       → Keeps A B I (output a) (chunk I b (output a))
   sim-output {A} {B} {I} a v e k =
       record {

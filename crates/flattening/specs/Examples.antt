@@ -1,5 +1,5 @@
 -- Circuits and their flat circuits, computed. Assumes nothing.
-use Prim.Native.Nat.{ℕ}
+use Prim.Native.Nat.{ℕ, _-_}
 use mathlib.Core.Path.{_≡_, refl}
 use mathlib.Core.Bool.{true, false}
 use mathlib.Core.List.{List, [], _∷_, map}
@@ -8,14 +8,14 @@ use Rattle.tables.specs.declared.Refusal.the-variants.{NotATable, BadTable, Tar
 use Rattle.tables.specs.declared.Checked.the-variants.{Accepted}
 use Rattle.tables.specs.declared.Answer.the-variants.{Done, Refused}
 use Rattle.tables.specs.Kinds.{rowOf}
-use Rattle.tables.specs.Lines.{Line, fields, wordsOf, bitvec, array, input, state, val, give, mark, output, const, two, cmp, ite, read, write}
-use Rattle.tables.specs.Layout.{filledBy, filled}
+use Rattle.tables.specs.Lines.{Line, fields, wordsOf, bitvec, array, input, state, value, initOrNext, signal, output, const, binary, equality, ite, read, write}
+use Rattle.tables.specs.Layout.{filledBy, wordsFor}
 use Rattle.tables.specs.Rules.{suits, fault}
 use Rattle.tables.specs.Tables.{checked}
 use Rattle.circuits.specs.Examples.{circuit}
 use Rattle.flattening.specs.Flat.{flatten, flatRecords}
 use Rattle.flattening.specs.Placed.{flatFilled}
-use Rattle.flattening.specs.Answers.{flattened, targetLeft}
+use Rattle.flattening.specs.Answers.{flattened, flatLeft}
 
 -- ---- the request's circuit of 11 lines, and its 19 flat lines
 
@@ -27,86 +27,86 @@ flat =
     ∷ fields 53 2 10 9 6 ∷ fields 21 3 8 5 0 ∷ fields 53 2 12 9 7 ∷ fields 7 2 6 11 0 ∷ fields 7 2 7 13 0 ∷ fields 21 3 8 4 0 ∷ fields 53 2 16 6 7 ∷ fields 21 1 17 9 0 ∷ fields 8 0 18 0 0 ∷ []
 
 flat-circuit : flatRecords circuit 11 ≡ flat
-unfolding flatRecords flatten
+unfolding flatRecords flatten filledBy
 flat-circuit = refl
 
 -- the flat size is exactly the target's room; a target of one record more; one of one record less
-exact-answer : flattened circuit 11 95 ≡ Done 19
-unfolding flattened checked fault suits rowOf flatten
+exact-answer : flattened circuit 11 (wordsFor false 19) ≡ Done 19
+unfolding flattened checked fault suits rowOf flatten filledBy
 exact-answer = refl
 
-spare-target : targetLeft circuit 11 100 ≡ filled false 100 flat
-unfolding targetLeft flattened checked fault suits rowOf flatRecords flatten flatFilled
+spare-target : flatLeft circuit 11 (wordsFor false 20) ≡ flatFilled (wordsFor false 20) flat
+unfolding flatLeft flattened checked fault suits rowOf flatRecords flatten filledBy
 spare-target = refl
 
-short-answer : flattened circuit 11 90 ≡ Refused TargetTooSmall 0
-unfolding flattened checked fault suits rowOf flatten
+short-answer : flattened circuit 11 (wordsFor false 18) ≡ Refused TargetTooSmall 0
+unfolding flattened checked fault suits rowOf flatten filledBy
 short-answer = refl
 
-short-target : targetLeft circuit 11 90 ≡ replicate 90 0
-unfolding targetLeft flattened checked fault suits rowOf flatten
+short-target : flatLeft circuit 11 (wordsFor false 18) ≡ replicate (wordsFor false 18) 0
+unfolding flatLeft flattened checked fault suits rowOf flatten filledBy
 short-target = refl
 
 -- 1 comes before 11, and 11 before 12
-uneven-answer : flattened circuit 12 94 ≡ Refused NotATable 0
-unfolding flattened
+uneven-answer : flattened circuit 12 (wordsFor false 19 - 1) ≡ Refused NotATable 0
+unfolding flattened filledBy
 uneven-answer = refl
 
-count-answer : flattened circuit 12 90 ≡ Refused BadTable 0
-unfolding flattened checked fault suits rowOf
+count-answer : flattened circuit 12 (wordsFor false 18) ≡ Refused BadTable 0
+unfolding flattened checked fault suits rowOf filledBy
 count-answer = refl
 
 -- the flat table with its count is accepted
-flat-accepted : checked false (filled false 95 flat) 19 ≡ Accepted
-unfolding checked fault suits rowOf filledBy
+flat-accepted : checked false (flatFilled (wordsFor false 19) flat) 19 ≡ Accepted
+unfolding checked fault suits rowOf flatFilled filledBy
 flat-accepted = refl
 
 -- ---- constant indexes, an init, array eq, neq and ite, an output
 
 abbrev pub second : List Line
 second =
-    bitvec 1 ∷ bitvec 3 ∷ array 1 2 ∷ val 2 (const 5) ∷ val 1 (const 1) ∷ state 3 ∷ give true 3 6 4 ∷ val 3 (write 6 5 4) ∷ val 1 (cmp true 6 8) ∷ val 3 (ite 9 6 8)
-    ∷ val 1 (cmp false 10 6) ∷ val 2 (read 10 5) ∷ give false 3 6 10 ∷ mark true 9 ∷ output 12 ∷ []
+    bitvec 1 ∷ bitvec 3 ∷ array 1 2 ∷ value 2 (const 5) ∷ value 1 (const 1) ∷ state 3 ∷ initOrNext true 3 6 4 ∷ value 3 (write 6 5 4) ∷ value 1 (equality true 6 8) ∷ value 3 (ite 9 6 8)
+    ∷ value 1 (equality false 10 6) ∷ value 2 (read 10 5) ∷ initOrNext false 3 6 10 ∷ signal true 9 ∷ output 12 ∷ []
 
 flat-second : flatten second
-    ≡ bitvec 1 ∷ bitvec 3 ∷ bitvec 1 ∷ val 1 (const 0) ∷ val 1 (const 1) ∷ val 2 (const 5) ∷ val 1 (const 1) ∷ state 2 ∷ state 2 ∷ give true 2 8 6 ∷ give true 2 9 6
-    ∷ val 1 (cmp true 8 8) ∷ val 1 (cmp true 9 6) ∷ val 1 (two 33 12 13) ∷ val 2 (ite 14 8 8) ∷ val 2 (ite 14 9 6) ∷ val 1 (cmp false 15 8) ∷ val 1 (cmp false 16 9)
-    ∷ val 1 (two 34 17 18) ∷ give false 2 8 15 ∷ give false 2 9 16 ∷ mark true 14 ∷ output 16 ∷ []
-unfolding flatten
+    ≡ bitvec 1 ∷ bitvec 3 ∷ bitvec 1 ∷ value 1 (const 0) ∷ value 1 (const 1) ∷ value 2 (const 5) ∷ value 1 (const 1) ∷ state 2 ∷ state 2 ∷ initOrNext true 2 8 6 ∷ initOrNext true 2 9 6
+    ∷ value 1 (equality true 8 8) ∷ value 1 (equality true 9 6) ∷ value 1 (binary 33 12 13) ∷ value 2 (ite 14 8 8) ∷ value 2 (ite 14 9 6) ∷ value 1 (equality false 15 8) ∷ value 1 (equality false 16 9)
+    ∷ value 1 (binary 34 17 18) ∷ initOrNext false 2 8 15 ∷ initOrNext false 2 9 16 ∷ signal true 14 ∷ output 16 ∷ []
+unfolding flatten filledBy
 flat-second = refl
 
-second-accepted : checked false (filled false 75 (map wordsOf second)) 15 ≡ Accepted
-unfolding checked fault suits rowOf filledBy
+second-accepted : checked false (flatFilled (wordsFor false 15) (map wordsOf second)) 15 ≡ Accepted
+unfolding checked fault suits rowOf flatFilled filledBy
 second-accepted = refl
 
 -- ---- a read of four cells: from the last cell, the constants falling
 
 abbrev pub third : List Line
-third = bitvec 2 ∷ array 1 1 ∷ state 2 ∷ input 1 ∷ val 1 (read 3 4) ∷ []
+third = bitvec 2 ∷ array 1 1 ∷ state 2 ∷ input 1 ∷ value 1 (read 3 4) ∷ []
 
 flat-third : flatten third
-    ≡ bitvec 2 ∷ bitvec 1 ∷ val 1 (const 0) ∷ val 1 (const 1) ∷ val 1 (const 2) ∷ val 1 (const 3) ∷ state 1 ∷ state 1 ∷ state 1 ∷ state 1 ∷ input 1
-    ∷ val 2 (cmp true 11 5) ∷ val 1 (ite 12 9 10) ∷ val 2 (cmp true 11 4) ∷ val 1 (ite 14 8 13) ∷ val 2 (cmp true 11 3) ∷ val 1 (ite 16 7 15) ∷ []
-unfolding flatten
+    ≡ bitvec 2 ∷ bitvec 1 ∷ value 1 (const 0) ∷ value 1 (const 1) ∷ value 1 (const 2) ∷ value 1 (const 3) ∷ state 1 ∷ state 1 ∷ state 1 ∷ state 1 ∷ input 1
+    ∷ value 2 (equality true 11 5) ∷ value 1 (ite 12 9 10) ∷ value 2 (equality true 11 4) ∷ value 1 (ite 14 8 13) ∷ value 2 (equality true 11 3) ∷ value 1 (ite 16 7 15) ∷ []
+unfolding flatten filledBy
 flat-third = refl
 
-third-accepted : checked false (filled false 25 (map wordsOf third)) 5 ≡ Accepted
-unfolding checked fault suits rowOf filledBy
+third-accepted : checked false (flatFilled (wordsFor false 5) (map wordsOf third)) 5 ≡ Accepted
+unfolding checked fault suits rowOf flatFilled filledBy
 third-accepted = refl
 
 -- ---- two array sorts of equal widths on different lines: a write takes constants and sorts of its own sort line, a read the sort and constants of its array's
 
 abbrev pub fourth : List Line
 fourth =
-    bitvec 1 ∷ bitvec 2 ∷ bitvec 2 ∷ array 1 2 ∷ array 1 3 ∷ state 4 ∷ input 1 ∷ input 2 ∷ val 5 (write 6 7 8) ∷ val 2 (read 6 7) ∷ val 3 (read 9 7) ∷ give false 4 6 9 ∷ []
+    bitvec 1 ∷ bitvec 2 ∷ bitvec 2 ∷ array 1 2 ∷ array 1 3 ∷ state 4 ∷ input 1 ∷ input 2 ∷ value 5 (write 6 7 8) ∷ value 2 (read 6 7) ∷ value 3 (read 9 7) ∷ initOrNext false 4 6 9 ∷ []
 
 flat-fourth : flatten fourth
-    ≡ bitvec 1 ∷ bitvec 2 ∷ bitvec 2 ∷ bitvec 1 ∷ val 1 (const 0) ∷ val 1 (const 1) ∷ bitvec 1 ∷ val 1 (const 0) ∷ val 1 (const 1) ∷ state 2 ∷ state 2 ∷ input 1 ∷ input 2
-    ∷ val 7 (cmp true 12 8) ∷ val 3 (ite 14 13 10) ∷ val 7 (cmp true 12 9) ∷ val 3 (ite 16 13 11) ∷ val 4 (cmp true 12 5) ∷ val 2 (ite 18 10 11)
-    ∷ val 7 (cmp true 12 8) ∷ val 3 (ite 20 15 17) ∷ give false 2 10 15 ∷ give false 2 11 17 ∷ []
-unfolding flatten
+    ≡ bitvec 1 ∷ bitvec 2 ∷ bitvec 2 ∷ bitvec 1 ∷ value 1 (const 0) ∷ value 1 (const 1) ∷ bitvec 1 ∷ value 1 (const 0) ∷ value 1 (const 1) ∷ state 2 ∷ state 2 ∷ input 1 ∷ input 2
+    ∷ value 7 (equality true 12 8) ∷ value 3 (ite 14 13 10) ∷ value 7 (equality true 12 9) ∷ value 3 (ite 16 13 11) ∷ value 4 (equality true 12 5) ∷ value 2 (ite 18 10 11)
+    ∷ value 7 (equality true 12 8) ∷ value 3 (ite 20 15 17) ∷ initOrNext false 2 10 15 ∷ initOrNext false 2 11 17 ∷ []
+unfolding flatten filledBy
 flat-fourth = refl
 
-fourth-accepted : checked false (filled false 60 (map wordsOf fourth)) 12 ≡ Accepted
-unfolding checked fault suits rowOf filledBy
+fourth-accepted : checked false (flatFilled (wordsFor false 12) (map wordsOf fourth)) 12 ≡ Accepted
+unfolding checked fault suits rowOf flatFilled filledBy
 fourth-accepted = refl

@@ -1,6 +1,6 @@
 -- The flat circuit of a circuit: "lines in order, new ids without gaps". Every line of the circuit leaves flat lines, its chunk, and of it is kept what later lines
 -- need (`Info`). The sentences quoted are the request's. Assumes nothing.
-use Prim.Native.Nat.{ℕ, zero, suc, _+_, _^_}
+use Prim.Native.Nat.{ℕ, zero, suc, _+_, _-_, _*_, _^_}
 use mathlib.Core.Bool.{Bool, true, false}
 use mathlib.Core.List.{List, [], _∷_, _++_, map}
 use mathlib.Core.Option.{Option, none, some}
@@ -43,80 +43,51 @@ from b (suc n) = b ∷ from (suc b) n
 -- "index constants 0 upward"
 abbrev pub constLines : ℕ → List ℕ → List Line
 constLines s [] = []
-constLines s (k ∷ ks) = Line.val s (Expr.const k) ∷ constLines s ks
+constLines s (k ∷ ks) = Line.value s (Expr.const k) ∷ constLines s ks
 
 -- "init, next, ite: one line for each cell"
-abbrev pub giveLines : Bool → ℕ → (qs vs : List ℕ) → List Line
-giveLines m s [] vs = []
-giveLines m s (q ∷ qs) [] = []
-giveLines m s (q ∷ qs) (v ∷ vs) = Line.give m s q v ∷ giveLines m s qs vs
+abbrev pub initOrNextLines : Bool → ℕ → (qs vs : List ℕ) → List Line
+initOrNextLines m s [] vs = []
+initOrNextLines m s (q ∷ qs) [] = []
+initOrNextLines m s (q ∷ qs) (v ∷ vs) = Line.initOrNext m s q v ∷ initOrNextLines m s qs vs
 
 abbrev pub iteLines : ℕ → ℕ → (ps qs : List ℕ) → List Line
 iteLines s c [] qs = []
 iteLines s c (p ∷ ps) [] = []
-iteLines s c (p ∷ ps) (q ∷ qs) = Line.val s (Expr.ite c p q) ∷ iteLines s c ps qs
+iteLines s c (p ∷ ps) (q ∷ qs) = Line.value s (Expr.ite c p q) ∷ iteLines s c ps qs
 
 -- "eq of arrays, on its own sort: eq for each cell, then ands from the left; neq: neq and or"
-abbrev pub cmpLines : Bool → ℕ → (ps qs : List ℕ) → List Line
-cmpLines e s [] qs = []
-cmpLines e s (p ∷ ps) [] = []
-cmpLines e s (p ∷ ps) (q ∷ qs) = Line.val s (Expr.cmp e p q) ∷ cmpLines e s ps qs
+abbrev pub equalityLines : Bool → ℕ → (ps qs : List ℕ) → List Line
+equalityLines e s [] qs = []
+equalityLines e s (p ∷ ps) [] = []
+equalityLines e s (p ∷ ps) (q ∷ qs) = Line.value s (Expr.equality e p q) ∷ equalityLines e s ps qs
 
 abbrev pub joinKind : Bool → ℕ
 joinKind true = 33
 joinKind false = 34
 
--- r is the result so far, b the number of the next line
+-- "ands from the left": r is the result so far, b the number of the next line, and ps are the tests left
 abbrev pub joinLines : Bool → (s r b : ℕ) → List ℕ → List Line
 joinLines e s r b [] = []
-joinLines e s r b (p ∷ ps) = Line.val s (Expr.two (joinKind e) r p) ∷ joinLines e s b (suc b) ps
-
-abbrev pub joined : (r b : ℕ) → List ℕ → ℕ
-joined r b [] = r
-joined r b (p ∷ ps) = joined b (suc b) ps
-
-abbrev pub joinAll : Bool → (s b : ℕ) → List ℕ → List Line
-joinAll e s b [] = []
-joinAll e s b (p ∷ ps) = joinLines e s p b ps
-
-abbrev pub joinedAll : ℕ → List ℕ → ℕ
-joinedAll b [] = 0
-joinedAll b (p ∷ ps) = joined p b ps
+joinLines e s r b (p ∷ ps) = Line.value s (Expr.binary (joinKind e) r p) ∷ joinLines e s b (suc b) ps
 
 -- "write, for each k rising: eq of index and constant k, .. then ite of that, value, old cell k": the index constants and the old cells go together
 abbrev pub writeLines : (one s i v b : ℕ) → (ks ps : List ℕ) → List Line
 writeLines one s i v b [] ps = []
 writeLines one s i v b (k ∷ ks) [] = []
-writeLines one s i v b (k ∷ ks) (p ∷ ps) = Line.val one (Expr.cmp true i k) ∷ Line.val s (Expr.ite b v p) ∷ writeLines one s i v (suc (suc b)) ks ps
+writeLines one s i v b (k ∷ ks) (p ∷ ps) = Line.value one (Expr.equality true i k) ∷ Line.value s (Expr.ite b v p) ∷ writeLines one s i v (suc (suc b)) ks ps
 
--- the ites' numbers
-abbrev pub writeCells : ℕ → (ks ps : List ℕ) → List ℕ
-writeCells b [] ps = []
-writeCells b (k ∷ ks) [] = []
-writeCells b (k ∷ ks) (p ∷ ps) = suc b ∷ writeCells (suc (suc b)) ks ps
+-- the numbers of the ites of n cells
+abbrev pub writeCells : (b n : ℕ) → List ℕ
+writeCells b zero = []
+writeCells b (suc n) = suc b ∷ writeCells (suc (suc b)) n
 
--- a read's lines, the flat line that it ends in, and the next line's number
-pub record Chain : Type 0 where
-  pub made : List Line
-  pub end : ℕ
-  pub top : ℕ
-
--- "read: start from the last cell; for k falling from the last but one to 0, the same eq, then ite of that, cell k, result so far": p is cell k and ps are the cells
--- after it, whose lines come first
-abbrev pub readLines : (one s i b : ℕ) → List ℕ → ℕ → List ℕ → Chain
-readLines one s i b ks p [] = record { made = []; end = p; top = b }
-readLines one s i b [] p (q ∷ ps) = record { made = []; end = p; top = b }
-readLines one s i b (k ∷ ks) p (q ∷ ps) =
-    let r = readLines one s i b ks q ps in
-    record {
-      made = r .made ++ (Line.val one (Expr.cmp true i k) ∷ Line.val s (Expr.ite (r .top) p (r .end)) ∷ []);
-      end = suc (r .top);
-      top = suc (suc (r .top));
-    }
-
-abbrev pub readAll : (one s i b : ℕ) → (ks ps : List ℕ) → Chain
-readAll one s i b ks [] = record { made = []; end = 0; top = b }
-readAll one s i b ks (p ∷ ps) = readLines one s i b ks p ps
+-- "read: start from the last cell; for k falling from the last but one to 0, the same eq, then ite of that, cell k, result so far": r is the result so far, b the number
+-- of the next line, and the cells below k are left
+abbrev pub readChain : (one s i : ℕ) → (ks ps : List ℕ) → (r b k : ℕ) → List Line
+readChain one s i ks ps r b zero = []
+readChain one s i ks ps r b (suc k) =
+    Line.value one (Expr.equality true i (getD ks k 0)) ∷ Line.value s (Expr.ite b (getD ps k 0) r) ∷ readChain one s i ks ps (suc b) (suc (suc b)) k
 
 -- ---- one line: b is the number of the next flat line
 
@@ -141,24 +112,29 @@ valInfo f ps k = record { width = f .width; size = f .size; elem = f .elem; bit 
 abbrev pub chunkWrite : Info → List ℕ → Option ℕ → (i v b : ℕ) → Chunk
 chunkWrite f ps (some k) i v b = record { lines = []; info = valInfo f (set ps k v) none }
 chunkWrite f ps none i v b =
-    record { lines = writeLines (f .bit) (f .elem) i v b (f .index) ps; info = valInfo f (writeCells b (f .index) ps) none }
+    record { lines = writeLines (f .bit) (f .elem) i v b (f .index) ps; info = valInfo f (writeCells b (length ps)) none }
 
--- "read's ites take the read's own sort", f; "the array operand's sort line gives the eq its sort and constant", g; "read stands for the cell" where the index is constant
+-- "read's ites take the read's own sort", f; "the array operand's sort line gives the eq its sort and constant", g; "read stands for the cell" where the index is constant.
+-- An array has two cells or more, so the last line is the value
 abbrev pub chunkRead : (f g : Info) → Option ℕ → (i b : ℕ) → Chunk
 chunkRead f g (some k) i b = record { lines = []; info = valInfo f (getD (g .cells) k 0 ∷ []) none }
 chunkRead f g none i b =
-    let r = readAll (g .bit) (f .elem) i b (g .index) (g .cells) in
-    record { lines = r .made; info = valInfo f (r .end ∷ []) none }
+    let k = length (g .cells) - 1 in
+    record {
+      lines = readChain (g .bit) (f .elem) i (g .index) (g .cells) (getD (g .cells) k 0) b k;
+      info = valInfo f ((b + (2 * k - 1)) ∷ []) none;
+    }
 
+-- of eq and neq the tests are the n lines from b on; the result is the first of them, then the join with each of the others, so the last line is the value
 abbrev pub chunkExpr : List Info → ℕ → Info → Expr → Chunk
-chunkExpr I b f (Expr.const v) = record { lines = Line.val (f .elem) (Expr.const v) ∷ []; info = valInfo f (b ∷ []) (some v) }
-chunkExpr I b f (Expr.one k a x y) = record { lines = Line.val (f .elem) (Expr.one k (lineAt I a) x y) ∷ []; info = valInfo f (b ∷ []) none }
-chunkExpr I b f (Expr.two k x y) = record { lines = Line.val (f .elem) (Expr.two k (lineAt I x) (lineAt I y)) ∷ []; info = valInfo f (b ∷ []) none }
-chunkExpr I b f (Expr.cmp e x y) =
+chunkExpr I b f (Expr.const v) = record { lines = Line.value (f .elem) (Expr.const v) ∷ []; info = valInfo f (b ∷ []) (some v) }
+chunkExpr I b f (Expr.unary k a x y) = record { lines = Line.value (f .elem) (Expr.unary k (lineAt I a) x y) ∷ []; info = valInfo f (b ∷ []) none }
+chunkExpr I b f (Expr.binary k x y) = record { lines = Line.value (f .elem) (Expr.binary k (lineAt I x) (lineAt I y)) ∷ []; info = valInfo f (b ∷ []) none }
+chunkExpr I b f (Expr.equality e x y) =
     let n = length (linesAt I x) in
     record {
-      lines = cmpLines e (f .elem) (linesAt I x) (linesAt I y) ++ joinAll e (f .elem) (b + n) (from b n);
-      info = valInfo f (joinedAll (b + n) (from b n) ∷ []) none;
+      lines = equalityLines e (f .elem) (linesAt I x) (linesAt I y) ++ joinLines e (f .elem) b (b + n) (from (suc b) (n - 1));
+      info = valInfo f ((b + 2 * (n - 1)) ∷ []) none;
     }
 chunkExpr I b f (Expr.ite c x y) =
     record { lines = iteLines (f .elem) (lineAt I c) (linesAt I x) (linesAt I y); info = valInfo f (from b (length (linesAt I x))) none }
@@ -166,9 +142,9 @@ chunkExpr I b f (Expr.read a i) = chunkRead f (infoAt I a) (infoAt I i .known) (
 chunkExpr I b f (Expr.write a i v) = chunkWrite f (linesAt I a) (infoAt I i .known) (lineAt I i) (lineAt I v) b
 
 -- the value lines of the cells that an init (true) or a next gives to n cells: an init has one word for all of them
-abbrev pub givenLines : List Info → Bool → (n v : ℕ) → List ℕ
-givenLines I true n v = replicate n (lineAt I v)
-givenLines I false n v = linesAt I v
+abbrev pub valueLines : List Info → Bool → (n v : ℕ) → List ℕ
+valueLines I true n v = replicate n (lineAt I v)
+valueLines I false n v = linesAt I v
 
 -- "array sort: `sort bitvec 1`, then index constants 0 upward"; "state: one state for each cell"; "any other line is copied, operands renumbered"
 abbrev pub chunk : List Info → ℕ → Line → Chunk
@@ -181,12 +157,12 @@ chunk I b (Line.array i e) =
 chunk I b (Line.input s) = record { lines = Line.input (infoAt I s .elem) ∷ []; info = valInfo (infoAt I s) (b ∷ []) none }
 chunk I b (Line.state s) =
     record { lines = replicate (infoAt I s .size) (Line.state (infoAt I s .elem)); info = valInfo (infoAt I s) (from b (infoAt I s .size)) none }
-chunk I b (Line.val s e) = chunkExpr I b (infoAt I s) e
-chunk I b (Line.give m s q v) =
-    record { lines = giveLines m (infoAt I s .elem) (linesAt I q) (givenLines I m (length (linesAt I q)) v); info = noInfo }
-chunk I b (Line.mark m a) = record { lines = Line.mark m (lineAt I a) ∷ []; info = noInfo }
+chunk I b (Line.value s e) = chunkExpr I b (infoAt I s) e
+chunk I b (Line.initOrNext m s q v) =
+    record { lines = initOrNextLines m (infoAt I s .elem) (linesAt I q) (valueLines I m (length (linesAt I q)) v); info = noInfo }
+chunk I b (Line.signal m a) = record { lines = Line.signal m (lineAt I a) ∷ []; info = noInfo }
 chunk I b (Line.output a) = record { lines = Line.output (lineAt I a) ∷ []; info = noInfo }
-chunk I b Line.junk = record { lines = Line.junk ∷ []; info = noInfo }
+chunk I b Line.unknown = record { lines = Line.unknown ∷ []; info = noInfo }
 
 -- ---- all lines
 

@@ -3,5 +3,3 @@ pub mod Placed
 pub mod Answers
 pub mod Examples
 pub mod Model
-pub mod Making
-pub mod Begun

@@ -12,7 +12,7 @@ ghost use Prim.Native.Nat.{_≤_, _+_};
 ghost use lib.ListN.{getD};
 ghost use Rattle.texts.specs.Forms.{extra, formRow, kindOf, sorted as sortedOf, sortWord};
 ghost use Rattle.tables.specs.Kinds.{rowOf, wordOf};
-ghost use Rattle.texts.specs.Split.{same};
+ghost use Rattle.texts.specs.Split.{sameBytes};
 ghost use Rattle.texts.specs.Reading.{findIn};
 
 // const, consth, zero, one and ones, in rows like those of the kinds. In the table of kinds a kind has one word, the one that the writer prints. These five are
@@ -77,7 +77,7 @@ pub fn sorted(row: [u8; 16]) -> usize
 // A token is the word of a row.
 fn is_word(t: &[u8], r: [u8; 16]) -> bool
     requires { ⌜ getD r 0 0 ≤ 10 ⌝ }
-    ensures { λ x. ⌜ x ≡ same (now (t .entry)) (wordOf r) ⌝ }
+    ensures { λ x. ⌜ x ≡ sameBytes (now (t .entry)) (wordOf r) ⌝ }
 {
     let n = r[0] as usize;
     if t.len() != n {
@@ -95,7 +95,7 @@ fn is_word(t: &[u8], r: [u8; 16]) -> bool
 
 // The token is `sort`.
 fn is_sort(t: &[u8]) -> bool
-    ensures { λ r. ⌜ r ≡ same (now (t .entry)) sortWord ⌝ }
+    ensures { λ r. ⌜ r ≡ sameBytes (now (t .entry)) sortWord ⌝ }
 {
     if t.len() != 4 {
         return false;

@@ -6,7 +6,7 @@ ghost use mathlib.Core.Bool.{_&&_};
 ghost use Prim.Native.Nat.{_≤_, _<_};
 ghost use lib.ListN.{getD, set};
 ghost use Rattle.tables.specs.Lines.{kindIn};
-ghost use Rattle.programs.specs.Model.Kinds.{numberAt, flagAt};
+ghost use Rattle.programs.specs.Model.Kinds.{entryAt, flagAt};
 ghost use Rattle.programs.specs.Model.Records.{looseIn, instruction as instructionOf, widthIn, numberIn, emitted as emittedOf, Taken};
 ghost use Rattle.tables.specs.Pick.{pick};
 ghost use Rattle.words.specs.Word.{bit};
@@ -35,7 +35,7 @@ fn store(xs: &mut [u64], n: u64, v: u64)
 // The record's line is loose.
 fn loose(rec: [u64; WORDS], wd: &[u64], lo: &[u8]) -> bool
     requires { ⌜ kindIn rec ≤ 55 ⌝ }
-    ensures { λ r. ⌜ r ≡ looseIn (numberAt (now (wd .entry))) (flagAt (now (lo .entry))) rec ⌝ }
+    ensures { λ r. ⌜ r ≡ looseIn (entryAt (now (wd .entry))) (flagAt (now (lo .entry))) rec ⌝ }
 {
     if entry(wd, rec[1]) == 64 {
         return false;
@@ -60,7 +60,7 @@ fn operand(line: bool, num: &[u64], a: u64) -> u64
 
 // The record's instruction.
 pub fn instruction(rec: [u64; WORDS], wd: &[u64], num: &[u64]) -> [u64; WORDS]
-    ensures { λ r. ⌜ r ≡ instructionOf (numberAt (now (wd .entry))) (numberAt (now (num .entry))) rec ⌝ }
+    ensures { λ r. ⌜ r ≡ instructionOf (entryAt (now (wd .entry))) (entryAt (now (num .entry))) rec ⌝ }
 {
     let k = rec[0];
     let w = entry(wd, rec[1]);
@@ -72,7 +72,7 @@ pub fn instruction(rec: [u64; WORDS], wd: &[u64], num: &[u64]) -> [u64; WORDS]
 
 // The line's width.
 fn width(rec: [u64; WORDS], wd: &[u64]) -> u64
-    ensures { λ r. ⌜ r ≡ widthIn (numberAt (now (wd .entry))) rec ⌝ }
+    ensures { λ r. ⌜ r ≡ widthIn (entryAt (now (wd .entry))) rec ⌝ }
 {
     if rec[0] == 1 {
         return rec[2];

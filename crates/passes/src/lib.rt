@@ -9,7 +9,7 @@ ghost use Rattle.tables.specs.Tables.{checked};
 ghost use Rattle.tables.specs.Layout.{held, linesOf};
 ghost use Rattle.programs.specs.Translation.{hasArray};
 ghost use Rattle.programs.specs.Answers.{programOf};
-ghost use Rattle.programs.specs.Model.Passes.{Fresh, written, Prepared, Ready, programIn};
+ghost use Rattle.programs.specs.Model.Passes.{Zeroed, emittedTo, Prepared, Fitted, programIn};
 
 // A counted record is an array sort.
 pub fn has_array(table: &[u64], count: usize) -> bool
@@ -51,7 +51,7 @@ pub fn count_all(
     num: &mut [u64],
     lo: &mut [u8],
 ) -> usize
-    requires { ⌜ Prepared (now table) count (now marks) × Fresh count (now wd) (now num) (now lo) ⌝ }
+    requires { ⌜ Prepared (now table) count (now marks) × Zeroed count (now wd) (now num) (now lo) ⌝ }
     ensures { λ r. ⌜ r ≡ length (programOf (now (table .entry)) count) ⌝ }
 {
     let h = records::step(false, table.len());
@@ -71,7 +71,7 @@ pub fn count_all(
 // The e instructions of a line go to the target: the instruction, of width w, at the number b, and its mask.
 fn emit(e: usize, ins: [u64; WORDS], w: u64, b: usize, target: &mut [u64])
     requires { ⌜ (1 ≤ b) × ((b < 65536) × ((e ≤ 2) × (b - 1 + e ≤ held true (length (now target))))) ⌝ }
-    ensures { λ _. ⌜ now (target .exit) ≡ written e ins w b (now (target .entry)) ⌝ }
+    ensures { λ _. ⌜ now (target .exit) ≡ emittedTo e ins w b (now (target .entry)) ⌝ }
 {
     if e == 0 {
         return;
@@ -92,7 +92,7 @@ pub fn write_all(
     lo: &mut [u8],
     target: &mut [u64],
 )
-    requires { ⌜ Ready (now table) count (now marks) (now target) × Fresh count (now wd) (now num) (now lo) ⌝ }
+    requires { ⌜ Fitted (now table) count (now marks) (now target) × Zeroed count (now wd) (now num) (now lo) ⌝ }
     ensures { λ _. ⌜ now (target .exit) ≡ programIn (now (table .entry)) count (length (now (target .entry))) ⌝ }
 {
     let h = records::step(false, table.len());

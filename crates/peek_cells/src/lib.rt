@@ -6,8 +6,8 @@ ghost use lib.ListN.{getD};
 ghost use Rattle.circuits.specs.Meaning.{wordAt, cellsAt};
 ghost use Rattle.tables.specs.Layout.{linesOf};
 ghost use Rattle.peeks.specs.Peek.{stepZero};
-ghost use Rattle.peeks.specs.Looks.{Looks, Found, WordLine, StateLine, CellLine, Pair};
-ghost use Rattle.circuits.specs.Cells.{same};
+ghost use Rattle.peeks.specs.Model.Looks.{Looks, Found, WordLine, StateLine, CellLine, Pair};
+ghost use Rattle.circuits.specs.Cells.{sameCells};
 
 // The word of the line n, from the start words `from` and the row; `ini` holds the lines of the states' init values.
 pub fn word(
@@ -60,7 +60,7 @@ fn value(
         5 => state(table, count, laid, ini, from, row, vals, has, n, 0),
         6..=20 => {
             let x = word(table, count, laid, ini, from, row, vals, has, a);
-            peek_values::one(rec, n, laid, x)
+            peek_values::unary(rec, n, laid, x)
         }
         21..=22 => {
             let s = alike(table, count, laid, ini, from, row, vals, has, a, b);
@@ -78,7 +78,7 @@ fn value(
         _ => {
             let x = word(table, count, laid, ini, from, row, vals, has, a);
             let y = word(table, count, laid, ini, from, row, vals, has, b);
-            peek_values::two(rec, n, laid, x, y)
+            peek_values::binary(rec, n, laid, x, y)
         }
     }
 }
@@ -160,7 +160,7 @@ fn alike(
 ) -> bool
     requires { ⌜ Looks (now table) count (now laid) (now ini) (now from) (now row) × (Pair (now table) count a b
         × Found (stepZero (linesOf false (now table) count) (now from) (now row)) (now vals) (now has)) ⌝ }
-    ensures { λ r. ⌜ (r ≡ same (cellsAt (stepZero (linesOf false (now (table .entry)) count) (now (from .entry)) (now (row .entry))) a)
+    ensures { λ r. ⌜ (r ≡ sameCells (cellsAt (stepZero (linesOf false (now (table .entry)) count) (now (from .entry)) (now (row .entry))) a)
         (cellsAt (stepZero (linesOf false (now (table .entry)) count) (now (from .entry)) (now (row .entry))) b))
         × Found (stepZero (linesOf false (now (table .entry)) count) (now (from .entry)) (now (row .entry))) (now (vals .exit)) (now (has .exit)) ⌝ }
 {

@@ -7,13 +7,14 @@ ghost use mathlib.Core.Bool.{false};
 ghost use Prim.Native.Nat.{ℕ, _<_, _%_, _^_, _≤_, _+_};
 ghost use lib.ListN.{length, getD, replicate, set};
 ghost use Rattle.tables.specs.Lines.{lineOf, kindIn, firstIn, secondIn, thirdIn};
-ghost use Rattle.peeks.specs.Looks.{noteInit, initOf};
+ghost use Rattle.peeks.specs.Model.Looks.{noteInit, initOf};
 ghost use Rattle.tables.specs.Tables.{checked};
 ghost use Rattle.tables.specs.Layout.{held, recordAt, linesOf};
 ghost use Rattle.words.specs.Word.{Width};
-ghost use Rattle.circuits.specs.Model.{posIn, widIn, FitWord};
+ghost use Rattle.circuits.specs.Model.Work.{posIn, widIn};
+ghost use Rattle.circuits.specs.Model.Fits.{FitWord};
 ghost use Rattle.circuits.specs.Meaning.{opWord};
-ghost use Rattle.circuits.specs.Cells.{choose};
+ghost use Rattle.circuits.specs.Cells.{ifNonzero};
 
 // An init's record notes the line of its value at its state.
 fn note_init(rec: [u64; WORDS], ini: &mut [u64])
@@ -82,7 +83,7 @@ pub fn start_word(n: usize, k: usize, laid: &[[u32; LAID]; 16385], starts: &[u64
 }
 
 // An operator of one word, v, on the line n.
-pub fn one(rec: [u64; WORDS], n: usize, laid: &[[u32; LAID]; 16385], v: u64) -> u64
+pub fn unary(rec: [u64; WORDS], n: usize, laid: &[[u32; LAID]; 16385], v: u64) -> u64
     requires { ⌜ (n ≤ 16384) × ((firstIn rec ≤ 16384) × FitWord false (kindIn rec) (widIn (now laid) n) (widIn (now laid) (firstIn rec)) 64 v (secondIn rec) (thirdIn rec)) ⌝ }
     ensures { λ r. ⌜ r ≡ opWord false (kindIn rec) (widIn (now (laid .entry)) (firstIn rec)) 64 v (secondIn rec) (thirdIn rec) ⌝ }
 {
@@ -92,7 +93,7 @@ pub fn one(rec: [u64; WORDS], n: usize, laid: &[[u32; LAID]; 16385], v: u64) -> 
 }
 
 // An operator of two words, x and y, on the line n.
-pub fn two(rec: [u64; WORDS], n: usize, laid: &[[u32; LAID]; 16385], x: u64, y: u64) -> u64
+pub fn binary(rec: [u64; WORDS], n: usize, laid: &[[u32; LAID]; 16385], x: u64, y: u64) -> u64
     requires { ⌜ (n ≤ 16384) × ((firstIn rec ≤ 16384) × ((secondIn rec ≤ 16384)
         × FitWord false (kindIn rec) (widIn (now laid) n) (widIn (now laid) (firstIn rec)) (widIn (now laid) (secondIn rec)) x y 0)) ⌝ }
     ensures { λ r. ⌜ r ≡ opWord false (kindIn rec) (widIn (now (laid .entry)) (firstIn rec)) (widIn (now (laid .entry)) (secondIn rec)) x y 0 ⌝ }
@@ -117,7 +118,7 @@ pub fn given(rec: [u64; WORDS], n: usize, laid: &[[u32; LAID]; 16385], row: &[u6
 
 // The line that an ite takes where its condition is d.
 pub fn chosen(d: u64, b: u64, c: u64) -> usize
-    ensures { λ r. ⌜ r ≡ choose d b c ⌝ }
+    ensures { λ r. ⌜ r ≡ ifNonzero d b c ⌝ }
 {
     if d != 0 {
         return b as usize;

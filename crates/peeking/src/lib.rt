@@ -12,8 +12,8 @@ ghost use mathlib.Core.Bool.{false};
 ghost use Prim.Native.Nat.{_≤_};
 ghost use Rattle.tables.specs.Layout.{linesOf};
 ghost use Rattle.peeks.specs.Peek.{peekAt, mayPeek, toldPeek, peeks};
-ghost use Rattle.peeks.specs.Looks.{Laid, HasCell, lentPeek};
-ghost use Rattle.circuits.specs.Model.{countsOf, Noted};
+ghost use Rattle.peeks.specs.Model.Looks.{Laid, HasCell, lentPeek};
+ghost use Rattle.circuits.specs.Model.Passes.{countsOf, Noted};
 
 // The cell k of the line n, a value that has it.
 fn find(
@@ -61,7 +61,7 @@ fn find(
 
 // 14, 15 and 18: s start words and i inputs are lent, for the cell k of a line of the type y.
 fn may_peek(t: Totals, y: Ty, count: usize, k: usize, s: usize, i: usize) -> Checked
-    requires { ⌜ (2 ≤ y .cls → y .iw ≤ 8) ⌝ }
+    requires { ⌜ (2 ≤ y .role → y .iw ≤ 8) ⌝ }
     ensures { λ r. ⌜ r ≡ mayPeek (countsOf t) y count k s i ⌝ }
 {
     if s != t.states {
@@ -73,7 +73,7 @@ fn may_peek(t: Totals, y: Ty, count: usize, k: usize, s: usize, i: usize) -> Che
     if 64 < count {
         return Checked::Refused(Refusal::NoSuchCell);
     }
-    if y.cls < 2 {
+    if y.role < 2 {
         return Checked::Refused(Refusal::NoSuchCell);
     }
     let x = y.iw;

@@ -15,13 +15,13 @@ use Rattle.tables.specs.Pick.{pick}
 use Rattle.tables.specs.Lines.{Line}
 use Rattle.tables.specs.Types.{tyAt, given, sortAt}
 use Rattle.tables.specs.Tables.{checked}
-use Rattle.tables.proofs.Facts.{Ok, OkGive}
+use Rattle.tables.proofs.Facts.{Ok, OkInitOrNext}
 use Rattle.tables.proofs.Showing.{by-place, earlier}
-use Rattle.circuits.specs.Cells.{choose, lows, part, put}
-use Rattle.circuits.specs.Layout.{Place, Layout, typeAt, placeAt, size, typeOf, placeOf, noLayout, lay, layout}
-use Rattle.circuits.specs.Meaning.{Acc, wordAt, cellsOf, stsOf, evalLine, step}
+use Rattle.circuits.specs.Cells.{ifNonzero, maskWords, part, put}
+use Rattle.circuits.specs.Layout.{Layout, typeAt, placeAt, size, lineTypeIn, placeOf, noLayout, lay, layout}
+use Rattle.circuits.specs.Meaning.{Frame, wordAt, cellsOf, statesAfter, evalLine, step}
 use Rattle.tables.specs.Layout.{linesOf}
-use Rattle.peeks.specs.Looks.{noteInit, initAfter, initOf}
+use Rattle.peeks.specs.Model.Looks.{noteInit, initAfter, initOf}
 use Rattle.circuits.proofs.Puts as laws
 use Rattle.circuits.proofs.Laid.{Sound, not-four, type-new, place-new, type-old, place-old, more-types, grew, later}
 use Rattle.circuits.proofs.Walked.{accAt, acc-suc, lines-many, number-at}
@@ -33,8 +33,8 @@ pub init-snoc : (q d : ℕ) (C : List Line) (l : Line) → initAfter q d (C ++ (
 init-snoc q d [] l = refl
 init-snoc q d (x ∷ C) l = init-snoc q (noteInit q d x) C l
 
-pub init-more : (q : ℕ) (C : List Line) (j : ℕ) → j < length C → initOf q (take (suc j) C) ≡ noteInit q (initOf q (take j C)) (getD C j Line.junk)
-init-more q C j h = ap (initAfter q 0) (take-suc C j Line.junk h) ∙ init-snoc q 0 (take j C) (getD C j Line.junk)
+pub init-more : (q : ℕ) (C : List Line) (j : ℕ) → j < length C → initOf q (take (suc j) C) ≡ noteInit q (initOf q (take j C)) (getD C j Line.unknown)
+init-more q C j h = ap (initAfter q 0) (take-suc C j Line.unknown h) ∙ init-snoc q 0 (take j C) (getD C j Line.unknown)
 
 -- ---- what is known of a state on the line q, m words from the place `at` on, and of its init's value on the line d
 
@@ -43,26 +43,26 @@ pub record Settled (Y : Layout) (q at m w d : ℕ) : Type 0 where
   pub room : at + m ≤ Y .counts .states
   pub sized : size (typeAt Y q) ≡ m
   pub width : typeAt Y q .w ≡ w
-  pub spot : placeAt Y q .at ≡ at
-  pub none : typeAt Y 0 .cls ≡ 0
+  pub spot : placeAt Y q ≡ at
+  pub none : typeAt Y 0 .role ≡ 0
   -- the words of no other state meet its own
-  pub apart : (x : ℕ) → typeAt Y x .cls ≡ 4 → (x ≡ q → ⊥) → (at + m ≤ placeAt Y x .at) ⊎ (placeAt Y x .at + size (typeAt Y x) ≤ at)
+  pub apart : (x : ℕ) → typeAt Y x .role ≡ 4 → (x ≡ q → ⊥) → (at + m ≤ placeAt Y x) ⊎ (placeAt Y x + size (typeAt Y x) ≤ at)
   pub below : d < q
-  pub fixed : (d ≡ 0 → ⊥) → typeAt Y d .cls ≡ 2
+  pub fixed : (d ≡ 0 → ⊥) → typeAt Y d .role ≡ 2
   pub flat : (d ≡ 0 → ⊥) → typeAt Y d .iw ≡ 0
   pub same : (d ≡ 0 → ⊥) → typeAt Y d .w ≡ w
 
 -- a line of a state's class is a state, whose words come after all others
-state-place : (p : Bool) (Y : Layout) (l : Line) → typeOf p Y l .cls ≡ 4 → placeOf Y l .at ≡ Y .counts .states
+state-place : (p : Bool) (Y : Layout) (l : Line) → lineTypeIn p Y l .role ≡ 4 → placeOf Y l ≡ Y .counts .states
 state-place p Y (Line.bitvec w) e = absurd (omega arith)
 state-place p Y (Line.array i x) e = absurd (omega arith)
 state-place p Y (Line.input s) e = absurd (omega arith)
 state-place p Y (Line.state s) e = refl
-state-place p Y (Line.val s x) e = absurd (not-four p (tyAt (Y .ctx)) s x e)
-state-place p Y (Line.give m s q v) e = absurd (omega arith)
-state-place p Y (Line.mark m a) e = absurd (omega arith)
+state-place p Y (Line.value s x) e = absurd (not-four p (tyAt (Y .ctx)) s x e)
+state-place p Y (Line.initOrNext m s q v) e = absurd (omega arith)
+state-place p Y (Line.signal m a) e = absurd (omega arith)
 state-place p Y (Line.output a) e = absurd (omega arith)
-state-place p Y Line.junk e = absurd (omega arith)
+state-place p Y Line.unknown e = absurd (omega arith)
 
 module _ (Y : Layout) (S : Sound Y) (l : Line) where
   abbrev N : ℕ
@@ -80,23 +80,23 @@ module _ (Y : Layout) (S : Sound Y) (l : Line) where
       let td = type-old false Y l (S .long) d ed in
       record {
         known = omega (arith, k .known, more-types false Y l);
-        room = omega (arith, grew (Y .counts) (size (typeOf false Y l)) l .states);
+        room = omega (arith, grew (Y .counts) (size (lineTypeIn false Y l)) l .states);
         sized = ap size tq ∙ k .sized;
         width = ap (λ (t : Ty). t .w) tq ∙ k .width;
-        spot = ap (λ (x : Place). x .at) (place-old false Y l (S .long) q (old k)) ∙ k .spot;
-        none = ap (λ (t : Ty). t .cls) (type-old false Y l (S .long) 0 (λ e. omega (arith, k .known))) ∙ k .none;
+        spot = place-old false Y l (S .long) q (old k) ∙ k .spot;
+        none = ap (λ (t : Ty). t .role) (type-old false Y l (S .long) 0 (λ e. omega (arith, k .known))) ∙ k .none;
         apart = λ x.
             by-place x (length (Y .ctx .tys))
             (λ e c ne.
-            let tx : typeAt (lay false Y l) x ≡ typeOf false Y l = ap (typeAt (lay false Y l)) e ∙ type-new false Y l (S .long) in
-            let px : placeAt (lay false Y l) x .at ≡ Y .counts .states = ap (λ (y : ℕ). placeAt (lay false Y l) y .at) e ∙ ap (λ (z : Place). z .at) (place-new false Y l (S .long)) ∙ state-place false Y l (sym (ap (λ (t : Ty). t .cls) tx) ∙ c) in
+            let tx : typeAt (lay false Y l) x ≡ lineTypeIn false Y l = ap (typeAt (lay false Y l)) e ∙ type-new false Y l (S .long) in
+            let px : placeAt (lay false Y l) x ≡ Y .counts .states = ap (placeAt (lay false Y l)) e ∙ place-new false Y l (S .long) ∙ state-place false Y l (sym (ap (λ (t : Ty). t .role) tx) ∙ c) in
             inl (omega arith))
             (λ n c ne.
             let tx = type-old false Y l (S .long) x n in
             let px = place-old false Y l (S .long) x n in
-            rw (tx, px) (k .apart x (sym (ap (λ (t : Ty). t .cls) tx) ∙ c) ne));
+            rw (tx, px) (k .apart x (sym (ap (λ (t : Ty). t .role) tx) ∙ c) ne));
         below = k .below;
-        fixed = λ z. ap (λ (t : Ty). t .cls) td ∙ k .fixed z;
+        fixed = λ z. ap (λ (t : Ty). t .role) td ∙ k .fixed z;
         flat = λ z. ap (λ (t : Ty). t .iw) td ∙ k .flat z;
         same = λ z. ap (λ (t : Ty). t .w) td ∙ k .same z;
       }
@@ -105,7 +105,7 @@ module _ (Y : Layout) (S : Sound Y) (l : Line) where
 
 -- the words that a state starts from: d is the line of its init's value x, or 0
 abbrev pub startOf : (S : List ℕ) (at m w d x : ℕ) → List ℕ
-startOf S at m w d x = choose d (replicate m x) (lows w (part S at m))
+startOf S at m w d x = ifNonzero d (replicate m x) (maskWords w (part S at m))
 
 start-as : (S : List ℕ) (at m w d : ℕ) {x y : ℕ} → ((d ≡ 0 → ⊥) → x ≡ y) → startOf S at m w d x ≡ startOf S at m w d y
 start-as S at m w zero e = refl
@@ -119,17 +119,17 @@ part-front : (xs ys : List ℕ) (a m : ℕ) → a + m ≤ length xs → part (xs
 part-front xs ys a m h =
     ap (take m) (drop-append-le a xs ys (omega arith)) ∙ take-append-le m (drop a xs) ys (omega (arith, length-drop a xs))
 
-pub record Begun (S : List ℕ) (B : Acc) (q at m w d : ℕ) : Type 0 where
+pub record Begun (S : List ℕ) (B : Frame) (q at m w d : ℕ) : Type 0 where
   pub settled : Settled (B .lay) q at m w d
   pub words : part (B .sts) at m ≡ startOf S at m w d (wordAt B d)
 
-module _ (S ι : List ℕ) (B : Acc) (sound : Sound (B .lay)) (lines : length (B .env) ≡ length (B .lay .ctx .tys)) (many : length (B .sts) ≡ B .lay .counts .states) where
+module _ (S ι : List ℕ) (B : Frame) (sound : Sound (B .lay)) (lines : length (B .env) ≡ length (B .lay .ctx .tys)) (many : length (B .sts) ≡ B .lay .counts .states) where
   word-kept : (l : Line) (d : ℕ) → d < length (B .env) → wordAt (evalLine false true S ι B l) d ≡ wordAt B d
   word-kept l d h = ap (λ (x : List ℕ). getD x 0 0) (List·getD-append (B .env) (cellsOf false true S ι B l ∷ []) [] d h)
 
   module _ {q at m w d : ℕ} (k : Begun S B q at m w d) where
     -- a line that gives the state no word
-    quiet : (l : Line) → part (stsOf false true S B l) at m ≡ part (B .sts) at m → Begun S (evalLine false true S ι B l) q at m w d
+    quiet : (l : Line) → part (statesAfter false true S B l) at m ≡ part (B .sts) at m → Begun S (evalLine false true S ι B l) q at m w d
     quiet l e =
         record {
           settled = settled-more (B .lay) sound l (k .settled);
@@ -140,20 +140,20 @@ module _ (S ι : List ℕ) (B : Acc) (sound : Sound (B .lay)) (lines : length (B
     room = omega (arith, k .settled .room)
 
     -- an init
-    gives : (s x v : ℕ) → OkGive true (given (B .lay .ctx)) (sortAt false (tyAt (B .lay .ctx)) s) (typeAt (B .lay) x) (typeAt (B .lay) v) x v
-        → Begun S (evalLine false true S ι B (Line.give true s x v)) q at m w (pick (eqb q x) v d)
+    gives : (s x v : ℕ) → OkInitOrNext true (given (B .lay .ctx)) (sortAt false (tyAt (B .lay .ctx)) s) (typeAt (B .lay) x) (typeAt (B .lay) v) x v
+        → Begun S (evalLine false true S ι B (Line.initOrNext true s x v)) q at m w (pick (eqb q x) v d)
     gives s x v ok =
         by-place q x
         (λ e.
-        subst (λ (b : Bool). Begun S (evalLine false true S ι B (Line.give true s x v)) q at m w (pick b v d)) (sym (eq-eqb q x e))
-        (let l = Line.give true s x v in
+        subst (λ (b : Bool). Begun S (evalLine false true S ι B (Line.initOrNext true s x v)) q at m w (pick b v d)) (sym (eq-eqb q x e))
+        (let l = Line.initOrNext true s x v in
         let K = settled-more (B .lay) sound l (k .settled) in
         let vk : v < length (B .lay .ctx .tys) = earlier (B .lay .ctx .tys) v (omega (arith, ok .value .fixed)) in
         let tv = type-old false (B .lay) l (sound .long) v (λ z. omega arith) in
         let sx : size (typeAt (B .lay) x) ≡ m = ap (λ (y : ℕ). size (typeAt (B .lay) y)) (sym e) ∙ k .settled .sized in
-        let px : placeAt (B .lay) x .at ≡ at = ap (λ (y : ℕ). placeAt (B .lay) y .at) (sym e) ∙ k .settled .spot in
+        let px : placeAt (B .lay) x ≡ at = ap (placeAt (B .lay)) (sym e) ∙ k .settled .spot in
         let wx : typeAt (B .lay) x .w ≡ w = ap (λ (y : ℕ). typeAt (B .lay) y .w) (sym e) ∙ k .settled .width in
-        let nz : v ≡ 0 → ⊥ = λ z. omega (arith, ok .value .fixed, ap (λ (y : ℕ). typeAt (B .lay) y .cls) z, k .settled .none) in
+        let nz : v ≡ 0 → ⊥ = λ z. omega (arith, ok .value .fixed, ap (λ (y : ℕ). typeAt (B .lay) y .role) z, k .settled .none) in
         record {
           settled =
               record {
@@ -165,7 +165,7 @@ module _ (S ι : List ℕ) (B : Acc) (sound : Sound (B .lay)) (lines : length (B
                 none = K .none;
                 apart = K .apart;
                 below = omega (arith, ok .value .below);
-                fixed = λ z. ap (λ (t : Ty). t .cls) tv ∙ ok .value .fixed;
+                fixed = λ z. ap (λ (t : Ty). t .role) tv ∙ ok .value .fixed;
                 flat = λ z. ap (λ (t : Ty). t .iw) tv ∙ ok .value .word .flat;
                 same = λ z. ap (λ (t : Ty). t .w) tv ∙ ok .w ∙ sym (ok .same .w) ∙ wx;
               };
@@ -174,13 +174,13 @@ module _ (S ι : List ℕ) (B : Acc) (sound : Sound (B .lay)) (lines : length (B
               ∙ ap (replicate m) (sym (word-kept l v (omega arith))) ∙ sym (start-some S at m w v (wordAt (evalLine false true S ι B l) v) nz);
         }))
         (λ n.
-        subst (λ (b : Bool). Begun S (evalLine false true S ι B (Line.give true s x v)) q at m w (pick b v d)) (sym (ne-eqb q x n))
+        subst (λ (b : Bool). Begun S (evalLine false true S ι B (Line.initOrNext true s x v)) q at m w (pick b v d)) (sym (ne-eqb q x n))
         (let sx = size (typeAt (B .lay) x) in
         let vs : List ℕ = replicate sx (wordAt B v) in
         let lv : length vs ≡ sx = length-replicate sx (wordAt B v) in
         let r = sound .room x (ok .state) in
-        quiet (Line.give true s x v)
-        (laws.put-apart (B .sts) (placeAt (B .lay) x .at) vs (omega arith) at m room
+        quiet (Line.initOrNext true s x v)
+        (laws.put-apart (B .sts) (placeAt (B .lay) x) vs (omega arith) at m room
         (⊎-elim (λ h. inl h) (λ h. inr (omega arith)) (k .settled .apart x (ok .state) (λ z. n (sym z)))))))
 
     pub begun-line : (l : Line) → Ok false (tyAt (B .lay .ctx)) (given (B .lay .ctx)) l → Begun S (evalLine false true S ι B l) q at m w (noteInit q d l)
@@ -188,12 +188,12 @@ module _ (S ι : List ℕ) (B : Acc) (sound : Sound (B .lay)) (lines : length (B
     begun-line (Line.array i e) ok = quiet (Line.array i e) refl
     begun-line (Line.input s) ok = quiet (Line.input s) refl
     begun-line (Line.state s) ok = quiet (Line.state s) (part-front (B .sts) _ at m room)
-    begun-line (Line.val s e) ok = quiet (Line.val s e) refl
-    begun-line (Line.give true s x v) ok = gives s x v ok
-    begun-line (Line.give false s x v) ok = quiet (Line.give false s x v) refl
-    begun-line (Line.mark b a) ok = quiet (Line.mark b a) refl
+    begun-line (Line.value s e) ok = quiet (Line.value s e) refl
+    begun-line (Line.initOrNext true s x v) ok = gives s x v ok
+    begun-line (Line.initOrNext false s x v) ok = quiet (Line.initOrNext false s x v) refl
+    begun-line (Line.signal b a) ok = quiet (Line.signal b a) refl
     begun-line (Line.output a) ok = quiet (Line.output a) refl
-    begun-line Line.junk ok = absurd ok
+    begun-line Line.unknown ok = absurd ok
 
 -- ---- lines before the state give it nothing
 
@@ -202,18 +202,18 @@ note-early Y q (Line.bitvec w) ok h = refl
 note-early Y q (Line.array i e) ok h = refl
 note-early Y q (Line.input s) ok h = refl
 note-early Y q (Line.state s) ok h = refl
-note-early Y q (Line.val s e) ok h = refl
-note-early Y q (Line.give true s x v) ok h =
+note-early Y q (Line.value s e) ok h = refl
+note-early Y q (Line.initOrNext true s x v) ok h =
     let k = earlier (Y .ctx .tys) x (omega (arith, ok .state)) in
     ap (λ (b : Bool). pick b v 0) (ne-eqb q x (λ e. omega arith))
-note-early Y q (Line.give false s x v) ok h = refl
-note-early Y q (Line.mark m a) ok h = refl
+note-early Y q (Line.initOrNext false s x v) ok h = refl
+note-early Y q (Line.signal m a) ok h = refl
 note-early Y q (Line.output a) ok h = refl
-note-early Y q Line.junk ok h = refl
+note-early Y q Line.unknown ok h = refl
 
 -- the state's own line
-settled-new : (Y : Layout) (S : Sound Y) (s : ℕ) → typeAt Y 0 .cls ≡ 0 → 0 < length (Y .ctx .tys)
-    → Settled (lay false Y (Line.state s)) (length (Y .ctx .tys)) (Y .counts .states) (size (typeOf false Y (Line.state s))) (typeOf false Y (Line.state s) .w) 0
+settled-new : (Y : Layout) (S : Sound Y) (s : ℕ) → typeAt Y 0 .role ≡ 0 → 0 < length (Y .ctx .tys)
+    → Settled (lay false Y (Line.state s)) (length (Y .ctx .tys)) (Y .counts .states) (size (lineTypeIn false Y (Line.state s))) (lineTypeIn false Y (Line.state s) .w) 0
 settled-new Y S s z h =
     let l = Line.state s in
     let q = length (Y .ctx .tys) in
@@ -223,15 +223,15 @@ settled-new Y S s z h =
       room = omega arith;
       sized = ap size tn;
       width = ap (λ (t : Ty). t .w) tn;
-      spot = ap (λ (x : Place). x .at) (place-new false Y l (S .long));
-      none = ap (λ (t : Ty). t .cls) (type-old false Y l (S .long) 0 (λ e. omega arith)) ∙ z;
+      spot = place-new false Y l (S .long);
+      none = ap (λ (t : Ty). t .role) (type-old false Y l (S .long) 0 (λ e. omega arith)) ∙ z;
       apart = λ x.
           by-place x q
           (λ e c ne. absurd (ne e))
           (λ n c ne.
           let tx = type-old false Y l (S .long) x n in
           let px = place-old false Y l (S .long) x n in
-          inr (rw (tx, px) (S .room x (sym (ap (λ (t : Ty). t .cls) tx) ∙ c))));
+          inr (rw (tx, px) (S .room x (sym (ap (λ (t : Ty). t .role) tx) ∙ c))));
       below = h;
       fixed = λ e. absurd (e refl);
       flat = λ e. absurd (e refl);
@@ -244,27 +244,27 @@ module _ (t : List ℕ) (n : ℕ) (acc : checked false t n ≡ Accepted) (S ι :
   abbrev C : List Line
   C = linesOf false t n
 
-  abbrev B : ℕ → Acc
+  abbrev B : ℕ → Frame
   B j = accAt false true S ι (linesOf false t n) j
 
   number : (j : ℕ) → j ≤ n → length (accAt false true S ι (linesOf false t n) j .lay .ctx .tys) ≡ j + 1
   number j h = ap (λ (Y : Layout). length (Y .ctx .tys)) (lay-is t n acc S many true ι j) ∙ number-at false t n acc j h
 
-  nothing : (j : ℕ) → typeAt (accAt false true S ι (linesOf false t n) j .lay) 0 .cls ≡ 0
-  nothing j = ap (λ (Y : Layout). typeAt Y 0 .cls) (lay-is t n acc S many true ι j) ∙ ap (λ (y : Ty). y .cls) (later false noLayout (take j (linesOf false t n)) .type 0 (omega arith))
+  nothing : (j : ℕ) → typeAt (accAt false true S ι (linesOf false t n) j .lay) 0 .role ≡ 0
+  nothing j = ap (λ (Y : Layout). typeAt Y 0 .role) (lay-is t n acc S many true ι j) ∙ ap (λ (y : Ty). y .role) (later false noLayout (take j (linesOf false t n)) .type 0 (omega arith))
 
-  module _ (i : ℕ) (h : i < n) (s : ℕ) (el : getD (linesOf false t n) i Line.junk ≡ Line.state s) where
+  module _ (i : ℕ) (h : i < n) (s : ℕ) (el : getD (linesOf false t n) i Line.unknown ≡ Line.state s) where
     early : (j : ℕ) → j ≤ suc i → initOf (suc i) (take j (linesOf false t n)) ≡ 0
     early zero z = refl
     early (suc j) z =
-        init-more (suc i) (linesOf false t n) j (omega (arith, lines-many false t n acc)) ∙ ap (λ (d : ℕ). noteInit (suc i) d (getD (linesOf false t n) j Line.junk)) (early j (omega arith))
-        ∙ note-early (accAt false true S ι (linesOf false t n) j .lay) (suc i) (getD (linesOf false t n) j Line.junk) (facts-of t n acc S many true ι j (omega arith) .ok) (omega (arith, number j (omega arith)))
+        init-more (suc i) (linesOf false t n) j (omega (arith, lines-many false t n acc)) ∙ ap (λ (d : ℕ). noteInit (suc i) d (getD (linesOf false t n) j Line.unknown)) (early j (omega arith))
+        ∙ note-early (accAt false true S ι (linesOf false t n) j .lay) (suc i) (getD (linesOf false t n) j Line.unknown) (facts-of t n acc S many true ι j (omega arith) .ok) (omega (arith, number j (omega arith)))
 
     abbrev at : ℕ
     at = accAt false true S ι (linesOf false t n) i .lay .counts .states
 
     abbrev own : Ty
-    own = typeOf false (accAt false true S ι (linesOf false t n) i .lay) (Line.state s)
+    own = lineTypeIn false (accAt false true S ι (linesOf false t n) i .lay) (Line.state s)
 
     first : Begun S (accAt false true S ι (linesOf false t n) (suc i)) (suc i) at (size own) (own .w) 0
     first =
@@ -274,9 +274,9 @@ module _ (t : List ℕ) (n : ℕ) (acc : checked false t n ≡ Accepted) (S ι :
         let k = facts-of t n acc S many true ι i h in
         let q : length (A .lay .ctx .tys) ≡ suc i = number i (omega arith) ∙ omega arith in
         let hs : at + size own ≤ length S = subst (λ (x : Line). lay false (A .lay) x .counts .states ≤ length S) el (k .states) in
-        let vs : List ℕ = lows (own .w) (part S at (size own)) in
+        let vs : List ℕ = maskWords (own .w) (part S at (size own)) in
         let lv : length vs ≡ size own = laws.length-lows (own .w) (part S at (size own)) ∙ laws.length-part S at (size own) hs in
-        subst (λ (X : Acc). Begun S X (suc i) at (size own) (own .w) 0) (sym (acc-suc false true S ι (linesOf false t n) i (omega (arith, lines-many false t n acc)) ∙ ap (evalLine false true S ι A) el))
+        subst (λ (X : Frame). Begun S X (suc i) at (size own) (own .w) 0) (sym (acc-suc false true S ι (linesOf false t n) i (omega (arith, lines-many false t n acc)) ∙ ap (evalLine false true S ι A) el))
         (record {
           settled = subst (λ (x : ℕ). Settled (lay false (A .lay) l) x at (size own) (own .w) 0) q (settled-new (A .lay) (H .sound) s (nothing i) (omega arith));
           words = ap (take (size own)) (drop-at (A .sts) vs at (H .kept .many)) ∙ take-all (size own) vs (omega arith);
@@ -293,10 +293,10 @@ module _ (t : List ℕ) (n : ℕ) (acc : checked false t n ≡ Accepted) (S ι :
         let hl : j < length (linesOf false t n) = omega (arith, lines-many false t n acc) in
         let e : suc (k + suc i) ≡ suc k + suc i = omega arith in
         let H = held-at t n acc S many true ι (k + suc i) (omega arith) .held in
-        let r = begun-line S ι (accAt false true S ι (linesOf false t n) (k + suc i)) (H .sound) (H .holds .lines) (H .kept .many) (from k (omega arith)) (getD (linesOf false t n) (k + suc i) Line.junk) (facts-of t n acc S many true ι (k + suc i) hj .ok) in
+        let r = begun-line S ι (accAt false true S ι (linesOf false t n) (k + suc i)) (H .sound) (H .holds .lines) (H .kept .many) (from k (omega arith)) (getD (linesOf false t n) (k + suc i) Line.unknown) (facts-of t n acc S many true ι (k + suc i) hj .ok) in
         subst (λ (x : ℕ). Begun S (accAt false true S ι (linesOf false t n) x) (suc i) at (size own) (own .w) (initOf (suc i) (take x (linesOf false t n)))) e
         (subst (λ (d : ℕ). Begun S (accAt false true S ι (linesOf false t n) (suc (k + suc i))) (suc i) at (size own) (own .w) d) (sym (init-more (suc i) (linesOf false t n) (k + suc i) hl))
-        (subst (λ (X : Acc). Begun S X (suc i) at (size own) (own .w) (noteInit (suc i) (initOf (suc i) (take (k + suc i) (linesOf false t n))) (getD (linesOf false t n) (k + suc i) Line.junk))) (sym (acc-suc false true S ι (linesOf false t n) (k + suc i) hl)) r))
+        (subst (λ (X : Frame). Begun S X (suc i) at (size own) (own .w) (noteInit (suc i) (initOf (suc i) (take (k + suc i) (linesOf false t n))) (getD (linesOf false t n) (k + suc i) Line.unknown))) (sym (acc-suc false true S ι (linesOf false t n) (k + suc i) hl)) r))
 
     -- after all lines
     pub begun : Begun S (step false true (linesOf false t n) S ι) (suc i) at (size own) (own .w) (initOf (suc i) (linesOf false t n))
@@ -305,5 +305,5 @@ module _ (t : List ℕ) (n : ℕ) (acc : checked false t n ≡ Accepted) (S ι :
         let e : k + suc i ≡ n = omega arith in
         let c : take n (linesOf false t n) ≡ linesOf false t n = ap (λ (m : ℕ). take m (linesOf false t n)) (sym (lines-many false t n acc)) ∙ take-length (linesOf false t n) in
         subst (λ (x : List Line). Begun S (step false true (linesOf false t n) S ι) (suc i) at (size own) (own .w) (initOf (suc i) x)) c
-        (subst (λ (X : Acc). Begun S X (suc i) at (size own) (own .w) (initOf (suc i) (take n (linesOf false t n)))) (all-lines t n acc S many true ι)
+        (subst (λ (X : Frame). Begun S X (suc i) at (size own) (own .w) (initOf (suc i) (take n (linesOf false t n)))) (all-lines t n acc S many true ι)
         (subst (λ (x : ℕ). Begun S (accAt false true S ι (linesOf false t n) x) (suc i) at (size own) (own .w) (initOf (suc i) (take x (linesOf false t n)))) e (from k (omega arith))))

@@ -11,12 +11,12 @@ use lib.Seq.{getD-set-same, getD-set-other, take-length}
 use borrow.Author.Tests.{eq-eqb, ne-eqb}
 use Rattle.tables.specs.declared.Checked.the-variants.{Accepted}
 use Rattle.tables.specs.Pick.{pick}
-use Rattle.tables.specs.Lines.{Line, Shape, isBitvec, isArray, isConst, isInput, isState, isOutput, isOne, isTwo, isIte, isRead, isWrite, isJunk, isGive, isMark, isCmp, shapeOf, build, lineOf, kindIn, sortIn, firstIn, secondIn, thirdIn}
+use Rattle.tables.specs.Lines.{Line, Shape, isBitvec, isArray, isConst, isInput, isState, isOutput, isUnary, isBinary, isIte, isRead, isWrite, isUnknown, isInitOrNext, isSignal, isEquality, shapeOf, build, lineOf, kindIn, sortIn, firstIn, secondIn, thirdIn}
 use Rattle.tables.specs.Layout.{recordAt, linesOf}
 use Rattle.tables.specs.Tables.{checked}
 use Rattle.tables.proofs.Shapes.{KindOf, kind-of, line-as}
 use Rattle.tables.proofs.Showing.{by-place}
-use Rattle.peeks.specs.Looks.{noteInit, initOf}
+use Rattle.peeks.specs.Model.Looks.{noteInit, initOf}
 use Rattle.circuits.proofs.Walked.{lines-many, line-here}
 use Rattle.peeks.proofs.Begun.{init-more}
 
@@ -35,19 +35,19 @@ module _ (r : List ℕ) where
       go isInput e k = by isInput e refl
       go isState e k = by isState e refl
       go isOutput e k = by isOutput e refl
-      go isOne e k = by isOne e refl
-      go isTwo e k = by isTwo e refl
+      go isUnary e k = by isUnary e refl
+      go isBinary e k = by isBinary e refl
       go isIte e k = by isIte e refl
       go isRead e k = by isRead e refl
       go isWrite e k = by isWrite e refl
-      go isJunk e k = by isJunk e refl
-      go (isGive true) e k = absurd (n k)
-      go (isGive false) e k = by (isGive false) e refl
-      go (isMark b) e k = by (isMark b) e refl
-      go (isCmp b) e k = by (isCmp b) e refl
+      go isUnknown e k = by isUnknown e refl
+      go (isInitOrNext true) e k = absurd (n k)
+      go (isInitOrNext false) e k = by (isInitOrNext false) e refl
+      go (isSignal b) e k = by (isSignal b) e refl
+      go (isEquality b) e k = by (isEquality b) e refl
 
   note-init : (q d : ℕ) → kindIn r ≡ 6 → noteInit q d (lineOf r) ≡ pick (eqb q (firstIn r)) (secondIn r) d
-  note-init q d e = ap (noteInit q d) (line-as r (isGive true) (ap shapeOf e))
+  note-init q d e = ap (noteInit q d) (line-as r (isInitOrNext true) (ap shapeOf e))
 
   pub note-set : (ini : List ℕ) → kindIn r ≡ 6 → firstIn r < length ini → (q : ℕ) → getD (set ini (firstIn r) (secondIn r)) q 0 ≡ noteInit q (getD ini q 0) (lineOf r)
   note-set ini k h q =
@@ -76,7 +76,7 @@ module _ (t : List ℕ) (n : ℕ) (acc : checked false t n ≡ Accepted) where
   pub noting-more : {r : List ℕ} (i : ℕ) (ini ini′ : List ℕ) → i < n → Noting (linesOf false t n) n i ini → r ≡ recordAt false t i → length ini′ ≡ length ini
       → ((q : ℕ) → q < length ini → getD ini′ q 0 ≡ noteInit q (getD ini q 0) (lineOf r)) → Noting (linesOf false t n) n (i + 1) ini′
   noting-more {r} i ini ini′ h s er l e =
-      let el : lineOf r ≡ getD (linesOf false t n) i Line.junk = ap lineOf er ∙ sym (line-here false t n acc i h) in
+      let el : lineOf r ≡ getD (linesOf false t n) i Line.unknown = ap lineOf er ∙ sym (line-here false t n acc i h) in
       record {
         most = omega arith;
         long = l ∙ s .long;

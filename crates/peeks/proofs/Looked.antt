@@ -19,13 +19,15 @@ use Rattle.tables.proofs.Facts.{IsWord, IsArray, Ok, OkExpr}
 use Rattle.tables.proofs.Showing.{earlier}
 use Rattle.tables.proofs.Values.{val-iw, val-w}
 use Rattle.tables.proofs.Wide.{sort-wide}
-use Rattle.circuits.specs.Cells.{choose, say, same, lows, part}
-use Rattle.circuits.specs.Layout.{Place, Layout, typeAt, placeAt, size, typeOf, placeOf, noLayout, lay, layout}
-use Rattle.circuits.specs.Meaning.{opWord, cellsE, Acc, cellsAt, wordAt, widthAt, cellsOf, step}
-use Rattle.circuits.specs.Run.{rowOf, start}
+use Rattle.circuits.specs.Cells.{ifNonzero, eqOrNeq, sameCells, maskWords, part}
+use Rattle.circuits.specs.Layout.{Layout, typeAt, placeAt, size, lineTypeIn, placeOf, noLayout, lay, layout}
+use Rattle.circuits.specs.Meaning.{opWord, cellsE, Frame, cellsAt, wordAt, widthAt, cellsOf, step}
+use Rattle.circuits.specs.Run.{rowLength, start}
 use Rattle.peeks.specs.Peek.{stepZero}
-use Rattle.circuits.specs.Model.{posIn, widIn, FitWord, Shown}
-use Rattle.peeks.specs.Looks.{initOf, Laid, Looks}
+use Rattle.circuits.specs.Model.Work.{posIn, widIn}
+use Rattle.circuits.specs.Model.Fits.{FitWord}
+use Rattle.circuits.specs.Model.Places.{offAt, Shown}
+use Rattle.peeks.specs.Model.Looks.{initOf, Laid, Looks}
 use Rattle.circuits.proofs.Fitting.{fit-as}
 use Rattle.circuits.proofs.Laid.{Later, later, grew, type-new, place-new, type-old, more-types, more-places}
 use Rattle.circuits.proofs.Simulation.{word-one, word-two, is-sort}
@@ -44,34 +46,34 @@ pub record Arg (Z : Layout) (n a : ℕ) : Type 0 where
   pub below : a < n
 
 pub record Operand (Z : Layout) (n a : ℕ) : Type 0 where
-  pub value : 2 ≤ typeAt Z a .cls
+  pub value : 2 ≤ typeAt Z a .role
   pub below : a < n
 
-module _ (A : Acc) (Z : Layout) (P : List (List ℕ)) (ini S R : List ℕ) (n c : ℕ) where
+module _ (A : Frame) (Z : Layout) (P : List (List ℕ)) (ini S R : List ℕ) (n c : ℕ) where
   pub record FactConst (v : ℕ) : Type 0 where
     pub flat : typeAt Z n .iw ≡ 0
     pub is : v ≡ wordAt A n
 
-  pub record FactOne (k a x y : ℕ) : Type 0 where
+  pub record FactUnary (k a x y : ℕ) : Type 0 where
     pub most : k ≤ 20
     pub flat : typeAt Z n .iw ≡ 0
     pub arg : Arg Z n a
     pub op : FitWord false k (widIn P n) (widIn P a) 64 (wordAt A a) x y
     pub is : opWord false k (widIn P a) 64 (wordAt A a) x y ≡ wordAt A n
 
-  pub record FactTwo (k a b : ℕ) : Type 0 where
+  pub record FactBinary (k a b : ℕ) : Type 0 where
     pub flat : typeAt Z n .iw ≡ 0
     pub left : Arg Z n a
     pub right : Arg Z n b
     pub op : FitWord false k (widIn P n) (widIn P a) (widIn P b) (wordAt A a) (wordAt A b) 0
     pub is : opWord false k (widIn P a) (widIn P b) (wordAt A a) (wordAt A b) 0 ≡ wordAt A n
 
-  pub record FactCmp (e : Bool) (a b : ℕ) : Type 0 where
+  pub record FactEquality (e : Bool) (a b : ℕ) : Type 0 where
     pub flat : typeAt Z n .iw ≡ 0
     pub left : Operand Z n a
     pub right : Operand Z n b
     pub sorts : typeAt Z b .iw ≡ typeAt Z a .iw
-    pub is : bit (say e (same (cellsAt A a) (cellsAt A b))) ≡ wordAt A n
+    pub is : bit (eqOrNeq e (sameCells (cellsAt A a) (cellsAt A b))) ≡ wordAt A n
 
   pub record FactIte (d a b : ℕ) : Type 0 where
     pub cond : Arg Z n d
@@ -121,9 +123,9 @@ module _ (A : Acc) (Z : Layout) (P : List (List ℕ)) (ini S R : List ℕ) (n c 
 
   abbrev pub FactE : Expr → Type 0
   FactE (Expr.const v) = FactConst v
-  FactE (Expr.one k a x y) = FactOne k a x y
-  FactE (Expr.two k a b) = FactTwo k a b
-  FactE (Expr.cmp e a b) = FactCmp e a b
+  FactE (Expr.unary k a x y) = FactUnary k a x y
+  FactE (Expr.binary k a b) = FactBinary k a b
+  FactE (Expr.equality e a b) = FactEquality e a b
   FactE (Expr.ite d a b) = FactIte d a b
   FactE (Expr.read a i) = FactRead a i
   FactE (Expr.write a i v) = FactWrite a i v
@@ -133,22 +135,22 @@ module _ (A : Acc) (Z : Layout) (P : List (List ℕ)) (ini S R : List ℕ) (n c 
   Fact (Line.array i e) = ⊥
   Fact (Line.input s) = FactInput
   Fact (Line.state s) = FactState
-  Fact (Line.val s e) = FactE e
-  Fact (Line.give m s q v) = ⊥
-  Fact (Line.mark m a) = ⊥
+  Fact (Line.value s e) = FactE e
+  Fact (Line.initOrNext m s q v) = ⊥
+  Fact (Line.signal m a) = ⊥
   Fact (Line.output a) = ⊥
-  Fact Line.junk = ⊥
+  Fact Line.unknown = ⊥
 
 -- ---- small laws
 
-pub yes-choose : {X : Type 0} (d : ℕ) (x y : X) → (d ≡ 0 → ⊥) → choose d x y ≡ x
+pub yes-choose : {X : Type 0} (d : ℕ) (x y : X) → (d ≡ 0 → ⊥) → ifNonzero d x y ≡ x
 yes-choose zero x y n = absurd (n refl)
 yes-choose (suc d) x y n = refl
 
-no-choose : {X : Type 0} (d : ℕ) (x y : X) → d ≡ 0 → choose d x y ≡ y
-no-choose d x y e = ap (λ (k : ℕ). choose k x y) e
+no-choose : {X : Type 0} (d : ℕ) (x y : X) → d ≡ 0 → ifNonzero d x y ≡ y
+no-choose d x y e = ap (λ (k : ℕ). ifNonzero k x y) e
 
-getD-lows : (w : ℕ) (xs : List ℕ) (c : ℕ) → getD (lows w xs) c 0 ≡ getD xs c 0 % 2 ^ w
+getD-lows : (w : ℕ) (xs : List ℕ) (c : ℕ) → getD (maskWords w xs) c 0 ≡ getD xs c 0 % 2 ^ w
 getD-lows w [] c = sym (mod-eq-of-lt (pow-pos w))
 getD-lows w (x ∷ xs) zero = refl
 getD-lows w (x ∷ xs) (suc c) = getD-lows w xs c
@@ -163,7 +165,8 @@ more-cells zero z = absurd (z refl)
 more-cells (suc x) z = omega arith
 
 -- what is known of a line by its number
-pub shown : {t : List ℕ} {n : ℕ} {P : List (List ℕ)} {S R : List ℕ} → Laid t n P S R → (a : ℕ) → a ≤ n → Shown P a (typeAt (layout false (linesOf false t n)) a) (placeAt (layout false (linesOf false t n)) a)
+pub shown : {t : List ℕ} {n : ℕ} {P : List (List ℕ)} {S R : List ℕ} → Laid t n P S R → (a : ℕ) → a ≤ n
+    → Shown P a (typeAt (layout false (linesOf false t n)) a) (offAt (layout false (linesOf false t n)) a) (placeAt (layout false (linesOf false t n)) a)
 shown {t} {n} l a h = let long = all-sound false t n (l .accepted) .long in let many = lines-here false t n (l .accepted) in l .shows a (omega arith)
 
 -- ---- step 0 of an accepted circuit
@@ -176,12 +179,12 @@ module _ {t : List ℕ} {n : ℕ} {P : List (List ℕ)} {ini S R : List ℕ} (lk
   Z = layout false (linesOf false t n)
 
   abbrev ι : List ℕ
-  ι = take (rowOf false (linesOf false t n)) R
+  ι = take (rowLength false (linesOf false t n)) R
 
   abbrev σ : List ℕ
-  σ = step false true (linesOf false t n) S (take (rowOf false (linesOf false t n)) R) .sts
+  σ = step false true (linesOf false t n) S (take (rowLength false (linesOf false t n)) R) .sts
 
-  abbrev A : Acc
+  abbrev A : Frame
   A = step false false (linesOf false t n) σ ι
 
   accepted : checked false t n ≡ Accepted
@@ -192,7 +195,7 @@ module _ {t : List ℕ} {n : ℕ} {P : List (List ℕ)} {ini S R : List ℕ} (lk
   zero-is = refl
 
   row-is : ι ≡ R
-  row-is = take-all (rowOf false (linesOf false t n)) R (omega (arith, lk .laid .row))
+  row-is = take-all (rowLength false (linesOf false t n)) R (omega (arith, lk .laid .row))
 
   many : length σ ≡ Z .counts .states
   many =
@@ -210,25 +213,25 @@ module _ {t : List ℕ} {n : ℕ} {P : List (List ℕ)} {ini S R : List ℕ} (lk
   type-A : (a : ℕ) → typeAt (A .lay) a ≡ typeAt Z a
   type-A a = ap (λ (Y : Layout). typeAt Y a) lay-A
 
-  length-of : (a : ℕ) → 2 ≤ typeAt Z a .cls → length (cellsAt A a) ≡ size (typeAt Z a)
-  length-of a q = cells-many H room a (subst (λ (y : Ty). 2 ≤ y .cls) (sym (type-A a)) q) ∙ ap size (type-A a)
+  length-of : (a : ℕ) → 2 ≤ typeAt Z a .role → length (cellsAt A a) ≡ size (typeAt Z a)
+  length-of a q = cells-many H room a (subst (λ (y : Ty). 2 ≤ y .role) (sym (type-A a)) q) ∙ ap size (type-A a)
 
-  small : (a : ℕ) → 2 ≤ typeAt Z a .cls → (j : ℕ) → getD (cellsAt A a) j 0 < 2 ^ (typeAt Z a .w)
-  small a q j = subst (λ (y : Ty). getD (cellsAt A a) j 0 < 2 ^ (y .w)) (type-A a) (cells-small H room a (subst (λ (y : Ty). 2 ≤ y .cls) (sym (type-A a)) q) j)
+  small : (a : ℕ) → 2 ≤ typeAt Z a .role → (j : ℕ) → getD (cellsAt A a) j 0 < 2 ^ (typeAt Z a .w)
+  small a q j = subst (λ (y : Ty). getD (cellsAt A a) j 0 < 2 ^ (y .w)) (type-A a) (cells-small H room a (subst (λ (y : Ty). 2 ≤ y .role) (sym (type-A a)) q) j)
 
-  no-line : typeAt (layout false (linesOf false t n)) 0 .cls ≡ 0
+  no-line : typeAt (layout false (linesOf false t n)) 0 .role ≡ 0
   unfolding layout
-  no-line = ap (λ (y : Ty). y .cls) (later false noLayout (linesOf false t n) .type 0 (omega arith))
+  no-line = ap (λ (y : Ty). y .role) (later false noLayout (linesOf false t n) .type 0 (omega arith))
 
-  from-one : (a : ℕ) → 1 ≤ typeAt (layout false (linesOf false t n)) a .cls → 1 ≤ a
+  from-one : (a : ℕ) → 1 ≤ typeAt (layout false (linesOf false t n)) a .role → 1 ≤ a
   from-one zero q = absurd (omega (arith, no-line))
   from-one (suc a) q = omega arith
 
   -- a line of some class has a number from 1 to the count
-  pub number-of : (a : ℕ) → 1 ≤ typeAt Z a .cls → (1 ≤ a) × (a ≤ n)
+  pub number-of : (a : ℕ) → 1 ≤ typeAt Z a .role → (1 ≤ a) × (a ≤ n)
   number-of a q = (from-one a q, omega (arith, earlier (Z .ctx .tys) a q, lines-here false t n accepted))
 
-  width-of : (a : ℕ) → 2 ≤ typeAt Z a .cls → Width (widIn P a)
+  width-of : (a : ℕ) → 2 ≤ typeAt Z a .role → Width (widIn P a)
   width-of a q =
       let k = all-sound false t n accepted .wide a (omega arith) in
       let e = shown (lk .laid) a (number-of a (omega arith) .1) .isWid in
@@ -237,11 +240,11 @@ module _ {t : List ℕ} {n : ℕ} {P : List (List ℕ)} {ini S R : List ℕ} (lk
   -- ---- the line at the place i
 
   module _ (i : ℕ) (h : i < n) where
-    abbrev B : Acc
+    abbrev B : Frame
     B = accAt false false σ ι (linesOf false t n) i
 
     abbrev l : Line
-    l = getD (linesOf false t n) i Line.junk
+    l = getD (linesOf false t n) i Line.unknown
 
     known : Facts false (laidOf Z) (B .lay) l (Z .counts .cells) (length σ) (Z .counts .inputs) (Z .counts .signals)
     known = facts-of t n accepted σ many false ι i h
@@ -255,21 +258,21 @@ module _ {t : List ℕ} {n : ℕ} {P : List (List ℕ)} {ini S R : List ℕ} (lk
     next : Later (lay false (B .lay) l) Z
     next = subst (λ (Y : Layout). Later (lay false Y l) Z) (sym (lay-is t n accepted σ many false ι i)) (later-at false t n accepted i h)
 
-    arg-below : (a : ℕ) → 1 ≤ typeAt (B .lay) a .cls → a < suc i
+    arg-below : (a : ℕ) → 1 ≤ typeAt (B .lay) a .role → a < suc i
     arg-below a q = omega (arith, earlier (B .lay .ctx .tys) a q, tall)
 
-    arg-type : (a : ℕ) → 1 ≤ typeAt (B .lay) a .cls → typeAt Z a ≡ typeAt (B .lay) a
+    arg-type : (a : ℕ) → 1 ≤ typeAt (B .lay) a .role → typeAt Z a ≡ typeAt (B .lay) a
     arg-type a q =
         let b = earlier (B .lay .ctx .tys) a q in
         next .type a (omega (arith, more-types false (B .lay) l)) ∙ type-old false (B .lay) l (held .held .sound .long) a (λ e. omega arith)
 
-    arg-cells : (a : ℕ) → 1 ≤ typeAt (B .lay) a .cls → cellsAt A a ≡ cellsAt B a
+    arg-cells : (a : ℕ) → 1 ≤ typeAt (B .lay) a .role → cellsAt A a ≡ cellsAt B a
     arg-cells a q = cells-first false false (linesOf false t n) σ ι i a (omega (arith, lines-many false t n accepted)) (omega (arith, arg-below a q))
 
-    arg-word : (a : ℕ) → 1 ≤ typeAt (B .lay) a .cls → wordAt A a ≡ wordAt B a
+    arg-word : (a : ℕ) → 1 ≤ typeAt (B .lay) a .role → wordAt A a ≡ wordAt B a
     arg-word a q = ap (λ (x : List ℕ). getD x 0 0) (arg-cells a q)
 
-    arg-width : (a : ℕ) → 1 ≤ typeAt (B .lay) a .cls → widIn P a ≡ widthAt B a
+    arg-width : (a : ℕ) → 1 ≤ typeAt (B .lay) a .role → widIn P a ≡ widthAt B a
     arg-width a q = shown (lk .laid) a (omega (arith, arg-below a q)) .isWid ∙ ap (λ (y : Ty). y .w) (arg-type a q)
 
     arg-of : (a : ℕ) → IsWord (typeAt (B .lay) a) → Arg Z (suc i) a
@@ -278,13 +281,13 @@ module _ {t : List ℕ} {n : ℕ} {P : List (List ℕ)} {ini S R : List ℕ} (lk
     array-of : (a : ℕ) → IsArray (typeAt (B .lay) a) → IsArray (typeAt Z a)
     array-of a q = subst IsArray (sym (arg-type a (omega (arith, q .is)))) q
 
-    operand-of : (a : ℕ) → 2 ≤ typeAt (B .lay) a .cls → Operand Z (suc i) a
-    operand-of a q = record { value = subst (λ (y : Ty). 2 ≤ y .cls) (sym (arg-type a (omega arith))) q; below = arg-below a (omega arith) }
+    operand-of : (a : ℕ) → 2 ≤ typeAt (B .lay) a .role → Operand Z (suc i) a
+    operand-of a q = record { value = subst (λ (y : Ty). 2 ≤ y .role) (sym (arg-type a (omega arith))) q; below = arg-below a (omega arith) }
 
     own-cells : cellsAt A (suc i) ≡ cellsOf false false σ ι B l
     own-cells = cells-here false false (linesOf false t n) σ ι i (omega (arith, lines-many false t n accepted))
 
-    own-type : typeAt Z (suc i) ≡ typeOf false (B .lay) l
+    own-type : typeAt Z (suc i) ≡ lineTypeIn false (B .lay) l
     own-type =
         let e : suc i ≡ length (B .lay .ctx .tys) = omega (arith, tall) in
         next .type (suc i) (omega (arith, more-types false (B .lay) l)) ∙ ap (typeAt (lay false (B .lay) l)) e ∙ type-new false (B .lay) l (held .held .sound .long)
@@ -296,17 +299,17 @@ module _ {t : List ℕ} {n : ℕ} {P : List (List ℕ)} {ini S R : List ℕ} (lk
         next .place (suc i) (omega (arith, more-places false (B .lay) l)) ∙ ap (placeAt (lay false (B .lay) l)) e ∙ place-new false (B .lay) l g
 
     cells-room : B .lay .counts .cells ≤ Z .counts .cells
-    cells-room = omega (arith, known .cells, grew (B .lay .counts) (size (typeOf false (B .lay) l)) l .cells)
+    cells-room = omega (arith, known .cells, grew (B .lay .counts) (size (lineTypeIn false (B .lay) l)) l .cells)
 
-    module _ (s : ℕ) (e : Expr) (el : l ≡ Line.val s e) where
+    module _ (s : ℕ) (e : Expr) (el : l ≡ Line.value s e) where
       abbrev sort : Ty
       sort = sortAt false (tyAt (B .lay .ctx)) s
 
       expr-w : widIn P (suc i) ≡ sort .w
-      expr-w = shown (lk .laid) (suc i) (omega arith) .isWid ∙ ap (λ (y : Ty). y .w) (own-type ∙ ap (typeOf false (B .lay)) el) ∙ val-w false (tyAt (B .lay .ctx)) s e
+      expr-w = shown (lk .laid) (suc i) (omega arith) .isWid ∙ ap (λ (y : Ty). y .w) (own-type ∙ ap (lineTypeIn false (B .lay)) el) ∙ val-w false (tyAt (B .lay .ctx)) s e
 
       expr-iw : typeAt Z (suc i) .iw ≡ sort .iw
-      expr-iw = ap (λ (y : Ty). y .iw) (own-type ∙ ap (typeOf false (B .lay)) el) ∙ val-iw false (tyAt (B .lay .ctx)) s e
+      expr-iw = ap (λ (y : Ty). y .iw) (own-type ∙ ap (lineTypeIn false (B .lay)) el) ∙ val-iw false (tyAt (B .lay .ctx)) s e
 
       expr-cells : cellsAt A (suc i) ≡ cellsE false (widthAt B) (wordAt B) (cellsAt B) e
       expr-cells = own-cells ∙ ap (cellsOf false false σ ι B) el
@@ -317,11 +320,11 @@ module _ {t : List ℕ} {n : ℕ} {P : List (List ℕ)} {ini S R : List ℕ} (lk
       expr-wide : OkExpr false (tyAt (B .lay .ctx)) sort e → sort .w ≤ 64
       expr-wide ok = sort-wide false (tyAt (B .lay .ctx)) s (held .held .sound .wide) (is-sort false (tyAt (B .lay .ctx)) sort e ok) .most
 
-    fact-expr : (s : ℕ) (e : Expr) → l ≡ Line.val s e → OkExpr false (tyAt (B .lay .ctx)) (sortAt false (tyAt (B .lay .ctx)) s) e → (c : ℕ) → c < size (typeAt Z (suc i)) → FactE A Z P ini S R (suc i) c e
+    fact-expr : (s : ℕ) (e : Expr) → l ≡ Line.value s e → OkExpr false (tyAt (B .lay .ctx)) (sortAt false (tyAt (B .lay .ctx)) s) e → (c : ℕ) → c < size (typeAt Z (suc i)) → FactE A Z P ini S R (suc i) c e
     fact-expr s (Expr.const v) el ok c hc = record { flat = expr-iw s (Expr.const v) el ∙ ok .sort .flat; is = sym (expr-word s (Expr.const v) el) }
-    fact-expr s (Expr.one k a x y) el ok c hc =
-        let e = Expr.one k a x y in
-        let q : 1 ≤ typeAt (B .lay) a .cls = omega (arith, ok .arg .is) in
+    fact-expr s (Expr.unary k a x y) el ok c hc =
+        let e = Expr.unary k a x y in
+        let q : 1 ≤ typeAt (B .lay) a .role = omega (arith, ok .arg .is) in
         record {
           most = ok .kind .1;
           flat = expr-iw s e el ∙ ok .sort .flat;
@@ -330,10 +333,10 @@ module _ {t : List ℕ} {n : ℕ} {P : List (List ℕ)} {ini S R : List ℕ} (lk
               (word-one (held .held) cells-room l (laidOf Z) (known .shows) (sortAt false (tyAt (B .lay .ctx)) s) k a x y (expr-wide s e el ok) ok);
           is = ap₂ (λ (u v : ℕ). opWord false k u 64 v x y) (arg-width a q) (arg-word a q) ∙ sym (expr-word s e el);
         }
-    fact-expr s (Expr.two k a b) el ok c hc =
-        let e = Expr.two k a b in
-        let qa : 1 ≤ typeAt (B .lay) a .cls = omega (arith, ok .left .is) in
-        let qb : 1 ≤ typeAt (B .lay) b .cls = omega (arith, ok .right .is) in
+    fact-expr s (Expr.binary k a b) el ok c hc =
+        let e = Expr.binary k a b in
+        let qa : 1 ≤ typeAt (B .lay) a .role = omega (arith, ok .left .is) in
+        let qb : 1 ≤ typeAt (B .lay) b .role = omega (arith, ok .right .is) in
         record {
           flat = expr-iw s e el ∙ ok .sort .flat;
           left = arg-of a (ok .left);
@@ -343,23 +346,23 @@ module _ {t : List ℕ} {n : ℕ} {P : List (List ℕ)} {ini S R : List ℕ} (lk
           is = ap₂ (λ (u v : ℕ). opWord false k u v (wordAt A a) (wordAt A b) 0) (arg-width a qa) (arg-width b qb)
               ∙ ap₂ (λ (u v : ℕ). opWord false k (widthAt B a) (widthAt B b) u v 0) (arg-word a qa) (arg-word b qb) ∙ sym (expr-word s e el);
         }
-    fact-expr s (Expr.cmp f a b) el ok c hc =
-        let e = Expr.cmp f a b in
-        let qa : 1 ≤ typeAt (B .lay) a .cls = omega (arith, ok .left .is) in
-        let qb : 1 ≤ typeAt (B .lay) b .cls = omega (arith, ok .right .is) in
+    fact-expr s (Expr.equality f a b) el ok c hc =
+        let e = Expr.equality f a b in
+        let qa : 1 ≤ typeAt (B .lay) a .role = omega (arith, ok .left .is) in
+        let qb : 1 ≤ typeAt (B .lay) b .role = omega (arith, ok .right .is) in
         record {
           flat = expr-iw s e el ∙ ok .sort .flat;
           left = operand-of a (ok .left .is);
           right = operand-of b (ok .right .is);
           sorts = ap (λ (y : Ty). y .iw) (arg-type b qb) ∙ ok .same .iw ∙ sym (ap (λ (y : Ty). y .iw) (arg-type a qa));
-          is = ap₂ (λ (x y : List ℕ). bit (say f (same x y))) (arg-cells a qa) (arg-cells b qb) ∙ sym (expr-word s e el);
+          is = ap₂ (λ (x y : List ℕ). bit (eqOrNeq f (sameCells x y))) (arg-cells a qa) (arg-cells b qb) ∙ sym (expr-word s e el);
         }
     fact-expr s (Expr.ite d a b) el ok c hc =
         let e = Expr.ite d a b in
-        let qd : 1 ≤ typeAt (B .lay) d .cls = omega (arith, ok .cond .is) in
-        let qa : 1 ≤ typeAt (B .lay) a .cls = omega (arith, ok .left .is) in
-        let qb : 1 ≤ typeAt (B .lay) b .cls = omega (arith, ok .right .is) in
-        let own : getD (cellsAt A (suc i)) c 0 ≡ getD (choose (wordAt B d) (cellsAt B a) (cellsAt B b)) c 0 = ap (λ (x : List ℕ). getD x c 0) (expr-cells s e el) in
+        let qd : 1 ≤ typeAt (B .lay) d .role = omega (arith, ok .cond .is) in
+        let qa : 1 ≤ typeAt (B .lay) a .role = omega (arith, ok .left .is) in
+        let qb : 1 ≤ typeAt (B .lay) b .role = omega (arith, ok .right .is) in
+        let own : getD (cellsAt A (suc i)) c 0 ≡ getD (ifNonzero (wordAt B d) (cellsAt B a) (cellsAt B b)) c 0 = ap (λ (x : List ℕ). getD x c 0) (expr-cells s e el) in
         record {
           cond = arg-of d (ok .cond);
           left = operand-of a (ok .left .is);
@@ -371,8 +374,8 @@ module _ {t : List ℕ} {n : ℕ} {P : List (List ℕ)} {ini S R : List ℕ} (lk
         }
     fact-expr s (Expr.read a x) el ok c hc =
         let e = Expr.read a x in
-        let qa : 1 ≤ typeAt (B .lay) a .cls = omega (arith, ok .arr .is) in
-        let qx : 1 ≤ typeAt (B .lay) x .cls = omega (arith, ok .index .is) in
+        let qa : 1 ≤ typeAt (B .lay) a .role = omega (arith, ok .arr .is) in
+        let qx : 1 ≤ typeAt (B .lay) x .role = omega (arith, ok .index .is) in
         let index = arg-of x (ok .index) in
         let wi : typeAt Z x .w ≡ typeAt Z a .iw = ap (λ (y : Ty). y .w) (arg-type x qx) ∙ ok .iw ∙ sym (ap (λ (y : Ty). y .iw) (arg-type a qa)) in
         record {
@@ -385,9 +388,9 @@ module _ {t : List ℕ} {n : ℕ} {P : List (List ℕ)} {ini S R : List ℕ} (lk
         }
     fact-expr s (Expr.write a x v) el ok c hc =
         let e = Expr.write a x v in
-        let qa : 1 ≤ typeAt (B .lay) a .cls = omega (arith, ok .arr .is) in
-        let qx : 1 ≤ typeAt (B .lay) x .cls = omega (arith, ok .index .is) in
-        let qv : 1 ≤ typeAt (B .lay) v .cls = omega (arith, ok .value .is) in
+        let qa : 1 ≤ typeAt (B .lay) a .role = omega (arith, ok .arr .is) in
+        let qx : 1 ≤ typeAt (B .lay) x .role = omega (arith, ok .index .is) in
+        let qv : 1 ≤ typeAt (B .lay) v .role = omega (arith, ok .value .is) in
         let sa : typeAt Z a .iw ≡ typeAt Z (suc i) .iw = ap (λ (y : Ty). y .iw) (arg-type a qa) ∙ ok .same .iw ∙ sym (expr-iw s e el) in
         let la : length (cellsAt A a) ≡ size (typeAt Z (suc i)) = length-of a (array-of a (ok .arr) .is) ∙ ap (λ (m : ℕ). 2 ^ m) sa in
         let own : getD (cellsAt A (suc i)) c 0 ≡ getD (set (cellsAt A a) (wordAt A x) (wordAt A v)) c 0 =
@@ -406,16 +409,16 @@ module _ {t : List ℕ} {n : ℕ} {P : List (List ℕ)} {ini S R : List ℕ} (lk
 
     fact-input : (s : ℕ) → l ≡ Line.input s → typeAt (B .lay) s .iw ≡ 0 → (c : ℕ) → FactInput A Z P ini S R (suc i) c
     fact-input s el flat c =
-        let ty : typeAt Z (suc i) ≡ typeOf false (B .lay) (Line.input s) = own-type ∙ ap (typeOf false (B .lay)) el in
+        let ty : typeAt Z (suc i) ≡ lineTypeIn false (B .lay) (Line.input s) = own-type ∙ ap (lineTypeIn false (B .lay)) el in
         let pl : placeAt Z (suc i) ≡ placeOf (B .lay) (Line.input s) = own-place ∙ ap (placeOf (B .lay)) el in
-        let ep : posIn P (suc i) ≡ B .lay .counts .inputs = shown (lk .laid) (suc i) (omega arith) .isPos ∙ ap (λ (q : Place). q .at) pl in
-        let ew : widIn P (suc i) ≡ typeOf false (B .lay) (Line.input s) .w = shown (lk .laid) (suc i) (omega arith) .isWid ∙ ap (λ (y : Ty). y .w) ty in
+        let ep : posIn P (suc i) ≡ B .lay .counts .inputs = shown (lk .laid) (suc i) (omega arith) .isPos ∙ pl in
+        let ew : widIn P (suc i) ≡ lineTypeIn false (B .lay) (Line.input s) .w = shown (lk .laid) (suc i) (omega arith) .isWid ∙ ap (λ (y : Ty). y .w) ty in
         let hi : suc (B .lay .counts .inputs) ≤ Z .counts .inputs = subst (λ (x : Line). lay false (B .lay) x .counts .inputs ≤ Z .counts .inputs) el (known .inputs) in
         record {
           flat = ap (λ (y : Ty). y .iw) ty ∙ flat;
           inside = omega (arith, lk .laid .row);
-          wide = width-of (suc i) (subst (λ (y : Ty). 2 ≤ y .cls) (sym ty) (omega arith));
-          is = ap₂ (λ (x : List ℕ) (m : ℕ). getD x (posIn P (suc i)) 0 % 2 ^ m) (sym row-is) ew ∙ ap (λ (m : ℕ). getD ι m 0 % 2 ^ (typeOf false (B .lay) (Line.input s) .w)) ep
+          wide = width-of (suc i) (subst (λ (y : Ty). 2 ≤ y .role) (sym ty) (omega arith));
+          is = ap₂ (λ (x : List ℕ) (m : ℕ). getD x (posIn P (suc i)) 0 % 2 ^ m) (sym row-is) ew ∙ ap (λ (m : ℕ). getD ι m 0 % 2 ^ (lineTypeIn false (B .lay) (Line.input s) .w)) ep
               ∙ sym (ap (λ (x : List ℕ). getD x 0 0) (own-cells ∙ ap (cellsOf false false σ ι B) el));
         }
 
@@ -424,7 +427,7 @@ module _ {t : List ℕ} {n : ℕ} {P : List (List ℕ)} {ini S R : List ℕ} (lk
       E = accAt false true S ι (linesOf false t n) i .lay
 
       abbrev own : Ty
-      own = typeOf false (accAt false true S ι (linesOf false t n) i .lay) (Line.state s)
+      own = lineTypeIn false (accAt false true S ι (linesOf false t n) i .lay) (Line.state s)
 
       begins : Begun S (step false true (linesOf false t n) S ι) (suc i) (E .counts .states) (size own) (own .w) (initOf (suc i) (linesOf false t n))
       begins = begun t n accepted S ι (lk .laid .starts) i h s el
@@ -433,10 +436,10 @@ module _ {t : List ℕ} {n : ℕ} {P : List (List ℕ)} {ini S R : List ℕ} (lk
       same-lay = lay-is t n accepted σ many false ι i ∙ sym (lay-is t n accepted S (lk .laid .starts) true ι i)
 
       state-type : typeAt Z (suc i) ≡ own
-      state-type = own-type ∙ ap (typeOf false (B .lay)) el ∙ ap (λ (Y : Layout). typeOf false Y (Line.state s)) same-lay
+      state-type = own-type ∙ ap (lineTypeIn false (B .lay)) el ∙ ap (λ (Y : Layout). lineTypeIn false Y (Line.state s)) same-lay
 
       state-place : posIn P (suc i) ≡ E .counts .states
-      state-place = shown (lk .laid) (suc i) (omega arith) .isPos ∙ ap (λ (q : Place). q .at) (own-place ∙ ap (placeOf (B .lay)) el) ∙ ap (λ (Y : Layout). Y .counts .states) same-lay
+      state-place = shown (lk .laid) (suc i) (omega arith) .isPos ∙ (own-place ∙ ap (placeOf (B .lay)) el) ∙ ap (λ (Y : Layout). Y .counts .states) same-lay
 
       state-wid : widIn P (suc i) ≡ own .w
       state-wid = shown (lk .laid) (suc i) (omega arith) .isWid ∙ ap (λ (y : Ty). y .w) state-type
@@ -444,10 +447,10 @@ module _ {t : List ℕ} {n : ℕ} {P : List (List ℕ)} {ini S R : List ℕ} (lk
       hm : c < size own
       hm = subst (λ (y : Ty). c < size y) state-type hc
 
-      state-cells : cellsAt A (suc i) ≡ lows (own .w) (startOf S (E .counts .states) (size own) (own .w) (initOf (suc i) (linesOf false t n)) (wordAt (step false true (linesOf false t n) S ι) (initOf (suc i) (linesOf false t n))))
+      state-cells : cellsAt A (suc i) ≡ maskWords (own .w) (startOf S (E .counts .states) (size own) (own .w) (initOf (suc i) (linesOf false t n)) (wordAt (step false true (linesOf false t n) S ι) (initOf (suc i) (linesOf false t n))))
       state-cells =
           own-cells ∙ ap (cellsOf false false σ ι B) el
-          ∙ ap (λ (Y : Layout). lows (typeOf false Y (Line.state s) .w) (part σ (Y .counts .states) (size (typeOf false Y (Line.state s))))) same-lay ∙ ap (lows (own .w)) (begins .words)
+          ∙ ap (λ (Y : Layout). maskWords (lineTypeIn false Y (Line.state s) .w) (part σ (Y .counts .states) (size (lineTypeIn false Y (Line.state s))))) same-lay ∙ ap (maskWords (own .w)) (begins .words)
 
       state-at : getD (cellsAt A (suc i)) c 0 ≡ getD (startOf S (E .counts .states) (size own) (own .w) (initOf (suc i) (linesOf false t n)) (wordAt (step false true (linesOf false t n) S ι) (initOf (suc i) (linesOf false t n)))) c 0 % 2 ^ (own .w)
       state-at = ap (λ (y : List ℕ). getD y c 0) state-cells ∙ getD-lows (own .w) (startOf S (E .counts .states) (size own) (own .w) (initOf (suc i) (linesOf false t n)) (wordAt (step false true (linesOf false t n) S ι) (initOf (suc i) (linesOf false t n)))) c
@@ -458,9 +461,9 @@ module _ {t : List ℕ} {n : ℕ} {P : List (List ℕ)} {ini S R : List ℕ} (lk
           let lz = lay-whole t n accepted S (lk .laid .starts) true ι in
           let d : ℕ = initOf (suc i) (linesOf false t n) in
           let td : typeAt (step false true (linesOf false t n) S ι .lay) d ≡ typeAt Z d = ap (λ (Y : Layout). typeAt Y d) lz in
-          let cls : typeAt Z d .cls ≡ 2 = sym (ap (λ (y : Ty). y .cls) td) ∙ k .fixed z in
+          let role : typeAt Z d .role ≡ 2 = sym (ap (λ (y : Ty). y .role) td) ∙ k .fixed z in
           let wd : typeAt Z d .w ≡ own .w = sym (ap (λ (y : Ty). y .w) td) ∙ k .same z in
-          let xe : wordAt (step false true (linesOf false t n) S ι) d ≡ wordAt A d = ap (λ (y : List ℕ). getD y 0 0) (fixed-alike false true false S σ ι ι (linesOf false t n) d cls) in
+          let xe : wordAt (step false true (linesOf false t n) S ι) d ≡ wordAt A d = ap (λ (y : List ℕ). getD y 0 0) (fixed-alike false true false S σ ι ι (linesOf false t n) d role) in
           record {
             arg = record { word = record { is = omega arith; flat = sym (ap (λ (y : Ty). y .iw) td) ∙ k .flat z }; below = k .below };
             is = sym (state-at ∙ ap (λ (y : List ℕ). getD y c 0 % 2 ^ (own .w)) (yes-choose d _ _ z) ∙ ap (λ (m : ℕ). m % 2 ^ (own .w)) (getD-replicate (size own) c _ 0 hm ∙ xe)
@@ -475,7 +478,7 @@ module _ {t : List ℕ} {n : ℕ} {P : List (List ℕ)} {ini S R : List ℕ} (lk
           let w : ℕ = own .w in
           record {
             inside = omega (arith, state-place, hm, lk .laid .starts);
-            wide = width-of (suc i) (subst (λ (y : Ty). 2 ≤ y .cls) (sym state-type) (omega arith));
+            wide = width-of (suc i) (subst (λ (y : Ty). 2 ≤ y .role) (sym state-type) (omega arith));
             is = ap₂ (λ (m v : ℕ). getD S (m + c) 0 % 2 ^ v) state-place state-wid
                 ∙ sym (state-at ∙ ap (λ (y : List ℕ). getD y c 0 % 2 ^ w) (no-choose (initOf (suc i) (linesOf false t n)) _ _ z) ∙ ap (λ (m : ℕ). m % 2 ^ w) (getD-lows w (part S (E .counts .states) (size own)) c)
                 ∙ mod-mod (getD (part S (E .counts .states) (size own)) c 0) (2 ^ w) ∙ ap (λ (m : ℕ). m % 2 ^ w) (laws.part-getD S (E .counts .states) (size own) c hm));
@@ -491,32 +494,32 @@ module _ {t : List ℕ} {n : ℕ} {P : List (List ℕ)} {ini S R : List ℕ} (lk
 
     -- ---- the line
 
-    fact-line : (x : Line) → l ≡ x → Ok false (tyAt (B .lay .ctx)) (given (B .lay .ctx)) x → 2 ≤ typeOf false (B .lay) x .cls → (c : ℕ) → c < size (typeAt Z (suc i)) → Fact A Z P ini S R (suc i) c x
+    fact-line : (x : Line) → l ≡ x → Ok false (tyAt (B .lay .ctx)) (given (B .lay .ctx)) x → 2 ≤ lineTypeIn false (B .lay) x .role → (c : ℕ) → c < size (typeAt Z (suc i)) → Fact A Z P ini S R (suc i) c x
     fact-line (Line.bitvec w) el ok q c hc = omega arith
     fact-line (Line.array a b) el ok q c hc = omega arith
     fact-line (Line.input s) el ok q c hc = fact-input s el (ok .flat) c
     fact-line (Line.state s) el ok q c hc = fact-state s el c hc
-    fact-line (Line.val s e) el ok q c hc = fact-expr s e el ok c hc
-    fact-line (Line.give m s a v) el ok q c hc = omega arith
-    fact-line (Line.mark m a) el ok q c hc = omega arith
+    fact-line (Line.value s e) el ok q c hc = fact-expr s e el ok c hc
+    fact-line (Line.initOrNext m s a v) el ok q c hc = omega arith
+    fact-line (Line.signal m a) el ok q c hc = omega arith
     fact-line (Line.output a) el ok q c hc = omega arith
-    fact-line Line.junk el ok q c hc = omega arith
+    fact-line Line.unknown el ok q c hc = omega arith
 
-    fact-here : (c : ℕ) → 2 ≤ typeAt Z (suc i) .cls → c < size (typeAt Z (suc i)) → Fact A Z P ini S R (suc i) c (lineOf (recordAt false t i))
+    fact-here : (c : ℕ) → 2 ≤ typeAt Z (suc i) .role → c < size (typeAt Z (suc i)) → Fact A Z P ini S R (suc i) c (lineOf (recordAt false t i))
     fact-here c q hc =
         subst (Fact A Z P ini S R (suc i) c) (line-here false t n accepted i h)
-        (fact-line l refl (known .ok) (subst (λ (y : Ty). 2 ≤ y .cls) own-type q) c hc)
+        (fact-line l refl (known .ok) (subst (λ (y : Ty). 2 ≤ y .role) own-type q) c hc)
 
   -- what the record of the line m says of its cell c
-  pub facts : (m c : ℕ) → 2 ≤ typeAt Z m .cls → c < size (typeAt Z m) → Fact (stepZero (linesOf false t n) S R) Z P ini S R m c (lineOf (recordAt false t (m - 1)))
+  pub facts : (m c : ℕ) → 2 ≤ typeAt Z m .role → c < size (typeAt Z m) → Fact (stepZero (linesOf false t n) S R) Z P ini S R m c (lineOf (recordAt false t (m - 1)))
   facts m c q hc =
       let b = number-of m (omega arith) in
       let i : ℕ = m - 1 in
       let e : suc i ≡ m = omega arith in
-      subst (λ (X : Acc). Fact X Z P ini S R m c (lineOf (recordAt false t (m - 1)))) (sym zero-is)
+      subst (λ (X : Frame). Fact X Z P ini S R m c (lineOf (recordAt false t (m - 1)))) (sym zero-is)
       (subst (λ (k : ℕ). Fact A Z P ini S R k c (lineOf (recordAt false t (m - 1)))) e
-      (fact-here (m - 1) (omega arith) c (subst (λ (k : ℕ). 2 ≤ typeAt Z k .cls) (sym e) q) (subst (λ (k : ℕ). c < size (typeAt Z k)) (sym e) hc)))
+      (fact-here (m - 1) (omega arith) c (subst (λ (k : ℕ). 2 ≤ typeAt Z k .role) (sym e) q) (subst (λ (k : ℕ). c < size (typeAt Z k)) (sym e) hc)))
 
   -- the number of cells of a value
-  pub cells-of : (a : ℕ) → 2 ≤ typeAt Z a .cls → length (cellsAt (stepZero (linesOf false t n) S R) a) ≡ size (typeAt Z a)
-  cells-of a q = ap (λ (X : Acc). length (cellsAt X a)) zero-is ∙ length-of a q
+  pub cells-of : (a : ℕ) → 2 ≤ typeAt Z a .role → length (cellsAt (stepZero (linesOf false t n) S R) a) ≡ size (typeAt Z a)
+  cells-of a q = ap (λ (X : Frame). length (cellsAt X a)) zero-is ∙ length-of a q

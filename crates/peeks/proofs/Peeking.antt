@@ -10,7 +10,7 @@ use lib.Pow.{pow-pos}
 use lib.ListN.{length, drop, getD, set, length-set, drop-of-length-le}
 use lib.Seq.{getD-set-same, getD-set-other}
 use Rattle.tables.specs.declared.Checked.the-variants.{Accepted}
-use Rattle.tables.specs.Lines.{Shape, isBitvec, isArray, isConst, isInput, isState, isOutput, isOne, isTwo, isIte, isRead, isWrite, isJunk, isGive, isMark, isCmp, shapeOf, build, lineOf, kindIn, sortIn, firstIn, secondIn, thirdIn}
+use Rattle.tables.specs.Lines.{Shape, isBitvec, isArray, isConst, isInput, isState, isOutput, isUnary, isBinary, isIte, isRead, isWrite, isUnknown, isInitOrNext, isSignal, isEquality, shapeOf, build, lineOf, kindIn, sortIn, firstIn, secondIn, thirdIn}
 use Rattle.tables.specs.Layout.{held}
 use Rattle.tables.specs.Layout.{recordAt, linesOf}
 use Rattle.tables.specs.Tables.{checked}
@@ -18,19 +18,19 @@ use Rattle.tables.proofs.Shapes.{KindOf, kind-of, line-as}
 use Rattle.tables.proofs.Showing.{by-place}
 use Rattle.tables.proofs.Encoding.{fits-table}
 use Rattle.words.specs.Word.{Width}
-use Rattle.circuits.specs.Cells.{choose, same}
+use Rattle.circuits.specs.Cells.{ifNonzero, sameCells}
 use Rattle.circuits.specs.Layout.{Layout, typeAt, size, layout}
-use Rattle.circuits.specs.Meaning.{Acc, cellsAt, wordAt}
-use Rattle.circuits.specs.Model.{numIn, posIn, widIn}
+use Rattle.circuits.specs.Meaning.{Frame, cellsAt, wordAt}
+use Rattle.circuits.specs.Model.Work.{numIn, posIn, widIn}
 use Rattle.peeks.specs.Peek.{stepZero}
-use Rattle.peeks.specs.Looks.{Looks, Found, WordLine, CellLine, StateLine, Pair}
-use Rattle.peeks.proofs.Looked.{Arg, FactCmp, FactRead, FactIte, Fact, one-cell, more-cells, shown, number-of, facts, cells-of}
+use Rattle.peeks.specs.Model.Looks.{Looks, Found, WordLine, CellLine, StateLine, Pair}
+use Rattle.peeks.proofs.Looked.{Arg, FactEquality, FactRead, FactIte, Fact, one-cell, more-cells, shown, number-of, facts, cells-of}
 use Rattle.circuits.proofs.Puts as laws
 
 -- ---- the words found so far
 
 -- one word more
-pub kept : {A : Acc} {vals known vals′ known′ : List ℕ} {n v r : ℕ} → n ≤ 64 → Found A vals known → v ≡ wordAt A n → r ≡ v → vals′ ≡ set vals n v → known′ ≡ set known n 1
+pub kept : {A : Frame} {vals known vals′ known′ : List ℕ} {n v r : ℕ} → n ≤ 64 → Found A vals known → v ≡ wordAt A n → r ≡ v → vals′ ≡ set vals n v → known′ ≡ set known n 1
     → (r ≡ wordAt A n) × Found A vals′ known′
 kept {A} {vals} {known} {vals′} {known′} {n} {v} h f ev er e₁ e₂ = (
   er ∙ ev,
@@ -48,17 +48,17 @@ kept {A} {vals} {known} {vals′} {known′} {n} {v} h f ev er e₁ e₂ = (
 
 -- ---- two values, of which the cells before c are the same
 
-pub record Alike (A : Acc) (a b : ℕ) (vals known : List ℕ) (m c : ℕ) : Type 0 where
+pub record Alike (A : Frame) (a b : ℕ) (vals known : List ℕ) (m c : ℕ) : Type 0 where
   pub most : c ≤ m
   pub found : Found A vals known
-  pub rest : same (cellsAt A a) (cellsAt A b) ≡ same (drop c (cellsAt A a)) (drop c (cellsAt A b))
+  pub rest : sameCells (cellsAt A a) (cellsAt A b) ≡ sameCells (drop c (cellsAt A a)) (drop c (cellsAt A b))
 
 -- ---- lines of an accepted table
 
 -- a line that the line m takes for its own value
-pub record Chosen (A : Acc) (Z : Layout) (m c e : ℕ) : Type 0 where
+pub record Chosen (A : Frame) (Z : Layout) (m c e : ℕ) : Type 0 where
   pub below : e < m
-  pub value : 2 ≤ typeAt Z e .cls
+  pub value : 2 ≤ typeAt Z e .role
   pub sort : typeAt Z e .iw ≡ typeAt Z m .iw
   pub is : getD (cellsAt A e) c 0 ≡ getD (cellsAt A m) c 0
 
@@ -68,7 +68,7 @@ pub record Number (t : List ℕ) (n m : ℕ) : Type 0 where
   pub here : m - 1 < held false (length t)
 
 module _ {t : List ℕ} {n : ℕ} {P : List (List ℕ)} {ini S R : List ℕ} (lk : Looks t n P ini S R) where
-  abbrev A : Acc
+  abbrev A : Frame
   A = stepZero (linesOf false t n) S R
 
   abbrev Z : Layout
@@ -77,7 +77,7 @@ module _ {t : List ℕ} {n : ℕ} {P : List (List ℕ)} {ini S R : List ℕ} (lk
   accepted : checked false t n ≡ Accepted
   accepted = lk .laid .accepted
 
-  pub number : (m : ℕ) → 2 ≤ typeAt Z m .cls → Number t n m
+  pub number : (m : ℕ) → 2 ≤ typeAt Z m .role → Number t n m
   number m q =
       let b = number-of lk m (omega arith) in
       let f = fits-table false t n accepted in
@@ -91,7 +91,7 @@ module _ {t : List ℕ} {n : ℕ} {P : List (List ℕ)} {ini S R : List ℕ} (lk
   pub word-same : {m a : ℕ} → WordLine t n m → Chosen A Z m 0 a → WordLine t n a
   word-same w k = record { value = k .value; flat = k .sort ∙ w .flat }
 
-  pub cell-same : {m a c : ℕ} → CellLine t n m c → 2 ≤ typeAt Z a .cls → typeAt Z a .iw ≡ typeAt Z m .iw → CellLine t n a c
+  pub cell-same : {m a c : ℕ} → CellLine t n m c → 2 ≤ typeAt Z a .role → typeAt Z a .iw ≡ typeAt Z m .iw → CellLine t n a c
   cell-same {m} {a} {c} w q e =
       record { array = record { value = q; deep = subst (λ (x : ℕ). 0 < x) (sym e) (w .array .deep) }; inside = subst (λ (x : ℕ). c < 2 ^ x) (sym e) (w .inside) }
 
@@ -99,12 +99,12 @@ module _ {t : List ℕ} {n : ℕ} {P : List (List ℕ)} {ini S R : List ℕ} (lk
   cell-read {m} {a} {x} {i} k e =
       record { array = record { value = k .arr .is; deep = k .arr .deep }; inside = subst (λ (y : ℕ). y < size (typeAt Z a)) (sym e) (k .inside) }
 
-  pub pair : {m a b : ℕ} {f : Bool} → FactCmp A Z P ini S R m 0 f a b → Pair t n a b
+  pub pair : {m a b : ℕ} {f : Bool} → FactEquality A Z P ini S R m 0 f a b → Pair t n a b
   pair k = record { left = k .left .value; right = k .right .value; sorts = k .sorts }
 
   -- ---- what a record says of its line, by its shape
 
-  module _ {r : List ℕ} (m c : ℕ) (q : 2 ≤ typeAt Z m .cls) (hc : c < size (typeAt Z m)) (er : r ≡ recordAt false t (m - 1)) where
+  module _ {r : List ℕ} (m c : ℕ) (q : 2 ≤ typeAt Z m .role) (hc : c < size (typeAt Z m)) (er : r ≡ recordAt false t (m - 1)) where
     pub fact : (X : Shape) → shapeOf (kindIn r) ≡ X → Fact A Z P ini S R m c (build X (kindIn r) (sortIn r) (firstIn r) (secondIn r) (thirdIn r))
     fact X e = subst (Fact A Z P ini S R m c) (ap lineOf (sym er) ∙ line-as r X e) (facts lk m c q hc)
 
@@ -119,15 +119,15 @@ module _ {t : List ℕ} {n : ℕ} {P : List (List ℕ)} {ini S R : List ℕ} (lk
         go isInput e k = absurd (omega (arith, fact isInput e .flat))
         go isState e k = absurd (n₅ k)
         go isOutput e k = absurd (fact isOutput e)
-        go isOne e k = absurd (omega (arith, fact isOne e .flat))
-        go isTwo e k = absurd (omega (arith, fact isTwo e .flat))
+        go isUnary e k = absurd (omega (arith, fact isUnary e .flat))
+        go isBinary e k = absurd (omega (arith, fact isBinary e .flat))
         go isIte e k = absurd (n₅₃ k)
         go isRead e k = absurd (omega (arith, fact isRead e .flat))
         go isWrite e k = e
-        go isJunk e k = absurd (fact isJunk e)
-        go (isGive b) e k = absurd (fact (isGive b) e)
-        go (isMark b) e k = absurd (fact (isMark b) e)
-        go (isCmp b) e k = absurd (omega (arith, fact (isCmp b) e .flat))
+        go isUnknown e k = absurd (fact isUnknown e)
+        go (isInitOrNext b) e k = absurd (fact (isInitOrNext b) e)
+        go (isSignal b) e k = absurd (fact (isSignal b) e)
+        go (isEquality b) e k = absurd (omega (arith, fact (isEquality b) e .flat))
 
     -- a word's line of a kind below 5 is a constant or an input
     pub given-asks : kindIn r < 5 → (kindIn r ≡ 3 → ⊥) → (m ≤ 16384) × ((posIn P m < length R) × Width (widIn P m))
@@ -140,17 +140,17 @@ module _ {t : List ℕ} {n : ℕ} {P : List (List ℕ)} {ini S R : List ℕ} (lk
         go isInput e k = let F = fact isInput e in (omega (arith, number m q .most), (F .inside, F .wide))
         go isState e k = absurd (omega arith)
         go isOutput e k = absurd (fact isOutput e)
-        go isOne e (inl k) = absurd (omega arith)
-        go isOne e (inr k) = absurd (omega arith)
-        go isTwo e k = absurd (omega arith)
+        go isUnary e (inl k) = absurd (omega arith)
+        go isUnary e (inr k) = absurd (omega arith)
+        go isBinary e k = absurd (omega arith)
         go isIte e k = absurd (omega arith)
         go isRead e k = absurd (omega arith)
         go isWrite e k = absurd (omega arith)
-        go isJunk e k = absurd (fact isJunk e)
-        go (isGive b) e k = absurd (fact (isGive b) e)
-        go (isMark b) e k = absurd (fact (isMark b) e)
-        go (isCmp true) e k = absurd (omega arith)
-        go (isCmp false) e k = absurd (omega arith)
+        go isUnknown e k = absurd (fact isUnknown e)
+        go (isInitOrNext b) e k = absurd (fact (isInitOrNext b) e)
+        go (isSignal b) e k = absurd (fact (isSignal b) e)
+        go (isEquality true) e k = absurd (omega arith)
+        go (isEquality false) e k = absurd (omega arith)
 
     pub given-is : {v : ℕ} → kindIn r < 5 → (kindIn r ≡ 3 → v ≡ firstIn r) × ((kindIn r ≡ 3 → ⊥) → v ≡ getD R (posIn P m) 0 % 2 ^ widIn P m) → v ≡ wordAt A m
     given-is {v} h w = go (shapeOf (kindIn r)) refl (kind-of (kindIn r))
@@ -162,61 +162,61 @@ module _ {t : List ℕ} {n : ℕ} {P : List (List ℕ)} {ini S R : List ℕ} (lk
         go isInput e k = w .1 (λ z. omega arith) ∙ fact isInput e .is
         go isState e k = absurd (omega arith)
         go isOutput e k = absurd (fact isOutput e)
-        go isOne e (inl k) = absurd (omega arith)
-        go isOne e (inr k) = absurd (omega arith)
-        go isTwo e k = absurd (omega arith)
+        go isUnary e (inl k) = absurd (omega arith)
+        go isUnary e (inr k) = absurd (omega arith)
+        go isBinary e k = absurd (omega arith)
         go isIte e k = absurd (omega arith)
         go isRead e k = absurd (omega arith)
         go isWrite e k = absurd (omega arith)
-        go isJunk e k = absurd (fact isJunk e)
-        go (isGive b) e k = absurd (fact (isGive b) e)
-        go (isMark b) e k = absurd (fact (isMark b) e)
-        go (isCmp true) e k = absurd (omega arith)
-        go (isCmp false) e k = absurd (omega arith)
+        go isUnknown e k = absurd (fact isUnknown e)
+        go (isInitOrNext b) e k = absurd (fact (isInitOrNext b) e)
+        go (isSignal b) e k = absurd (fact (isSignal b) e)
+        go (isEquality true) e k = absurd (omega arith)
+        go (isEquality false) e k = absurd (omega arith)
 
     -- one of a kind from 6 to 20 is an operator of one word, and one past 22 that is no ite and no read of two
-    pub is-one : 5 ≤ kindIn r → kindIn r < 21 → (kindIn r ≡ 5 → ⊥) → shapeOf (kindIn r) ≡ isOne
+    pub is-one : 5 ≤ kindIn r → kindIn r < 21 → (kindIn r ≡ 5 → ⊥) → shapeOf (kindIn r) ≡ isUnary
     is-one h l n₅ = go (shapeOf (kindIn r)) refl (kind-of (kindIn r))
       where
-        go : (X : Shape) → shapeOf (kindIn r) ≡ X → KindOf X (kindIn r) → shapeOf (kindIn r) ≡ isOne
+        go : (X : Shape) → shapeOf (kindIn r) ≡ X → KindOf X (kindIn r) → shapeOf (kindIn r) ≡ isUnary
         go isBitvec e k = absurd (fact isBitvec e)
         go isArray e k = absurd (fact isArray e)
         go isConst e k = absurd (omega arith)
         go isInput e k = absurd (omega arith)
         go isState e k = absurd (n₅ k)
         go isOutput e k = absurd (fact isOutput e)
-        go isOne e k = e
-        go isTwo e k = absurd (omega arith)
+        go isUnary e k = e
+        go isBinary e k = absurd (omega arith)
         go isIte e k = absurd (omega arith)
         go isRead e k = absurd (omega arith)
         go isWrite e k = absurd (omega arith)
-        go isJunk e k = absurd (fact isJunk e)
-        go (isGive b) e k = absurd (fact (isGive b) e)
-        go (isMark b) e k = absurd (fact (isMark b) e)
-        go (isCmp true) e k = absurd (omega arith)
-        go (isCmp false) e k = absurd (omega arith)
+        go isUnknown e k = absurd (fact isUnknown e)
+        go (isInitOrNext b) e k = absurd (fact (isInitOrNext b) e)
+        go (isSignal b) e k = absurd (fact (isSignal b) e)
+        go (isEquality true) e k = absurd (omega arith)
+        go (isEquality false) e k = absurd (omega arith)
 
-    pub is-two : typeAt Z m .iw ≡ 0 → 23 ≤ kindIn r → (kindIn r ≡ 53 → ⊥) → (kindIn r ≡ 54 → ⊥) → shapeOf (kindIn r) ≡ isTwo
+    pub is-two : typeAt Z m .iw ≡ 0 → 23 ≤ kindIn r → (kindIn r ≡ 53 → ⊥) → (kindIn r ≡ 54 → ⊥) → shapeOf (kindIn r) ≡ isBinary
     is-two flat h n₅₃ n₅₄ = go (shapeOf (kindIn r)) refl (kind-of (kindIn r))
       where
-        go : (X : Shape) → shapeOf (kindIn r) ≡ X → KindOf X (kindIn r) → shapeOf (kindIn r) ≡ isTwo
+        go : (X : Shape) → shapeOf (kindIn r) ≡ X → KindOf X (kindIn r) → shapeOf (kindIn r) ≡ isBinary
         go isBitvec e k = absurd (fact isBitvec e)
         go isArray e k = absurd (fact isArray e)
         go isConst e k = absurd (omega arith)
         go isInput e k = absurd (omega arith)
         go isState e k = absurd (omega arith)
         go isOutput e k = absurd (fact isOutput e)
-        go isOne e (inl k) = absurd (omega arith)
-        go isOne e (inr k) = absurd (omega (arith, fact isOne e .most))
-        go isTwo e k = e
+        go isUnary e (inl k) = absurd (omega arith)
+        go isUnary e (inr k) = absurd (omega (arith, fact isUnary e .most))
+        go isBinary e k = e
         go isIte e k = absurd (n₅₃ k)
         go isRead e k = absurd (n₅₄ k)
         go isWrite e k = absurd (omega (arith, fact isWrite e .arr .deep, fact isWrite e .sortA))
-        go isJunk e k = absurd (fact isJunk e)
-        go (isGive b) e k = absurd (fact (isGive b) e)
-        go (isMark b) e k = absurd (fact (isMark b) e)
-        go (isCmp true) e k = absurd (omega arith)
-        go (isCmp false) e k = absurd (omega arith)
+        go isUnknown e k = absurd (fact isUnknown e)
+        go (isInitOrNext b) e k = absurd (fact (isInitOrNext b) e)
+        go (isSignal b) e k = absurd (fact (isSignal b) e)
+        go (isEquality true) e k = absurd (omega arith)
+        go (isEquality false) e k = absurd (omega arith)
 
   pub first-cell : (m : ℕ) → 0 < size (typeAt Z m)
   first-cell m = pow-pos (typeAt Z m .iw)
@@ -225,13 +225,13 @@ module _ {t : List ℕ} {n : ℕ} {P : List (List ℕ)} {ini S R : List ℕ} (lk
   state-fact {m} {c} k = fact m c (k .value) (k .inside) refl isState (ap shapeOf (k .state))
 
   -- the line that an ite takes
-  pub chosen : {m c d a b x e : ℕ} → FactIte A Z P ini S R m c d a b → x ≡ wordAt A d → e ≡ choose x a b → Chosen A Z m c e
+  pub chosen : {m c d a b x e : ℕ} → FactIte A Z P ini S R m c d a b → x ≡ wordAt A d → e ≡ ifNonzero x a b → Chosen A Z m c e
   chosen {m} {c} {d} {a} {b} {x} {e} f ex ee = go x refl
     where
       go : (y : ℕ) → x ≡ y → Chosen A Z m c e
-      go zero z = subst (Chosen A Z m c) (sym (ee ∙ ap (λ (k : ℕ). choose k a b) z)) (record { below = f .right .below; value = f .right .value; sort = f .sortB; is = f .no (sym ex ∙ z) })
+      go zero z = subst (Chosen A Z m c) (sym (ee ∙ ap (λ (k : ℕ). ifNonzero k a b) z)) (record { below = f .right .below; value = f .right .value; sort = f .sortB; is = f .no (sym ex ∙ z) })
       go (suc y) z =
-          subst (Chosen A Z m c) (sym (ee ∙ ap (λ (k : ℕ). choose k a b) z)) (record { below = f .left .below; value = f .left .value; sort = f .sortA; is = f .yes (λ w. omega (arith, ex)) })
+          subst (Chosen A Z m c) (sym (ee ∙ ap (λ (k : ℕ). ifNonzero k a b) z)) (record { below = f .left .below; value = f .left .value; sort = f .sortA; is = f .yes (λ w. omega (arith, ex)) })
 
   -- ---- two values of one sort
 
@@ -262,7 +262,7 @@ module _ {t : List ℕ} {n : ℕ} {P : List (List ℕ)} {ini S R : List ℕ} (lk
     long-right : length (cellsAt A b) ≡ size (typeAt Z a)
     long-right = cells-of lk b (k .right) ∙ ap (λ (x : ℕ). 2 ^ x) (k .sorts)
 
-    same-one : (xs ys : List ℕ) → length xs ≡ 1 → length ys ≡ 1 → eqb (getD xs 0 0) (getD ys 0 0) ≡ same xs ys
+    same-one : (xs ys : List ℕ) → length xs ≡ 1 → length ys ≡ 1 → eqb (getD xs 0 0) (getD ys 0 0) ≡ sameCells xs ys
     same-one [] ys e f = absurd (omega arith)
     same-one (x ∷ []) [] e f = absurd (omega arith)
     same-one (x ∷ []) (y ∷ ys) e f = and-true (eqb x y)
@@ -272,7 +272,7 @@ module _ {t : List ℕ} {n : ℕ} {P : List (List ℕ)} {ini S R : List ℕ} (lk
         and-true false = refl
     same-one (x ∷ z ∷ xs) ys e f = absurd (omega arith)
 
-    pub same-words : {x y : ℕ} → numIn P a ≡ 1 → x ≡ wordAt A a → y ≡ wordAt A b → eqb x y ≡ same (cellsAt A a) (cellsAt A b)
+    pub same-words : {x y : ℕ} → numIn P a ≡ 1 → x ≡ wordAt A a → y ≡ wordAt A b → eqb x y ≡ sameCells (cellsAt A a) (cellsAt A b)
     same-words z ex ey =
         let one : size (typeAt Z a) ≡ 1 = sym cells ∙ z in
         ap₂ eqb ex ey ∙ same-one (cellsAt A a) (cellsAt A b) (long-left ∙ one) (long-right ∙ one)
@@ -291,12 +291,12 @@ module _ {t : List ℕ} {n : ℕ} {P : List (List ℕ)} {ini S R : List ℕ} (lk
         }
 
     pub alike-not : {vals known : List ℕ} {m c x y : ℕ} → m ≡ numIn P a → c < m → Alike A a b vals known m c → x ≡ getD (cellsAt A a) c 0 → y ≡ getD (cellsAt A b) c 0 → (x ≡ y → ⊥)
-        → false ≡ same (cellsAt A a) (cellsAt A b)
+        → false ≡ sameCells (cellsAt A a) (cellsAt A b)
     alike-not {vals} {known} {m} {c} e h s ex ey ne =
         let q = e ∙ cells in
         sym (s .rest ∙ laws.same-not (cellsAt A a) (cellsAt A b) c (omega (arith, long-left)) (omega (arith, long-right)) (λ z. ne (ex ∙ z ∙ sym ey)))
 
-    pub alike-all : {vals known : List ℕ} {m c : ℕ} → m ≡ numIn P a → m ≤ c → Alike A a b vals known m c → true ≡ same (cellsAt A a) (cellsAt A b)
+    pub alike-all : {vals known : List ℕ} {m c : ℕ} → m ≡ numIn P a → m ≤ c → Alike A a b vals known m c → true ≡ sameCells (cellsAt A a) (cellsAt A b)
     alike-all {vals} {known} {m} {c} e h s =
         let q = e ∙ cells in
-        sym (s .rest ∙ ap (λ (x : List ℕ). same x (drop c (cellsAt A b))) (drop-of-length-le (cellsAt A a) {i = c} (omega (arith, long-left))))
+        sym (s .rest ∙ ap (λ (x : List ℕ). sameCells x (drop c (cellsAt A b))) (drop-of-length-le (cellsAt A a) {i = c} (omega (arith, long-left))))

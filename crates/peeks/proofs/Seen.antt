@@ -13,7 +13,7 @@ use Rattle.tables.specs.declared.Refusal.the-variants.{StartWords, InputWords, 
 use Rattle.tables.specs.declared.Checked.{Checked}
 use Rattle.tables.specs.declared.Checked.the-variants.{Accepted, Refused}
 use Rattle.tables.specs.Pick.{pick}
-use Rattle.tables.specs.Notes.{lookIn}
+use Rattle.tables.specs.Model.Notes.{lookIn}
 use Rattle.tables.specs.Types.{isValue}
 use Rattle.tables.specs.Tables.{checked}
 use Rattle.tables.proofs.Checking.{not-accepted, zeros-at}
@@ -23,11 +23,13 @@ use Rattle.circuits.specs.declared.Totals.{Totals}
 use Rattle.peeks.specs.declared.Peeked.{Peeked}
 use Rattle.peeks.specs.declared.Peeked.the-variants.{Value, Refused as RefusedPeek}
 use Rattle.circuits.specs.Layout.{Counts, typeAt, size, layout}
-use Rattle.circuits.specs.Meaning.{Acc, cellsAt, wordAt}
+use Rattle.circuits.specs.Meaning.{Frame, cellsAt, wordAt}
 use Rattle.tables.specs.Layout.{linesOf}
 use Rattle.peeks.specs.Peek.{stepZero, peekAt, hasCell, mayPeek, seenAs, peeked, toldPeek, peeks}
-use Rattle.circuits.specs.Model.{numIn, countsOf, totalsOf, Shows, Noted}
-use Rattle.peeks.specs.Looks.{initOf, Laid, Looks, Found, WordLine, CellLine, HasCell, lentPeek}
+use Rattle.circuits.specs.Model.Work.{numIn}
+use Rattle.circuits.specs.Model.Places.{ShowsAll}
+use Rattle.circuits.specs.Model.Passes.{countsOf, totalsOf, Noted}
+use Rattle.peeks.specs.Model.Looks.{initOf, Laid, Looks, Found, WordLine, CellLine, HasCell, lentPeek}
 use Rattle.circuits.proofs.Placing.{all-sound, lines-here, noted-types}
 use Rattle.peeks.proofs.Looked.{shown, one-cell, more-cells}
 
@@ -44,20 +46,20 @@ module _ (c : Counts) (y : Ty) (n k s i : ℕ) where
     pub may-many : 64 < n → Refused NoSuchCell ≡ mayPeek c y n k s i
     may-many h = rw (eq-eqb s (c .states) e, eq-eqb i (c .inputs) f, lt-leb n 64 h)
 
-    pub may-class : n ≤ 64 → y .cls < 2 → Refused NoSuchCell ≡ mayPeek c y n k s i
-    may-class h q = rw (eq-eqb s (c .states) e, eq-eqb i (c .inputs) f, le-leb n 64 h, lt-leb 2 (y .cls) q)
+    pub may-class : n ≤ 64 → y .role < 2 → Refused NoSuchCell ≡ mayPeek c y n k s i
+    may-class h q = rw (eq-eqb s (c .states) e, eq-eqb i (c .inputs) f, le-leb n 64 h, lt-leb 2 (y .role) q)
 
-    pub may-cell : {m : ℕ} → m ≡ size y → n ≤ 64 → 2 ≤ y .cls → m ≤ k → Refused NoSuchCell ≡ mayPeek c y n k s i
-    may-cell {m} z h q l = rw (eq-eqb s (c .states) e, eq-eqb i (c .inputs) f, le-leb n 64 h, le-leb 2 (y .cls) q, le-ltb k (size y) (subst (λ (x : ℕ). x ≤ k) z l))
+    pub may-cell : {m : ℕ} → m ≡ size y → n ≤ 64 → 2 ≤ y .role → m ≤ k → Refused NoSuchCell ≡ mayPeek c y n k s i
+    may-cell {m} z h q l = rw (eq-eqb s (c .states) e, eq-eqb i (c .inputs) f, le-leb n 64 h, le-leb 2 (y .role) q, le-ltb k (size y) (subst (λ (x : ℕ). x ≤ k) z l))
 
-    pub may-see : {m : ℕ} → m ≡ size y → n ≤ 64 → 2 ≤ y .cls → k < m → Accepted ≡ mayPeek c y n k s i
-    may-see {m} z h q l = rw (eq-eqb s (c .states) e, eq-eqb i (c .inputs) f, le-leb n 64 h, le-leb 2 (y .cls) q, lt-ltb k (size y) (subst (λ (x : ℕ). k < x) z l))
+    pub may-see : {m : ℕ} → m ≡ size y → n ≤ 64 → 2 ≤ y .role → k < m → Accepted ≡ mayPeek c y n k s i
+    may-see {m} z h q l = rw (eq-eqb s (c .states) e, eq-eqb i (c .inputs) f, le-leb n 64 h, le-leb 2 (y .role) q, lt-ltb k (size y) (subst (λ (x : ℕ). k < x) z l))
 
 pub record May (c : Counts) (y : Ty) (n k s i : ℕ) : Type 0 where
   pub starts : s ≡ c .states
   pub row : i ≡ c .inputs
   pub few : n ≤ 64
-  pub value : 2 ≤ y .cls
+  pub value : 2 ≤ y .role
   pub inside : k < size y
 
 pub may-facts : (c : Counts) (y : Ty) (n k s i : ℕ) → mayPeek c y n k s i ≡ Accepted → May c y n k s i
@@ -68,7 +70,7 @@ may-facts c y n k s i = go (eqb s (c .states)) (eqb i (c .inputs)) (hasCell y n 
     go true true true a b d z =
         let h = both (leb n 64) _ d in
         let l = both (isValue y) _ (h .1) in
-        record { starts = eqb-true s (c .states) a; row = eqb-true i (c .inputs) b; few = leb-true n 64 (h .0); value = leb-true 2 (y .cls) (l .0); inside = ltb-true k (size y) (l .1) }
+        record { starts = eqb-true s (c .states) a; row = eqb-true i (c .inputs) b; few = leb-true n 64 (h .0); value = leb-true 2 (y .role) (l .0); inside = ltb-true k (size y) (l .1) }
     go true true false a b d z = absurd (not-accepted NoSuchCell z)
     go true false w a b d z = absurd (not-accepted InputWords z)
     go false v w a b d z = absurd (not-accepted StartWords z)
@@ -79,7 +81,7 @@ may-on c z n k s i et ey ed ex = sym (ed ∙ ap₂ (λ (t : Totals) (y : Ty). ma
 
 -- ---- what a peek begins with
 
-pub found-none : (A : Acc) → Found A (replicate 65 0) (replicate 65 0)
+pub found-none : (A : Frame) → Found A (replicate 65 0) (replicate 65 0)
 found-none A = record { long = length-replicate {A = ℕ} 65 0; marks = length-replicate {A = ℕ} 65 0; are = λ a e. absurd (omega (arith, zeros-at 65 a)) }
 
 pub looks-all : {t : List ℕ} {n : ℕ} {P : List (List ℕ)} {ini S R : List ℕ} → Laid t n P S R → length ini ≡ length {A = ℕ} (replicate 65 0)
@@ -121,10 +123,10 @@ module _ {t : List ℕ} {n : ℕ} {xs : List (List ℕ)} (z : Noted false t n xs
   pub type-is : {y : Ty} → y ≡ lookIn xs m → y ≡ typeAt (layout false (linesOf false t n)) m
   type-is e = e ∙ noted-types false t n z m
 
-  pub type-deep : {y : Ty} → y ≡ lookIn xs m → 2 ≤ y .cls → y .iw ≤ 8
-  type-deep e q = let f = type-is e in omega (arith, ap (λ (u : Ty). u .iw) f, all-sound false t n (z .accepted) .wide m (omega (arith, ap (λ (u : Ty). u .cls) f)) .deep)
+  pub type-deep : {y : Ty} → y ≡ lookIn xs m → 2 ≤ y .role → y .iw ≤ 8
+  type-deep e q = let f = type-is e in omega (arith, ap (λ (u : Ty). u .iw) f, all-sound false t n (z .accepted) .wide m (omega (arith, ap (λ (u : Ty). u .role) f)) .deep)
 
-  pub peek-laid : {P : List (List ℕ)} {S R : List ℕ} (k : ℕ) → Shows P (layout false (linesOf false t n))
+  pub peek-laid : {P : List (List ℕ)} {S R : List ℕ} (k : ℕ) → ShowsAll P (layout false (linesOf false t n))
       → mayPeek (layout false (linesOf false t n) .counts) (typeAt (layout false (linesOf false t n)) m) n k (length S) (length R) ≡ Accepted → Laid t n P S R × HasCell t n m k
   peek-laid {P} {S} {R} k sh e =
       let f = may-facts (layout false (linesOf false t n) .counts) (typeAt (layout false (linesOf false t n)) m) n k (length S) (length R) e in (

@@ -8,39 +8,39 @@ use native.Mathlib.Omega.{arith}
 use lib.Pow.{pow-pos}
 use lib.ListN.{length, take, getD, replicate, length-append, length-replicate, List·getD-eq-default}
 use lib.Seq.{drop-at, take-length}
-use Rattle.tables.specs.declared.Ty.{Ty}
 use Rattle.tables.specs.declared.Checked.the-variants.{Accepted}
 use Rattle.tables.specs.Lines.{Line}
-use Rattle.tables.specs.Types.{noTy}
 use Rattle.tables.specs.Tables.{checked}
-use Rattle.circuits.specs.Layout.{Place, Layout, noPlace, typeAt, placeAt, size, layAll, noLayout, layout}
-use Rattle.circuits.specs.Meaning.{Acc, cellsAt, evalAll, noAcc, step}
+use Rattle.circuits.specs.Layout.{Layout, typeAt, placeAt, size, layAll, noLayout, layout}
+use Rattle.circuits.specs.Meaning.{Frame, cellsAt, evalAll, noFrame, step}
 use Rattle.tables.specs.Layout.{linesOf}
-use Rattle.circuits.specs.Model.{laidAs, laidIn, workIn, Ready}
+use Rattle.circuits.specs.Model.Work.{laidAs, laidIn, workIn}
+use Rattle.circuits.specs.Model.Places.{offAt, Ready}
 use Rattle.circuits.proofs.Puts as laws
+use Rattle.circuits.proofs.Laid.{low}
 use Rattle.circuits.proofs.Held.{Held, cells-at}
 use Rattle.circuits.proofs.Simulation.{sim}
 use Rattle.circuits.proofs.Walked.{accAt, acc-suc, acc-lay, lines-many, facts-at, Facts, walk-start}
 use Rattle.circuits.proofs.Placing.{all-sound, lines-here, few-here}
 
--- the list that holds what a layout knows of its lines
-abbrev rows : List Place → List Ty → List (List ℕ)
-rows [] ys = []
-rows (q ∷ qs) [] = []
-rows (q ∷ qs) (y ∷ ys) = laidAs (q .off) (size y) (q .at) (y .w) ∷ rows qs ys
+-- what a layout knows of the line a, and the list that holds it for n lines from a on, and for all
+abbrev row : Layout → (a : ℕ) → List ℕ
+row Y a = laidAs (offAt Y a) (size (typeAt Y a)) (placeAt Y a) (typeAt Y a .w)
+
+abbrev rows : Layout → (a n : ℕ) → List (List ℕ)
+rows Y a zero = []
+rows Y a (suc n) = row Y a ∷ rows Y (suc a) n
 
 abbrev pub laidOf : Layout → List (List ℕ)
-laidOf Y = rows (Y .places) (Y .ctx .tys)
+laidOf Y = rows Y 0 (length (Y .places))
 
-rows-at : (qs : List Place) (ys : List Ty) (a : ℕ) → length qs ≡ length ys → a < length qs
-    → laidIn (rows qs ys) a ≡ laidAs (getD qs a noPlace .off) (size (getD ys a noTy)) (getD qs a noPlace .at) (getD ys a noTy .w)
-rows-at [] ys a e h = absurd (omega arith)
-rows-at (q ∷ qs) [] a e h = absurd (omega arith)
-rows-at (q ∷ qs) (y ∷ ys) zero e h = refl
-rows-at (q ∷ qs) (y ∷ ys) (suc a) e h = rows-at qs ys a (omega arith) (omega arith)
+rows-at : (Y : Layout) (a n i : ℕ) {b : ℕ} → i < n → a + i ≡ b → laidIn (rows Y a n) i ≡ row Y b
+rows-at Y a zero i h e = absurd (omega arith)
+rows-at Y a (suc n) zero h e = ap (row Y) (omega arith)
+rows-at Y a (suc n) (suc i) h e = rows-at Y (suc a) n i (omega arith) (omega arith)
 
 -- some work area holds the lines so far
-pub record HeldBy (all : ℕ) (σ : List ℕ) (A : Acc) : Type 0 where
+pub record HeldBy (all : ℕ) (σ : List ℕ) (A : Frame) : Type 0 where
   pub work : List ℕ
   pub held : Held false all σ work A
 
@@ -57,7 +57,7 @@ module _ (t : List ℕ) (n : ℕ) (acc : checked false t n ≡ Accepted) where
         record {
           accepted = acc;
           shows = λ a h.
-              let e = rows-at (whole .places) (whole .ctx .tys) a (omega arith) h in
+              let e : laidIn (laidOf whole) a ≡ row whole a = rows-at whole 0 (length (whole .places)) a h (omega arith) in
               record {
                 known = omega arith;
                 isOff = ap (λ (r : List ℕ). getD r 0 0) e;
@@ -73,12 +73,12 @@ module _ (t : List ℕ) (n : ℕ) (acc : checked false t n ≡ Accepted) where
 
     module _ (f : Bool) (ι : List ℕ) where
       pub lay-is : (i : ℕ) → accAt false f σ ι (linesOf false t n) i .lay ≡ layAll false noLayout (take i (linesOf false t n))
-      lay-is i = acc-lay false f σ ι noAcc (take i (linesOf false t n))
+      lay-is i = acc-lay false f σ ι noFrame (take i (linesOf false t n))
 
       pub facts-of : (i : ℕ) → i < n
-          → Facts false (laidOf whole) (accAt false f σ ι (linesOf false t n) i .lay) (getD (linesOf false t n) i Line.junk) (whole .counts .cells) (length σ) (whole .counts .inputs) (whole .counts .signals)
+          → Facts false (laidOf whole) (accAt false f σ ι (linesOf false t n) i .lay) (getD (linesOf false t n) i Line.unknown) (whole .counts .cells) (length σ) (whole .counts .inputs) (whole .counts .signals)
       facts-of i h =
-          subst (λ (Y : Layout). Facts false (laidOf whole) Y (getD (linesOf false t n) i Line.junk) (whole .counts .cells) (length σ) (whole .counts .inputs) (whole .counts .signals))
+          subst (λ (Y : Layout). Facts false (laidOf whole) Y (getD (linesOf false t n) i Line.unknown) (whole .counts .cells) (length σ) (whole .counts .inputs) (whole .counts .signals))
           (sym (lay-is i)) (facts-at ready-whole i h)
 
       pub held-at : (i : ℕ) → i ≤ n → HeldBy (whole .counts .cells) σ (accAt false f σ ι (linesOf false t n) i)
@@ -92,13 +92,13 @@ module _ (t : List ℕ) (n : ℕ) (acc : checked false t n ≡ Accepted) where
           }
       held-at (suc i) h =
           let A = accAt false f σ ι (linesOf false t n) i in
-          let l = getD (linesOf false t n) i Line.junk in
+          let l = getD (linesOf false t n) i Line.unknown in
           let H = held-at i (omega arith) in
           let k = facts-of i h in
           let w : List ℕ = workIn false f (laidOf whole) (whole .counts .cells) ι (H .work) (length (A .lay .ctx .tys)) l in
           record {
             work = w;
-            held = subst (λ (B : Acc). Held false (whole .counts .cells) σ w B) (sym (acc-suc false f σ ι (linesOf false t n) i (omega (arith, lines-many false t n acc))))
+            held = subst (λ (B : Frame). Held false (whole .counts .cells) σ w B) (sym (acc-suc false f σ ι (linesOf false t n) i (omega (arith, lines-many false t n acc))))
                 (sim false f (laidOf whole) (whole .counts .cells) σ ι (H .work) A (H .held) l (k .ok) (k .shows) (k .cells) (k .states));
           }
 
@@ -106,28 +106,28 @@ module _ (t : List ℕ) (n : ℕ) (acc : checked false t n ≡ Accepted) where
 
       pub all-lines : accAt false f σ ι (linesOf false t n) n ≡ step false f (linesOf false t n) σ ι
       unfolding step
-      all-lines = ap (evalAll false f σ ι noAcc) (ap (λ (m : ℕ). take m (linesOf false t n)) (sym (lines-many false t n acc)) ∙ take-length (linesOf false t n))
+      all-lines = ap (evalAll false f σ ι noFrame) (ap (λ (m : ℕ). take m (linesOf false t n)) (sym (lines-many false t n acc)) ∙ take-length (linesOf false t n))
 
       pub held-whole : HeldBy (whole .counts .cells) σ (step false f (linesOf false t n) σ ι)
       held-whole = subst (HeldBy (whole .counts .cells) σ) all-lines (held-at n (omega arith))
 
       pub lay-whole : step false f (linesOf false t n) σ ι .lay ≡ whole
       unfolding step layout
-      lay-whole = acc-lay false f σ ι noAcc (linesOf false t n)
+      lay-whole = acc-lay false f σ ι noFrame (linesOf false t n)
 
 -- ---- the cells of a value
 
-module _ {all : ℕ} {σ : List ℕ} {A : Acc} (H : HeldBy all σ A) (room : A .lay .counts .cells ≤ all) (a : ℕ) (q : 2 ≤ typeAt (A .lay) a .cls) where
+module _ {all : ℕ} {σ : List ℕ} {A : Frame} (H : HeldBy all σ A) (room : A .lay .counts .cells ≤ all) (a : ℕ) (q : 2 ≤ typeAt (A .lay) a .role) where
   pub cells-many : length (cellsAt A a) ≡ size (typeAt (A .lay) a)
   cells-many =
-      let h = H .held .sound .low a q in
+      let h = low (H .held .sound) a q in
       let l = H .held .kept .len in
-      ap length (sym (cells-at (H .held .sound) (H .held .holds) a q)) ∙ laws.length-part (H .work) (placeAt (A .lay) a .off) (size (typeAt (A .lay) a)) (omega arith)
+      ap length (sym (cells-at (H .held .sound) (H .held .holds) a q)) ∙ laws.length-part (H .work) (offAt (A .lay) a) (size (typeAt (A .lay) a)) (omega arith)
 
   pub cells-small : (j : ℕ) → getD (cellsAt A a) j 0 < 2 ^ (typeAt (A .lay) a .w)
   cells-small j =
       ⊎-elim (λ lt. subst (λ (x : ℕ). x < 2 ^ (typeAt (A .lay) a .w))
-      (sym (ap (λ (x : List ℕ). getD x j 0) (sym (cells-at (H .held .sound) (H .held .holds) a q)) ∙ laws.part-getD (H .work) (placeAt (A .lay) a .off) (size (typeAt (A .lay) a)) j lt))
+      (sym (ap (λ (x : List ℕ). getD x j 0) (sym (cells-at (H .held .sound) (H .held .holds) a q)) ∙ laws.part-getD (H .work) (offAt (A .lay) a) (size (typeAt (A .lay) a)) j lt))
       (H .held .holds .small refl a q j lt))
       (λ ge. subst (λ (x : ℕ). x < 2 ^ (typeAt (A .lay) a .w)) (sym (List·getD-eq-default (cellsAt A a) 0 (omega (arith, cells-many)))) (pow-pos (typeAt (A .lay) a .w)))
       (laws.lt-or-ge j (size (typeAt (A .lay) a)))

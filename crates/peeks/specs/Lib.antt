@@ -1,3 +1,3 @@
 pub mod Peek
-pub mod Looks
+pub mod Model
 pub mod Examples

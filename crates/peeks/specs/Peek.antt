@@ -20,24 +20,24 @@ use Rattle.tables.specs.Answers.{Outcome, outcome}
 use Rattle.peeks.specs.declared.Peeked.{Peeked}
 use Rattle.peeks.specs.declared.Peeked.the-variants.{Value, Refused as RefusedPeek}
 use Rattle.circuits.specs.Layout.{Counts, typeAt, size, layout}
-use Rattle.circuits.specs.Meaning.{Acc, cellsAt, step}
-use Rattle.circuits.specs.Run.{rowOf, start, steps, run}
+use Rattle.circuits.specs.Meaning.{Frame, cellsAt, step}
+use Rattle.circuits.specs.Run.{rowLength, start, steps, run}
 use Rattle.tables.specs.Layout.{linesOf}
 use Rattle.circuits.specs.Answers.{andThen}
 
 -- all lines at step 0 of a run: from the start words S and the init values, on the first row of I
-unfoldable pub stepZero : List Line → (S I : List ℕ) → Acc
-stepZero C S I = step false false C (start false C S I) (take (rowOf false C) I)
+unfoldable pub stepZero : List Line → (S I : List ℕ) → Frame
+stepZero C S I = step false false C (start false C S I) (take (rowLength false C) I)
 
 -- it is the step that a run begins with
-pub run-begins : (C : List Line) (k : ℕ) (S I : List ℕ) → run false C (suc k) S I ≡ stepZero C S I .sigs ∷ steps false C k (stepZero C S I .sts) (drop (rowOf false C) I)
+pub run-begins : (C : List Line) (k : ℕ) (S I : List ℕ) → run false C (suc k) S I ≡ stepZero C S I .sigs ∷ steps false C k (stepZero C S I .sts) (drop (rowLength false C) I)
 unfolding run steps stepZero
 run-begins C k S I = refl
 
 -- and it depends on the first row alone
-pub first-row : (C : List Line) (S I : List ℕ) → stepZero C S (take (rowOf false C) I) ≡ stepZero C S I
+pub first-row : (C : List Line) (S I : List ℕ) → stepZero C S (take (rowLength false C) I) ≡ stepZero C S I
 unfolding stepZero start
-first-row C S I = ap (λ (ι : List ℕ). step false false C (step false true C S ι .sts) ι) (take-take (rowOf false C) (rowOf false C) I (le-refl (rowOf false C)))
+first-row C S I = ap (λ (ι : List ℕ). step false false C (step false true C S ι .sts) ι) (take-take (rowLength false C) (rowLength false C) I (le-refl (rowLength false C)))
 
 -- the value of a line's cell, from the start words and one row; a word is its cell 0
 unfoldable pub peekAt : List Line → (S R : List ℕ) (line cell : ℕ) → ℕ

@@ -1,4 +1,4 @@
-// The pass over the lines before a run: where each line has its cells and its place, and the classes of the signals.
+// The pass over the lines before a run: where each line has its cells and its place, and which signals are bad lines.
 use area::LAID;
 use circuits::Spot;
 use circuits::Totals;
@@ -11,14 +11,17 @@ ghost use mathlib.Core.Path.{_≡_};
 ghost use mathlib.Core.List.{_++_};
 ghost use Prim.Native.Nat.{_≤_, _+_, _<_};
 ghost use lib.ListN.{length, set, take};
-ghost use Rattle.circuits.specs.Layout.{size, countOf, layout};
+ghost use Rattle.circuits.specs.Layout.{size, countsAfter, layout};
 ghost use Rattle.tables.specs.Lines.{lineOf};
-ghost use Rattle.circuits.specs.Model.{countsOf, totalsOf, Small, placeBy, laidAs, Shows, Noted, markOf, marks};
+ghost use Rattle.circuits.specs.Model.Work.{laidAs};
+ghost use Rattle.circuits.specs.Model.Places.{ShowsAll};
+ghost use Rattle.circuits.specs.Model.Passes.{countsOf, totalsOf, Small, spotBy, Noted};
+ghost use Rattle.circuits.specs.Model.Signals.{markOf, marks};
 ghost use Rattle.tables.specs.Layout.{linesOf};
 ghost use Rattle.tables.specs.Tables.{checked};
 
 // The cells of a line of the type y.
-pub fn cells_of(y: Ty) -> usize
+fn cells_of(y: Ty) -> usize
     requires { ⌜ y .iw ≤ 8 ⌝ }
     ensures { λ r. ⌜ r ≡ size y ⌝ }
 {
@@ -28,7 +31,7 @@ pub fn cells_of(y: Ty) -> usize
 // The counts after a line of m cells.
 fn count_line(rec: [u64; WORDS], m: usize, t: Totals) -> Totals
     requires { ⌜ Small (countsOf t) m ⌝ }
-    ensures { λ r. ⌜ r ≡ totalsOf (countOf (countsOf t) m (lineOf rec)) ⌝ }
+    ensures { λ r. ⌜ r ≡ totalsOf (countsAfter (countsOf t) m (lineOf rec)) ⌝ }
 {
     let k = rec[0];
     match k {
@@ -70,7 +73,7 @@ fn more_cells(m: usize, t: Totals) -> Totals
 
 // The place of a line after those counted.
 fn find_spot(rec: [u64; WORDS], t: Totals) -> Spot
-    ensures { λ r. ⌜ (r .off ≡ placeBy (countsOf t) (lineOf rec) .off) × (r .at ≡ placeBy (countsOf t) (lineOf rec) .at) ⌝ }
+    ensures { λ r. ⌜ r ≡ spotBy (countsOf t) (lineOf rec) ⌝ }
 {
     let k = rec[0];
     match k {
@@ -115,7 +118,7 @@ pub fn lay_out(
     laid: &mut [[u32; LAID]],
 ) -> Totals
     requires { ⌜ Noted program (now table) count (now notes) × (length (now laid) ≡ 16385) ⌝ }
-    ensures { λ r. ⌜ Shows (now (laid .exit)) (layout program (linesOf program (now (table .entry)) count))
+    ensures { λ r. ⌜ ShowsAll (now (laid .exit)) (layout program (linesOf program (now (table .entry)) count))
         × (r ≡ totalsOf (layout program (linesOf program (now (table .entry)) count) .counts)) ⌝ }
 {
     let none = Spot { off: 0, at: 0 };
@@ -140,7 +143,7 @@ pub fn lay_out(
     t
 }
 
-// A record's signal, if it has one, goes to the classes after the g so far: 1 for a bad line, 0 for a constraint. Answers how many there are now.
+// A record's signal, if it has one, goes behind the g marks so far: 1 for a bad line, 0 for a constraint. Answers how many there are now.
 fn note_mark(rec: [u64; WORDS], g: usize, bad: &mut [u8]) -> usize
     requires { ⌜ g < length (now bad) ⌝ }
     ensures { λ r. ⌜ (take r (now (bad .exit)) ≡ take g (now (bad .entry)) ++ markOf (lineOf rec)) × (r ≡ g + length (markOf (lineOf rec))) ⌝ }
@@ -156,8 +159,8 @@ fn note_mark(rec: [u64; WORDS], g: usize, bad: &mut [u8]) -> usize
     g
 }
 
-// The classes of all signals, in line order.
-pub fn classes(program: bool, table: &[u64], count: usize, bad: &mut [u8])
+// A mark for each signal, in line order: 1 for a bad line, 0 for a constraint.
+pub fn bad_marks(program: bool, table: &[u64], count: usize, bad: &mut [u8])
     requires { ⌜ (checked program (now table) count ≡ Checked.Accepted) × (length (now bad) ≡ 16385) ⌝ }
     ensures { λ _. ⌜ take (length (marks (linesOf program (now (table .entry)) count))) (now (bad .exit)) ≡ marks (linesOf program (now (table .entry)) count) ⌝ }
 {

@@ -14,10 +14,10 @@ use Rattle.tables.specs.declared.Answer.the-variants.{Done, Refused}
 use Rattle.tables.specs.Pick.{pick}
 use Rattle.tables.specs.Layout.{whole, room, linesOf}
 use Rattle.tables.specs.Tables.{checked}
-use Rattle.tables.specs.Answers.{Outcome, told}
+use Rattle.tables.specs.Answers.{Outcome, told, fitting, ifAccepted}
 use Rattle.tables.proofs.Outcomes.{told-as}
 use Rattle.programs.specs.Translation.{hasArray}
-use Rattle.programs.specs.Answers.{programOf, fitting, flatOnly, answerOf, translated, targetLeft, translates}
+use Rattle.programs.specs.Answers.{programOf, flatOnly, translated, programLeft, translates}
 use Rattle.programs.specs.Model.Passes.{programIn, outcomeFor, makes}
 use Rattle.programs.proofs.Keeping.{zeros-count}
 
@@ -33,14 +33,14 @@ zeros-left r t n len z = ap (λ (x : List ℕ). told (Refused r 0) (x ∷ [])) z
 
 module _ (t : List ℕ) (n len : ℕ) {target : List ℕ} (z : target ≡ replicate len 0) where
   outcome-is : (a : Answer) → translated t n len ≡ a → outcomeFor a t n len ≡ translates t n len
-  unfolding translates targetLeft
+  unfolding translates programLeft
   outcome-is a e = ap (λ (y : Answer). outcomeFor y t n len) (sym e)
 
   refused : (r : Refusal) → translated t n len ≡ Refused r 0 → told (Refused r 0) (target ∷ []) ≡ translates t n len
   refused r e = zeros-left r t n len z ∙ outcome-is (Refused r 0) e
 
   abbrev rest : Checked → Answer
-  rest c = answerOf c (flatOnly (hasArray (linesOf false t n)) (fitting (length (programOf t n)) len))
+  rest c = ifAccepted c (flatOnly (hasArray (linesOf false t n)) (fitting true (length (programOf t n)) len))
 
   abbrev both : Bool → Bool → Answer
   both b d = pick (b && d) (rest (checked false t n)) (Refused NotATable 0)
@@ -65,14 +65,14 @@ module _ (t : List ℕ) (n len : ℕ) {target : List ℕ} (z : target ≡ replic
     not-accepted r q = refused r (checked-is (NotAccepted r) q)
 
     module _ (q : checked false t n ≡ Accepted) where
-      array-is : (b : Bool) → hasArray (linesOf false t n) ≡ b → translated t n len ≡ flatOnly b (fitting (length (programOf t n)) len)
-      array-is b a = checked-is Accepted q ∙ ap (λ (b : Bool). flatOnly b (fitting (length (programOf t n)) len)) a
+      array-is : (b : Bool) → hasArray (linesOf false t n) ≡ b → translated t n len ≡ flatOnly b (fitting true (length (programOf t n)) len)
+      array-is b a = checked-is Accepted q ∙ ap (λ (b : Bool). flatOnly b (fitting true (length (programOf t n)) len)) a
 
       pub array-there : hasArray (linesOf false t n) ≡ true → told (Refused ArrayPresent 0) (target ∷ []) ≡ translates t n len
       array-there a = refused ArrayPresent (array-is true a)
 
       pub made-is : hasArray (linesOf false t n) ≡ false → {o : Outcome} → o ≡ makes t n (length target) → o ≡ translates t n len
-      made-is a eo = eo ∙ ap (makes t n) (zeros-count len z) ∙ outcome-is (fitting (length (programOf t n)) len) (array-is false a)
+      made-is a eo = eo ∙ ap (makes t n) (zeros-count len z) ∙ outcome-is (fitting true (length (programOf t n)) len) (array-is false a)
 
 -- ---- the room of the target
 

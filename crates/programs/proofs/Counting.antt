@@ -10,16 +10,16 @@ use Rattle.tables.specs.Lines.{Line, wordsOf, kindIn}
 use Rattle.tables.specs.Layout.{recordAt, linesOf}
 use Rattle.tables.specs.Tables.{checked}
 use Rattle.programs.specs.Uses.{hasNeedingUse}
-use Rattle.programs.specs.Translation.{Info, noInfo, widthOf, numberOf, made, translateFrom, translate}
+use Rattle.programs.specs.Translation.{Known, noneKnown, operandWidth, operandNumber, instructionsOf, translateFrom, translate}
 use Rattle.programs.specs.Answers.{programOf}
-use Rattle.programs.specs.Model.Kinds.{numberAt, flagAt}
+use Rattle.programs.specs.Model.Kinds.{entryAt, flagAt}
 use Rattle.programs.specs.Model.Records.{emitted, Taken}
-use Rattle.programs.specs.Model.Passes.{Fresh, Prepared}
+use Rattle.programs.specs.Model.Passes.{Zeroed, Prepared}
 use Rattle.programs.proofs.Modelled.{Agrees, agrees}
 use Rattle.programs.proofs.Keeping.{Keeps, keeps-start, keeps-more, line-at, few-here, no-line, few-emitted}
 
 pub record Walk (z : ℕ) (t : List ℕ) (n i b : ℕ) (wd num lo : List ℕ) : Type 0 where
-  pub J : List Info
+  pub J : List Known
   pub wide : n < z
   pub keeps : Keeps z J wd num lo
   pub known : length J ≡ i + 1
@@ -31,19 +31,19 @@ pub record Walk (z : ℕ) (t : List ℕ) (n i b : ℕ) (wd num lo : List ℕ) : 
   pub place : length out + 1 ≡ b
   pub all : out ++ translateFrom (hasNeedingUse (linesOf false t n)) J b (drop i (linesOf false t n)) ≡ programOf t n
 
-start-lists : {n : ℕ} {wd num lo : List ℕ} → Fresh n wd num lo → Keeps (length wd) (noInfo ∷ []) wd num lo
+start-lists : {n : ℕ} {wd num lo : List ℕ} → Zeroed n wd num lo → Keeps (length wd) (noneKnown ∷ []) wd num lo
 start-lists {n} {wd} {num} {lo} f =
     let z = length wd in
-    subst⁻¹ (λ (x : List ℕ). Keeps z (noInfo ∷ []) x num lo) (f .no-wd)
-    (subst⁻¹ (λ (x : List ℕ). Keeps z (noInfo ∷ []) (replicate z 0) x lo) (f .no-num)
-    (subst⁻¹ (λ (x : List ℕ). Keeps z (noInfo ∷ []) (replicate z 0) (replicate z 0) x) (f .no-lo) (keeps-start z)))
+    subst⁻¹ (λ (x : List ℕ). Keeps z (noneKnown ∷ []) x num lo) (f .no-wd)
+    (subst⁻¹ (λ (x : List ℕ). Keeps z (noneKnown ∷ []) (replicate z 0) x lo) (f .no-num)
+    (subst⁻¹ (λ (x : List ℕ). Keeps z (noneKnown ∷ []) (replicate z 0) (replicate z 0) x) (f .no-lo) (keeps-start z)))
 
-pub walk-start : (t : List ℕ) (n : ℕ) {wd num lo : List ℕ} → Fresh n wd num lo → Walk (length wd) t n 0 1 wd num lo
+pub walk-start : (t : List ℕ) (n : ℕ) {wd num lo : List ℕ} → Zeroed n wd num lo → Walk (length wd) t n 0 1 wd num lo
 unfolding translate
 walk-start t n {wd} {num} {lo} f =
-    record { J = noInfo ∷ []; wide = f .wide; keeps = start-lists f; known = refl; most = omega arith; least = omega arith; few = omega arith; out = []; place = refl; all = refl }
+    record { J = noneKnown ∷ []; wide = f .wide; keeps = start-lists f; known = refl; most = omega arith; least = omega arith; few = omega arith; out = []; place = refl; all = refl }
 
-pub start-out : (t : List ℕ) (n : ℕ) {wd num lo : List ℕ} (f : Fresh n wd num lo) → walk-start t n f .out ≡ []
+pub start-out : (t : List ℕ) (n : ℕ) {wd num lo : List ℕ} (f : Zeroed n wd num lo) → walk-start t n f .out ≡ []
 unfolding walk-start
 start-out t n f = refl
 
@@ -53,21 +53,21 @@ module _ {z : ℕ} {t : List ℕ} {n i b : ℕ} {wd num lo : List ℕ} (K : Walk
 
   -- the line at hand, as the code finds it
   module _ (l : i < n) (nd : Bool) (en : nd ≡ N (i + 1)) where
-    pub at-hand : Agrees (numberAt wd) (numberAt num) (flagAt lo) nd b (recordAt false t i) (made N (K .J) b (line-at t n i e l .line))
+    pub at-hand : Agrees (entryAt wd) (entryAt num) (flagAt lo) nd b (recordAt false t i) (instructionsOf N (K .J) b (line-at t n i e l .line))
     at-hand =
         let x = line-at t n i e l in
         let a = agrees N (K .J) b (K .keeps .none) (x .line) (x .kinded) in
         let p : (nd ≡ N (length (K .J))) = en ∙ ap N (sym (K .known)) in
-        subst (λ (r : List ℕ). Agrees (numberAt wd) (numberAt num) (flagAt lo) nd b r (made N (K .J) b (x .line))) (x .words)
-        (subst⁻¹ (λ (d : Bool). Agrees (numberAt wd) (numberAt num) (flagAt lo) d b (wordsOf (x .line)) (made N (K .J) b (x .line))) p
-        (subst⁻¹ (λ (W : ℕ → ℕ). Agrees W (numberAt num) (flagAt lo) (N (length (K .J))) b (wordsOf (x .line)) (made N (K .J) b (x .line))) (λ j a. K .keeps .width a j)
-        (subst⁻¹ (λ (M : ℕ → ℕ). Agrees (widthOf (K .J)) M (flagAt lo) (N (length (K .J))) b (wordsOf (x .line)) (made N (K .J) b (x .line))) (λ j a. K .keeps .number a j)
-        (subst⁻¹ (λ (L : ℕ → Bool). Agrees (widthOf (K .J)) (numberOf (K .J)) L (N (length (K .J))) b (wordsOf (x .line)) (made N (K .J) b (x .line))) (λ j a. K .keeps .loose a j) a))))
+        subst (λ (r : List ℕ). Agrees (entryAt wd) (entryAt num) (flagAt lo) nd b r (instructionsOf N (K .J) b (x .line))) (x .words)
+        (subst⁻¹ (λ (d : Bool). Agrees (entryAt wd) (entryAt num) (flagAt lo) d b (wordsOf (x .line)) (instructionsOf N (K .J) b (x .line))) p
+        (subst⁻¹ (λ (W : ℕ → ℕ). Agrees W (entryAt num) (flagAt lo) (N (length (K .J))) b (wordsOf (x .line)) (instructionsOf N (K .J) b (x .line))) (λ j a. K .keeps .width a j)
+        (subst⁻¹ (λ (M : ℕ → ℕ). Agrees (operandWidth (K .J)) M (flagAt lo) (N (length (K .J))) b (wordsOf (x .line)) (instructionsOf N (K .J) b (x .line))) (λ j a. K .keeps .number a j)
+        (subst⁻¹ (λ (L : ℕ → Bool). Agrees (operandWidth (K .J)) (operandNumber (K .J)) L (N (length (K .J))) b (wordsOf (x .line)) (instructionsOf N (K .J) b (x .line))) (λ j a. K .keeps .loose a j) a))))
 
     -- the instructions ahead begin with the line's
     pub ahead : translateFrom N (K .J) b (drop i (linesOf false t n))
-        ≡ made N (K .J) b (line-at t n i e l .line) .code
-        ++ translateFrom N (K .J ++ (made N (K .J) b (line-at t n i e l .line) .info ∷ [])) (b + length (made N (K .J) b (line-at t n i e l .line) .code)) (drop (i + 1) (linesOf false t n))
+        ≡ instructionsOf N (K .J) b (line-at t n i e l .line) .code
+        ++ translateFrom N (K .J ++ (instructionsOf N (K .J) b (line-at t n i e l .line) .info ∷ [])) (b + length (instructionsOf N (K .J) b (line-at t n i e l .line) .code)) (drop (i + 1) (linesOf false t n))
     ahead = ap (translateFrom N (K .J) b) (line-at t n i e l .rest)
 
     module _ {m : Bool} {wd₁ num₁ lo₁ : List ℕ} {r : List ℕ} (er : r ≡ recordAt false t i) (T : Taken r (i + 1) nd b wd num lo wd₁ num₁ lo₁ m) where
@@ -75,12 +75,12 @@ module _ {z : ℕ} {t : List ℕ} {n i b : ℕ} {wd num lo : List ℕ} (K : Walk
       taken = subst (λ (x : List ℕ). Taken x (i + 1) nd b wd num lo wd₁ num₁ lo₁ m) er T
 
       -- as many as the code counts
-      pub count-is : length (made N (K .J) b (line-at t n i e l .line) .code) ≡ emitted (kindIn r) m
+      pub count-is : length (instructionsOf N (K .J) b (line-at t n i e l .line) .code) ≡ emitted (kindIn r) m
       count-is = at-hand .count ∙ ap (emitted (kindIn (recordAt false t i))) (sym (taken .mask)) ∙ ap (λ (x : List ℕ). emitted (kindIn x) m) (sym er)
 
       pub walk-more : Walk z t n (i + 1) (b + emitted (kindIn r) m) wd₁ num₁ lo₁
       walk-more =
-          let c = made N (K .J) b (line-at t n i e l .line) in
+          let c = instructionsOf N (K .J) b (line-at t n i e l .line) in
           record {
             J = K .J ++ (c .info ∷ []);
             wide = K .wide;
@@ -97,7 +97,7 @@ module _ {z : ℕ} {t : List ℕ} {n i b : ℕ} {wd num lo : List ℕ} (K : Walk
                 ∙ ap (λ (x : List Line). K .out ++ x) (sym ahead) ∙ K .all;
           }
 
-      pub more-out : walk-more .out ≡ K .out ++ made N (K .J) b (line-at t n i e l .line) .code
+      pub more-out : walk-more .out ≡ K .out ++ instructionsOf N (K .J) b (line-at t n i e l .line) .code
       unfolding walk-more
       more-out = refl
 

@@ -17,18 +17,18 @@ use Rattle.tables.specs.Lines.{wordsOf}
 use Rattle.tables.specs.Layout.{whole, held, room, linesOf, filled}
 use Rattle.tables.specs.Types.{noCtx}
 use Rattle.tables.specs.Tables.{checked}
-use Rattle.tables.specs.Answers.{told}
+use Rattle.tables.specs.Answers.{told, fitting, ifAccepted, leftBy}
 use Rattle.tables.proofs.Kept.{both}
 use Rattle.tables.proofs.Checking.{roomy}
 use Rattle.tables.proofs.Facts.{AllOk}
 use Rattle.tables.proofs.Sound.{accepted-ok}
 use Rattle.tables.proofs.Encoding.{lines-back}
 use Rattle.programs.specs.Translation.{hasArray}
-use Rattle.programs.specs.Answers.{programOf, fitting, flatOnly, answerOf, translated, leftOf, targetLeft, translates}
+use Rattle.programs.specs.Answers.{programOf, flatOnly, translated, programLeft, translates}
 use Rattle.programs.proofs.Accepted.{translated-ok, program-accepted}
 
 -- the outcome, for a caller
-pub translates-told : (t : List ℕ) (n len : ℕ) → translates t n len ≡ told (translated t n len) (targetLeft t n len ∷ [])
+pub translates-told : (t : List ℕ) (n len : ℕ) → translates t n len ≡ told (translated t n len) (programLeft t n len ∷ [])
 unfolding translates
 translates-told t n len = refl
 
@@ -51,16 +51,16 @@ is-done t n len m e = by-whole (whole false (length t) && whole true len) refl e
         record { accepted = a; flat = f; count = c; fits = subst⁻¹ (λ (x : ℕ). x ≤ room true len) c (leb-true (length (programOf t n)) (room true len) q); even = w }
     by-room false q a f w e = let z : _≡_ {A = ℕ} 0 1 = cc in absurd (omega arith)
 
-    by-array : (b : Bool) → hasArray (linesOf false t n) ≡ b → checked false t n ≡ Accepted → whole true len ≡ true → flatOnly b (fitting (length (programOf t n)) len) ≡ Done m → IsDone t n len m
+    by-array : (b : Bool) → hasArray (linesOf false t n) ≡ b → checked false t n ≡ Accepted → whole true len ≡ true → flatOnly b (fitting true (length (programOf t n)) len) ≡ Done m → IsDone t n len m
     by-array true q a w e = let z : _≡_ {A = ℕ} 0 1 = cc in absurd (omega arith)
     by-array false q a w e = by-room (leb (length (programOf t n)) (room true len)) refl a q w e
 
-    by-check : (c : Checked) → checked false t n ≡ c → whole true len ≡ true → answerOf c (flatOnly (hasArray (linesOf false t n)) (fitting (length (programOf t n)) len)) ≡ Done m → IsDone t n len m
+    by-check : (c : Checked) → checked false t n ≡ c → whole true len ≡ true → ifAccepted c (flatOnly (hasArray (linesOf false t n)) (fitting true (length (programOf t n)) len)) ≡ Done m → IsDone t n len m
     by-check Accepted q w e = by-array (hasArray (linesOf false t n)) refl q w e
     by-check (NotAccepted r) q w e = let z : _≡_ {A = ℕ} 0 1 = cc in absurd (omega arith)
 
     by-whole : (b : Bool) → (whole false (length t) && whole true len) ≡ b
-        → pick b (answerOf (checked false t n) (flatOnly (hasArray (linesOf false t n)) (fitting (length (programOf t n)) len))) (Refused NotATable 0) ≡ Done m → IsDone t n len m
+        → pick b (ifAccepted (checked false t n) (flatOnly (hasArray (linesOf false t n)) (fitting true (length (programOf t n)) len))) (Refused NotATable 0) ≡ Done m → IsDone t n len m
     by-whole true q e = by-check (checked false t n) refl (both (whole false (length t)) (whole true len) q .1) e
     by-whole false q e = let z : _≡_ {A = ℕ} 0 1 = cc in absurd (omega arith)
 
@@ -76,19 +76,19 @@ module _ (t : List ℕ) (n len m : ℕ) (e : translated t n len ≡ Done m) wher
   roomy-here = roomy true len (length (programOf t n)) (omega (arith, done .count, done .fits))
 
   -- the target holds them, and zeros
-  target-is : targetLeft t n len ≡ filled true len (map wordsOf (programOf t n))
-  unfolding targetLeft
-  target-is = ap (λ (r : Answer). leftOf r len (programOf t n)) e
+  target-is : programLeft t n len ≡ filled true len (map wordsOf (programOf t n))
+  unfolding programLeft
+  target-is = ap (λ (r : Answer). leftBy r len (filled true len (map wordsOf (programOf t n)))) e
 
   -- neither 1 nor 20 holds of it with the count answered
-  pub target-accepted : checked true (targetLeft t n len) m ≡ Accepted
+  pub target-accepted : checked true (programLeft t n len) m ≡ Accepted
   target-accepted =
       ap (λ (x : List ℕ). checked true x m) target-is
       ∙ ap (checked true (filled true len (map wordsOf (programOf t n)))) (done .count)
       ∙ program-accepted (linesOf false t n) len flat-ok (done .flat) (roomy-here .1) (roomy-here .0) (done .even)
 
   -- and its lines are the program of the flat circuit
-  pub target-lines : linesOf true (targetLeft t n len) m ≡ programOf t n
+  pub target-lines : linesOf true (programLeft t n len) m ≡ programOf t n
   target-lines =
       ap (λ (x : List ℕ). linesOf true x m) target-is ∙ ap (linesOf true (filled true len (map wordsOf (programOf t n)))) (done .count)
       ∙ lines-back true (programOf t n) len (roomy-here .1) (translated-ok (linesOf false t n) flat-ok (done .flat))

@@ -9,7 +9,7 @@ use lib.ListN.{length}
 use lib.Seq.{getD-at}
 use Rattle.tables.specs.Lines.{Line}
 use Rattle.tables.specs.Types.{noTy}
-use Rattle.circuits.specs.Layout.{Layout, noPlace, typeAt, placeAt, typeOf, placeOf, lay}
+use Rattle.circuits.specs.Layout.{Layout, typeAt, placeAt, lineTypeIn, placeOf, lay}
 use Rattle.circuits.proofs.Laid.{grew}
 use Rattle.programs.proofs.Lists.{length-snoc, below-snoc}
 
@@ -40,7 +40,7 @@ grew-more g h =
 
 module _ (p : Bool) {Z : Layout} (ev : Even Z) (l : Line) where
   pub line-more : lines (lay p Z l) ≡ suc (lines Z)
-  line-more = length-snoc (Z .ctx .tys) (typeOf p Z l)
+  line-more = length-snoc (Z .ctx .tys) (lineTypeIn p Z l)
 
   pub even-line : Even (lay p Z l)
   even-line = record { alike = length-snoc (Z .places) (placeOf Z l) ∙ ap suc (ev .alike) ∙ sym line-more }
@@ -48,15 +48,15 @@ module _ (p : Bool) {Z : Layout} (ev : Even Z) (l : Line) where
   pub grew-line : Grew Z (lay p Z l)
   grew-line =
       record {
-        types = λ n h. below-snoc (Z .ctx .tys) (typeOf p Z l) noTy n h;
-        places = λ n h. below-snoc (Z .places) (placeOf Z l) noPlace n (omega (arith, ev .alike));
+        types = λ n h. below-snoc (Z .ctx .tys) (lineTypeIn p Z l) noTy n h;
+        places = λ n h. below-snoc (Z .places) (placeOf Z l) 0 n (omega (arith, ev .alike));
         longer = omega (arith, line-more);
         states = grew (Z .counts) _ l .states;
       }
 
   -- the new line itself, number b
-  pub new-type : (b : ℕ) → b ≡ lines Z → typeAt (lay p Z l) b ≡ typeOf p Z l
-  new-type b e = getD-at (Z .ctx .tys) (typeOf p Z l) [] noTy b (sym e)
+  pub new-type : (b : ℕ) → b ≡ lines Z → typeAt (lay p Z l) b ≡ lineTypeIn p Z l
+  new-type b e = getD-at (Z .ctx .tys) (lineTypeIn p Z l) [] noTy b (sym e)
 
   pub new-place : (b : ℕ) → b ≡ lines Z → placeAt (lay p Z l) b ≡ placeOf Z l
-  new-place b e = getD-at (Z .places) (placeOf Z l) [] noPlace b (ev .alike ∙ sym e)
+  new-place b e = getD-at (Z .places) (placeOf Z l) [] 0 b (ev .alike ∙ sym e)

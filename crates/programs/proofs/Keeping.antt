@@ -10,7 +10,7 @@ use lib.Seq.{getD-at, drop-cons, getD-set-same, getD-set-other}
 use Rattle.words.specs.Word.{bit}
 use Rattle.tables.specs.declared.Checked.the-variants.{Accepted}
 use Rattle.tables.specs.Pick.{pick}
-use Rattle.tables.specs.Lines.{Line, Expr, lineOf, wordsOf, kindIn, junk, bitvec, array, input, state, val, give, mark, output, const, one, two, cmp, ite, read, write}
+use Rattle.tables.specs.Lines.{Line, Expr, lineOf, wordsOf, kindIn, unknown, bitvec, array, input, state, value, initOrNext, signal, output, const, unary, binary, equality, ite, read, write}
 use Rattle.tables.specs.Layout.{held, recordAt, recordsOf, linesOf}
 use Rattle.tables.specs.Types.{Ctx, tyAt, given, grow, noCtx}
 use Rattle.tables.specs.Tables.{known, formed, keeps, lawful, checked}
@@ -24,10 +24,10 @@ use Rattle.tables.proofs.Encoding.{fits-table}
 use Rattle.tables.proofs.Facts.{Ok, OkExpr, AllOk}
 use Rattle.tables.proofs.Sound.{accepted-lawful, accepted-ok}
 use Rattle.circuits.proofs.Walked.{line-here}
-use Rattle.programs.specs.Translation.{Info, noInfo, infoAt, widthOf, numberOf, looseOf}
-use Rattle.programs.specs.Model.Kinds.{numberAt, flagAt}
+use Rattle.programs.specs.Translation.{Known, noneKnown, knownAt, operandWidth, operandNumber, looseOf}
+use Rattle.programs.specs.Model.Kinds.{entryAt, flagAt}
 use Rattle.programs.specs.Model.Records.{looseIn, widthIn, numberIn, emitted, Taken}
-use Rattle.programs.specs.Model.Passes.{Fresh}
+use Rattle.programs.specs.Model.Passes.{Zeroed}
 use Rattle.programs.proofs.Modelled.{Kinded, KindedExpr, infoIn}
 
 -- ---- the lists
@@ -38,12 +38,12 @@ pub record Ample (size : ℕ) (wd num lo : List ℕ) : Type 0 where
   pub of-num : length num ≡ size
   pub of-lo : length lo ≡ size
 
-pub record Keeps (z : ℕ) (J : List Info) (wd num lo : List ℕ) : Type 0 where
-  pub width : (a : ℕ) → numberAt wd a ≡ widthOf J a
-  pub number : (a : ℕ) → numberAt num a ≡ numberOf J a
+pub record Keeps (z : ℕ) (J : List Known) (wd num lo : List ℕ) : Type 0 where
+  pub width : (a : ℕ) → entryAt wd a ≡ operandWidth J a
+  pub number : (a : ℕ) → entryAt num a ≡ operandNumber J a
   pub loose : (a : ℕ) → flagAt lo a ≡ looseOf J a
   pub size : Ample z wd num lo
-  pub none : widthOf J 0 ≡ 0
+  pub none : operandWidth J 0 ≡ 0
 
 -- a list of zeros has their number
 pub zeros-count : {ys : List ℕ} (z : ℕ) → ys ≡ replicate z 0 → length ys ≡ z
@@ -60,7 +60,7 @@ few-emitted k m = go (leb k 2) m
     go false true = omega arith
     go false false = omega arith
 
-pub keeps-start : (z : ℕ) → Keeps z (noInfo ∷ []) (replicate z 0) (replicate z 0) (replicate z 0)
+pub keeps-start : (z : ℕ) → Keeps z (noneKnown ∷ []) (replicate z 0) (replicate z 0) (replicate z 0)
 keeps-start z =
     record {
       width = λ a. zeros-at z a ∙ sym (empty-width a);
@@ -70,15 +70,15 @@ keeps-start z =
       none = refl;
     }
   where
-    empty-width : (a : ℕ) → widthOf (noInfo ∷ []) a ≡ 0
+    empty-width : (a : ℕ) → operandWidth (noneKnown ∷ []) a ≡ 0
     empty-width zero = refl
     empty-width (suc a) = refl
 
-    empty-number : (a : ℕ) → numberOf (noInfo ∷ []) a ≡ 0
+    empty-number : (a : ℕ) → operandNumber (noneKnown ∷ []) a ≡ 0
     empty-number zero = refl
     empty-number (suc a) = refl
 
-    empty-loose : (a : ℕ) → looseOf (noInfo ∷ []) a ≡ false
+    empty-loose : (a : ℕ) → looseOf (noneKnown ∷ []) a ≡ false
     empty-loose zero = refl
     empty-loose (suc a) = refl
 
@@ -87,26 +87,26 @@ flag-bit true = refl
 flag-bit false = refl
 
 -- an entry set at the place n, against a list with one entry more
-entry-more : (A : Type 0) (g : Info → A) (h : ℕ → A) (J : List Info) (f : Info) (xs : List ℕ) (n v : ℕ) → length J ≡ n → n < length xs → ((a : ℕ) → h (getD xs a 0) ≡ g (infoAt J a)) → h v ≡ g f
-    → (a : ℕ) → h (getD (set xs n v) a 0) ≡ g (infoAt (J ++ (f ∷ [])) a)
+entry-more : (A : Type 0) (g : Known → A) (h : ℕ → A) (J : List Known) (f : Known) (xs : List ℕ) (n v : ℕ) → length J ≡ n → n < length xs → ((a : ℕ) → h (getD xs a 0) ≡ g (knownAt J a)) → h v ≡ g f
+    → (a : ℕ) → h (getD (set xs n v) a 0) ≡ g (knownAt (J ++ (f ∷ [])) a)
 entry-more A g h J f xs n v e l k q a =
     by-place a n
-    (λ z. ap (λ (x : ℕ). h (getD (set xs n v) x 0)) z ∙ ap h (getD-set-same xs n v 0 l) ∙ q ∙ sym (ap (λ (x : ℕ). g (infoAt (J ++ (f ∷ [])) x)) z ∙ ap g (getD-at J f [] noInfo n e)))
-    (λ z. ap h (getD-set-other xs n a v 0 z) ∙ k a ∙ sym (ap g (snoc-other J f noInfo a (λ y. z (y ∙ e)))))
+    (λ z. ap (λ (x : ℕ). h (getD (set xs n v) x 0)) z ∙ ap h (getD-set-same xs n v 0 l) ∙ q ∙ sym (ap (λ (x : ℕ). g (knownAt (J ++ (f ∷ [])) x)) z ∙ ap g (getD-at J f [] noneKnown n e)))
+    (λ z. ap h (getD-set-other xs n a v 0 z) ∙ k a ∙ sym (ap g (snoc-other J f noneKnown a (λ y. z (y ∙ e)))))
 
-pub keeps-more : {z : ℕ} {J : List Info} {f : Info} {r wd num lo wd₁ num₁ lo₁ : List ℕ} {n b : ℕ} {nd m : Bool} → Keeps z J wd num lo → Taken r n nd b wd num lo wd₁ num₁ lo₁ m → length J ≡ n → 1 ≤ n → n < z
-    → f ≡ infoIn (numberAt wd) (numberAt num) (flagAt lo) nd b r → Keeps z (J ++ (f ∷ [])) wd₁ num₁ lo₁
+pub keeps-more : {z : ℕ} {J : List Known} {f : Known} {r wd num lo wd₁ num₁ lo₁ : List ℕ} {n b : ℕ} {nd m : Bool} → Keeps z J wd num lo → Taken r n nd b wd num lo wd₁ num₁ lo₁ m → length J ≡ n → 1 ≤ n → n < z
+    → f ≡ infoIn (entryAt wd) (entryAt num) (flagAt lo) nd b r → Keeps z (J ++ (f ∷ [])) wd₁ num₁ lo₁
 keeps-more {z} {J} {f} {r} {wd} {num} {lo} {n = n} {b} {nd} {m} k t e h l q =
     record {
-      width = rw (t .widths) (entry-more ℕ (λ (x : Info). x .w) (λ (x : ℕ). x) J f wd n (widthIn (numberAt wd) r) e (omega (arith, k .size .of-wd)) (k .width) (sym (ap (λ (x : Info). x .w) q)));
-      number = rw (t .numbers) (entry-more ℕ (λ (x : Info). x .num) (λ (x : ℕ). x) J f num n (numberIn (kindIn r) b m) e (omega (arith, k .size .of-num)) (k .number) (ap (numberIn (kindIn r) b) (t .mask) ∙ sym (ap (λ (x : Info). x .num) q)));
-      loose = rw (t .flags) (entry-more Bool (λ (x : Info). x .loose) (λ (x : ℕ). eqb x 1) J f lo n (bit (looseIn (numberAt wd) (flagAt lo) r)) e (omega (arith, k .size .of-lo)) (k .loose) (flag-bit (looseIn (numberAt wd) (flagAt lo) r) ∙ sym (ap (λ (x : Info). x .loose) q)));
+      width = rw (t .widths) (entry-more ℕ (λ (x : Known). x .w) (λ (x : ℕ). x) J f wd n (widthIn (entryAt wd) r) e (omega (arith, k .size .of-wd)) (k .width) (sym (ap (λ (x : Known). x .w) q)));
+      number = rw (t .numbers) (entry-more ℕ (λ (x : Known). x .num) (λ (x : ℕ). x) J f num n (numberIn (kindIn r) b m) e (omega (arith, k .size .of-num)) (k .number) (ap (numberIn (kindIn r) b) (t .mask) ∙ sym (ap (λ (x : Known). x .num) q)));
+      loose = rw (t .flags) (entry-more Bool (λ (x : Known). x .loose) (λ (x : ℕ). eqb x 1) J f lo n (bit (looseIn (entryAt wd) (flagAt lo) r)) e (omega (arith, k .size .of-lo)) (k .loose) (flag-bit (looseIn (entryAt wd) (flagAt lo) r) ∙ sym (ap (λ (x : Known). x .loose) q)));
       size = record {
-        of-wd = ap length (t .widths) ∙ length-set wd n (widthIn (numberAt wd) r) ∙ k .size .of-wd;
+        of-wd = ap length (t .widths) ∙ length-set wd n (widthIn (entryAt wd) r) ∙ k .size .of-wd;
         of-num = ap length (t .numbers) ∙ length-set num n (numberIn (kindIn r) b m) ∙ k .size .of-num;
-        of-lo = ap length (t .flags) ∙ length-set lo n (bit (looseIn (numberAt wd) (flagAt lo) r)) ∙ k .size .of-lo;
+        of-lo = ap length (t .flags) ∙ length-set lo n (bit (looseIn (entryAt wd) (flagAt lo) r)) ∙ k .size .of-lo;
       };
-      none = ap (λ (x : Info). x .w) (snoc-other J f noInfo 0 (λ z. omega arith)) ∙ k .none;
+      none = ap (λ (x : Known). x .w) (snoc-other J f noneKnown 0 (λ z. omega arith)) ∙ k .none;
     }
 
 -- ---- the line at hand
@@ -125,9 +125,9 @@ formed-at p c (r ∷ rs) h (suc i) l = formed-at p (grow p c (lineOf r)) rs (bot
 
 kinded-expr : (c : Ctx) (s : ℕ) (x : Expr) → OkExpr false (tyAt c) (tyAt c s) x → KindedExpr x
 kinded-expr c s (const v) k = tt
-kinded-expr c s (one n a x y) k = k .kind
-kinded-expr c s (two n a b) k = (k .least, k .most)
-kinded-expr c s (cmp e a b) k = tt
+kinded-expr c s (unary n a x y) k = k .kind
+kinded-expr c s (binary n a b) k = (k .least, k .most)
+kinded-expr c s (equality e a b) k = tt
 kinded-expr c s (ite d a b) k = tt
 kinded-expr c s (read a i) k = tt
 kinded-expr c s (write a i v) k = tt
@@ -137,13 +137,13 @@ kinded-line c (bitvec w) k = tt
 kinded-line c (array i e) k = tt
 kinded-line c (input s) k = tt
 kinded-line c (state s) k = tt
-kinded-line c (val s x) k = kinded-expr c s x k
-kinded-line c (give m s q v) k = tt
-kinded-line c (mark m a) k = tt
+kinded-line c (value s x) k = kinded-expr c s x k
+kinded-line c (initOrNext m s q v) k = tt
+kinded-line c (signal m a) k = tt
 kinded-line c (output a) k = tt
-kinded-line c junk k = tt
+kinded-line c unknown k = tt
 
-kinded-at : (c : Ctx) (ls : List Line) → AllOk false c ls → (i : ℕ) → i < length ls → Kinded (getD ls i junk)
+kinded-at : (c : Ctx) (ls : List Line) → AllOk false c ls → (i : ℕ) → i < length ls → Kinded (getD ls i unknown)
 kinded-at c [] k i l = absurd (omega arith)
 kinded-at c (x ∷ ls) k zero l = kinded-line c x (k .0)
 kinded-at c (x ∷ ls) k (suc i) l = kinded-at (grow false c x) ls (k .1) i (omega arith)
@@ -154,12 +154,12 @@ line-at t n i e l =
     let li : i < length rs = omega (arith, length-records false t n) in
     let ra : getD rs i [] ≡ recordAt false t i = record-at false t n i l in
     let fo : formed false (recordAt false t i) ≡ true = subst (λ (r : List ℕ). formed false r ≡ true) ra (formed-at false noCtx rs (accepted-lawful false t n e) i li) in
-    let x : getD (linesOf false t n) i junk ≡ lineOf (recordAt false t i) = line-here false t n e i l in
+    let x : getD (linesOf false t n) i unknown ≡ lineOf (recordAt false t i) = line-here false t n e i l in
     let many : i < length (linesOf false t n) = omega (arith, length-lines false t n) in
     let s : suc i ≡ i + 1 = omega arith in
     record {
       line = lineOf (recordAt false t i);
-      rest = drop-cons (linesOf false t n) i junk many ∙ ap₂ (λ (y : Line) (k : ℕ). y ∷ drop k (linesOf false t n)) x s;
+      rest = drop-cons (linesOf false t n) i unknown many ∙ ap₂ (λ (y : Line) (k : ℕ). y ∷ drop k (linesOf false t n)) x s;
       words = words-back false (recordAt false t i) (length-record false t i) fo;
       kinded = subst Kinded x (kinded-at noCtx (linesOf false t n) (accepted-ok false t n e) i many);
       kind = range 1 55 (kindIn (recordAt false t i)) (both (known false (kindIn (recordAt false t i))) _ fo .0) .1;
@@ -177,7 +177,7 @@ module _ (t : List ℕ) (n i : ℕ) (e : checked false t n ≡ Accepted) (l : i 
   kind-here er = subst⁻¹ (λ (x : List ℕ). kindIn x ≤ 55) er (line-at t n i e l .kind)
 
 -- lists of zeros with an entry for each line number that a table can have
-pub fresh-many : (t : List ℕ) (n : ℕ) → checked false t n ≡ Accepted → Fresh n (replicate 16385 0) (replicate 16385 0) (replicate 16385 0)
+pub fresh-many : (t : List ℕ) (n : ℕ) → checked false t n ≡ Accepted → Zeroed n (replicate 16385 0) (replicate 16385 0) (replicate 16385 0)
 fresh-many t n e = record { wide = omega (arith, fits-table false t n e .0, length-replicate {A = ℕ} 16385 0); no-wd = refl; no-num = refl; no-lo = refl }
 
 -- past the last line

@@ -15,42 +15,42 @@ use Rattle.tables.specs.Lines.{Line}
 use Rattle.tables.specs.Types.{ty, noTy, sortAt, tyAt, given}
 use Rattle.tables.proofs.Facts.{Ok}
 use Rattle.tables.proofs.Wide.{AllWide, grow-wide}
-use Rattle.circuits.specs.Layout.{Place, Layout, noPlace, typeAt, placeAt, typeOf, placeOf, lay, layAll}
-use Rattle.programs.specs.Translation.{Info, info, noInfo, infoAt, maskOf, withMask}
+use Rattle.circuits.specs.Layout.{Layout, typeAt, placeAt, lineTypeIn, placeOf, lay, layAll}
+use Rattle.programs.specs.Translation.{Known, info, noneKnown, knownAt, maskOf, withMask}
 use Rattle.programs.proofs.Lists.{length-snoc, snoc₃}
 use Rattle.programs.proofs.Grew.{lines, Even, Grew, grew-more, line-more, even-line, grew-line, new-type, new-place}
 
 -- ---- a line's type t and place q, and what the translator knows of it, f
 
-pub record Reg (Z : Layout) (t : Ty) (q : Place) (f : Info) : Type 0 where
+pub record Reg (Z : Layout) (t : Ty) (q : ℕ) (f : Known) : Type 0 where
   pub inb : f .num < lines Z
   pub type : typeAt Z (f .num) ≡ t
-  pub at : t .cls ≡ 4 → placeAt Z (f .num) .at ≡ q .at
-  pub low : t .cls ≡ 4 → q .at < Z .counts .states
+  pub at : t .role ≡ 4 → placeAt Z (f .num) ≡ q
+  pub low : t .role ≡ 4 → q < Z .counts .states
 
-pub record Rel (Z : Layout) (t : Ty) (q : Place) (f : Info) : Type 0 where
+pub record Rel (Z : Layout) (t : Ty) (q : ℕ) (f : Known) : Type 0 where
   pub flat : t .iw ≡ 0
-  pub sort : t .cls ≡ 1 → f .w ≡ t .w
-  pub value : 2 ≤ t .cls → Reg Z t q f
+  pub sort : t .role ≡ 1 → f .w ≡ t .w
+  pub value : 2 ≤ t .role → Reg Z t q f
 
-reg-grew : {Z Z′ : Layout} {t : Ty} {q : Place} {f : Info} → Grew Z Z′ → Reg Z t q f → Reg Z′ t q f
+reg-grew : {Z Z′ : Layout} {t : Ty} {q : ℕ} {f : Known} → Grew Z Z′ → Reg Z t q f → Reg Z′ t q f
 reg-grew {f = f} g r =
     record {
       inb = le-trans (r .inb) (g .longer);
       type = g .types (f .num) (r .inb) ∙ r .type;
-      at = λ e. ap (λ (x : Place). x .at) (g .places (f .num) (r .inb)) ∙ r .at e;
+      at = λ e. g .places (f .num) (r .inb) ∙ r .at e;
       low = λ e. le-trans (r .low e) (g .states);
     }
 
-rel-grew : {Z Z′ : Layout} {t : Ty} {q : Place} {f : Info} → Grew Z Z′ → Rel Z t q f → Rel Z′ t q f
+rel-grew : {Z Z′ : Layout} {t : Ty} {q : ℕ} {f : Known} → Grew Z Z′ → Rel Z t q f → Rel Z′ t q f
 rel-grew g r = record { flat = r .flat; sort = r .sort; value = λ h. reg-grew g (r .value h) }
 
-pub rel-none : {Z : Layout} {q : Place} {f : Info} → Rel Z noTy q f
+pub rel-none : {Z : Layout} {q : ℕ} {f : Known} → Rel Z noTy q f
 rel-none = record { flat = refl; sort = λ e. absurd (omega arith); value = λ h. absurd (omega arith) }
 
 -- ---- circuit Y, program Z
 
-pub record Laid (Y Z : Layout) (J : List Info) : Type 0 where
+pub record Laid (Y Z : Layout) (J : List Known) : Type 0 where
   pub evenY : Even Y
   pub evenZ : Even Z
   pub known : length J ≡ lines Y
@@ -58,12 +58,12 @@ pub record Laid (Y Z : Layout) (J : List Info) : Type 0 where
   pub inputs : Z .counts .inputs ≡ Y .counts .inputs
   pub signals : Z .counts .signals ≡ Y .counts .signals
   pub wide : AllWide (tyAt (Y .ctx))
-  pub rel : (i : ℕ) → Rel Z (typeAt Y i) (placeAt Y i) (infoAt J i)
+  pub rel : (i : ℕ) → Rel Z (typeAt Y i) (placeAt Y i) (knownAt J i)
 
 -- one line more, of which the program has what Z′ has more than Z
-pub laid-end : {Y Z Z′ : Layout} {J : List Info} (l : Line) (f : Info) → Laid Y Z J → Ok false (tyAt (Y .ctx)) (given (Y .ctx)) l → Grew Z Z′ → Even Z′
+pub laid-end : {Y Z Z′ : Layout} {J : List Known} (l : Line) (f : Known) → Laid Y Z J → Ok false (tyAt (Y .ctx)) (given (Y .ctx)) l → Grew Z Z′ → Even Z′
     → Z′ .counts .states ≡ lay false Y l .counts .states → Z′ .counts .inputs ≡ lay false Y l .counts .inputs → Z′ .counts .signals ≡ lay false Y l .counts .signals
-    → Rel Z′ (typeOf false Y l) (placeOf Y l) f → Laid (lay false Y l) Z′ (J ++ (f ∷ []))
+    → Rel Z′ (lineTypeIn false Y l) (placeOf Y l) f → Laid (lay false Y l) Z′ (J ++ (f ∷ []))
 laid-end {Y} {Z} {Z′} {J} l f v ok g ev es ei eg r =
     record {
       evenY = even-line false (v .evenY) l;
@@ -73,7 +73,7 @@ laid-end {Y} {Z} {Z′} {J} l f v ok g ev es ei eg r =
       inputs = ei;
       signals = eg;
       wide = grow-wide false (Y .ctx) l (v .wide) ok;
-      rel = snoc₃ noTy noPlace noInfo (λ i. Rel Z′) (Y .ctx .tys) (Y .places) J (v .evenY .alike) (v .known) (λ i. rel-grew g (v .rel i)) (λ i. rel-none) r;
+      rel = snoc₃ noTy 0 noneKnown (λ i. Rel Z′) (Y .ctx .tys) (Y .places) J (v .evenY .alike) (v .known) (λ i. rel-grew g (v .rel i)) (λ i. rel-none) r;
     }
 
 -- ---- a value instruction and its mask
@@ -83,17 +83,17 @@ pub sort-of-width : (L : ℕ → Ty) (w : ℕ) → 1 ≤ w → w ≤ 64 → sort
 sort-of-width L w h k = rw (le-leb 1 w h, le-leb w 64 k)
 
 -- the new value instruction l of a line that has the type t and the place q
-pub record Fresh (Z : Layout) (l : Line) (t : Ty) (q : Place) (w : ℕ) (lo : Bool) : Type 0 where
-  pub type : typeOf true Z l ≡ t
+pub record Fresh (Z : Layout) (l : Line) (t : Ty) (q : ℕ) (w : ℕ) (lo : Bool) : Type 0 where
+  pub type : lineTypeIn true Z l ≡ t
   pub flat : t .iw ≡ 0
   pub width : t .w ≡ w
   pub least : 1 ≤ w
   pub most : w ≤ 64
-  pub class : 2 ≤ t .cls
+  pub class : 2 ≤ t .role
   -- a loose line is no state
-  pub loose : lo ≡ true → t .cls ≤ 3
-  pub at : t .cls ≡ 4 → placeOf Z l .at ≡ q .at
-  pub low : t .cls ≡ 4 → q .at < lay true Z l .counts .states
+  pub loose : lo ≡ true → t .role ≤ 3
+  pub at : t .role ≡ 4 → placeOf Z l ≡ q
+  pub low : t .role ≡ 4 → q < lay true Z l .counts .states
 
 fixed-class : (c : ℕ) → 2 ≤ c → c ≤ 3 → pick (eqb c 2) 2 3 ≡ c
 fixed-class c h k = go (eqb c 2) refl
@@ -102,26 +102,26 @@ fixed-class c h k = go (eqb c 2) refl
     go true e = sym (eqb-true c 2 e)
     go false e = let n : (c ≡ 2 → ⊥) = eqb-false c 2 e in omega arith
 
-module _ {Z : Layout} (ev : Even Z) {l : Line} {t : Ty} {q : Place} {w : ℕ} {lo : Bool} (h : Fresh Z l t q w lo) (b : ℕ) (e : b ≡ lines Z) where
-  fresh-reg : (f : Info) → f .num ≡ b → Reg (lay true Z l) t q f
+module _ {Z : Layout} (ev : Even Z) {l : Line} {t : Ty} {q : ℕ} {w : ℕ} {lo : Bool} (h : Fresh Z l t q w lo) (b : ℕ) (e : b ≡ lines Z) where
+  fresh-reg : (f : Known) → f .num ≡ b → Reg (lay true Z l) t q f
   fresh-reg f n =
       record {
         inb = omega (arith, line-more true ev l);
         type = ap (typeAt (lay true Z l)) n ∙ new-type true ev l b e ∙ h .type;
-        at = λ c. ap (λ (x : ℕ). placeAt (lay true Z l) x .at) n ∙ ap (λ (x : Place). x .at) (new-place true ev l b e) ∙ h .at c;
+        at = λ c. ap (placeAt (lay true Z l)) n ∙ new-place true ev l b e ∙ h .at c;
         low = h .low;
       }
 
   -- a mask has its operand's type
-  pub mask-type : lo ≡ true → typeOf true (lay true Z l) (maskOf w b) ≡ t
+  pub mask-type : lo ≡ true → lineTypeIn true (lay true Z l) (maskOf w b) ≡ t
   mask-type o =
       let x : typeAt (lay true Z l) b ≡ t = new-type true ev l b e ∙ h .type in
       let s = sort-of-width (tyAt (lay true Z l .ctx)) w (h .least) (h .most) in
-      let p : typeOf true (lay true Z l) (maskOf w b) ≡ ty (pick (eqb (t .cls) 2) 2 3) 0 w = λ i. ty (pick (eqb (x i .cls) 2) 2 3) (s i .iw) (s i .w) in
-      let r : ty (pick (eqb (t .cls) 2) 2 3) 0 w ≡ t = λ i. ty (fixed-class (t .cls) (h .class) (h .loose o) i) (sym (h .flat) i) (sym (h .width) i) in
+      let p : lineTypeIn true (lay true Z l) (maskOf w b) ≡ ty (pick (eqb (t .role) 2) 2 3) 0 w = λ i. ty (pick (eqb (x i .role) 2) 2 3) (s i .iw) (s i .w) in
+      let r : ty (pick (eqb (t .role) 2) 2 3) 0 w ≡ t = λ i. ty (fixed-class (t .role) (h .class) (h .loose o) i) (sym (h .flat) i) (sym (h .width) i) in
       p ∙ r
 
-  mask-reg : lo ≡ true → (f : Info) → f .num ≡ suc b → Reg (lay true (lay true Z l) (maskOf w b)) t q f
+  mask-reg : lo ≡ true → (f : Known) → f .num ≡ suc b → Reg (lay true (lay true Z l) (maskOf w b)) t q f
   mask-reg o f n =
       let ev₁ = even-line true ev l in
       let e₁ : suc b ≡ lines (lay true Z l) = omega (arith, line-more true ev l) in
@@ -133,13 +133,13 @@ module _ {Z : Layout} (ev : Even Z) {l : Line} {t : Ty} {q : Place} {w : ℕ} {l
       }
 
 -- what is laid for a value line: its instruction, and the mask where it gets one
-pub record Puts (Z Z′ : Layout) (l : Line) (t : Ty) (q : Place) (f : Info) : Type 0 where
+pub record Puts (Z Z′ : Layout) (l : Line) (t : Ty) (q : ℕ) (f : Known) : Type 0 where
   pub grew : Grew Z Z′
   pub even : Even Z′
   pub counts : (Z′ .counts .states ≡ lay true Z l .counts .states) × (Z′ .counts .inputs ≡ lay true Z l .counts .inputs) × (Z′ .counts .signals ≡ lay true Z l .counts .signals)
   pub reg : Reg Z′ t q f
 
-pub puts : {Z : Layout} {l : Line} {t : Ty} {q : Place} {w : ℕ} (ev : Even Z) (b : ℕ) → b ≡ lines Z → (lo n : Bool) → Fresh Z l t q w lo
+pub puts : {Z : Layout} {l : Line} {t : Ty} {q : ℕ} {w : ℕ} (ev : Even Z) (b : ℕ) → b ≡ lines Z → (lo n : Bool) → Fresh Z l t q w lo
     → Puts Z (layAll true Z (withMask b w l lo n .code)) l t q (withMask b w l lo n .info)
 puts {l = l} ev b e false n h = record { grew = grew-line true ev l; even = even-line true ev l; counts = (refl, refl, refl); reg = fresh-reg ev h b e _ refl }
 puts {l = l} ev b e true false h = record { grew = grew-line true ev l; even = even-line true ev l; counts = (refl, refl, refl); reg = fresh-reg ev h b e _ refl }

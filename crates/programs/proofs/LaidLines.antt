@@ -7,15 +7,15 @@ use native.Mathlib.Omega.{arith}
 use lib.Dec.{eqb}
 use lib.ListN.{length}
 use Rattle.tables.specs.declared.Ty.{Ty}
-use Rattle.tables.specs.Lines.{Line, Expr, bitvec, array, input, state, val, give, mark, output, junk, const, one, two, cmp, ite, read, write}
+use Rattle.tables.specs.Lines.{Line, Expr, bitvec, array, input, state, value, initOrNext, signal, output, unknown, const, unary, binary, equality, ite, read, write}
 use Rattle.tables.specs.Types.{ty, noTy, sortAt, tyAt, given, noCtx, isFixed}
 use Rattle.tables.specs.Pick.{pick}
 use Rattle.tables.proofs.Kept.{no-yes}
 use Rattle.tables.proofs.Facts.{Ok, OkExpr, AllOk}
 use Rattle.tables.proofs.Values.{val-iw, val-w, val-value}
-use Rattle.circuits.specs.Layout.{Layout, typeAt, placeAt, typeOf, placeOf, size, lay, layAll, noLayout, layout}
+use Rattle.circuits.specs.Layout.{Layout, typeAt, placeAt, lineTypeIn, placeOf, size, lay, layAll, noLayout, layout}
 use Rattle.programs.specs.Uses.{looseLine, looseExpr, hasNeedingUse}
-use Rattle.programs.specs.Translation.{Info, info, noInfo, infoAt, widthOf, numberOf, looseOf, withMask, renumbered, made, isArraySort, hasArray, translateFrom, translate}
+use Rattle.programs.specs.Translation.{Known, info, noneKnown, knownAt, operandWidth, operandNumber, looseOf, withMask, renumbered, instructionsOf, arraySortLine, hasArray, translateFrom, translate}
 use Rattle.programs.proofs.Grew.{lines, Even, grew-none, line-more, even-line, grew-line}
 use Rattle.programs.proofs.Laid.{Rel, rel-none, Laid, laid-end, sort-of-width, Fresh, puts}
 
@@ -28,57 +28,57 @@ two-three : (b : Bool) → pick b 2 3 ≤ 3
 two-three true = omega arith
 two-three false = omega arith
 
-pub val-class : (Y : Layout) (s : ℕ) (x : Expr) → typeOf false Y (val s x) .cls ≤ 3
+pub val-class : (Y : Layout) (s : ℕ) (x : Expr) → lineTypeIn false Y (value s x) .role ≤ 3
 val-class Y s (const n) = omega arith
-val-class Y s (one n a x y) = two-three (isFixed (typeAt Y a))
-val-class Y s (two n a b) = two-three (isFixed (typeAt Y a) && isFixed (typeAt Y b))
-val-class Y s (cmp e a b) = two-three (isFixed (typeAt Y a) && isFixed (typeAt Y b))
+val-class Y s (unary n a x y) = two-three (isFixed (typeAt Y a))
+val-class Y s (binary n a b) = two-three (isFixed (typeAt Y a) && isFixed (typeAt Y b))
+val-class Y s (equality e a b) = two-three (isFixed (typeAt Y a) && isFixed (typeAt Y b))
 val-class Y s (ite c a b) = two-three (isFixed (typeAt Y c) && (isFixed (typeAt Y a) && isFixed (typeAt Y b)))
 val-class Y s (read a i) = two-three (isFixed (typeAt Y a) && isFixed (typeAt Y i))
 val-class Y s (write a i x) = two-three (isFixed (typeAt Y a) && (isFixed (typeAt Y i) && isFixed (typeAt Y x)))
 
-module _ {Y Z : Layout} {J : List Info} (v : Laid Y Z J) where
+module _ {Y Z : Layout} {J : List Known} (v : Laid Y Z J) where
   -- an operand has the type of its instruction
-  pub typed : (a : ℕ) → 2 ≤ typeAt Y a .cls → typeAt Z (numberOf J a) ≡ typeAt Y a
+  pub typed : (a : ℕ) → 2 ≤ typeAt Y a .role → typeAt Z (operandNumber J a) ≡ typeAt Y a
   typed a h = v .rel a .value h .type
 
   -- a sort line's width is its sort
-  pub sorted : (s : ℕ) → typeAt Y s .cls ≡ 1 → sortAt true (tyAt (Z .ctx)) (widthOf J s) ≡ typeAt Y s
+  pub sorted : (s : ℕ) → typeAt Y s .role ≡ 1 → sortAt true (tyAt (Z .ctx)) (operandWidth J s) ≡ typeAt Y s
   sorted s c =
       let r = v .rel s in
       let k = v .wide s (omega arith) in
-      let w : widthOf J s ≡ typeAt Y s .w = r .sort c in
-      let p : ty 1 0 (widthOf J s) ≡ typeAt Y s = λ i. ty (sym c i) (sym (r .flat) i) (w i) in
-      sort-of-width (tyAt (Z .ctx)) (widthOf J s) (omega (arith, k .least)) (omega (arith, k .most)) ∙ p
+      let w : operandWidth J s ≡ typeAt Y s .w = r .sort c in
+      let p : ty 1 0 (operandWidth J s) ≡ typeAt Y s = λ i. ty (sym c i) (sym (r .flat) i) (w i) in
+      sort-of-width (tyAt (Z .ctx)) (operandWidth J s) (omega (arith, k .least)) (omega (arith, k .most)) ∙ p
 
   -- ---- types of value lines
 
   as-sort : (c : ℕ) {t u : Ty} → t ≡ u → ty c (t .iw) (t .w) ≡ ty c (u .iw) (u .w)
   as-sort c e = λ i. ty c (e i .iw) (e i .w)
 
-  sort-class : (s : ℕ) (x : Expr) → OkExpr false (tyAt (Y .ctx)) (typeAt Y s) x → typeAt Y s .cls ≡ 1
+  sort-class : (s : ℕ) (x : Expr) → OkExpr false (tyAt (Y .ctx)) (typeAt Y s) x → typeAt Y s .role ≡ 1
   sort-class s (const n) k = k .sort .is
-  sort-class s (one n a x y) k = k .sort .is
-  sort-class s (two n a b) k = k .sort .is
-  sort-class s (cmp e a b) k = k .sort .is
+  sort-class s (unary n a x y) k = k .sort .is
+  sort-class s (binary n a b) k = k .sort .is
+  sort-class s (equality e a b) k = k .sort .is
   sort-class s (ite c a b) k = k .sort .is
   sort-class s (read a i) k = k .sort .is
   sort-class s (write a i x) k = k .sort .is
 
-  pub val-type : (s : ℕ) (x : Expr) → OkExpr false (tyAt (Y .ctx)) (typeAt Y s) x → typeOf true Z (val (widthOf J s) (renumbered (numberOf J) x)) ≡ typeOf false Y (val s x)
+  pub val-type : (s : ℕ) (x : Expr) → OkExpr false (tyAt (Y .ctx)) (typeAt Y s) x → lineTypeIn true Z (value (operandWidth J s) (renumbered (operandNumber J) x)) ≡ lineTypeIn false Y (value s x)
   val-type s (const n) k = rw (sorted s (k .sort .is))
-  val-type s (one n a x y) k = rw (sorted s (k .sort .is), typed a (k .arg .is))
-  val-type s (two n a b) k = rw (sorted s (k .sort .is), typed a (k .left .is), typed b (k .right .is))
-  val-type s (cmp e a b) k = rw (sorted s (k .sort .is), typed a (k .left .is), typed b (k .right .is))
+  val-type s (unary n a x y) k = rw (sorted s (k .sort .is), typed a (k .arg .is))
+  val-type s (binary n a b) k = rw (sorted s (k .sort .is), typed a (k .left .is), typed b (k .right .is))
+  val-type s (equality e a b) k = rw (sorted s (k .sort .is), typed a (k .left .is), typed b (k .right .is))
   val-type s (ite c a b) k = rw (sorted s (k .sort .is), typed c (k .cond .is), typed a (k .left .is), typed b (k .right .is))
   val-type s (read a i) k = absurd (omega (arith, v .rel a .flat, k .arr .deep))
   val-type s (write a i x) k = absurd (omega (arith, v .rel a .flat, k .arr .deep))
 
   -- ---- value lines
 
-  pub fresh-input : (s : ℕ) (lo : Bool) → Ok false (tyAt (Y .ctx)) (given (Y .ctx)) (input s) → Fresh Z (input (widthOf J s)) (typeOf false Y (input s)) (placeOf Y (input s)) (widthOf J s) lo
+  pub fresh-input : (s : ℕ) (lo : Bool) → Ok false (tyAt (Y .ctx)) (given (Y .ctx)) (input s) → Fresh Z (input (operandWidth J s)) (lineTypeIn false Y (input s)) (placeOf Y (input s)) (operandWidth J s) lo
   fresh-input s lo k =
-      let w : widthOf J s ≡ typeAt Y s .w = v .rel s .sort (k .is) in
+      let w : operandWidth J s ≡ typeAt Y s .w = v .rel s .sort (k .is) in
       let g = v .wide s (omega (arith, k .is)) in
       record {
         type = as-sort 3 (sorted s (k .is));
@@ -92,11 +92,11 @@ module _ {Y Z : Layout} {J : List Info} (v : Laid Y Z J) where
         low = λ c. absurd (omega arith);
       }
 
-  pub fresh-state : (s : ℕ) (lo : Bool) → (lo ≡ true → ⊥) → Ok false (tyAt (Y .ctx)) (given (Y .ctx)) (state s) → Fresh Z (state (widthOf J s)) (typeOf false Y (state s)) (placeOf Y (state s)) (widthOf J s) lo
+  pub fresh-state : (s : ℕ) (lo : Bool) → (lo ≡ true → ⊥) → Ok false (tyAt (Y .ctx)) (given (Y .ctx)) (state s) → Fresh Z (state (operandWidth J s)) (lineTypeIn false Y (state s)) (placeOf Y (state s)) (operandWidth J s) lo
   fresh-state s lo n k =
-      let w : widthOf J s ≡ typeAt Y s .w = v .rel s .sort (k .is) in
+      let w : operandWidth J s ≡ typeAt Y s .w = v .rel s .sort (k .is) in
       let g = v .wide s (omega (arith, k .is)) in
-      let z : size (sortAt true (tyAt (Z .ctx)) (widthOf J s)) ≡ 1 = ap size (sorted s (k .is)) ∙ ap (λ (x : ℕ). 2 ^ x) (v .rel s .flat) in
+      let z : size (sortAt true (tyAt (Z .ctx)) (operandWidth J s)) ≡ 1 = ap size (sorted s (k .is)) ∙ ap (λ (x : ℕ). 2 ^ x) (v .rel s .flat) in
       record {
         type = as-sort 4 (sorted s (k .is));
         flat = v .rel s .flat;
@@ -109,11 +109,11 @@ module _ {Y Z : Layout} {J : List Info} (v : Laid Y Z J) where
         low = λ c. omega (arith, v .states);
       }
 
-  pub fresh-val : (s : ℕ) (x : Expr) (lo : Bool) → Ok false (tyAt (Y .ctx)) (given (Y .ctx)) (val s x)
-      → Fresh Z (val (widthOf J s) (renumbered (numberOf J) x)) (typeOf false Y (val s x)) (placeOf Y (val s x)) (widthOf J s) lo
+  pub fresh-val : (s : ℕ) (x : Expr) (lo : Bool) → Ok false (tyAt (Y .ctx)) (given (Y .ctx)) (value s x)
+      → Fresh Z (value (operandWidth J s) (renumbered (operandNumber J) x)) (lineTypeIn false Y (value s x)) (placeOf Y (value s x)) (operandWidth J s) lo
   fresh-val s x lo k =
       let c = sort-class s x k in
-      let w : widthOf J s ≡ typeAt Y s .w = v .rel s .sort c in
+      let w : operandWidth J s ≡ typeAt Y s .w = v .rel s .sort c in
       let g = v .wide s (omega arith) in
       let n = val-class Y s x in
       record {
@@ -130,7 +130,7 @@ module _ {Y Z : Layout} {J : List Info} (v : Laid Y Z J) where
 
   -- ---- any line
 
-  value-line : (l i : Line) (b w : ℕ) (lo n : Bool) → b ≡ lines Z → Ok false (tyAt (Y .ctx)) (given (Y .ctx)) l → Fresh Z i (typeOf false Y l) (placeOf Y l) w lo
+  value-line : (l i : Line) (b w : ℕ) (lo n : Bool) → b ≡ lines Z → Ok false (tyAt (Y .ctx)) (given (Y .ctx)) l → Fresh Z i (lineTypeIn false Y l) (placeOf Y l) w lo
       → lay true Z i .counts .states ≡ lay false Y l .counts .states → lay true Z i .counts .inputs ≡ lay false Y l .counts .inputs → lay true Z i .counts .signals ≡ lay false Y l .counts .signals
       → Laid (lay false Y l) (layAll true Z (withMask b w i lo n .code)) (J ++ (withMask b w i lo n .info ∷ []))
   value-line l i b w lo n e k h es ei eg =
@@ -138,27 +138,27 @@ module _ {Y Z : Layout} {J : List Info} (v : Laid Y Z J) where
       laid-end l (withMask b w i lo n .info) v k (p .grew) (p .even) (p .counts .0 ∙ es) (p .counts .1 ∙ ei) (p .counts .2 ∙ eg)
       (record { flat = h .flat; sort = λ c. absurd (omega (arith, h .class)); value = λ c. p .reg })
 
-  quiet-line : (l i : Line) → Ok false (tyAt (Y .ctx)) (given (Y .ctx)) l → typeOf false Y l ≡ noTy
+  quiet-line : (l i : Line) → Ok false (tyAt (Y .ctx)) (given (Y .ctx)) l → lineTypeIn false Y l ≡ noTy
       → lay true Z i .counts .states ≡ lay false Y l .counts .states → lay true Z i .counts .inputs ≡ lay false Y l .counts .inputs → lay true Z i .counts .signals ≡ lay false Y l .counts .signals
-      → Laid (lay false Y l) (lay true Z i) (J ++ (noInfo ∷ []))
-  quiet-line l i k t es ei eg = laid-end l noInfo v k (grew-line true (v .evenZ) i) (even-line true (v .evenZ) i) es ei eg (subst⁻¹ (λ (x : Ty). Rel (lay true Z i) x (placeOf Y l) noInfo) t rel-none)
+      → Laid (lay false Y l) (lay true Z i) (J ++ (noneKnown ∷ []))
+  quiet-line l i k t es ei eg = laid-end l noneKnown v k (grew-line true (v .evenZ) i) (even-line true (v .evenZ) i) es ei eg (subst⁻¹ (λ (x : Ty). Rel (lay true Z i) x (placeOf Y l) noneKnown) t rel-none)
 
-  pub laid-line : (N : ℕ → Bool) (b : ℕ) (l : Line) → b ≡ lines Z → Ok false (tyAt (Y .ctx)) (given (Y .ctx)) l → isArraySort l ≡ false
-      → Laid (lay false Y l) (layAll true Z (made N J b l .code)) (J ++ (made N J b l .info ∷ []))
+  pub laid-line : (N : ℕ → Bool) (b : ℕ) (l : Line) → b ≡ lines Z → Ok false (tyAt (Y .ctx)) (given (Y .ctx)) l → arraySortLine l ≡ false
+      → Laid (lay false Y l) (layAll true Z (instructionsOf N J b l .code)) (J ++ (instructionsOf N J b l .info ∷ []))
   laid-line N b (bitvec w) e k f =
       laid-end (bitvec w) (info w 0 false) v k (grew-none Z) (v .evenZ) (v .states) (v .inputs) (v .signals)
       (record { flat = refl; sort = λ c. refl; value = λ c. absurd (omega arith) })
   laid-line N b (array i j) e k f = absurd (no-yes (sym f))
-  laid-line N b (input s) e k f = value-line (input s) (input (widthOf J s)) b (widthOf J s) (looseLine (widthOf J s) 4 false false false) (N (length J)) e k (fresh-input s _ k) (v .states) (ap suc (v .inputs)) (v .signals)
+  laid-line N b (input s) e k f = value-line (input s) (input (operandWidth J s)) b (operandWidth J s) (looseLine (operandWidth J s) 4 false false false) (N (length J)) e k (fresh-input s _ k) (v .states) (ap suc (v .inputs)) (v .signals)
   laid-line N b (state s) e k f =
-      let h = fresh-state s (looseLine (widthOf J s) 5 false false false) (and-never (not (eqb (widthOf J s) 64))) k in
-      value-line (state s) (state (widthOf J s)) b (widthOf J s) (looseLine (widthOf J s) 5 false false false) (N (length J)) e k h (ap₂ (λ (x : ℕ) (t : Ty). x + size t) (v .states) (h .type)) (v .inputs) (v .signals)
-  laid-line N b (val s x) e k f =
-      value-line (val s x) (val (widthOf J s) (renumbered (numberOf J) x)) b (widthOf J s) (looseExpr (looseOf J) (widthOf J s) x) (N (length J)) e k (fresh-val s x _ k) (v .states) (v .inputs) (v .signals)
-  laid-line N b (give m s q x) e k f = quiet-line (give m s q x) (give m (widthOf J s) (numberOf J q) (numberOf J x)) k refl (v .states) (v .inputs) (v .signals)
-  laid-line N b (mark m a) e k f = quiet-line (mark m a) (mark m (numberOf J a)) k refl (v .states) (v .inputs) (ap suc (v .signals))
-  laid-line N b (output a) e k f = quiet-line (output a) (output (numberOf J a)) k refl (v .states) (v .inputs) (v .signals)
-  laid-line N b junk e k f = absurd k
+      let h = fresh-state s (looseLine (operandWidth J s) 5 false false false) (and-never (not (eqb (operandWidth J s) 64))) k in
+      value-line (state s) (state (operandWidth J s)) b (operandWidth J s) (looseLine (operandWidth J s) 5 false false false) (N (length J)) e k h (ap₂ (λ (x : ℕ) (t : Ty). x + size t) (v .states) (h .type)) (v .inputs) (v .signals)
+  laid-line N b (value s x) e k f =
+      value-line (value s x) (value (operandWidth J s) (renumbered (operandNumber J) x)) b (operandWidth J s) (looseExpr (looseOf J) (operandWidth J s) x) (N (length J)) e k (fresh-val s x _ k) (v .states) (v .inputs) (v .signals)
+  laid-line N b (initOrNext m s q x) e k f = quiet-line (initOrNext m s q x) (initOrNext m (operandWidth J s) (operandNumber J q) (operandNumber J x)) k refl (v .states) (v .inputs) (v .signals)
+  laid-line N b (signal m a) e k f = quiet-line (signal m a) (signal m (operandNumber J a)) k refl (v .states) (v .inputs) (ap suc (v .signals))
+  laid-line N b (output a) e k f = quiet-line (output a) (output (operandNumber J a)) k refl (v .states) (v .inputs) (v .signals)
+  laid-line N b unknown e k f = absurd k
 
 -- ---- all lines
 
@@ -180,15 +180,15 @@ pub record SameCounts (Y Z : Layout) : Type 0 where
   pub inputs : Z .counts .inputs ≡ Y .counts .inputs
   pub signals : Z .counts .signals ≡ Y .counts .signals
 
-laid-all : {Y Z : Layout} {J : List Info} (N : ℕ → Bool) (b : ℕ) (ls : List Line) → Laid Y Z J → b ≡ lines Z → AllOk false (Y .ctx) ls → hasArray ls ≡ false
+laid-all : {Y Z : Layout} {J : List Known} (N : ℕ → Bool) (b : ℕ) (ls : List Line) → Laid Y Z J → b ≡ lines Z → AllOk false (Y .ctx) ls → hasArray ls ≡ false
     → SameCounts (layAll false Y ls) (layAll true Z (translateFrom N J b ls))
 laid-all N b [] v e k f = record { states = v .states; inputs = v .inputs; signals = v .signals }
 laid-all {Y} {Z} {J} N b (l ∷ ls) v e k f =
-    let c = made N J b l in
-    let g = or-none (isArraySort l) (hasArray ls) f in
+    let c = instructionsOf N J b l in
+    let g = or-none (arraySortLine l) (hasArray ls) f in
     rw (layAll-append true Z (c .code)) (laid-all N (b + length (c .code)) ls (laid-line v N b l e (k .0) (g .0)) (omega (arith, lines-more true Z (v .evenZ) (c .code))) (k .1) (g .1))
 
-pub laid-start : Laid noLayout noLayout (noInfo ∷ [])
+pub laid-start : Laid noLayout noLayout (noneKnown ∷ [])
 laid-start =
     record {
       evenY = record { alike = refl };
@@ -201,11 +201,11 @@ laid-start =
       rel = none-rel;
     }
   where
-    none : (a : ℕ) → 1 ≤ tyAt noCtx a .cls → ⊥
+    none : (a : ℕ) → 1 ≤ tyAt noCtx a .role → ⊥
     none zero h = omega arith
     none (suc a) h = omega arith
 
-    none-rel : (i : ℕ) → Rel noLayout (typeAt noLayout i) (placeAt noLayout i) (infoAt (noInfo ∷ []) i)
+    none-rel : (i : ℕ) → Rel noLayout (typeAt noLayout i) (placeAt noLayout i) (knownAt (noneKnown ∷ []) i)
     none-rel zero = rel-none
     none-rel (suc i) = rel-none
 

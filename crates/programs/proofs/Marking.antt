@@ -18,8 +18,8 @@ use Rattle.tables.proofs.Laws.{or-true, or-false}
 use Rattle.tables.proofs.Checking.{zeros-at}
 use Rattle.tables.proofs.Showing.{by-place}
 use Rattle.programs.specs.Uses.{when, needs, hasNeedingUse}
-use Rattle.programs.specs.Translation.{isArraySort, hasArray}
-use Rattle.programs.specs.Model.Kinds.{secondLine, usesOf, markIf, marked, flagAt}
+use Rattle.programs.specs.Translation.{arraySortLine, hasArray}
+use Rattle.programs.specs.Model.Kinds.{secondLine, usesOf, markIf, usesMarked, flagAt}
 use Rattle.programs.specs.Model.Passes.{Marked}
 use Rattle.programs.proofs.Reading.{need-row₁, need-row₂}
 use Rattle.programs.proofs.Modelled.{needs-words, array-words}
@@ -52,7 +52,7 @@ mark-length v a ms = go (eqb v 1)
 
 -- the marks of a record are the lines that its line needs clean
 marked-law : (l : Line) (r ms : List ℕ) → needs l ≡ when (needKind₁ (kindIn r)) (firstIn r) ++ when (needKind₂ (kindIn r) && secondLine (kindIn r)) (secondIn r) → kindIn r ≤ 55
-    → (j : ℕ) → j < length ms → flagAt (marked r ms) j ≡ (flagAt ms j || among j (needs l))
+    → (j : ℕ) → j < length ms → flagAt (usesMarked r ms) j ≡ (flagAt ms j || among j (needs l))
 marked-law l r ms e k j h =
     let u = usesOf (kindIn r) in
     let m₁ = markIf (getD u 0 0) (firstIn r) ms in
@@ -79,12 +79,12 @@ marking-start t n e =
     }
 
 module _ {t : List ℕ} {n i : ℕ} {ms : List ℕ} (M : Marking t n i ms) (e : checked false t n ≡ Accepted) where
-  pub marking-more : {ms₁ : List ℕ} (r : List ℕ) → i < n → r ≡ recordAt false t i → ms₁ ≡ marked r ms → Marking t n (i + 1) ms₁
+  pub marking-more : {ms₁ : List ℕ} (r : List ℕ) → i < n → r ≡ recordAt false t i → ms₁ ≡ usesMarked r ms → Marking t n (i + 1) ms₁
   marking-more {ms₁} r l er q =
       let x = line-at t n i e l in
       let w : needs (x .line) ≡ when (needKind₁ (kindIn (recordAt false t i))) (firstIn (recordAt false t i)) ++ when (needKind₂ (kindIn (recordAt false t i)) && secondLine (kindIn (recordAt false t i))) (secondIn (recordAt false t i)) =
       subst (λ (y : List ℕ). needs (x .line) ≡ when (needKind₁ (kindIn y)) (firstIn y) ++ when (needKind₂ (kindIn y) && secondLine (kindIn y)) (secondIn y)) (x .words) (needs-words (x .line) (x .kinded)) in
-      let p : ms₁ ≡ marked (recordAt false t i) ms = q ∙ ap (λ (y : List ℕ). marked y ms) er in
+      let p : ms₁ ≡ usesMarked (recordAt false t i) ms = q ∙ ap (λ (y : List ℕ). usesMarked y ms) er in
       let R = drop (i + 1) (linesOf false t n) in
       record {
         size = ap length p ∙ mark-length (getD (usesOf (kindIn (recordAt false t i))) 1 0) (secondIn (recordAt false t i)) (markIf (getD (usesOf (kindIn (recordAt false t i))) 0 0) (firstIn (recordAt false t i)) ms) ∙ mark-length (getD (usesOf (kindIn (recordAt false t i))) 0 0) (firstIn (recordAt false t i)) ms ∙ M .size;
@@ -111,7 +111,7 @@ pub array-start : (t : List ℕ) (n : ℕ) → NoneYet t n 0
 array-start t n = record { most = omega arith; at = refl }
 
 module _ {t : List ℕ} {n i : ℕ} (Y : NoneYet t n i) (e : checked false t n ≡ Accepted) where
-  here : (l : i < n) → isArraySort (line-at t n i e l .line) ≡ eqb (kindIn (recordAt false t i)) 2
+  here : (l : i < n) → arraySortLine (line-at t n i e l .line) ≡ eqb (kindIn (recordAt false t i)) 2
   here l = array-words (line-at t n i e l .line) (line-at t n i e l .kinded) ∙ ap (λ (y : List ℕ). eqb (kindIn y) 2) (line-at t n i e l .words)
 
   from-here : (l : i < n) → hasArray (linesOf false t n) ≡ (eqb (kindIn (recordAt false t i)) 2 || hasArray (drop (i + 1) (linesOf false t n)))

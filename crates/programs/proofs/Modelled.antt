@@ -9,19 +9,19 @@ use lib.ListN.{length}
 use borrow.Author.Tests.{le-leb, lt-leb, ne-eqb}
 use Rattle.words.specs.Kinds.{needKind₁, needKind₂}
 use Rattle.tables.specs.Pick.{pick, inside}
-use Rattle.tables.specs.Lines.{Line, Expr, bitvec, array, input, state, val, give, mark, output, junk, const, one, two, cmp, ite, read, write, fields, wordsOf, kindIn, sortIn, firstIn, secondIn}
+use Rattle.tables.specs.Lines.{Line, Expr, bitvec, array, input, state, value, initOrNext, signal, output, unknown, const, unary, binary, equality, ite, read, write, fields, wordsOf, kindIn, sortIn, firstIn, secondIn}
 use Rattle.tables.proofs.Laws.{or-true, and-true}
 use Rattle.programs.specs.Uses.{looseLine, when, needs}
-use Rattle.programs.specs.Translation.{isArraySort, Info, info, widthOf, numberOf, looseOf, Made, withMask, made}
+use Rattle.programs.specs.Translation.{arraySortLine, Known, info, operandWidth, operandNumber, looseOf, Made, withMask, instructionsOf}
 use Rattle.programs.specs.Model.Kinds.{firstLine, secondLine, thirdLine, hasValue}
-use Rattle.programs.specs.Model.Records.{looseIn, instruction, maskWords, widthIn, numberIn, emitted}
+use Rattle.programs.specs.Model.Records.{looseIn, instruction, maskRecord, widthIn, numberIn, emitted}
 
 -- the kinds of operators of one line and of two
 abbrev pub KindedExpr : Expr → Type 0
 KindedExpr (const v) = Unit {0}
-KindedExpr (one k a x y) = (11 ≤ k) × (k ≤ 20)
-KindedExpr (two k a b) = (23 ≤ k) × (k ≤ 52)
-KindedExpr (cmp e a b) = Unit {0}
+KindedExpr (unary k a x y) = (11 ≤ k) × (k ≤ 20)
+KindedExpr (binary k a b) = (23 ≤ k) × (k ≤ 52)
+KindedExpr (equality e a b) = Unit {0}
 KindedExpr (ite c a b) = Unit {0}
 KindedExpr (read a i) = Unit {0}
 KindedExpr (write a i v) = Unit {0}
@@ -31,11 +31,11 @@ Kinded (bitvec w) = Unit {0}
 Kinded (array i e) = Unit {0}
 Kinded (input s) = Unit {0}
 Kinded (state s) = Unit {0}
-Kinded (val s e) = KindedExpr e
-Kinded (give m s q v) = Unit {0}
-Kinded (mark m a) = Unit {0}
+Kinded (value s e) = KindedExpr e
+Kinded (initOrNext m s q v) = Unit {0}
+Kinded (signal m a) = Unit {0}
 Kinded (output a) = Unit {0}
-Kinded junk = Unit {0}
+Kinded unknown = Unit {0}
 
 and-none : (b : Bool) → (b && false) ≡ false
 and-none true = refl
@@ -78,41 +78,41 @@ needs-words (bitvec w) k = refl
 needs-words (array i e) k = refl
 needs-words (input s) k = refl
 needs-words (state s) k = refl
-needs-words (val s (const v)) k = refl
-needs-words (val s (one n a x y)) k = rw (second-one n (k .0) (k .1), and-none (needKind₂ n)) (sym (append-nil (when (needKind₁ n) a)))
-needs-words (val s (two n a b)) k = ap (λ (t : Bool). when (needKind₁ n) a ++ when t b) (sym (ap (λ (t : Bool). needKind₂ n && t) (second-two n (k .0)) ∙ and-true (needKind₂ n)))
-needs-words (val s (cmp true a b)) k = refl
-needs-words (val s (cmp false a b)) k = refl
-needs-words (val s (ite c a b)) k = refl
-needs-words (val s (read a i)) k = refl
-needs-words (val s (write a i v)) k = refl
-needs-words (give true s q v) k = refl
-needs-words (give false s q v) k = refl
-needs-words (mark true a) k = refl
-needs-words (mark false a) k = refl
+needs-words (value s (const v)) k = refl
+needs-words (value s (unary n a x y)) k = rw (second-one n (k .0) (k .1), and-none (needKind₂ n)) (sym (append-nil (when (needKind₁ n) a)))
+needs-words (value s (binary n a b)) k = ap (λ (t : Bool). when (needKind₁ n) a ++ when t b) (sym (ap (λ (t : Bool). needKind₂ n && t) (second-two n (k .0)) ∙ and-true (needKind₂ n)))
+needs-words (value s (equality true a b)) k = refl
+needs-words (value s (equality false a b)) k = refl
+needs-words (value s (ite c a b)) k = refl
+needs-words (value s (read a i)) k = refl
+needs-words (value s (write a i v)) k = refl
+needs-words (initOrNext true s q v) k = refl
+needs-words (initOrNext false s q v) k = refl
+needs-words (signal true a) k = refl
+needs-words (signal false a) k = refl
 needs-words (output a) k = refl
-needs-words junk k = refl
+needs-words unknown k = refl
 
 -- a record of kind 2 is an array sort
-pub array-words : (l : Line) → Kinded l → isArraySort l ≡ eqb (kindIn (wordsOf l)) 2
+pub array-words : (l : Line) → Kinded l → arraySortLine l ≡ eqb (kindIn (wordsOf l)) 2
 array-words (bitvec w) k = refl
 array-words (array i e) k = refl
 array-words (input s) k = refl
 array-words (state s) k = refl
-array-words (val s (const v)) k = refl
-array-words (val s (one n a x y)) k = sym (array-op n (k .0))
-array-words (val s (two n a b)) k = sym (array-op n (omega (arith, k .0)))
-array-words (val s (cmp true a b)) k = refl
-array-words (val s (cmp false a b)) k = refl
-array-words (val s (ite c a b)) k = refl
-array-words (val s (read a i)) k = refl
-array-words (val s (write a i v)) k = refl
-array-words (give true s q v) k = refl
-array-words (give false s q v) k = refl
-array-words (mark true a) k = refl
-array-words (mark false a) k = refl
+array-words (value s (const v)) k = refl
+array-words (value s (unary n a x y)) k = sym (array-op n (k .0))
+array-words (value s (binary n a b)) k = sym (array-op n (omega (arith, k .0)))
+array-words (value s (equality true a b)) k = refl
+array-words (value s (equality false a b)) k = refl
+array-words (value s (ite c a b)) k = refl
+array-words (value s (read a i)) k = refl
+array-words (value s (write a i v)) k = refl
+array-words (initOrNext true s q v) k = refl
+array-words (initOrNext false s q v) k = refl
+array-words (signal true a) k = refl
+array-words (signal false a) k = refl
 array-words (output a) k = refl
-array-words junk k = refl
+array-words unknown k = refl
 
 -- ---- what is made of a line
 
@@ -122,7 +122,7 @@ mask-info b w i false n = refl
 mask-info b w i true false = refl
 mask-info b w i true true = refl
 
-mask-code : (b w : ℕ) (i : Line) (lo n : Bool) → map wordsOf (withMask b w i lo n .code) ≡ wordsOf i ∷ pick (lo && n) (maskWords w b ∷ []) []
+mask-code : (b w : ℕ) (i : Line) (lo n : Bool) → map wordsOf (withMask b w i lo n .code) ≡ wordsOf i ∷ pick (lo && n) (maskRecord w b ∷ []) []
 mask-code b w i false n = refl
 mask-code b w i true false = refl
 mask-code b w i true true = refl
@@ -136,11 +136,11 @@ module _ (W M : ℕ → ℕ) (L : ℕ → Bool) (nd : Bool) (b : ℕ) (r : List 
   abbrev pub maskIn : Bool
   maskIn = looseIn W L r && nd
 
-  abbrev pub infoIn : Info
+  abbrev pub infoIn : Known
   infoIn = info (widthIn W r) (numberIn (kindIn r) b maskIn) (looseIn W L r)
 
   abbrev pub codeIn : List (List ℕ)
-  codeIn = pick (leb (kindIn r) 2) [] (instruction W M r ∷ pick maskIn (maskWords (W (sortIn r)) b ∷ []) [])
+  codeIn = pick (leb (kindIn r) 2) [] (instruction W M r ∷ pick maskIn (maskRecord (W (sortIn r)) b ∷ []) [])
 
   abbrev pub countIn : ℕ
   countIn = emitted (kindIn r) maskIn
@@ -151,12 +151,12 @@ pub record Agrees (W M : ℕ → ℕ) (L : ℕ → Bool) (nd : Bool) (b : ℕ) (
   pub code : map wordsOf (m .code) ≡ codeIn W M L nd b r
   pub count : length (m .code) ≡ countIn W M L nd b r
 
-module _ (N : ℕ → Bool) (J : List Info) (b : ℕ) (zero-w : widthOf J 0 ≡ 0) where
+module _ (N : ℕ → Bool) (J : List Known) (b : ℕ) (zero-w : operandWidth J 0 ≡ 0) where
   abbrev W : ℕ → ℕ
-  W = widthOf J
+  W = operandWidth J
 
   abbrev M : ℕ → ℕ
-  M = numberOf J
+  M = operandNumber J
 
   abbrev L : ℕ → Bool
   L = looseOf J
@@ -165,16 +165,16 @@ module _ (N : ℕ → Bool) (J : List Info) (b : ℕ) (zero-w : widthOf J 0 ≡ 
   nd = N (length J)
 
   abbrev Here : Line → Type 0
-  Here l = Agrees W M L nd b (wordsOf l) (made N J b l)
+  Here l = Agrees W M L nd b (wordsOf l) (instructionsOf N J b l)
 
   -- a value line, of which the code finds the same
-  value : (l i : Line) (lo : Bool) → hasValue (kindIn (wordsOf l)) ≡ true → eqb (kindIn (wordsOf l)) 1 ≡ false → leb (kindIn (wordsOf l)) 2 ≡ false
+  value-line : (l i : Line) (lo : Bool) → hasValue (kindIn (wordsOf l)) ≡ true → eqb (kindIn (wordsOf l)) 1 ≡ false → leb (kindIn (wordsOf l)) 2 ≡ false
       → looseIn W L (wordsOf l) ≡ lo → instruction W M (wordsOf l) ≡ wordsOf i → Agrees W M L nd b (wordsOf l) (withMask b (W (sortIn (wordsOf l))) i lo nd)
-  value l i lo v w q e c =
+  value-line l i lo v w q e c =
       let u = W (sortIn (wordsOf l)) in
       record {
         info = mask-info b u i lo nd ∙ sym (rw (v, w, e));
-        code = mask-code b u i lo nd ∙ sym (rw (q, e) (ap (λ (x : List ℕ). x ∷ pick (lo && nd) (maskWords u b ∷ []) []) c));
+        code = mask-code b u i lo nd ∙ sym (rw (q, e) (ap (λ (x : List ℕ). x ∷ pick (lo && nd) (maskRecord u b ∷ []) []) c));
         count = mask-count b u i lo nd ∙ sym (rw (q, e));
       }
 
@@ -194,24 +194,24 @@ module _ (N : ℕ → Bool) (J : List Info) (b : ℕ) (zero-w : widthOf J 0 ≡ 
   pub agrees : (l : Line) → Kinded l → Here l
   agrees (bitvec w) k = record { info = sym (rw (never (W 0))); code = refl; count = refl }
   agrees (array i e) k = record { info = sym (rw (never (W 0))); code = refl; count = refl }
-  agrees (input s) k = value (input s) (input (W s)) _ refl refl refl refl refl
-  agrees (state s) k = value (state s) (state (W s)) _ refl refl refl refl refl
-  agrees (val s (const v)) k = value (val s (const v)) (val (W s) (const v)) _ refl refl refl refl refl
-  agrees (val s (one n a x y)) k =
-      value (val s (one n a x y)) (val (W s) (one n (M a) x y)) (looseLine (W s) n (L a) false false) (value-op n (k .0)) (width-op n (k .0)) (sort-op n (k .0))
+  agrees (input s) k = value-line (input s) (input (W s)) _ refl refl refl refl refl
+  agrees (state s) k = value-line (state s) (state (W s)) _ refl refl refl refl refl
+  agrees (value s (const v)) k = value-line (value s (const v)) (value (W s) (const v)) _ refl refl refl refl refl
+  agrees (value s (unary n a x y)) k =
+      value-line (value s (unary n a x y)) (value (W s) (unary n (M a) x y)) (looseLine (W s) n (L a) false false) (value-op n (k .0)) (width-op n (k .0)) (sort-op n (k .0))
       (rw (second-one n (k .0) (k .1), first-op n (k .0), third-op n (k .0) (omega (arith, k .1)))) (rw (second-one n (k .0) (k .1), first-op n (k .0), third-op n (k .0) (omega (arith, k .1))))
-  agrees (val s (two n a c)) k =
+  agrees (value s (binary n a c)) k =
       let h : 11 ≤ n = omega (arith, k .0) in
-      value (val s (two n a c)) (val (W s) (two n (M a) (M c))) (looseLine (W s) n (L a) (L c) false) (value-op n h) (width-op n h) (sort-op n h)
+      value-line (value s (binary n a c)) (value (W s) (binary n (M a) (M c))) (looseLine (W s) n (L a) (L c) false) (value-op n h) (width-op n h) (sort-op n h)
       (rw (second-two n (k .0), first-op n h, third-op n h (k .1))) (rw (second-two n (k .0), first-op n h, third-op n h (k .1)))
-  agrees (val s (cmp true a c)) k = value (val s (cmp true a c)) (val (W s) (cmp true (M a) (M c))) _ refl refl refl refl refl
-  agrees (val s (cmp false a c)) k = value (val s (cmp false a c)) (val (W s) (cmp false (M a) (M c))) _ refl refl refl refl refl
-  agrees (val s (ite d a c)) k = value (val s (ite d a c)) (val (W s) (ite (M d) (M a) (M c))) _ refl refl refl refl refl
-  agrees (val s (read a i)) k = value (val s (read a i)) (val (W s) (read (M a) (M i))) _ refl refl refl (never (W s)) refl
-  agrees (val s (write a i v)) k = value (val s (write a i v)) (val (W s) (write (M a) (M i) (M v))) _ refl refl refl (never (W s)) refl
-  agrees (give true s q v) k = plain (give true s q v) (give true (W s) (M q) (M v)) refl refl refl (never (W s)) refl
-  agrees (give false s q v) k = plain (give false s q v) (give false (W s) (M q) (M v)) refl refl refl (never (W s)) refl
-  agrees (mark true a) k = plain (mark true a) (mark true (M a)) refl refl refl (never (W 0)) (ap (λ (w : ℕ). fields 8 w (M a) 0 0) zero-w)
-  agrees (mark false a) k = plain (mark false a) (mark false (M a)) refl refl refl (never (W 0)) (ap (λ (w : ℕ). fields 9 w (M a) 0 0) zero-w)
+  agrees (value s (equality true a c)) k = value-line (value s (equality true a c)) (value (W s) (equality true (M a) (M c))) _ refl refl refl refl refl
+  agrees (value s (equality false a c)) k = value-line (value s (equality false a c)) (value (W s) (equality false (M a) (M c))) _ refl refl refl refl refl
+  agrees (value s (ite d a c)) k = value-line (value s (ite d a c)) (value (W s) (ite (M d) (M a) (M c))) _ refl refl refl refl refl
+  agrees (value s (read a i)) k = value-line (value s (read a i)) (value (W s) (read (M a) (M i))) _ refl refl refl (never (W s)) refl
+  agrees (value s (write a i v)) k = value-line (value s (write a i v)) (value (W s) (write (M a) (M i) (M v))) _ refl refl refl (never (W s)) refl
+  agrees (initOrNext true s q v) k = plain (initOrNext true s q v) (initOrNext true (W s) (M q) (M v)) refl refl refl (never (W s)) refl
+  agrees (initOrNext false s q v) k = plain (initOrNext false s q v) (initOrNext false (W s) (M q) (M v)) refl refl refl (never (W s)) refl
+  agrees (signal true a) k = plain (signal true a) (signal true (M a)) refl refl refl (never (W 0)) (ap (λ (w : ℕ). fields 8 w (M a) 0 0) zero-w)
+  agrees (signal false a) k = plain (signal false a) (signal false (M a)) refl refl refl (never (W 0)) (ap (λ (w : ℕ). fields 9 w (M a) 0 0) zero-w)
   agrees (output a) k = plain (output a) (output (M a)) refl refl refl (never (W 0)) (ap (λ (w : ℕ). fields 10 w (M a) 0 0) zero-w)
-  agrees junk k = record { info = sym (rw (never (W 0))); code = refl; count = refl }
+  agrees unknown k = record { info = sym (rw (never (W 0))); code = refl; count = refl }

@@ -8,15 +8,15 @@ use native.Mathlib.Omega.{arith}
 use lib.ListN.{length, getD, take, drop, length-append}
 use lib.Seq.{getD-at}
 use lib.Pow.{pow-pos}
-use Rattle.tables.specs.Lines.{Line, bitvec, array, input, state, val, give, mark, output, junk}
+use Rattle.tables.specs.Lines.{Line, bitvec, array, input, state, value, initOrNext, signal, output, unknown}
 use Rattle.tables.specs.Types.{tyAt, noCtx}
 use Rattle.tables.proofs.Kept.{no-yes}
 use Rattle.tables.proofs.Facts.{AllOk}
 use Rattle.circuits.specs.Layout.{Layout, typeAt, size, lay, layAll, noLayout, layout}
-use Rattle.circuits.specs.Meaning.{Sig, Acc, evalLine, evalAll, noAcc, step}
-use Rattle.circuits.specs.Run.{rowOf, start, steps, run, bytes, firstBad}
+use Rattle.circuits.specs.Meaning.{Signal, Frame, evalLine, evalAll, noFrame, step}
+use Rattle.circuits.specs.Run.{rowLength, start, steps, run, bytes, firstBad}
 use Rattle.programs.specs.Uses.{hasNeedingUse}
-use Rattle.programs.specs.Translation.{Info, noInfo, made, isArraySort, hasArray, translateFrom, translate}
+use Rattle.programs.specs.Translation.{Known, noneKnown, instructionsOf, arraySortLine, hasArray, translateFrom, translate}
 use Rattle.programs.proofs.Grew.{lines, Even, even-line, grew-line}
 use Rattle.programs.proofs.LaidLines.{laid-start, lines-more, or-none, same-counts}
 use Rattle.programs.proofs.Held.{Alike}
@@ -30,11 +30,11 @@ widthHere Y (bitvec w) = []
 widthHere Y (array i e) = []
 widthHere Y (input s) = []
 widthHere Y (state s) = typeAt Y s .w ∷ []
-widthHere Y (val s e) = []
-widthHere Y (give m s q v) = []
-widthHere Y (mark m a) = []
+widthHere Y (value s e) = []
+widthHere Y (initOrNext m s q v) = []
+widthHere Y (signal m a) = []
 widthHere Y (output a) = []
-widthHere Y junk = []
+widthHere Y unknown = []
 
 abbrev widthsFrom : Layout → List Line → List ℕ
 widthsFrom Y [] = []
@@ -51,7 +51,7 @@ Tame F σ = (j : ℕ) → getD σ j 0 < 2 ^ stateWidth F j
 -- ---- one step
 
 -- the two steps leave the same signals and state words, as many as the circuit has, each below its width
-pub record SameStep (W : ℕ → ℕ) (A B : Acc) : Type 0 where
+pub record SameStep (W : ℕ → ℕ) (A B : Frame) : Type 0 where
   pub sts : B .sts ≡ A .sts
   pub sigs : B .sigs ≡ A .sigs
   pub count : length (A .sts) ≡ A .lay .counts .states
@@ -61,7 +61,7 @@ states-grow : (Y : Layout) → Even Y → (ls : List Line) → Y .counts .states
 states-grow Y ev [] = le-refl (Y .counts .states)
 states-grow Y ev (l ∷ ls) = le-trans (grew-line false ev l .states) (states-grow (lay false Y l) (even-line false ev l) ls)
 
-eval-append : (p g : Bool) (σ ι : List ℕ) (B : Acc) (xs ys : List Line) → evalAll p g σ ι B (xs ++ ys) ≡ evalAll p g σ ι (evalAll p g σ ι B xs) ys
+eval-append : (p g : Bool) (σ ι : List ℕ) (B : Frame) (xs ys : List Line) → evalAll p g σ ι B (xs ++ ys) ≡ evalAll p g σ ι (evalAll p g σ ι B xs) ys
 eval-append p g σ ι B [] ys = refl
 eval-append p g σ ι B (x ∷ xs) ys = eval-append p g σ ι (evalLine p g σ ι B x) xs ys
 
@@ -80,31 +80,31 @@ module _ (g : Bool) (σ ι Ws : List ℕ) (N : ℕ → Bool) (tame : g ≡ false
         ap (λ (y : List ℕ). getD y (Y .counts .states) 0) e ∙ getD-at pre (typeAt Y s .w) (widthsFrom (lay false Y (state s)) ls) 0 (Y .counts .states) n,
         omega (arith, states-grow (lay false Y (state s)) (even-line false ev (state s)) ls),
       )
-  reads Y pre (val s x) ls ev e n h f = tt
-  reads Y pre (give m s q x) ls ev e n h f = tt
-  reads Y pre (mark m a) ls ev e n h f = tt
+  reads Y pre (value s x) ls ev e n h f = tt
+  reads Y pre (initOrNext m s q x) ls ev e n h f = tt
+  reads Y pre (signal m a) ls ev e n h f = tt
   reads Y pre (output a) ls ev e n h f = tt
-  reads Y pre junk ls ev e n h f = tt
+  reads Y pre unknown ls ev e n h f = tt
 
-  counted : (Y : Layout) (pre : List ℕ) (l : Line) → length pre ≡ Y .counts .states → ((s : ℕ) → typeAt Y s .iw ≡ 0) → isArraySort l ≡ false
+  counted : (Y : Layout) (pre : List ℕ) (l : Line) → length pre ≡ Y .counts .states → ((s : ℕ) → typeAt Y s .iw ≡ 0) → arraySortLine l ≡ false
       → length (pre ++ widthHere Y l) ≡ lay false Y l .counts .states
   counted Y pre (bitvec w) n f a = simp length-append (omega arith)
   counted Y pre (array i j) n f a = absurd (no-yes (sym a))
   counted Y pre (input s) n f a = simp length-append (omega arith)
   counted Y pre (state s) n f a = let z : size (typeAt Y s) ≡ 1 = ap (λ (y : ℕ). 2 ^ y) (f s) in omega (arith, length-append pre (typeAt Y s .w ∷ []))
-  counted Y pre (val s x) n f a = simp length-append (omega arith)
-  counted Y pre (give m s q x) n f a = simp length-append (omega arith)
-  counted Y pre (mark m x) n f a = simp length-append (omega arith)
+  counted Y pre (value s x) n f a = simp length-append (omega arith)
+  counted Y pre (initOrNext m s q x) n f a = simp length-append (omega arith)
+  counted Y pre (signal m x) n f a = simp length-append (omega arith)
   counted Y pre (output x) n f a = simp length-append (omega arith)
-  counted Y pre junk n f a = simp length-append (omega arith)
+  counted Y pre unknown n f a = simp length-append (omega arith)
 
-  alike-all : {A B : Acc} {J : List Info} (b : ℕ) (pre : List ℕ) (ls : List Line) → Alike W N A B J → b ≡ lines (B .lay) → AllOk false (A .lay .ctx) ls → hasArray ls ≡ false → MetAll N ls
+  alike-all : {A B : Frame} {J : List Known} (b : ℕ) (pre : List ℕ) (ls : List Line) → Alike W N A B J → b ≡ lines (B .lay) → AllOk false (A .lay .ctx) ls → hasArray ls ≡ false → MetAll N ls
       → Ws ≡ pre ++ widthsFrom (A .lay) ls → length pre ≡ A .lay .counts .states → layAll false (A .lay) ls .counts .states ≤ length σ
       → SameStep W (evalAll false g σ ι A ls) (evalAll true g σ ι B (translateFrom N J b ls))
   alike-all b pre [] v e k f m q n h = record { sts = v .sts; sigs = v .sigs; count = v .count; fit = v .fit }
   alike-all {A} {B} {J} b pre (l ∷ ls) v e k f m q n h =
-      let c = made N J b l in
-      let d = or-none (isArraySort l) (hasArray ls) f in
+      let c = instructionsOf N J b l in
+      let d = or-none (arraySortLine l) (hasArray ls) f in
       let flat : ((s : ℕ) → typeAt (A .lay) s .iw ≡ 0) = λ s. v .laid .rel s .flat in
       let r = reads (A .lay) pre l ls (v .laid .evenY) q n h flat in
       rw (eval-append true g σ ι B (c .code))
@@ -112,7 +112,7 @@ module _ (g : Bool) (σ ι Ws : List ℕ) (N : ℕ → Bool) (tame : g ≡ false
       (omega (arith, ap lines (eval-lay true g σ ι B (c .code)), lines-more true (B .lay) (v .laid .evenZ) (c .code))) (k .1) (d .1) (m .1)
       (q ∙ sym (append-assoc pre (widthHere (A .lay) l) (widthsFrom (lay false (A .lay) l) ls))) (counted (A .lay) pre l n flat (d .0)) h)
 
-alike-start : (W : ℕ → ℕ) (N : ℕ → Bool) → Alike W N noAcc noAcc (noInfo ∷ [])
+alike-start : (W : ℕ → ℕ) (N : ℕ → Bool) → Alike W N noFrame noFrame (noneKnown ∷ [])
 alike-start W N =
     record {
       laid = laid-start;
@@ -125,7 +125,7 @@ alike-start W N =
       word = λ i h. absurd (none i h);
     }
   where
-    none : (a : ℕ) → 2 ≤ tyAt noCtx a .cls → ⊥
+    none : (a : ℕ) → 2 ≤ tyAt noCtx a .role → ⊥
     none zero h = omega arith
     none (suc a) h = omega arith
 
@@ -139,9 +139,9 @@ module _ (F : List Line) (ok : AllOk false noCtx F) (flat : hasArray F ≡ false
 
   step-counts : (g : Bool) (σ ι : List ℕ) → step false g F σ ι .lay .counts .states ≡ layout false F .counts .states
   unfolding step layout
-  step-counts g σ ι = ap (λ (Y : Layout). Y .counts .states) (eval-lay false g σ ι noAcc F)
+  step-counts g σ ι = ap (λ (Y : Layout). Y .counts .states) (eval-lay false g σ ι noFrame F)
 
-  row-same : rowOf true (translate F) ≡ rowOf false F
+  row-same : rowLength true (translate F) ≡ rowLength false F
   row-same = same-counts F ok flat .inputs
 
 -- ---- words of 64 bits
@@ -173,24 +173,24 @@ small-drop (suc n) (x ∷ xs) h = small-drop n xs (h .1)
 -- ---- all steps
 
 module _ (F : List Line) (ok : AllOk false noCtx F) (flat : hasArray F ≡ false) where
-  row-small : (I : List ℕ) → Small I → (j : ℕ) → getD (take (rowOf false F) I) j 0 < 2 ^ 64
-  row-small I h j = small-at (take (rowOf false F) I) (small-take (rowOf false F) I h) j
+  row-small : (I : List ℕ) → Small I → (j : ℕ) → getD (take (rowLength false F) I) j 0 < 2 ^ 64
+  row-small I h j = small-at (take (rowLength false F) I) (small-take (rowLength false F) I h) j
 
   steps-alike : (k : ℕ) (σ I : List ℕ) → layout false F .counts .states ≤ length σ → Tame F σ → Small I → steps true (translate F) k σ I ≡ steps false F k σ I
   unfolding steps
   steps-alike zero σ I h t w = refl
   steps-alike (suc k) σ I h t w =
-      let n = rowOf false F in
+      let n = rowLength false F in
       let s = step-alike F ok flat false σ (take n I) h (λ e. t) (row-small I w) in
       let r = row-same F ok flat in
       rw (r, s .sigs, s .sts)
-      (ap (λ (y : List (List Sig)). step false false F σ (take n I) .sigs ∷ y)
+      (ap (λ (y : List (List Signal)). step false false F σ (take n I) .sigs ∷ y)
       (steps-alike k (step false false F σ (take n I) .sts) (drop n I) (omega (arith, s .count, step-counts F ok flat false σ (take n I))) (s .fit) (small-drop n I w)))
 
   -- the state words that step 0 starts from
   start-step : (S I : List ℕ) → layout false F .counts .states ≤ length S → Small I
-      → SameStep (stateWidth F) (step false true F S (take (rowOf false F) I)) (step true true (translate F) S (take (rowOf false F) I))
-  start-step S I h w = step-alike F ok flat true S (take (rowOf false F) I) h (λ e. absurd (no-yes (sym e))) (row-small I w)
+      → SameStep (stateWidth F) (step false true F S (take (rowLength false F) I)) (step true true (translate F) S (take (rowLength false F) I))
+  start-step S I h w = step-alike F ok flat true S (take (rowLength false F) I) h (λ e. absurd (no-yes (sym e))) (row-small I w)
 
   start-alike : (S I : List ℕ) → layout false F .counts .states ≤ length S → Small I → start true (translate F) S I ≡ start false F S I
   unfolding start
@@ -202,7 +202,7 @@ module _ (F : List Line) (ok : AllOk false noCtx F) (flat : hasArray F ≡ false
 
   start-count : (S I : List ℕ) → layout false F .counts .states ≤ length S → Small I → layout false F .counts .states ≤ length (start false F S I)
   unfolding start
-  start-count S I h w = omega (arith, start-step S I h w .count, step-counts F ok flat true S (take (rowOf false F) I))
+  start-count S I h w = omega (arith, start-step S I h w .count, step-counts F ok flat true S (take (rowLength false F) I))
 
   -- F and its program run alike, for every number of steps, all start words and all inputs of 64 bits
   pub alike : (k : ℕ) (S I : List ℕ) → layout false F .counts .states ≤ length S → Small I → run true (translate F) k S I ≡ run false F k S I

@@ -12,17 +12,17 @@ use Rattle.tables.proofs.Facts.{AllOk}
 use Rattle.tables.proofs.Sound.{accepted-ok}
 use Rattle.circuits.specs.Layout.{layout}
 use Rattle.circuits.specs.Run.{run}
-use Rattle.programs.specs.Answers.{programOf, targetLeft}
-use Rattle.programs.specs.Examples.{flat, flat-accepted, exact-answer}
+use Rattle.programs.specs.Answers.{programOf, programLeft}
+use Rattle.programs.specs.Examples.{requestFlat, flat-accepted, exact-answer}
 use Rattle.programs.proofs.Runs.{Small, alike}
 use Rattle.programs.proofs.Done.{target-accepted}
 
-sample-ok : AllOk false noCtx (linesOf false flat 19)
-sample-ok = accepted-ok false flat 19 flat-accepted
+sample-ok : AllOk false noCtx (linesOf false requestFlat 19)
+sample-ok = accepted-ok false requestFlat 19 flat-accepted
 
-pub sample-alike : (k : ℕ) (S I : List ℕ) → 2 ≤ length S → Small I → run true (programOf flat 19) k S I ≡ run false (linesOf false flat 19) k S I
+pub sample-alike : (k : ℕ) (S I : List ℕ) → 2 ≤ length S → Small I → run true (programOf requestFlat 19) k S I ≡ run false (linesOf false requestFlat 19) k S I
 unfolding layout filledBy
-sample-alike k S I h w = alike (linesOf false flat 19) sample-ok refl k S I h w
+sample-alike k S I h w = alike (linesOf false requestFlat 19) sample-ok refl k S I h w
 
-pub sample-accepted : checked true (targetLeft flat 19 85) 17 ≡ Accepted
-sample-accepted = target-accepted flat 19 85 17 exact-answer
+pub sample-accepted : checked true (programLeft requestFlat 19 85) 17 ≡ Accepted
+sample-accepted = target-accepted requestFlat 19 85 17 exact-answer

@@ -4,7 +4,7 @@ use mathlib.Core.Path.{_≡_, refl, sym, ap, _∙_}
 use mathlib.Core.List.{List, [], _∷_}
 use native.Mathlib.Omega.{arith}
 use lib.ListN.{getD}
-use Rattle.programs.specs.Model.Kinds.{uses, usesOf}
+use Rattle.programs.specs.Model.Kinds.{useRows, usesOf}
 
 -- f at the n numbers from i on
 abbrev listed : (ℕ → List ℕ) → (i n : ℕ) → List (List ℕ)
@@ -24,7 +24,7 @@ rowBy k =
     member 13365665494435776 k ∷ member 9002803353616576 k
     ∷ (member 4648724425111568 k + 2 * member 60129542144 k + 4 * member 13510798882111488 k) ∷ []
 
-all-rows : listed rowBy 0 56 ≡ uses
+all-rows : listed rowBy 0 56 ≡ useRows
 all-rows = refl
 
 pub row-by : (k : ℕ) → k ≤ 55 → rowBy k ≡ usesOf k

@@ -11,16 +11,16 @@ use lib.Seq.{getD-at, drop-cons, set-split, getD-set-same, getD-set-other}
 use lib.Pow.{pow-pos, pow-mono}
 use Rattle.tables.specs.declared.Ty.{Ty}
 use Rattle.tables.specs.Pick.{pick, alike}
-use Rattle.tables.specs.Lines.{Line, Expr, bitvec, array, input, state, val, give, mark, output, junk, giveKind}
+use Rattle.tables.specs.Lines.{Line, Expr, bitvec, array, input, state, value, initOrNext, signal, output, unknown, initOrNextKind}
 use Rattle.tables.specs.Types.{tyAt, given}
 use Rattle.tables.proofs.Kept.{no-yes}
 use Rattle.tables.proofs.Facts.{Ok, OkValue}
 use Rattle.tables.proofs.Showing.{by-place, snoc-other}
-use Rattle.circuits.specs.Cells.{choose, part, put as putWords}
-use Rattle.circuits.specs.Layout.{Layout, typeAt, placeAt, typeOf, size, lay, layAll}
-use Rattle.circuits.specs.Meaning.{Sig, sig, Acc, cellsAt, wordAt, stateWords, stateCells, givenWords, stsOf, evalLine, evalAll}
+use Rattle.circuits.specs.Cells.{ifNonzero, part, put as putWords}
+use Rattle.circuits.specs.Layout.{Layout, typeAt, placeAt, lineTypeIn, size, lay, layAll}
+use Rattle.circuits.specs.Meaning.{Signal, signalByte, Frame, cellsAt, wordAt, stateWords, stateCells, givenWords, statesAfter, evalLine, evalAll}
 use Rattle.programs.specs.Uses.{looseLine, looseExpr, needs, needsTwo}
-use Rattle.programs.specs.Translation.{Info, info, noInfo, widthOf, numberOf, looseOf, made, isArraySort}
+use Rattle.programs.specs.Translation.{Known, info, noneKnown, operandWidth, operandNumber, looseOf, instructionsOf, arraySortLine}
 use Rattle.programs.proofs.Grew.{lines, grew-none}
 use Rattle.programs.proofs.Laid.{Laid}
 use Rattle.programs.proofs.LaidLines.{and-never, typed, fresh-input, fresh-state, fresh-val, val-class, laid-line}
@@ -65,7 +65,7 @@ module _ (W : ℕ → ℕ) where
 
 -- ---- the walks' layouts
 
-pub eval-lay : (p g : Bool) (σ ι : List ℕ) (B : Acc) (ls : List Line) → evalAll p g σ ι B ls .lay ≡ layAll p (B .lay) ls
+pub eval-lay : (p g : Bool) (σ ι : List ℕ) (B : Frame) (ls : List Line) → evalAll p g σ ι B ls .lay ≡ layAll p (B .lay) ls
 eval-lay p g σ ι B [] = refl
 eval-lay p g σ ι B (l ∷ ls) = eval-lay p g σ ι (evalLine p g σ ι B l) ls
 
@@ -75,27 +75,27 @@ Reads W σ Y (bitvec w) = Unit {0}
 Reads W σ Y (array i e) = Unit {0}
 Reads W σ Y (input s) = Unit {0}
 Reads W σ Y (state s) = (W (Y .counts .states) ≡ typeAt Y s .w) × (Y .counts .states < length σ)
-Reads W σ Y (val s e) = Unit {0}
-Reads W σ Y (give m s q v) = Unit {0}
-Reads W σ Y (mark m a) = Unit {0}
+Reads W σ Y (value s e) = Unit {0}
+Reads W σ Y (initOrNext m s q v) = Unit {0}
+Reads W σ Y (signal m a) = Unit {0}
 Reads W σ Y (output a) = Unit {0}
-Reads W σ Y junk = Unit {0}
+Reads W σ Y unknown = Unit {0}
 
 module _ (g : Bool) (σ ι : List ℕ) (W : ℕ → ℕ) (N : ℕ → Bool) (tame : g ≡ false → (j : ℕ) → getD σ j 0 < 2 ^ W j) (words : (j : ℕ) → getD ι j 0 < 2 ^ 64) where
-  module _ {A B : Acc} {J : List Info} (v : Alike W N A B J) (b : ℕ) (e : b ≡ lines (B .lay)) where
+  module _ {A B : Frame} {J : List Known} (v : Alike W N A B J) (b : ℕ) (e : b ≡ lines (B .lay)) where
     abbrev Kept : Line → Type 0
-    Kept l = Alike W N (evalLine false g σ ι A l) (evalAll true g σ ι B (made N J b l .code)) (J ++ (made N J b l .info ∷ []))
+    Kept l = Alike W N (evalLine false g σ ι A l) (evalAll true g σ ι B (instructionsOf N J b l .code)) (J ++ (instructionsOf N J b l .info ∷ []))
 
-    laid-here : (l : Line) → Ok false (tyAt (A .lay .ctx)) (given (A .lay .ctx)) l → isArraySort l ≡ false
-        → Laid (lay false (A .lay) l) (evalAll true g σ ι B (made N J b l .code) .lay) (J ++ (made N J b l .info ∷ []))
-    laid-here l k f = subst⁻¹ (λ (Z : Layout). Laid (lay false (A .lay) l) Z (J ++ (made N J b l .info ∷ []))) (eval-lay true g σ ι B (made N J b l .code)) (laid-line (v .laid) N b l e k f)
+    laid-here : (l : Line) → Ok false (tyAt (A .lay .ctx)) (given (A .lay .ctx)) l → arraySortLine l ≡ false
+        → Laid (lay false (A .lay) l) (evalAll true g σ ι B (instructionsOf N J b l .code) .lay) (J ++ (instructionsOf N J b l .info ∷ []))
+    laid-here l k f = subst⁻¹ (λ (Z : Layout). Laid (lay false (A .lay) l) Z (J ++ (instructionsOf N J b l .info ∷ []))) (eval-lay true g σ ι B (instructionsOf N J b l .code)) (laid-line (v .laid) N b l e k f)
 
     -- ---- value lines
 
     new-input : (s : ℕ) → Ok false (tyAt (A .lay .ctx)) (given (A .lay .ctx)) (input s)
-        → New g σ ι A B (input (widthOf J s)) (input s) (widthOf J s) (looseLine (widthOf J s) 4 false false false)
+        → New g σ ι A B (input (operandWidth J s)) (input s) (operandWidth J s) (looseLine (operandWidth J s) 4 false false false)
     new-input s k =
-        let w = widthOf J s in
+        let w = operandWidth J s in
         let ew : typeAt (A .lay) s .w ≡ w = sym (v .laid .rel s .sort (k .is)) in
         let u = getD ι (A .lay .counts .inputs) 0 in
         record {
@@ -108,16 +108,16 @@ module _ (g : Bool) (σ ι : List ℕ) (W : ℕ → ℕ) (N : ℕ → Bool) (tam
 
     line-input : (s : ℕ) → Ok false (tyAt (A .lay .ctx)) (given (A .lay .ctx)) (input s) → Kept (input s)
     line-input s k =
-        let lo = looseLine (widthOf J s) 4 false false false in
+        let lo = looseLine (operandWidth J s) 4 false false false in
         let h = holds g σ ι W (v .fullB) b e lo (N (length J)) (fresh-input (v .laid) s lo k) (new-input s k) (λ c. absurd (omega arith)) in
         alike-end g σ ι (input s) _ v (h .more) (laid-here (input s) k refl) (h .full) (h .sts ∙ v .sts) (h .sigs ∙ v .sigs) (v .count) (v .fit) (λ c. h .word)
 
-    line-val : (s : ℕ) (x : Expr) → Ok false (tyAt (A .lay .ctx)) (given (A .lay .ctx)) (val s x) → Met N (needs (val s x)) → Kept (val s x)
+    line-val : (s : ℕ) (x : Expr) → Ok false (tyAt (A .lay .ctx)) (given (A .lay .ctx)) (value s x) → Met N (needs (value s x)) → Kept (value s x)
     line-val s x k m =
-        let lo = looseExpr (looseOf J) (widthOf J s) x in
+        let lo = looseExpr (looseOf J) (operandWidth J s) x in
         let r = fresh-val (v .laid) s x lo k in
         let h = holds g σ ι W (v .fullB) b e lo (N (length J)) r (new-val g σ ι v s x k m) (λ c. absurd (omega (arith, val-class (A .lay) s x))) in
-        alike-end g σ ι (val s x) _ v (h .more) (laid-here (val s x) k refl) (h .full) (h .sts ∙ v .sts) (h .sigs ∙ v .sigs) (v .count) (v .fit) (λ c. h .word)
+        alike-end g σ ι (value s x) _ v (h .more) (laid-here (value s x) k refl) (h .full) (h .sts ∙ v .sts) (h .sigs ∙ v .sigs) (v .count) (v .fit) (λ c. h .word)
 
     -- ---- a state line
 
@@ -125,7 +125,7 @@ module _ (g : Bool) (σ ι : List ℕ) (W : ℕ → ℕ) (N : ℕ → Bool) (tam
       abbrev cell : ℕ
       cell = getD σ (A .lay .counts .states) 0 % 2 ^ (typeAt (A .lay) s .w)
 
-      one-size : size (typeOf false (A .lay) (state s)) ≡ 1
+      one-size : size (lineTypeIn false (A .lay) (state s)) ≡ 1
       one-size = ap (λ (n : ℕ). 2 ^ n) (v .laid .rel s .flat)
 
       cells-circuit : stateCells false g σ A (state s) ≡ cell ∷ []
@@ -133,7 +133,7 @@ module _ (g : Bool) (σ ι : List ℕ) (W : ℕ → ℕ) (N : ℕ → Bool) (tam
           ap (stateWords false g (typeAt (A .lay) s .w)) (ap (part σ (A .lay .counts .states)) one-size ∙ part-one σ (A .lay .counts .states) (r .1))
           ∙ state-circuit g (typeAt (A .lay) s .w) (getD σ (A .lay .counts .states) 0)
 
-      cells-program : stateCells true g σ B (state (widthOf J s)) ≡ cell ∷ []
+      cells-program : stateCells true g σ B (state (operandWidth J s)) ≡ cell ∷ []
       cells-program =
           ap₂ (λ (t : Ty) (n : ℕ). stateWords true g (t .w) (part σ n (size t))) (fresh-state (v .laid) s false no-yes k .type) (v .laid .states)
           ∙ ap (stateWords true g (typeAt (A .lay) s .w)) (ap (part σ (A .lay .counts .states)) one-size ∙ part-one σ (A .lay .counts .states) (r .1))
@@ -142,7 +142,7 @@ module _ (g : Bool) (σ ι : List ℕ) (W : ℕ → ℕ) (N : ℕ → Bool) (tam
 
       line-state : Kept (state s)
       line-state =
-          let w = widthOf J s in
+          let w = operandWidth J s in
           let ew : typeAt (A .lay) s .w ≡ w = sym (v .laid .rel s .sort (k .is)) in
           let lo = looseLine w 5 false false false in
           let f = fresh-state (v .laid) s lo (and-never (not (eqb w 64))) k in
@@ -165,43 +165,43 @@ module _ (g : Bool) (σ ι : List ℕ) (W : ℕ → ℕ) (N : ℕ → Bool) (tam
     -- ---- lines without a value
 
     -- the words of a value that is given to a state
-    given-is : (m : Bool) (q x : ℕ) → OkValue m q x (typeAt (A .lay) x) → 2 ≤ typeAt (A .lay) x .cls
+    given-is : (m : Bool) (q x : ℕ) → OkValue m q x (typeAt (A .lay) x) → 2 ≤ typeAt (A .lay) x .role
     given-is true q x h = h .word .is
     given-is false q x h = h .is
 
-    needs-give : (m : Bool) (q x : ℕ) → Met N (needsTwo (giveKind m) q x) → N x ≡ true
+    needs-give : (m : Bool) (q x : ℕ) → Met N (needsTwo (initOrNextKind m) q x) → N x ≡ true
     needs-give true q x h = h .1 .0
     needs-give false q x h = h .1 .0
 
-    needs-mark : (m : Bool) (a : ℕ) → Met N (needs (mark m a)) → N a ≡ true
+    needs-mark : (m : Bool) (a : ℕ) → Met N (needs (signal m a)) → N a ≡ true
     needs-mark true a h = h .0
     needs-mark false a h = h .0
 
-    one-given : (C : Acc) (m : Bool) (n x : ℕ) → n ≡ 1 → cellsAt C x ≡ wordAt C x ∷ [] → givenWords C m n x ≡ wordAt C x ∷ []
+    one-given : (C : Frame) (m : Bool) (n x : ℕ) → n ≡ 1 → cellsAt C x ≡ wordAt C x ∷ [] → givenWords C m n x ≡ wordAt C x ∷ []
     one-given C true n x z h = ap (λ (y : ℕ). replicate y (wordAt C x)) z
     one-given C false n x z h = h
 
-    line-give : (m : Bool) (s q x : ℕ) → Ok false (tyAt (A .lay .ctx)) (given (A .lay .ctx)) (give m s q x) → Met N (needs (give m s q x)) → Kept (give m s q x)
-    line-give m s q x k n =
-        let i = give m (widthOf J s) (numberOf J q) (numberOf J x) in
-        let hq : 2 ≤ typeAt (A .lay) q .cls = omega (arith, k .state) in
+    line-init-or-next : (m : Bool) (s q x : ℕ) → Ok false (tyAt (A .lay .ctx)) (given (A .lay .ctx)) (initOrNext m s q x) → Met N (needs (initOrNext m s q x)) → Kept (initOrNext m s q x)
+    line-init-or-next m s q x k n =
+        let i = initOrNext m (operandWidth J s) (operandNumber J q) (operandNumber J x) in
+        let hq : 2 ≤ typeAt (A .lay) q .role = omega (arith, k .state) in
         let hx = given-is m q x (k .value) in
         let wx = v .word x hx in
         let rq = v .laid .rel q .value hq in
-        let at = placeAt (A .lay) q .at in
+        let at = placeAt (A .lay) q in
         let lt : at < length (A .sts) = omega (arith, v .count, rq .low (k .state), v .laid .states) in
         let z : size (typeAt (A .lay) q) ≡ 1 = ap (λ (y : ℕ). 2 ^ y) (v .laid .rel q .flat) in
-        let zB : size (typeAt (B .lay) (numberOf J q)) ≡ 1 = ap size (typed (v .laid) q hq) ∙ z in
+        let zB : size (typeAt (B .lay) (operandNumber J q)) ≡ 1 = ap size (typed (v .laid) q hq) ∙ z in
         let gA : givenWords A m (size (typeAt (A .lay) q)) x ≡ wordAt A x ∷ [] = one-given A m _ x z (wx .single) in
-        let gB : givenWords B m (size (typeAt (B .lay) (numberOf J q))) (numberOf J x) ≡ wordAt A x ∷ [] =
-        one-given B m _ (numberOf J x) zB (wx .alone) ∙ ap (λ (y : ℕ). y ∷ []) (clean g σ ι v x hx (needs-give m q x n)) in
-        let pA : stsOf false g σ A (give m s q x) ≡ pick (alike g m) (set (A .sts) at (wordAt A x)) (A .sts) =
+        let gB : givenWords B m (size (typeAt (B .lay) (operandNumber J q))) (operandNumber J x) ≡ wordAt A x ∷ [] =
+        one-given B m _ (operandNumber J x) zB (wx .alone) ∙ ap (λ (y : ℕ). y ∷ []) (clean g σ ι v x hx (needs-give m q x n)) in
+        let pA : statesAfter false g σ A (initOrNext m s q x) ≡ pick (alike g m) (set (A .sts) at (wordAt A x)) (A .sts) =
         ap (λ (y : List ℕ). pick (alike g m) y (A .sts)) (ap (putWords (A .sts) at) gA ∙ put-one (A .sts) at (wordAt A x) lt) in
-        let pB : stsOf true g σ B i ≡ pick (alike g m) (set (A .sts) at (wordAt A x)) (A .sts) =
+        let pB : statesAfter true g σ B i ≡ pick (alike g m) (set (A .sts) at (wordAt A x)) (A .sts) =
         (λ j. pick (alike g m) (putWords (v .sts j) (rq .at (k .state) j) (gB j)) (v .sts j)) ∙ ap (λ (y : List ℕ). pick (alike g m) y (A .sts)) (put-one (A .sts) at (wordAt A x) lt) in
         let W-at : W at ≡ typeAt (A .lay) q .w = ap W (sym (rq .at (k .state))) ∙ v .word q hq .store (k .state) in
         let fits : wordAt A x < 2 ^ W at = subst⁻¹ (λ (y : ℕ). wordAt A x < 2 ^ y) (W-at ∙ k .same .w ∙ sym (k .w)) (wx .small) in
-        alike-end g σ ι (give m s q x) noInfo v (more-line g σ ι (v .fullB) i) (laid-here (give m s q x) k refl) (full-line g σ ι (v .fullB) i true) (pB ∙ sym pA) (v .sigs)
+        alike-end g σ ι (initOrNext m s q x) noneKnown v (more-line g σ ι (v .fullB) i) (laid-here (initOrNext m s q x) k refl) (full-line g σ ι (v .fullB) i true) (pB ∙ sym pA) (v .sigs)
         (rw pA (long (alike g m) at (wordAt A x))) (rw pA (kept (alike g m) at (wordAt A x) lt fits)) (λ c. absurd (omega arith))
       where
         long : (t : Bool) (a y : ℕ) → length (pick t (set (A .sts) a y) (A .sts)) ≡ A .lay .counts .states
@@ -212,22 +212,22 @@ module _ (g : Bool) (σ ι : List ℕ) (W : ℕ → ℕ) (N : ℕ → Bool) (tam
         kept true a y h l = fit-set W (A .sts) a y (v .fit) h l
         kept false a y h l = v .fit
 
-    line-mark : (m : Bool) (a : ℕ) → Ok false (tyAt (A .lay .ctx)) (given (A .lay .ctx)) (mark m a) → Met N (needs (mark m a)) → Kept (mark m a)
-    line-mark m a k n =
-        let i = mark m (numberOf J a) in
-        alike-end g σ ι (mark m a) noInfo v (more-line g σ ι (v .fullB) i) (laid-here (mark m a) k refl) (full-line g σ ι (v .fullB) i true) (v .sts)
-        (ap₂ (λ (y : List Sig) (z : ℕ). y ++ (sig m (choose z 1 0) ∷ [])) (v .sigs) (clean g σ ι v a (k .word .is) (needs-mark m a n))) (v .count) (v .fit) (λ c. absurd (omega arith))
+    line-signal : (m : Bool) (a : ℕ) → Ok false (tyAt (A .lay .ctx)) (given (A .lay .ctx)) (signal m a) → Met N (needs (signal m a)) → Kept (signal m a)
+    line-signal m a k n =
+        let i = signal m (operandNumber J a) in
+        alike-end g σ ι (signal m a) noneKnown v (more-line g σ ι (v .fullB) i) (laid-here (signal m a) k refl) (full-line g σ ι (v .fullB) i true) (v .sts)
+        (ap₂ (λ (y : List Signal) (z : ℕ). y ++ (signalByte m (ifNonzero z 1 0) ∷ [])) (v .sigs) (clean g σ ι v a (k .word .is) (needs-mark m a n))) (v .count) (v .fit) (λ c. absurd (omega arith))
 
-    pub alike-line : (l : Line) → Ok false (tyAt (A .lay .ctx)) (given (A .lay .ctx)) l → isArraySort l ≡ false → Met N (needs l) → Reads W σ (A .lay) l → Kept l
+    pub alike-line : (l : Line) → Ok false (tyAt (A .lay .ctx)) (given (A .lay .ctx)) l → arraySortLine l ≡ false → Met N (needs l) → Reads W σ (A .lay) l → Kept l
     alike-line (bitvec w) k f m r =
         alike-end g σ ι (bitvec w) (info w 0 false) v (more-none (grew-none (B .lay))) (laid-here (bitvec w) k f) (v .fullB) (v .sts) (v .sigs) (v .count) (v .fit) (λ c. absurd (omega arith))
     alike-line (array i j) k f m r = absurd (no-yes (sym f))
     alike-line (input s) k f m r = line-input s k
     alike-line (state s) k f m r = line-state s k r
-    alike-line (val s x) k f m r = line-val s x k m
-    alike-line (give t s q x) k f m r = line-give t s q x k m
-    alike-line (mark t a) k f m r = line-mark t a k m
+    alike-line (value s x) k f m r = line-val s x k m
+    alike-line (initOrNext t s q x) k f m r = line-init-or-next t s q x k m
+    alike-line (signal t a) k f m r = line-signal t a k m
     alike-line (output a) k f m r =
-        let i = output (numberOf J a) in
-        alike-end g σ ι (output a) noInfo v (more-line g σ ι (v .fullB) i) (laid-here (output a) k f) (full-line g σ ι (v .fullB) i true) (v .sts) (v .sigs) (v .count) (v .fit) (λ c. absurd (omega arith))
-    alike-line junk k f m r = absurd k
+        let i = output (operandNumber J a) in
+        alike-end g σ ι (output a) noneKnown v (more-line g σ ι (v .fullB) i) (laid-here (output a) k f) (full-line g σ ι (v .fullB) i true) (v .sts) (v .sigs) (v .count) (v .fit) (λ c. absurd (omega arith))
+    alike-line unknown k f m r = absurd k

@@ -6,7 +6,7 @@ use mathlib.Core.List.{List, [], _∷_, _++_}
 use lib.Dec.{eqb}
 use Rattle.words.specs.Kinds.{looseKind, needKind₁, needKind₂}
 use Rattle.tables.specs.Pick.{among}
-use Rattle.tables.specs.Lines.{Line, Expr, bitvec, array, input, state, val, give, mark, output, junk, const, one, two, cmp, ite, read, write, giveKind, markKind, cmpKind}
+use Rattle.tables.specs.Lines.{Line, Expr, bitvec, array, input, state, value, initOrNext, signal, output, unknown, const, unary, binary, equality, ite, read, write, initOrNextKind, signalKind, equalityKind}
 
 -- ---- "Loose: input, 11 to 14, 18, 31, 32, 36 to 41, 47. and is loose if both operands are; or, xor and ite if a data operand is; concat if its high operand is."
 
@@ -17,9 +17,9 @@ looseLine w k l₁ l₂ l₃ = not (eqb w 64) && looseKind k l₁ l₂ l₃
 -- a value line of width w, where L says which earlier lines are loose. A number is no line, and an array operator is in no flat circuit
 abbrev pub looseExpr : (ℕ → Bool) → ℕ → Expr → Bool
 looseExpr L w (const v) = looseLine w 3 false false false
-looseExpr L w (one k a x y) = looseLine w k (L a) false false
-looseExpr L w (two k a b) = looseLine w k (L a) (L b) false
-looseExpr L w (cmp e a b) = looseLine w (cmpKind e) (L a) (L b) false
+looseExpr L w (unary k a x y) = looseLine w k (L a) false false
+looseExpr L w (binary k a b) = looseLine w k (L a) (L b) false
+looseExpr L w (equality e a b) = looseLine w (equalityKind e) (L a) (L b) false
 looseExpr L w (ite c a b) = looseLine w 53 (L c) (L a) (L b)
 looseExpr L w (read a i) = false
 looseExpr L w (write a i v) = false
@@ -40,9 +40,9 @@ needsTwo k a b = when (needKind₁ k) a ++ when (needKind₂ k) b
 -- of a value line: slice bounds and extra bits are numbers, and no third operand has to be clean
 abbrev pub needsExpr : Expr → List ℕ
 needsExpr (const v) = []
-needsExpr (one k a x y) = needsOne k a
-needsExpr (two k a b) = needsTwo k a b
-needsExpr (cmp e a b) = needsTwo (cmpKind e) a b
+needsExpr (unary k a x y) = needsOne k a
+needsExpr (binary k a b) = needsTwo k a b
+needsExpr (equality e a b) = needsTwo (equalityKind e) a b
 needsExpr (ite c a b) = needsTwo 53 c a
 needsExpr (read a i) = []
 needsExpr (write a i v) = []
@@ -53,11 +53,11 @@ needs (bitvec w) = []
 needs (array i e) = []
 needs (input s) = []
 needs (state s) = []
-needs (val s e) = needsExpr e
-needs (give m s q v) = needsTwo (giveKind m) q v
-needs (mark m a) = needsOne (markKind m) a
+needs (value s e) = needsExpr e
+needs (initOrNext m s q v) = needsTwo (initOrNextKind m) q v
+needs (signal m a) = needsOne (signalKind m) a
 needs (output a) = needsOne 10 a
-needs junk = []
+needs unknown = []
 
 -- the line i has a needing use: some line needs it clean
 abbrev pub hasNeedingUse : List Line → ℕ → Bool

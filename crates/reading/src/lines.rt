@@ -10,7 +10,7 @@ ghost use mathlib.Core.Bool.{false};
 ghost use mathlib.Core.List.{[], _∷_};
 ghost use Prim.Native.Nat.{ℕ, _≤_, _+_, _<_};
 ghost use lib.ListN.{length, replicate};
-ghost use Rattle.tables.specs.Notes.{lookIn, givenIn, noted, Shows};
+ghost use Rattle.tables.specs.Model.Notes.{lookIn, givenIn, noted, Shows};
 ghost use Rattle.texts.specs.Split.{tokens as tokensIn};
 ghost use Rattle.texts.specs.Reading.{linesRead, outcomeOf};
 ghost use Rattle.texts.specs.Model.Stages.{stagedLine};

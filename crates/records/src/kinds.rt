@@ -4,7 +4,7 @@ pub mod letters; // the letters of the words
 use letters::*;
 ghost use mathlib.Core.Path.{_≡_};
 ghost use Prim.Native.Nat.{_≤_, _<_};
-ghost use Rattle.tables.specs.Kinds.{placeOf, rows, rowOf};
+ghost use Rattle.tables.specs.Kinds.{rowPlace, rows, rowOf};
 
 // The class of a place says what may stand as a line's sort, or as an operand of it. NONE: the line has no such place.
 pub const NONE: u8 = 0;
@@ -92,7 +92,7 @@ pub const KINDS: [[u8; 16]; 55] = [
 // Where the row of a kind stands; a mask has that of not.
 fn place(k: u64) -> usize
     requires { ⌜ (1 ≤ k) × (k ≤ 56) ⌝ }
-    ensures { λ r. ⌜ (r ≡ placeOf k) × (r < 55) ⌝ }
+    ensures { λ r. ⌜ (r ≡ rowPlace k) × (r < 55) ⌝ }
 {
     if k == 56 {
         return 10;

@@ -4,8 +4,8 @@ use tables::Ty;
 use tables::WORDS;
 ghost use mathlib.Core.Path.{_≡_};
 ghost use lib.ListN.{set};
-ghost use Rattle.tables.specs.Notes.{noteAt, lookIn, typed as typedOf, marked as markedOf, markedBy};
-ghost use Rattle.tables.specs.Lines.{giveKind};
+ghost use Rattle.tables.specs.Model.Notes.{noteAt, lookIn, typed as typedOf, withMark as markedOf, markedBy};
+ghost use Rattle.tables.specs.Lines.{initOrNextKind};
 
 // The bytes of a note.
 pub const BYTES: usize = 5;
@@ -27,7 +27,7 @@ pub fn look(notes: &[[u8; BYTES]], a: u64) -> Ty
 {
     let r = at(notes, a);
     Ty {
-        cls: r[0],
+        role: r[0],
         iw: r[1],
         w: r[2],
     }
@@ -48,7 +48,7 @@ pub fn put_type(notes: &mut [[u8; BYTES]], n: u64, y: Ty)
     ensures { λ _. ⌜ now (notes .exit) ≡ set (now (notes .entry)) n (typedOf y (noteAt (now (notes .entry)) n)) ⌝ }
 {
     let r = at(notes, n);
-    put(notes, n, [y.cls, y.iw, y.w, r[3], r[4]]);
+    put(notes, n, [y.role, y.iw, y.w, r[3], r[4]]);
 }
 
 // A note with the mark of an init, or of a next.
@@ -63,7 +63,7 @@ fn marked(init: bool, r: [u8; BYTES]) -> [u8; BYTES]
 
 // A record of the kind k, an init or a next, marks its state.
 pub fn mark(init: bool, k: u64, rec: [u64; WORDS], notes: &mut [[u8; BYTES]])
-    requires { ⌜ k ≡ giveKind init ⌝ }
+    requires { ⌜ k ≡ initOrNextKind init ⌝ }
     ensures { λ _. ⌜ now (notes .exit) ≡ markedBy init rec (now (notes .entry)) ⌝ }
 {
     if rec[0] == k {

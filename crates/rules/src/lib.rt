@@ -14,7 +14,7 @@ ghost use mathlib.Core.Path.{_≡_};
 ghost use Rattle.tables.specs.Rules.{suits as suitsOf, classes, onceRules, fault as faultOf};
 ghost use Rattle.tables.specs.Pick.{all};
 ghost use Rattle.tables.specs.Lines.{lineOf, kindIn};
-ghost use Rattle.tables.specs.Notes.{givenIn, lookIn};
+ghost use Rattle.tables.specs.Model.Notes.{givenIn, lookIn};
 ghost use Rattle.tables.specs.Kinds.{rowOf};
 
 // A line of the type t may stand where the class k is asked for.
@@ -24,11 +24,11 @@ fn suits(k: u8, t: Ty) -> bool
     match k {
         WORD => types::is_word(t),
         ARRAY => types::is_array(t),
-        VALUE => 2 <= t.cls,
-        STATE => t.cls == 4,
+        VALUE => 2 <= t.role,
+        STATE => t.role == 4,
         WSORT => types::is_word_sort(t),
         ASORT => types::is_array_sort(t),
-        SORT => t.cls == 1,
+        SORT => t.role == 1,
         _ => true,
     }
 }
@@ -64,7 +64,7 @@ fn once(rec: [u64; WORDS], b: Ty, notes: &[[u8; BYTES]]) -> bool
             if q <= rec[3] {
                 return false;
             }
-            b.cls == 2
+            b.role == 2
         }
         7 => r[4] != 1,
         _ => true,

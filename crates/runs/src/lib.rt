@@ -10,7 +10,7 @@ ghost use lib.ListN.{length};
 ghost use Rattle.circuits.specs.Answers.{toldRun, runs};
 
 // A run of a circuit (program is false) or of a program, of k steps: 1, 11 (20 for a program), 13 to 17; else the first counted bad.
-pub fn run_table(
+fn run_table(
     program: bool,
     table: &[u64],
     count: usize,

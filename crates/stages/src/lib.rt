@@ -14,7 +14,7 @@ ghost use Rattle.texts.specs.Model.Stages.{ruled as ruledBy, judged, large as l
 ghost use Rattle.texts.specs.Model.Structs.{asRead, asTook};
 ghost use Rattle.tables.specs.Kinds.{rowOf};
 ghost use Rattle.tables.specs.Lines.{kindIn};
-ghost use Rattle.tables.specs.Notes.{lookIn, givenIn};
+ghost use Rattle.tables.specs.Model.Notes.{lookIn, givenIn};
 ghost use Rattle.texts.specs.Split.{tokens as tokensIn};
 
 // A refusal.

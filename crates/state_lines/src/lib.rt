@@ -4,8 +4,9 @@ ghost use mathlib.Core.Path.{_≡_};
 ghost use mathlib.Core.Bool.{true, false, not, _||_};
 ghost use Prim.Native.Nat.{_+_};
 ghost use lib.ListN.{length, set};
-ghost use Rattle.circuits.specs.Cells.{put, choose};
-ghost use Rattle.circuits.specs.Model.{stateIn, givenIn, FitState, offIn, posIn, wordIn, FitInit, FitNext, FitMark};
+ghost use Rattle.circuits.specs.Cells.{put, ifNonzero};
+ghost use Rattle.circuits.specs.Model.Work.{stateIn, storedIn, offIn, posIn, wordKept};
+ghost use Rattle.circuits.specs.Model.Fits.{FitState, FitInit, FitNext, FitSignal};
 ghost use Rattle.tables.specs.Pick.{pick};
 
 // State words are masked: start words, and a circuit's at every step.
@@ -48,7 +49,7 @@ pub fn line_init(
 )
     requires { ⌜ FitInit (now laid) all (length (now work)) q v ⌝ }
     ensures { λ _. ⌜ now (work .exit)
-        ≡ pick first (put (now (work .entry)) (all + posIn (now (laid .entry)) q) (givenIn (now (laid .entry)) (now (work .entry)) true q v)) (now (work .entry)) ⌝ }
+        ≡ pick first (put (now (work .entry)) (all + posIn (now (laid .entry)) q) (storedIn (now (laid .entry)) (now (work .entry)) true q v)) (now (work .entry)) ⌝ }
 {
     if !first {
         return;
@@ -70,7 +71,7 @@ pub fn line_next(
 )
     requires { ⌜ FitNext (now laid) all (length (now work)) q v ⌝ }
     ensures { λ _. ⌜ now (work .exit)
-        ≡ pick (not first) (put (now (work .entry)) (all + posIn (now (laid .entry)) q) (givenIn (now (laid .entry)) (now (work .entry)) false q v)) (now (work .entry)) ⌝ }
+        ≡ pick (not first) (put (now (work .entry)) (all + posIn (now (laid .entry)) q) (storedIn (now (laid .entry)) (now (work .entry)) false q v)) (now (work .entry)) ⌝ }
 {
     if first {
         return;
@@ -81,7 +82,7 @@ pub fn line_next(
     area::raise(work, x, all + p, m);
 }
 
-pub fn line_mark(
+pub fn line_signal(
     first: bool,
     a: usize,
     n: usize,
@@ -89,8 +90,8 @@ pub fn line_mark(
     work: &[u64],
     sig: &mut [u8],
 )
-    requires { ⌜ FitMark (now laid) (length (now work)) (length (now sig)) n a ⌝ }
-    ensures { λ _. ⌜ now (sig .exit) ≡ pick first (now (sig .entry)) (set (now (sig .entry)) (posIn (now (laid .entry)) n) (choose (wordIn (now (laid .entry)) (now (work .entry)) a) 1 0)) ⌝ }
+    requires { ⌜ FitSignal (now laid) (length (now work)) (length (now sig)) n a ⌝ }
+    ensures { λ _. ⌜ now (sig .exit) ≡ pick first (now (sig .entry)) (set (now (sig .entry)) (posIn (now (laid .entry)) n) (ifNonzero (wordKept (now (laid .entry)) (now (work .entry)) a) 1 0)) ⌝ }
 {
     if first {
         return;

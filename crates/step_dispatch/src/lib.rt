@@ -4,7 +4,8 @@ use tables::WORDS;
 ghost use mathlib.Core.Path.{_≡_};
 ghost use lib.ListN.{length};
 ghost use Rattle.tables.specs.Lines.{lineOf};
-ghost use Rattle.circuits.specs.Model.{workIn, sigsIn, FitL};
+ghost use Rattle.circuits.specs.Model.Work.{workIn, sigsIn};
+ghost use Rattle.circuits.specs.Model.Fits.{FitL};
 
 // The line n, whose record is rec.
 pub fn line(
@@ -32,16 +33,16 @@ pub fn line(
         5 => state_lines::line_state(program, first, n, laid, all, work),
         6 => state_lines::line_init(first, a, b, laid, all, work),
         7 => state_lines::line_next(first, a, b, laid, all, work),
-        8 => state_lines::line_mark(first, a, n, laid, work, sig),
-        9 => state_lines::line_mark(first, a, n, laid, work, sig),
-        11..=20 => evaluation::line_one(program, k, a, rec[3], rec[4], n, laid, work),
-        21 => evaluation::line_cmp(true, a, b, n, laid, work),
-        22 => evaluation::line_cmp(false, a, b, n, laid, work),
-        23..=52 => evaluation::line_two(program, k, a, b, n, laid, work),
+        8 => state_lines::line_signal(first, a, n, laid, work, sig),
+        9 => state_lines::line_signal(first, a, n, laid, work, sig),
+        11..=20 => evaluation::line_unary(program, k, a, rec[3], rec[4], n, laid, work),
+        21 => evaluation::line_equality(true, a, b, n, laid, work),
+        22 => evaluation::line_equality(false, a, b, n, laid, work),
+        23..=52 => evaluation::line_binary(program, k, a, b, n, laid, work),
         53 => evaluation::line_ite(a, b, c, n, laid, work),
         54 => evaluation::line_read(a, b, n, laid, work),
         55 => evaluation::line_write(a, b, c, n, laid, work),
-        56 => evaluation::line_one(program, k, a, rec[3], rec[4], n, laid, work),
+        56 => evaluation::line_unary(program, k, a, rec[3], rec[4], n, laid, work),
         _ => {}
     }
 }

@@ -7,10 +7,10 @@ ghost use lib.ListN.{length, drop, replicate};
 ghost use Rattle.circuits.specs.Meaning.{step};
 ghost use Rattle.circuits.specs.Run.{bytesOf, bytes, steps as stepsOf, run};
 ghost use Rattle.tables.specs.Layout.{linesOf};
-ghost use Rattle.circuits.specs.Model.{Ready};
+ghost use Rattle.circuits.specs.Model.Places.{Ready};
 
 // All lines, in order. A state line reads its state words and a next line stores there, while other lines read the cells: all next values are set together.
-pub fn walk(
+fn walk(
     program: bool,
     first: bool,
     table: &[u64],
@@ -35,7 +35,7 @@ pub fn walk(
 }
 
 // k steps, each from the state words that the last one left.
-pub fn steps(
+fn steps(
     program: bool,
     table: &[u64],
     count: usize,
@@ -76,7 +76,7 @@ pub fn steps(
 }
 
 // The state words that the run starts from: the start words, then what init lines store.
-pub fn begin(
+fn begin(
     program: bool,
     table: &[u64],
     count: usize,

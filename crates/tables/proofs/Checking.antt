@@ -13,7 +13,7 @@ use Rattle.tables.specs.declared.Checked.the-variants.{Accepted, Refused
 use Rattle.tables.specs.Layout.{whole, held, room, recordsOf}
 use Rattle.tables.specs.Types.{ty, noTy, noCtx, tyAt, given}
 use Rattle.tables.specs.Tables.{lawful, broken, checked}
-use Rattle.tables.specs.Notes.{blank, noteAt, markIn, givenIn, Shows, Fresh}
+use Rattle.tables.specs.Model.Notes.{blank, noteAt, markIn, givenIn, Shows, Fresh}
 
 module _ (p : Bool) (t : List ℕ) (n : ℕ) where
   pub no-table : whole p (length t) ≡ false → Refused NotATable ≡ checked p t n

@@ -11,10 +11,10 @@ use borrow.Author.Tests.{eq-eqb, lt-ltb, le-leb, eqb-true}
 use Rattle.tables.specs.declared.Ty.{Ty}
 use Rattle.tables.specs.Pick.{all}
 use Rattle.tables.specs.Kinds.{rowOf, sortClass, firstClass, secondClass, thirdClass}
-use Rattle.tables.specs.Lines.{Line, Expr, isOne, isTwo, shapeOf, fields, lineOf, wordsOf, kindIn}
+use Rattle.tables.specs.Lines.{Line, Expr, isUnary, isBinary, shapeOf, fields, lineOf, wordsOf, kindIn}
 use Rattle.tables.specs.Layout.{recordWords}
 use Rattle.tables.specs.Types.{isSort, isValue, isWord, isArray, isWordSort, isArraySort, sortAt, Ctx, tyAt, given, grow}
-use Rattle.tables.specs.Rules.{suits, fits, same}
+use Rattle.tables.specs.Rules.{suits, fits, sameSort}
 use Rattle.tables.specs.Tables.{known, unused, tidy, keeps, lawful}
 use Rattle.tables.proofs.Every.{at-each}
 use Rattle.tables.proofs.Shapes.{line-as, shape-one, shape-two, fits-as, once-as}
@@ -28,24 +28,24 @@ use Rattle.tables.proofs.Sound.{from-to, one-row, two-row}
 -- ---- classes
 
 of-word : {t : Ty} → IsWord t → isWord t ≡ true
-of-word {t} k = rw (le-leb 2 (t .cls) (k .is), eq-eqb (t .iw) 0 (k .flat))
+of-word {t} k = rw (le-leb 2 (t .role) (k .is), eq-eqb (t .iw) 0 (k .flat))
 
 of-array : {t : Ty} → IsArray t → isArray t ≡ true
-of-array {t} k = rw (le-leb 2 (t .cls) (k .is), lt-ltb 0 (t .iw) (k .deep))
+of-array {t} k = rw (le-leb 2 (t .role) (k .is), lt-ltb 0 (t .iw) (k .deep))
 
 of-word-sort : {t : Ty} → IsWordSort t → isWordSort t ≡ true
-of-word-sort {t} k = rw (eq-eqb (t .cls) 1 (k .is), eq-eqb (t .iw) 0 (k .flat))
+of-word-sort {t} k = rw (eq-eqb (t .role) 1 (k .is), eq-eqb (t .iw) 0 (k .flat))
 
 of-array-sort : {t : Ty} → IsArraySort t → isArraySort t ≡ true
-of-array-sort {t} k = rw (eq-eqb (t .cls) 1 (k .is), lt-ltb 0 (t .iw) (k .deep))
+of-array-sort {t} k = rw (eq-eqb (t .role) 1 (k .is), lt-ltb 0 (t .iw) (k .deep))
 
 of-value : {t : Ty} → IsValue t → isValue t ≡ true
-of-value {t} k = le-leb 2 (t .cls) (k .is)
+of-value {t} k = le-leb 2 (t .role) (k .is)
 
 of-sort : {t : Ty} → IsSort t → isSort t ≡ true
-of-sort {t} k = eq-eqb (t .cls) 1 (k .is)
+of-sort {t} k = eq-eqb (t .role) 1 (k .is)
 
-of-same : {a t : Ty} → Same a t → same a t ≡ true
+of-same : {a t : Ty} → Same a t → sameSort a t ≡ true
 of-same {a} {t} k = rw (eq-eqb (a .iw) (t .iw) (k .iw), eq-eqb (a .w) (t .w) (k .w))
 
 and₂ : {a b : Bool} → a ≡ true → b ≡ true → (a && b) ≡ true
@@ -56,7 +56,7 @@ and₄ e f g h = rw (e, f, g, h)
 
 -- ---- the line read back
 
-one-shape : (p : Bool) (k : ℕ) → OneKind p k → shapeOf k ≡ isOne
+one-shape : (p : Bool) (k : ℕ) → OneKind p k → shapeOf k ≡ isUnary
 one-shape false k h = shape-one k (h .0) (h .1)
 one-shape true k (inl h) = shape-one k (h .0) (h .1)
 one-shape true k (inr e) = ap shapeOf e
@@ -66,20 +66,20 @@ again p L G (Line.bitvec w) k = refl
 again p L G (Line.array i e) k = refl
 again p L G (Line.input s) k = refl
 again p L G (Line.state s) k = refl
-again p L G (Line.val s (Expr.const v)) k = refl
-again p L G (Line.val s (Expr.one n a x y)) k = line-as (fields n s a x y) isOne (one-shape p n (k .kind))
-again p L G (Line.val s (Expr.two n a b)) k = line-as (fields n s a b 0) isTwo (shape-two n (k .least) (k .most))
-again p L G (Line.val s (Expr.cmp true a b)) k = refl
-again p L G (Line.val s (Expr.cmp false a b)) k = refl
-again p L G (Line.val s (Expr.ite c a b)) k = refl
-again p L G (Line.val s (Expr.read a i)) k = refl
-again p L G (Line.val s (Expr.write a i v)) k = refl
-again p L G (Line.give true s q v) k = refl
-again p L G (Line.give false s q v) k = refl
-again p L G (Line.mark true a) k = refl
-again p L G (Line.mark false a) k = refl
+again p L G (Line.value s (Expr.const v)) k = refl
+again p L G (Line.value s (Expr.unary n a x y)) k = line-as (fields n s a x y) isUnary (one-shape p n (k .kind))
+again p L G (Line.value s (Expr.binary n a b)) k = line-as (fields n s a b 0) isBinary (shape-two n (k .least) (k .most))
+again p L G (Line.value s (Expr.equality true a b)) k = refl
+again p L G (Line.value s (Expr.equality false a b)) k = refl
+again p L G (Line.value s (Expr.ite c a b)) k = refl
+again p L G (Line.value s (Expr.read a i)) k = refl
+again p L G (Line.value s (Expr.write a i v)) k = refl
+again p L G (Line.initOrNext true s q v) k = refl
+again p L G (Line.initOrNext false s q v) k = refl
+again p L G (Line.signal true a) k = refl
+again p L G (Line.signal false a) k = refl
 again p L G (Line.output a) k = refl
-again p L G Line.junk k = absurd k
+again p L G Line.unknown k = absurd k
 
 -- ---- the record keeps the rules
 
@@ -134,22 +134,22 @@ unfolding rowOf
 two-third k h l = from-to (λ (n : ℕ). plain (thirdClass (rowOf n))) 23 30 k (at-each (λ (m : ℕ). plain (thirdClass (rowOf (m + 23)))) 30 tt) h (omega arith)
 
 module _ (p : Bool) (L : ℕ → Ty) (G : Bool → ℕ → Bool) where
-  val-kept : (s : ℕ) (e : Expr) → OkExpr p L (sortAt p L s) e → keeps p L G (wordsOf (Line.val s e)) ≡ true
+  val-kept : (s : ℕ) (e : Expr) → OkExpr p L (sortAt p L s) e → keeps p L G (wordsOf (Line.value s e)) ≡ true
   unfolding rowOf suits
   val-kept s (Expr.const v) k =
       kept p L G (fields 3 s v 0 0) (shared p 3 refl refl) refl
       (record { class = and₄ (of-word-sort (k .sort)) refl refl refl; width = and₂ (lt-ltb v (2 ^ (sortAt p L s .w)) (k .fits)) refl; once = refl })
-  val-kept s (Expr.one n a x y) k =
+  val-kept s (Expr.unary n a x y) k =
       let h = both (eqb (sortClass (rowOf n)) 5) _ (one-row n (kind-any p n (k .kind))) in
       kept p L G (fields n s a x y) (one-known p n (k .kind))
       (and₄ (used (sortClass (rowOf n)) 5 s (eqb-true (sortClass (rowOf n)) 5 (h .0)) refl) (used (firstClass (rowOf n)) 1 a (eqb-true (firstClass (rowOf n)) 1 (h .1)) refl) (k .spare₂) (k .spare₃))
       (record {
         class = and₄ (subst (λ (m : ℕ). suits m (sortAt p L s) ≡ true) (sym (eqb-true (sortClass (rowOf n)) 5 (h .0))) (of-word-sort (k .sort)))
             (subst (λ (m : ℕ). suits m (L a) ≡ true) (sym (eqb-true (firstClass (rowOf n)) 1 (h .1))) (of-word (k .arg))) (number-suits (secondClass (rowOf n)) (L x) (one-second n (kind-any p n (k .kind)))) (number-suits (thirdClass (rowOf n)) (L y) (one-third n (kind-any p n (k .kind))));
-        width = sym (fits-as (fields n s a x y) isOne (one-shape p n (k .kind)) (sortAt p L s) (L a) (L x) (L y) (sym (and₂ (k .rule) refl)));
-        once = sym (once-as (fields n s a x y) isOne (one-shape p n (k .kind)) G (L x) refl);
+        width = sym (fits-as (fields n s a x y) isUnary (one-shape p n (k .kind)) (sortAt p L s) (L a) (L x) (L y) (sym (and₂ (k .rule) refl)));
+        once = sym (once-as (fields n s a x y) isUnary (one-shape p n (k .kind)) G (L x) refl);
       })
-  val-kept s (Expr.two n a b) k =
+  val-kept s (Expr.binary n a b) k =
       let h = both (eqb (sortClass (rowOf n)) 5) _ (two-row n (k .least) (k .most)) in
       let h₂ = both (eqb (firstClass (rowOf n)) 1) _ (h .1) in
       let e₀ = eqb-true (sortClass (rowOf n)) 5 (h .0) in
@@ -160,17 +160,17 @@ module _ (p : Bool) (L : ℕ → Ty) (G : Bool → ℕ → Bool) where
       (record {
         class = and₄ (subst (λ (m : ℕ). suits m (sortAt p L s) ≡ true) (sym e₀) (of-word-sort (k .sort))) (subst (λ (m : ℕ). suits m (L a) ≡ true) (sym e₁) (of-word (k .left)))
             (subst (λ (m : ℕ). suits m (L b) ≡ true) (sym e₂) (of-word (k .right))) (number-suits (thirdClass (rowOf n)) (L 0) (two-third n (k .least) (k .most)));
-        width = sym (fits-as (fields n s a b 0) isTwo (shape-two n (k .least) (k .most)) (sortAt p L s) (L a) (L b) (L 0) (sym (and₂ (k .rule) refl)));
-        once = sym (once-as (fields n s a b 0) isTwo (shape-two n (k .least) (k .most)) G (L b) refl);
+        width = sym (fits-as (fields n s a b 0) isBinary (shape-two n (k .least) (k .most)) (sortAt p L s) (L a) (L b) (L 0) (sym (and₂ (k .rule) refl)));
+        once = sym (once-as (fields n s a b 0) isBinary (shape-two n (k .least) (k .most)) G (L b) refl);
       })
-  val-kept s (Expr.cmp true a b) k =
+  val-kept s (Expr.equality true a b) k =
       kept p L G (fields 21 s a b 0) (shared p 21 refl refl) refl
       (record {
         class = and₄ (of-word-sort (k .sort)) (of-value (k .left)) (of-value (k .right)) refl;
         width = and₂ (eq-eqb (sortAt p L s .w) 1 (k .bit)) (and₂ (of-same (k .same)) refl);
         once = refl;
       })
-  val-kept s (Expr.cmp false a b) k =
+  val-kept s (Expr.equality false a b) k =
       kept p L G (fields 22 s a b 0) (shared p 22 refl refl) refl
       (record {
         class = and₄ (of-word-sort (k .sort)) (of-value (k .left)) (of-value (k .right)) refl;
@@ -208,27 +208,27 @@ module _ (p : Bool) (L : ℕ → Ty) (G : Bool → ℕ → Bool) where
       (record { class = and₄ refl (of-word-sort (k .index)) (of-word-sort (k .element)) refl; width = and₂ (le-leb (L i .w) 8 (k .most)) refl; once = refl })
   complete (Line.input s) k = kept p L G (fields 4 s 0 0 0) (shared p 4 refl refl) refl (record { class = and₄ (of-word-sort k) refl refl refl; width = refl; once = refl })
   complete (Line.state s) k = kept p L G (fields 5 s 0 0 0) (shared p 5 refl refl) refl (record { class = and₄ (of-sort k) refl refl refl; width = refl; once = refl })
-  complete (Line.val s e) k = val-kept s e k
-  complete (Line.give true s q v) k =
+  complete (Line.value s e) k = val-kept s e k
+  complete (Line.initOrNext true s q v) k =
       kept p L G (fields 6 s q v 0) (shared p 6 refl refl) refl
       (record {
-        class = and₄ (of-sort (k .sort)) (eq-eqb (L q .cls) 4 (k .state)) (of-word (k .value .word)) refl;
+        class = and₄ (of-sort (k .sort)) (eq-eqb (L q .role) 4 (k .state)) (of-word (k .value .word)) refl;
         width = and₂ (of-same (k .same)) (and₂ (eq-eqb (L v .w) (sortAt p L s .w) (k .w)) (and₂ (eq-eqb (L v .iw) 0 (k .iw)) refl));
-        once = and₂ (ap not (k .once)) (and₂ (lt-ltb v q (k .value .below)) (and₂ (eq-eqb (L v .cls) 2 (k .value .fixed)) refl));
+        once = and₂ (ap not (k .once)) (and₂ (lt-ltb v q (k .value .below)) (and₂ (eq-eqb (L v .role) 2 (k .value .fixed)) refl));
       })
-  complete (Line.give false s q v) k =
+  complete (Line.initOrNext false s q v) k =
       kept p L G (fields 7 s q v 0) (shared p 7 refl refl) refl
       (record {
-        class = and₄ (of-sort (k .sort)) (eq-eqb (L q .cls) 4 (k .state)) (of-value (k .value)) refl;
+        class = and₄ (of-sort (k .sort)) (eq-eqb (L q .role) 4 (k .state)) (of-value (k .value)) refl;
         width = and₂ (of-same (k .same)) (and₂ (eq-eqb (L v .w) (sortAt p L s .w) (k .w)) (and₂ (eq-eqb (L v .iw) (sortAt p L s .iw) (k .iw)) refl));
         once = and₂ (ap not (k .once)) refl;
       })
-  complete (Line.mark true a) k =
+  complete (Line.signal true a) k =
       kept p L G (fields 8 0 a 0 0) (shared p 8 refl refl) refl (record { class = and₄ refl (of-word (k .word)) refl refl; width = and₂ (eq-eqb (L a .w) 1 (k .bit)) refl; once = refl })
-  complete (Line.mark false a) k =
+  complete (Line.signal false a) k =
       kept p L G (fields 9 0 a 0 0) (shared p 9 refl refl) refl (record { class = and₄ refl (of-word (k .word)) refl refl; width = and₂ (eq-eqb (L a .w) 1 (k .bit)) refl; once = refl })
   complete (Line.output a) k = kept p L G (fields 10 0 a 0 0) (shared p 10 refl refl) refl (record { class = and₄ refl (of-word k) refl refl; width = refl; once = refl })
-  complete Line.junk k = absurd k
+  complete Line.unknown k = absurd k
 
 -- ---- all lines
 
@@ -238,17 +238,17 @@ line-size (Line.bitvec w) = refl
 line-size (Line.array i e) = refl
 line-size (Line.input s) = refl
 line-size (Line.state s) = refl
-line-size (Line.val s (Expr.const v)) = refl
-line-size (Line.val s (Expr.one k a x y)) = refl
-line-size (Line.val s (Expr.two k a b)) = refl
-line-size (Line.val s (Expr.cmp e a b)) = refl
-line-size (Line.val s (Expr.ite c a b)) = refl
-line-size (Line.val s (Expr.read a i)) = refl
-line-size (Line.val s (Expr.write a i v)) = refl
-line-size (Line.give m s q v) = refl
-line-size (Line.mark m a) = refl
+line-size (Line.value s (Expr.const v)) = refl
+line-size (Line.value s (Expr.unary k a x y)) = refl
+line-size (Line.value s (Expr.binary k a b)) = refl
+line-size (Line.value s (Expr.equality e a b)) = refl
+line-size (Line.value s (Expr.ite c a b)) = refl
+line-size (Line.value s (Expr.read a i)) = refl
+line-size (Line.value s (Expr.write a i v)) = refl
+line-size (Line.initOrNext m s q v) = refl
+line-size (Line.signal m a) = refl
 line-size (Line.output a) = refl
-line-size Line.junk = refl
+line-size Line.unknown = refl
 
 pub lines-sized : (ls : List Line) → Sized (map wordsOf ls)
 lines-sized [] = tt

@@ -11,7 +11,7 @@ use Rattle.tables.specs.declared.Ty.{Ty}
 use Rattle.tables.specs.Pick.{pick, among}
 use Rattle.tables.specs.Lines.{Line, Expr}
 use Rattle.tables.specs.Types.{isFixed, sortAt, lineType, Ctx, tyAt, noCtx, growAll}
-use Rattle.tables.specs.Cone.{lineAt, usesExpr, uses, Cone, itself, under, isFree}
+use Rattle.tables.specs.Cone.{lineNumbered, usesExpr, uses, Cone, itself, under, isFree}
 use Rattle.tables.proofs.Kept.{both, either, no-yes}
 use Rattle.tables.proofs.Showing.{earlier}
 use Rattle.tables.proofs.Facts.{OkExpr, AllOk}
@@ -43,11 +43,11 @@ and₂ e f = rw (e, f)
 
 -- a value is fixed exactly where its operands are
 module _ (p : Bool) (L : ℕ → Ty) (s : ℕ) where
-  fixed-operands : (e : Expr) → lineType p L (Line.val s e) .cls ≡ 2 → Each L (usesExpr e)
+  fixed-operands : (e : Expr) → lineType p L (Line.value s e) .role ≡ 2 → Each L (usesExpr e)
   fixed-operands (Expr.const v) h = tt
-  fixed-operands (Expr.one k a x y) h = (two-of _ h, tt)
-  fixed-operands (Expr.two k a b) h = let q = both (isFixed (L a)) _ (two-of _ h) in (q .0, (q .1, tt))
-  fixed-operands (Expr.cmp e a b) h = let q = both (isFixed (L a)) _ (two-of _ h) in (q .0, (q .1, tt))
+  fixed-operands (Expr.unary k a x y) h = (two-of _ h, tt)
+  fixed-operands (Expr.binary k a b) h = let q = both (isFixed (L a)) _ (two-of _ h) in (q .0, (q .1, tt))
+  fixed-operands (Expr.equality e a b) h = let q = both (isFixed (L a)) _ (two-of _ h) in (q .0, (q .1, tt))
   fixed-operands (Expr.ite c a b) h =
       let q = both (isFixed (L c)) _ (two-of _ h) in
       let r = both (isFixed (L a)) _ (q .1) in
@@ -58,11 +58,11 @@ module _ (p : Bool) (L : ℕ → Ty) (s : ℕ) where
       let r = both (isFixed (L i)) _ (q .1) in
       (q .0, (r .0, (r .1, tt)))
 
-  operands-fixed : (e : Expr) → Each L (usesExpr e) → lineType p L (Line.val s e) .cls ≡ 2
+  operands-fixed : (e : Expr) → Each L (usesExpr e) → lineType p L (Line.value s e) .role ≡ 2
   operands-fixed (Expr.const v) h = refl
-  operands-fixed (Expr.one k a x y) h = rw (h .0)
-  operands-fixed (Expr.two k a b) h = rw (h .0, h .1 .0)
-  operands-fixed (Expr.cmp e a b) h = rw (h .0, h .1 .0)
+  operands-fixed (Expr.unary k a x y) h = rw (h .0)
+  operands-fixed (Expr.binary k a b) h = rw (h .0, h .1 .0)
+  operands-fixed (Expr.equality e a b) h = rw (h .0, h .1 .0)
   operands-fixed (Expr.ite c a b) h = rw (h .0, h .1 .0, h .1 .1 .0)
   operands-fixed (Expr.read a i) h = rw (h .0, h .1 .0)
   operands-fixed (Expr.write a i v) h = rw (h .0, h .1 .0, h .1 .1 .0)
@@ -70,17 +70,17 @@ module _ (p : Bool) (L : ℕ → Ty) (s : ℕ) where
 -- every operand of a value is a value
 abbrev Values : (ℕ → Ty) → List ℕ → Type 0
 Values L [] = Unit {0}
-Values L (a ∷ r) = (2 ≤ L a .cls) × Values L r
+Values L (a ∷ r) = (2 ≤ L a .role) × Values L r
 
-value-at : (L : ℕ → Ty) (r : List ℕ) → Values L r → (a : ℕ) → among a r ≡ true → 2 ≤ L a .cls
+value-at : (L : ℕ → Ty) (r : List ℕ) → Values L r → (a : ℕ) → among a r ≡ true → 2 ≤ L a .role
 value-at L [] k a e = absurd (no-yes e)
-value-at L (x ∷ r) k a e = either (eqb a x) (among a r) e (λ q. subst (λ (n : ℕ). 2 ≤ L n .cls) (sym (eqb-true a x q)) (k .0)) (λ q. value-at L r (k .1) a q)
+value-at L (x ∷ r) k a e = either (eqb a x) (among a r) e (λ q. subst (λ (n : ℕ). 2 ≤ L n .role) (sym (eqb-true a x q)) (k .0)) (λ q. value-at L r (k .1) a q)
 
 operands : (p : Bool) (L : ℕ → Ty) (t : Ty) (e : Expr) → OkExpr p L t e → Values L (usesExpr e)
 operands p L t (Expr.const v) k = tt
-operands p L t (Expr.one n a x y) k = (k .arg .is, tt)
-operands p L t (Expr.two n a b) k = (k .left .is, (k .right .is, tt))
-operands p L t (Expr.cmp e a b) k = (k .left .is, (k .right .is, tt))
+operands p L t (Expr.unary n a x y) k = (k .arg .is, tt)
+operands p L t (Expr.binary n a b) k = (k .left .is, (k .right .is, tt))
+operands p L t (Expr.equality e a b) k = (k .left .is, (k .right .is, tt))
 operands p L t (Expr.ite c a b) k = (k .cond .is, (k .left .is, (k .right .is, tt)))
 operands p L t (Expr.read a i) k = (k .arr .is, (k .index .is, tt))
 operands p L t (Expr.write a i v) k = (k .arr .is, (k .index .is, (k .value .is, tt)))
@@ -89,8 +89,8 @@ module _ (p : Bool) (C : List Line) (ok : AllOk p noCtx C) where
   abbrev c : Ctx
   c = growAll p noCtx C
 
-  at : (v : ℕ) → 1 ≤ v → v ≤ length C → Entry p (growAll p noCtx C) v (lineAt C v)
-  at (suc i) h l = subst (λ (n : ℕ). Entry p (growAll p noCtx C) n (getD C i Line.junk)) (one i) (entry p noCtx C ok i (omega arith))
+  at : (v : ℕ) → 1 ≤ v → v ≤ length C → Entry p (growAll p noCtx C) v (lineNumbered C v)
+  at (suc i) h l = subst (λ (n : ℕ). Entry p (growAll p noCtx C) n (getD C i Line.unknown)) (one i) (entry p noCtx C ok i (omega arith))
     where
       one : (i : ℕ) → 1 + i ≡ suc i
       one i = omega arith
@@ -98,70 +98,70 @@ module _ (p : Bool) (C : List Line) (ok : AllOk p noCtx C) where
 
   -- what the class 2 says of one line
   record Step (v : ℕ) : Type 0 where
-    free : isFree (lineAt C v) ≡ true
-    below : (a : ℕ) → among a (uses (lineAt C v)) ≡ true → tyAt (growAll p noCtx C) a .cls ≡ 2
+    free : isFree (lineNumbered C v) ≡ true
+    below : (a : ℕ) → among a (uses (lineNumbered C v)) ≡ true → tyAt (growAll p noCtx C) a .role ≡ 2
 
-  step : (v : ℕ) → 1 ≤ v → v ≤ length C → tyAt (growAll p noCtx C) v .cls ≡ 2 → Step v
-  step v h l e = go (lineAt C v) refl (at v h l)
+  step : (v : ℕ) → 1 ≤ v → v ≤ length C → tyAt (growAll p noCtx C) v .role ≡ 2 → Step v
+  step v h l e = go (lineNumbered C v) refl (at v h l)
     where
-      go : (x : Line) → lineAt C v ≡ x → Entry p (growAll p noCtx C) v x → Step v
-      go (Line.bitvec w) q E = absurd (omega (arith, sym (ap (λ (t : Ty). t .cls) (E .is)) ∙ e))
-      go (Line.array i el) q E = absurd (omega (arith, sym (ap (λ (t : Ty). t .cls) (E .is)) ∙ e))
-      go (Line.input s) q E = absurd (omega (arith, sym (ap (λ (t : Ty). t .cls) (E .is)) ∙ e))
-      go (Line.state s) q E = absurd (omega (arith, sym (ap (λ (t : Ty). t .cls) (E .is)) ∙ e))
-      go (Line.val s x) q E =
-          let k = sym (ap (λ (t : Ty). t .cls) (E .is)) ∙ e in
+      go : (x : Line) → lineNumbered C v ≡ x → Entry p (growAll p noCtx C) v x → Step v
+      go (Line.bitvec w) q E = absurd (omega (arith, sym (ap (λ (t : Ty). t .role) (E .is)) ∙ e))
+      go (Line.array i el) q E = absurd (omega (arith, sym (ap (λ (t : Ty). t .role) (E .is)) ∙ e))
+      go (Line.input s) q E = absurd (omega (arith, sym (ap (λ (t : Ty). t .role) (E .is)) ∙ e))
+      go (Line.state s) q E = absurd (omega (arith, sym (ap (λ (t : Ty). t .role) (E .is)) ∙ e))
+      go (Line.value s x) q E =
+          let k = sym (ap (λ (t : Ty). t .role) (E .is)) ∙ e in
           let fx = fixed-operands p (tyAt (E .before)) s x k in
           record {
             free = ap isFree q;
             below = λ a m.
                 let m' : among a (usesExpr x) ≡ true = subst (λ (y : Line). among a (uses y) ≡ true) q m in
                 let f = each-at (tyAt (E .before)) (usesExpr x) fx a m' in
-                let z = earlier (E .before .tys) a (omega (arith, eqb-true (tyAt (E .before) a .cls) 2 f)) in
-                ap (λ (t : Ty). t .cls) (E .old a (omega (arith, E .count))) ∙ eqb-true (tyAt (E .before) a .cls) 2 f;
+                let z = earlier (E .before .tys) a (omega (arith, eqb-true (tyAt (E .before) a .role) 2 f)) in
+                ap (λ (t : Ty). t .role) (E .old a (omega (arith, E .count))) ∙ eqb-true (tyAt (E .before) a .role) 2 f;
           }
-      go (Line.give m s x y) q E = absurd (omega (arith, sym (ap (λ (t : Ty). t .cls) (E .is)) ∙ e))
-      go (Line.mark m a) q E = absurd (omega (arith, sym (ap (λ (t : Ty). t .cls) (E .is)) ∙ e))
-      go (Line.output a) q E = absurd (omega (arith, sym (ap (λ (t : Ty). t .cls) (E .is)) ∙ e))
-      go Line.junk q E = absurd (E .ok)
+      go (Line.initOrNext m s x y) q E = absurd (omega (arith, sym (ap (λ (t : Ty). t .role) (E .is)) ∙ e))
+      go (Line.signal m a) q E = absurd (omega (arith, sym (ap (λ (t : Ty). t .role) (E .is)) ∙ e))
+      go (Line.output a) q E = absurd (omega (arith, sym (ap (λ (t : Ty). t .role) (E .is)) ∙ e))
+      go Line.unknown q E = absurd (E .ok)
 
-  first-type : tyAt (growAll p noCtx C) 0 .cls ≡ 0
-  first-type = ap (λ (t : Ty). t .cls) (keeps-type p noCtx C 0 (omega arith))
+  first-type : tyAt (growAll p noCtx C) 0 .role ≡ 0
+  first-type = ap (λ (t : Ty). t .role) (keeps-type p noCtx C 0 (omega arith))
 
-  number : (v : ℕ) → 1 ≤ tyAt (growAll p noCtx C) v .cls → (1 ≤ v) × (v ≤ length C)
+  number : (v : ℕ) → 1 ≤ tyAt (growAll p noCtx C) v .role → (1 ≤ v) × (v ≤ length C)
   number zero h = absurd (omega (arith, first-type))
   number (suc v) h = (omega arith, omega (arith, earlier (growAll p noCtx C .tys) (suc v) h, length-all p noCtx C))
 
   -- class 2: no line of the cone is an input or a state
-  pub fixed-cone : (v : ℕ) → tyAt (growAll p noCtx C) v .cls ≡ 2 → (w : ℕ) → Cone C v w → isFree (lineAt C w) ≡ true
+  pub fixed-cone : (v : ℕ) → tyAt (growAll p noCtx C) v .role ≡ 2 → (w : ℕ) → Cone C v w → isFree (lineNumbered C w) ≡ true
   fixed-cone v e w itself = let n = number v (omega arith) in step v (n .0) (n .1) e .free
   fixed-cone v e w (under a m k) = let n = number v (omega arith) in fixed-cone a (step v (n .0) (n .1) e .below a m) w k
 
   -- every line of the cone is neither an input nor a state: class 2. By the number of the line, which falls from a line to its operands.
-  cone-within : (n v : ℕ) → v < n → 2 ≤ tyAt (growAll p noCtx C) v .cls → ((w : ℕ) → Cone C v w → isFree (lineAt C w) ≡ true) → tyAt (growAll p noCtx C) v .cls ≡ 2
+  cone-within : (n v : ℕ) → v < n → 2 ≤ tyAt (growAll p noCtx C) v .role → ((w : ℕ) → Cone C v w → isFree (lineNumbered C w) ≡ true) → tyAt (growAll p noCtx C) v .role ≡ 2
   cone-within zero v h t f = absurd (omega arith)
-  cone-within (suc n) v h t f = let m = number v (omega arith) in go (lineAt C v) refl (at v (m .0) (m .1)) (λ a. cone-within n a)
+  cone-within (suc n) v h t f = let m = number v (omega arith) in go (lineNumbered C v) refl (at v (m .0) (m .1)) (λ a. cone-within n a)
     where
-      go : (x : Line) → lineAt C v ≡ x → Entry p (growAll p noCtx C) v x
-          → ((a : ℕ) → a < n → 2 ≤ tyAt (growAll p noCtx C) a .cls → ((w : ℕ) → Cone C a w → isFree (lineAt C w) ≡ true) → tyAt (growAll p noCtx C) a .cls ≡ 2) → tyAt (growAll p noCtx C) v .cls ≡ 2
-      go (Line.bitvec w) q E ih = absurd (omega (arith, ap (λ (y : Ty). y .cls) (E .is)))
-      go (Line.array i el) q E ih = absurd (omega (arith, ap (λ (y : Ty). y .cls) (E .is)))
+      go : (x : Line) → lineNumbered C v ≡ x → Entry p (growAll p noCtx C) v x
+          → ((a : ℕ) → a < n → 2 ≤ tyAt (growAll p noCtx C) a .role → ((w : ℕ) → Cone C a w → isFree (lineNumbered C w) ≡ true) → tyAt (growAll p noCtx C) a .role ≡ 2) → tyAt (growAll p noCtx C) v .role ≡ 2
+      go (Line.bitvec w) q E ih = absurd (omega (arith, ap (λ (y : Ty). y .role) (E .is)))
+      go (Line.array i el) q E ih = absurd (omega (arith, ap (λ (y : Ty). y .role) (E .is)))
       go (Line.input s) q E ih = absurd (no-yes (sym (ap isFree q) ∙ f v itself))
       go (Line.state s) q E ih = absurd (no-yes (sym (ap isFree q) ∙ f v itself))
-      go (Line.val s x) q E ih =
+      go (Line.value s x) q E ih =
           let L = tyAt (E .before) in
           let vs = operands p L (sortAt p L s) x (E .ok) in
-          ap (λ (y : Ty). y .cls) (E .is)
+          ap (λ (y : Ty). y .role) (E .is)
           ∙ operands-fixed p L s x
           (every-operand L (usesExpr x) (λ a e.
           let z = earlier (E .before .tys) a (omega (arith, value-at L (usesExpr x) vs a e)) in
-          let o = ap (λ (y : Ty). y .cls) (E .old a (omega (arith, E .count))) in
-          let m : among a (uses (lineAt C v)) ≡ true = subst (λ (y : Line). among a (uses y) ≡ true) (sym q) e in
-          eq-eqb (L a .cls) 2 (sym o ∙ ih a (omega (arith, E .count)) (omega (arith, value-at L (usesExpr x) vs a e)) (λ w k. f w (under a m k)))))
-      go (Line.give m s x y) q E ih = absurd (omega (arith, ap (λ (y : Ty). y .cls) (E .is)))
-      go (Line.mark m a) q E ih = absurd (omega (arith, ap (λ (y : Ty). y .cls) (E .is)))
-      go (Line.output a) q E ih = absurd (omega (arith, ap (λ (y : Ty). y .cls) (E .is)))
-      go Line.junk q E ih = absurd (E .ok)
+          let o = ap (λ (y : Ty). y .role) (E .old a (omega (arith, E .count))) in
+          let m : among a (uses (lineNumbered C v)) ≡ true = subst (λ (y : Line). among a (uses y) ≡ true) (sym q) e in
+          eq-eqb (L a .role) 2 (sym o ∙ ih a (omega (arith, E .count)) (omega (arith, value-at L (usesExpr x) vs a e)) (λ w k. f w (under a m k)))))
+      go (Line.initOrNext m s x y) q E ih = absurd (omega (arith, ap (λ (y : Ty). y .role) (E .is)))
+      go (Line.signal m a) q E ih = absurd (omega (arith, ap (λ (y : Ty). y .role) (E .is)))
+      go (Line.output a) q E ih = absurd (omega (arith, ap (λ (y : Ty). y .role) (E .is)))
+      go Line.unknown q E ih = absurd (E .ok)
 
-  pub cone-fixed : (v : ℕ) → 2 ≤ tyAt (growAll p noCtx C) v .cls → ((w : ℕ) → Cone C v w → isFree (lineAt C w) ≡ true) → tyAt (growAll p noCtx C) v .cls ≡ 2
+  pub cone-fixed : (v : ℕ) → 2 ≤ tyAt (growAll p noCtx C) v .role → ((w : ℕ) → Cone C v w → isFree (lineNumbered C w) ≡ true) → tyAt (growAll p noCtx C) v .role ≡ 2
   cone-fixed v t f = cone-within (suc v) v (omega arith) t f

@@ -31,7 +31,7 @@ pub length-all : (p : Bool) (c : Ctx) (ls : List Line) → length (growAll p c l
 length-all p c [] = omega arith
 length-all p c (l ∷ ls) = length-all p (grow p c l) ls ∙ omega (arith, grown p c l)
 
-pub entry : (p : Bool) (c : Ctx) (ls : List Line) → AllOk p c ls → (i : ℕ) → i < length ls → Entry p (growAll p c ls) (length (c .tys) + i) (getD ls i Line.junk)
+pub entry : (p : Bool) (c : Ctx) (ls : List Line) → AllOk p c ls → (i : ℕ) → i < length ls → Entry p (growAll p c ls) (length (c .tys) + i) (getD ls i Line.unknown)
 entry p c [] k i h = absurd (omega arith)
 entry p c (l ∷ ls) k zero h =
     let n = length (c .tys) in
@@ -45,4 +45,4 @@ entry p c (l ∷ ls) k zero h =
     }
 entry p c (l ∷ ls) k (suc i) h =
     let z : length (grow p c l .tys) + i ≡ length (c .tys) + suc i = omega (arith, grown p c l) in
-    subst (λ (n : ℕ). Entry p (growAll p (grow p c l) ls) n (getD ls i Line.junk)) z (entry p (grow p c l) ls (k .1) i (omega arith))
+    subst (λ (n : ℕ). Entry p (growAll p (grow p c l) ls) n (getD ls i Line.unknown)) z (entry p (grow p c l) ls (k .1) i (omega arith))

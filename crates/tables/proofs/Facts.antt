@@ -9,29 +9,29 @@ use Rattle.tables.specs.declared.Ty.{Ty}
 use Rattle.tables.specs.Kinds.{rowOf, secondClass, thirdClass}
 use Rattle.tables.specs.Lines.{Line, Expr}
 use Rattle.tables.specs.Types.{sortAt, Ctx, tyAt, given, grow}
-use Rattle.tables.specs.Rules.{fitsOne, fitsTwo, valueIndex}
+use Rattle.tables.specs.Rules.{fitsUnary, fitsBinary, valueIndex}
 use Rattle.tables.specs.Tables.{unused}
 
 pub record IsValue (t : Ty) : Type 0 where
-  pub is : 2 ≤ t .cls
+  pub is : 2 ≤ t .role
 
 pub record IsWord (t : Ty) : Type 0 where
-  pub is : 2 ≤ t .cls
+  pub is : 2 ≤ t .role
   pub flat : t .iw ≡ 0
 
 pub record IsArray (t : Ty) : Type 0 where
-  pub is : 2 ≤ t .cls
+  pub is : 2 ≤ t .role
   pub deep : 0 < t .iw
 
 pub record IsSort (t : Ty) : Type 0 where
-  pub is : t .cls ≡ 1
+  pub is : t .role ≡ 1
 
 pub record IsWordSort (t : Ty) : Type 0 where
-  pub is : t .cls ≡ 1
+  pub is : t .role ≡ 1
   pub flat : t .iw ≡ 0
 
 pub record IsArraySort (t : Ty) : Type 0 where
-  pub is : t .cls ≡ 1
+  pub is : t .role ≡ 1
   pub deep : 0 < t .iw
 
 -- the same widths
@@ -48,24 +48,24 @@ abbrev pub OneKind : Bool → ℕ → Type 0
 OneKind false k = (11 ≤ k) × (k ≤ 20)
 OneKind true k = ((11 ≤ k) × (k ≤ 20)) ⊎ (k ≡ 56)
 
-pub record OkOne (p : Bool) (t : Ty) (k : ℕ) (a : Ty) (x y : ℕ) : Type 0 where
+pub record OkUnary (p : Bool) (t : Ty) (k : ℕ) (a : Ty) (x y : ℕ) : Type 0 where
   pub kind : OneKind p k
   pub sort : IsWordSort t
   pub arg : IsWord a
-  pub rule : fitsOne k (t .w) (a .w) x y ≡ true
+  pub rule : fitsUnary k (t .w) (a .w) x y ≡ true
   -- a number that the kind does not have is 0
   pub spare₂ : unused (secondClass (rowOf k)) x ≡ true
   pub spare₃ : unused (thirdClass (rowOf k)) y ≡ true
 
-pub record OkTwo (t : Ty) (k : ℕ) (a b : Ty) : Type 0 where
+pub record OkBinary (t : Ty) (k : ℕ) (a b : Ty) : Type 0 where
   pub least : 23 ≤ k
   pub most : k ≤ 52
   pub sort : IsWordSort t
   pub left : IsWord a
   pub right : IsWord b
-  pub rule : fitsTwo k (t .w) (a .w) (b .w) ≡ true
+  pub rule : fitsBinary k (t .w) (a .w) (b .w) ≡ true
 
-pub record OkCmp (t a b : Ty) : Type 0 where
+pub record OkEquality (t a b : Ty) : Type 0 where
   pub sort : IsWordSort t
   pub bit : t .w ≡ 1
   pub left : IsValue a
@@ -101,9 +101,9 @@ pub record OkWrite (p : Bool) (t a i v : Ty) : Type 0 where
 
 abbrev pub OkExpr : Bool → (ℕ → Ty) → Ty → Expr → Type 0
 OkExpr p L t (Expr.const v) = OkConst t v
-OkExpr p L t (Expr.one k a x y) = OkOne p t k (L a) x y
-OkExpr p L t (Expr.two k a b) = OkTwo t k (L a) (L b)
-OkExpr p L t (Expr.cmp e a b) = OkCmp t (L a) (L b)
+OkExpr p L t (Expr.unary k a x y) = OkUnary p t k (L a) x y
+OkExpr p L t (Expr.binary k a b) = OkBinary t k (L a) (L b)
+OkExpr p L t (Expr.equality e a b) = OkEquality t (L a) (L b)
 OkExpr p L t (Expr.ite c a b) = OkIte t (L c) (L a) (L b)
 OkExpr p L t (Expr.read a i) = OkRead p t (L a) (L i)
 OkExpr p L t (Expr.write a i v) = OkWrite p t (L a) (L i) (L v)
@@ -123,22 +123,22 @@ pub record OkArray (p : Bool) (i e : Ty) : Type 0 where
 pub record OkInit (q v : ℕ) (b : Ty) : Type 0 where
   pub word : IsWord b
   pub below : v < q
-  pub fixed : b .cls ≡ 2
+  pub fixed : b .role ≡ 2
 
 abbrev pub OkValue : Bool → (q v : ℕ) → Ty → Type 0
 OkValue true q v b = OkInit q v b
 OkValue false q v b = IsValue b
 
-pub record OkGive (m : Bool) (G : Bool → ℕ → Bool) (t a b : Ty) (q v : ℕ) : Type 0 where
+pub record OkInitOrNext (m : Bool) (G : Bool → ℕ → Bool) (t a b : Ty) (q v : ℕ) : Type 0 where
   pub sort : IsSort t
-  pub state : a .cls ≡ 4
+  pub state : a .role ≡ 4
   pub same : Same a t
   pub value : OkValue m q v b
   pub iw : b .iw ≡ valueIndex m t
   pub w : b .w ≡ t .w
   pub once : G m q ≡ false
 
-pub record OkMark (a : Ty) : Type 0 where
+pub record OkSignal (a : Ty) : Type 0 where
   pub word : IsWord a
   pub bit : a .w ≡ 1
 
@@ -147,11 +147,11 @@ Ok p L G (Line.bitvec w) = OkBitvec p w
 Ok p L G (Line.array i e) = OkArray p (L i) (L e)
 Ok p L G (Line.input s) = IsWordSort (sortAt p L s)
 Ok p L G (Line.state s) = IsSort (sortAt p L s)
-Ok p L G (Line.val s e) = OkExpr p L (sortAt p L s) e
-Ok p L G (Line.give m s q v) = OkGive m G (sortAt p L s) (L q) (L v) q v
-Ok p L G (Line.mark m a) = OkMark (L a)
+Ok p L G (Line.value s e) = OkExpr p L (sortAt p L s) e
+Ok p L G (Line.initOrNext m s q v) = OkInitOrNext m G (sortAt p L s) (L q) (L v) q v
+Ok p L G (Line.signal m a) = OkSignal (L a)
 Ok p L G (Line.output a) = IsWord (L a)
-Ok p L G Line.junk = ⊥
+Ok p L G Line.unknown = ⊥
 
 -- all lines, each after those before it
 abbrev pub AllOk : Bool → Ctx → List Line → Type 0

@@ -9,7 +9,7 @@ use lib.ListN.{length}
 use borrow.Author.Tests.{eqb-true}
 use Rattle.tables.specs.Pick.{all}
 use Rattle.tables.specs.Kinds.{rowOf, sortClass, firstClass, secondClass, thirdClass}
-use Rattle.tables.specs.Lines.{Shape, isBitvec, isArray, isConst, isInput, isState, isOutput, isOne, isTwo, isIte, isRead, isWrite, isJunk, isGive, isMark, isCmp, shapeOf, build, lineOf, fields, wordsOf, kindIn, sortIn, firstIn, secondIn, thirdIn}
+use Rattle.tables.specs.Lines.{Shape, isBitvec, isArray, isConst, isInput, isState, isOutput, isUnary, isBinary, isIte, isRead, isWrite, isUnknown, isInitOrNext, isSignal, isEquality, shapeOf, build, lineOf, fields, wordsOf, kindIn, sortIn, firstIn, secondIn, thirdIn}
 use Rattle.tables.specs.Layout.{recordWords}
 use Rattle.tables.specs.Tables.{known, unused, tidy, formed}
 use Rattle.tables.proofs.Every.{at-each}
@@ -67,18 +67,18 @@ module _ (p : Bool) (k s a b c : ℕ) (h : formed p (fields k s a b c) ≡ true)
   back isInput e q = let z = row-at 4 q in fields-eq (sym q) refl (sym (z .first refl)) (sym (z .second refl)) (sym (z .third refl))
   back isState e q = let z = row-at 5 q in fields-eq (sym q) refl (sym (z .first refl)) (sym (z .second refl)) (sym (z .third refl))
   back isOutput e q = let z = row-at 10 q in fields-eq (sym q) (sym (z .sort refl)) refl (sym (z .second refl)) (sym (z .third refl))
-  back isOne e q = refl
-  back isTwo e q = fields-eq refl refl refl refl (sym (row-zeros .third (two-third k (q .0) (q .1))))
+  back isUnary e q = refl
+  back isBinary e q = fields-eq refl refl refl refl (sym (row-zeros .third (two-third k (q .0) (q .1))))
   back isIte e q = fields-eq (sym q) refl refl refl refl
   back isRead e q = let z = row-at 54 q in fields-eq (sym q) refl refl refl (sym (z .third refl))
   back isWrite e q = fields-eq (sym q) refl refl refl refl
-  back isJunk e q = let g = known-range p k (both (known p k) _ h .0) in absurd (no-junk k (g .0) (g .1) e)
-  back (isGive true) e q = let z = row-at 6 q in fields-eq (sym q) refl refl refl (sym (z .third refl))
-  back (isGive false) e q = let z = row-at 7 q in fields-eq (sym q) refl refl refl (sym (z .third refl))
-  back (isMark true) e q = let z = row-at 8 q in fields-eq (sym q) (sym (z .sort refl)) refl (sym (z .second refl)) (sym (z .third refl))
-  back (isMark false) e q = let z = row-at 9 q in fields-eq (sym q) (sym (z .sort refl)) refl (sym (z .second refl)) (sym (z .third refl))
-  back (isCmp true) e q = let z = row-at 21 q in fields-eq (sym q) refl refl refl (sym (z .third refl))
-  back (isCmp false) e q = let z = row-at 22 q in fields-eq (sym q) refl refl refl (sym (z .third refl))
+  back isUnknown e q = let g = known-range p k (both (known p k) _ h .0) in absurd (no-junk k (g .0) (g .1) e)
+  back (isInitOrNext true) e q = let z = row-at 6 q in fields-eq (sym q) refl refl refl (sym (z .third refl))
+  back (isInitOrNext false) e q = let z = row-at 7 q in fields-eq (sym q) refl refl refl (sym (z .third refl))
+  back (isSignal true) e q = let z = row-at 8 q in fields-eq (sym q) (sym (z .sort refl)) refl (sym (z .second refl)) (sym (z .third refl))
+  back (isSignal false) e q = let z = row-at 9 q in fields-eq (sym q) (sym (z .sort refl)) refl (sym (z .second refl)) (sym (z .third refl))
+  back (isEquality true) e q = let z = row-at 21 q in fields-eq (sym q) refl refl refl (sym (z .third refl))
+  back (isEquality false) e q = let z = row-at 22 q in fields-eq (sym q) refl refl refl (sym (z .third refl))
 
   fields-back : wordsOf (lineOf (fields k s a b c)) ≡ fields k s a b c
   fields-back = ap wordsOf (line-as (fields k s a b c) (shapeOf k) refl) ∙ back (shapeOf k) refl (kind-of k)

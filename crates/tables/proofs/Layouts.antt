@@ -4,7 +4,7 @@ use mathlib.Core.Path.{_≡_, sym, ap, _∙_}
 use mathlib.Core.Bool.{Bool, true, false}
 use native.Mathlib.Nat.{mul-suc, mul-le-mul-left, mul-div-le, mul-add-div, mul-add-mod-self-left, div-eq-of-lt, mod-eq-of-lt}
 use native.Mathlib.Omega.{arith}
-use Rattle.tables.specs.Layout.{Placing, recordWords, recordSize, held, byRow, placeAt}
+use Rattle.tables.specs.Layout.{Placing, recordWords, recordSize, held, byRow, placing}
 
 pub record Sound (p : Bool) (f : Placing) : Type 0 where
   pub inside : (len i j : ℕ) → i < held p len → j < recordSize p → f len i j < len
@@ -36,7 +36,7 @@ rows-sound p =
       apart = λ len i j k l a b c d e. let q = pair-apart (recordSize p) j i l k c d e in (q .1, q .0);
     }
 
-pub placed : (p : Bool) → Sound p (placeAt p)
+pub placed : (p : Bool) → Sound p (placing p)
 placed = rows-sound
 
 -- a record that is handed about has its words in a list

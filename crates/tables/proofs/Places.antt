@@ -6,7 +6,7 @@ use mathlib.Core.List.{List, [], _∷_, _++_, map}
 use native.Mathlib.Omega.{arith}
 use lib.ListN.{length, getD, take, replicate, length-replicate}
 use Rattle.tables.specs.Lines.{Line, lineOf, wordsOf, fields, kindIn, sortIn, firstIn, secondIn, thirdIn}
-use Rattle.tables.specs.Layout.{recordWords, held, placeAt, rowsFrom, filledBy, recordAt, recordsOf, linesOf, recorded, putAll, filled}
+use Rattle.tables.specs.Layout.{recordWords, held, placing, rowsFrom, filledBy, recordAt, recordsOf, linesOf, recorded, putAll, filled}
 use Rattle.tables.proofs.Layouts.{placed, words-in}
 use Rattle.tables.proofs.Spread.{length-from}
 use Rattle.tables.proofs.Putting as laws
@@ -37,10 +37,10 @@ sized-append (r ∷ rs) ss a b = (a .0, sized-append rs ss (a .1) b)
 -- ---- the records of a list, by their places
 
 pub length-record : (p : Bool) (t : List ℕ) (i : ℕ) → length (recordAt p t i) ≡ recordWords
-length-record p t i = length-from (placeAt p (length t) i) t 0 recordWords
+length-record p t i = length-from (placing p (length t) i) t 0 recordWords
 
 pub length-records : (p : Bool) (t : List ℕ) (n : ℕ) → length (recordsOf p t n) ≡ n
-length-records p t n = laws.length-rows (placeAt p) recordWords t 0 n
+length-records p t n = laws.length-rows (placing p) recordWords t 0 n
 
 pub length-lines : (p : Bool) (t : List ℕ) (n : ℕ) → length (linesOf p t n) ≡ n
 length-lines p t n = length-mapped (recordsOf p t n) ∙ length-records p t n
@@ -50,25 +50,25 @@ length-lines p t n = length-mapped (recordsOf p t n) ∙ length-records p t n
     length-mapped (r ∷ rs) = ap suc (length-mapped rs)
 
 pub record-at : (p : Bool) (t : List ℕ) (n i : ℕ) → i < n → getD (recordsOf p t n) i [] ≡ recordAt p t i
-record-at p t n i h = laws.row-at (placeAt p) recordWords t n i h
+record-at p t n i h = laws.row-at (placing p) recordWords t n i h
 
 pub records-more : (p : Bool) (t : List ℕ) (n : ℕ) → recordsOf p t (suc n) ≡ recordsOf p t n ++ (recordAt p t n ∷ [])
-records-more p t n = laws.rows-more (placeAt p) recordWords t n
+records-more p t n = laws.rows-more (placing p) recordWords t n
 
 pub take-records : (p : Bool) (t : List ℕ) (i n : ℕ) → i ≤ n → take i (recordsOf p t n) ≡ recordsOf p t i
-take-records p t i n h = laws.take-rows (placeAt p) recordWords t 0 i n h
+take-records p t i n h = laws.take-rows (placing p) recordWords t 0 i n h
 
 pub records-sized : (p : Bool) (t : List ℕ) (n : ℕ) → Sized (recordsOf p t n)
 records-sized p t n = go 0 n
   where
-    go : (i m : ℕ) → Sized (rowsFrom (placeAt p) recordWords t i m)
+    go : (i m : ℕ) → Sized (rowsFrom (placing p) recordWords t i m)
     go i zero = tt
     go i (suc m) = (length-record p t i, go (suc i) m)
 
 -- ---- records are put, one after the other; the place k of what comes next is handed over with its equation
 
 pub length-recorded : (p : Bool) (t : List ℕ) (i : ℕ) (r : List ℕ) → length (recorded p t i r) ≡ length t
-length-recorded p t i r = laws.length-row (placeAt p) t i r
+length-recorded p t i r = laws.length-row (placing p) t i r
 
 pub recorded-same : (p : Bool) (t : List ℕ) (i : ℕ) (r : List ℕ) → i < held p (length t) → length r ≡ recordWords → recordAt p (recorded p t i r) i ≡ r
 recorded-same p t i r h e = laws.row-same (placed p) (words-in p) t i r h e
@@ -78,13 +78,13 @@ pub recorded-other : (p : Bool) (t : List ℕ) (i : ℕ) (r : List ℕ) (k : ℕ
 recorded-other p t i r k h l n e = laws.row-other (placed p) (words-in p) t i k r h l n e
 
 pub put-append : (p : Bool) (t : List ℕ) (i : ℕ) (rs : List (List ℕ)) (k : ℕ) (ss : List (List ℕ)) → k ≡ i + length rs → putAll p (putAll p t i rs) k ss ≡ putAll p t i (rs ++ ss)
-put-append p t i rs k ss q = ap (λ (n : ℕ). putAll p (putAll p t i rs) n ss) q ∙ laws.put-append (placeAt p) t i rs ss
+put-append p t i rs k ss q = ap (λ (n : ℕ). putAll p (putAll p t i rs) n ss) q ∙ laws.put-append (placing p) t i rs ss
 
 pub put-more : (p : Bool) (t : List ℕ) (i : ℕ) (rs : List (List ℕ)) (k : ℕ) (r : List ℕ) → k ≡ i + length rs → recorded p (putAll p t i rs) k r ≡ putAll p t i (rs ++ (r ∷ []))
 put-more p t i rs k r q = put-append p t i rs k (r ∷ []) q
 
 pub length-put : (p : Bool) (t : List ℕ) (i : ℕ) (rs : List (List ℕ)) → length (putAll p t i rs) ≡ length t
-length-put p t i rs = laws.length-put (placeAt p) t i rs
+length-put p t i rs = laws.length-put (placing p) t i rs
 
 -- ---- a list that holds these records and zeros
 

@@ -12,31 +12,31 @@ use borrow.Author.Tests.{le-leb, lt-leb, ne-eqb, eqb-true, eqb-false}
 use native.Mathlib.Omega.{arith}
 use Rattle.tables.specs.declared.Ty.{Ty}
 use Rattle.tables.specs.Pick.{pick, inside, all}
-use Rattle.tables.specs.Lines.{Line, Shape, isBitvec, isArray, isConst, isInput, isState, isOutput, isOne, isTwo, isIte, isRead, isWrite, isJunk, isGive, isMark, isCmp, giveKind, markKind, cmpKind, shapeOf, build, lineOf, kindIn, sortIn, firstIn, secondIn, thirdIn}
+use Rattle.tables.specs.Lines.{Line, Shape, isBitvec, isArray, isConst, isInput, isState, isOutput, isUnary, isBinary, isIte, isRead, isWrite, isUnknown, isInitOrNext, isSignal, isEquality, initOrNextKind, signalKind, equalityKind, shapeOf, build, lineOf, kindIn, sortIn, firstIn, secondIn, thirdIn}
 use Rattle.tables.specs.Types.{ty, noTy, isFixed, typeOf}
 use Rattle.tables.specs.Rules.{fits, onceRules}
 
 pub line-as : (r : List ℕ) (S : Shape) → shapeOf (kindIn r) ≡ S → lineOf r ≡ build S (kindIn r) (sortIn r) (firstIn r) (secondIn r) (thirdIn r)
 line-as r S e = ap (λ (s : Shape). build s (kindIn r) (sortIn r) (firstIn r) (secondIn r) (thirdIn r)) e
 
-pub shape-one : (k : ℕ) → 11 ≤ k → k ≤ 20 → shapeOf k ≡ isOne
+pub shape-one : (k : ℕ) → 11 ≤ k → k ≤ 20 → shapeOf k ≡ isUnary
 shape-one k h l = rw (le-leb 11 k h, le-leb k 20 l)
 
-pub shape-two : (k : ℕ) → 23 ≤ k → k ≤ 52 → shapeOf k ≡ isTwo
+pub shape-two : (k : ℕ) → 23 ≤ k → k ≤ 52 → shapeOf k ≡ isBinary
 shape-two k h l = rw (le-leb 11 k (omega arith), lt-leb k 20 (omega arith), le-leb 23 k h, le-leb k 52 l)
 
-pub shape-cmp : {k : ℕ} → 21 ≤ k → k < 23 → shapeOf k ≡ isCmp (eqb k 21)
+pub shape-cmp : {k : ℕ} → 21 ≤ k → k < 23 → shapeOf k ≡ isEquality (eqb k 21)
 shape-cmp {k} h l = go (eqb k 21) refl
   where
-    go : (b : Bool) → eqb k 21 ≡ b → shapeOf k ≡ isCmp (eqb k 21)
-    go true e = let q : k ≡ 21 = eqb-true k 21 e in ap shapeOf q ∙ ap isCmp (sym e)
-    go false e = let m : 22 ≤ k = past h (eqb-false k 21 e) in let q : k ≡ 22 = omega arith in ap shapeOf q ∙ ap isCmp (sym e)
+    go : (b : Bool) → eqb k 21 ≡ b → shapeOf k ≡ isEquality (eqb k 21)
+    go true e = let q : k ≡ 21 = eqb-true k 21 e in ap shapeOf q ∙ ap isEquality (sym e)
+    go false e = let m : 22 ≤ k = past h (eqb-false k 21 e) in let q : k ≡ 22 = omega arith in ap shapeOf q ∙ ap isEquality (sym e)
 
 -- a number that no kind has
-pub shape-zero : (k : ℕ) → k < 1 → shapeOf k ≡ isJunk
+pub shape-zero : (k : ℕ) → k < 1 → shapeOf k ≡ isUnknown
 shape-zero k h = let e : k ≡ 0 = omega arith in ap shapeOf e
 
-pub shape-past : (k : ℕ) → 56 < k → shapeOf k ≡ isJunk
+pub shape-past : (k : ℕ) → 56 < k → shapeOf k ≡ isUnknown
 shape-past k h =
     let ne : (n : ℕ) → n ≤ 56 → eqb k n ≡ false = λ n l. ne-eqb k n (λ e. omega arith) in
     rw (lt-leb k 20 (omega arith), le-leb 11 k (omega arith), lt-leb k 52 (omega arith), le-leb 23 k (omega arith), ne 1 (omega arith), ne 2 (omega arith), ne 3 (omega arith), ne 4 (omega arith), ne 5 (omega arith), ne 6 (omega arith), ne 7 (omega arith), ne 8 (omega arith), ne 9 (omega arith), ne 10 (omega arith), ne 21 (omega arith), ne 22 (omega arith), ne 53 (omega arith), ne 54 (omega arith), ne 55 (omega arith), ne 56 (omega arith))
@@ -60,15 +60,15 @@ KindOf isConst k = k ≡ 3
 KindOf isInput k = k ≡ 4
 KindOf isState k = k ≡ 5
 KindOf isOutput k = k ≡ 10
-KindOf isOne k = ((11 ≤ k) × (k ≤ 20)) ⊎ (k ≡ 56)
-KindOf isTwo k = (23 ≤ k) × (k ≤ 52)
+KindOf isUnary k = ((11 ≤ k) × (k ≤ 20)) ⊎ (k ≡ 56)
+KindOf isBinary k = (23 ≤ k) × (k ≤ 52)
 KindOf isIte k = k ≡ 53
 KindOf isRead k = k ≡ 54
 KindOf isWrite k = k ≡ 55
-KindOf isJunk k = Unit {0}
-KindOf (isGive m) k = k ≡ giveKind m
-KindOf (isMark m) k = k ≡ markKind m
-KindOf (isCmp e) k = k ≡ cmpKind e
+KindOf isUnknown k = Unit {0}
+KindOf (isInitOrNext m) k = k ≡ initOrNextKind m
+KindOf (isSignal m) k = k ≡ signalKind m
+KindOf (isEquality e) k = k ≡ equalityKind e
 
 by-pick : (P : Shape → Type 0) (b : Bool) {x y : Shape} → (b ≡ true → P x) → (b ≡ false → P y) → P (pick b x y)
 by-pick P true f g = f refl
@@ -112,40 +112,40 @@ no-once r G b f g = go (shapeOf (kindIn r)) refl (kind-of (kindIn r))
     go isInput e h = once-as r isInput e G b refl
     go isState e h = once-as r isState e G b refl
     go isOutput e h = once-as r isOutput e G b refl
-    go isOne e h = once-as r isOne e G b refl
-    go isTwo e h = once-as r isTwo e G b refl
+    go isUnary e h = once-as r isUnary e G b refl
+    go isBinary e h = once-as r isBinary e G b refl
     go isIte e h = once-as r isIte e G b refl
     go isRead e h = once-as r isRead e G b refl
     go isWrite e h = once-as r isWrite e G b refl
-    go isJunk e h = once-as r isJunk e G b refl
-    go (isGive true) e h = absurd (f h)
-    go (isGive false) e h = absurd (g h)
-    go (isMark m) e h = once-as r (isMark m) e G b refl
-    go (isCmp q) e h = once-as r (isCmp q) e G b refl
+    go isUnknown e h = once-as r isUnknown e G b refl
+    go (isInitOrNext true) e h = absurd (f h)
+    go (isInitOrNext false) e h = absurd (g h)
+    go (isSignal m) e h = once-as r (isSignal m) e G b refl
+    go (isEquality q) e h = once-as r (isEquality q) e G b refl
 
 -- every number from 1 to 56 is a kind: one computed test
-abbrev isJunk? : Shape → Bool
-isJunk? isBitvec = false
-isJunk? isArray = false
-isJunk? isConst = false
-isJunk? isInput = false
-isJunk? isState = false
-isJunk? isOutput = false
-isJunk? isOne = false
-isJunk? isTwo = false
-isJunk? isIte = false
-isJunk? isRead = false
-isJunk? isWrite = false
-isJunk? isJunk = true
-isJunk? (isGive m) = false
-isJunk? (isMark m) = false
-isJunk? (isCmp e) = false
+abbrev isUnknown? : Shape → Bool
+isUnknown? isBitvec = false
+isUnknown? isArray = false
+isUnknown? isConst = false
+isUnknown? isInput = false
+isUnknown? isState = false
+isUnknown? isOutput = false
+isUnknown? isUnary = false
+isUnknown? isBinary = false
+isUnknown? isIte = false
+isUnknown? isRead = false
+isUnknown? isWrite = false
+isUnknown? isUnknown = true
+isUnknown? (isInitOrNext m) = false
+isUnknown? (isSignal m) = false
+isUnknown? (isEquality e) = false
 
-pub no-junk : (k : ℕ) → 1 ≤ k → k ≤ 56 → shapeOf k ≡ isJunk → ⊥
+pub no-junk : (k : ℕ) → 1 ≤ k → k ≤ 56 → shapeOf k ≡ isUnknown → ⊥
 no-junk k h l e =
     let n : ℕ = k - 1 in
     let q : suc n ≡ k = omega arith in
-    T-not (isJunk? isJunk) (subst (λ (S : Shape). T (not (isJunk? S))) (ap shapeOf q ∙ e) (at-each (λ m. not (isJunk? (shapeOf (suc m)))) 56 tt n (omega arith))) tt
+    T-not (isUnknown? isUnknown) (subst (λ (S : Shape). T (not (isUnknown? S))) (ap shapeOf q ∙ e) (at-each (λ m. not (isUnknown? (shapeOf (suc m)))) 56 tt n (omega arith))) tt
 
 -- ---- the types of lines
 
@@ -164,17 +164,17 @@ module _ (r : List ℕ) (t a b c : Ty) where
       go isInput e k = absurd (omega arith)
       go isState e k = absurd (omega arith)
       go isOutput e k = type-as isOutput e refl
-      go isOne e (inl k) = absurd (omega arith)
-      go isOne e (inr k) = absurd (omega arith)
-      go isTwo e k = absurd (omega arith)
+      go isUnary e (inl k) = absurd (omega arith)
+      go isUnary e (inr k) = absurd (omega arith)
+      go isBinary e k = absurd (omega arith)
       go isIte e k = absurd (omega arith)
       go isRead e k = absurd (omega arith)
       go isWrite e k = absurd (omega arith)
-      go isJunk e k = type-as isJunk e refl
-      go (isGive m) e k = type-as (isGive m) e refl
-      go (isMark m) e k = type-as (isMark m) e refl
-      go (isCmp true) e k = absurd (omega arith)
-      go (isCmp false) e k = absurd (omega arith)
+      go isUnknown e k = type-as isUnknown e refl
+      go (isInitOrNext m) e k = type-as (isInitOrNext m) e refl
+      go (isSignal m) e k = type-as (isSignal m) e refl
+      go (isEquality true) e k = absurd (omega arith)
+      go (isEquality false) e k = absurd (omega arith)
 
   -- of two operands: comparisons, operators of two words, read
   pub two-type : 20 < kindIn r → kindIn r ≤ 56 → (kindIn r ≡ 53 → ⊥) → (kindIn r ≡ 55 → ⊥) → (kindIn r ≡ 56 → ⊥)
@@ -188,15 +188,15 @@ module _ (r : List ℕ) (t a b c : Ty) where
       go isInput e k = absurd (omega arith)
       go isState e k = absurd (omega arith)
       go isOutput e k = absurd (omega arith)
-      go isOne e (inl k) = absurd (omega arith)
-      go isOne e (inr k) = absurd (n₃ k)
-      go isTwo e k = type-as isTwo e refl
+      go isUnary e (inl k) = absurd (omega arith)
+      go isUnary e (inr k) = absurd (n₃ k)
+      go isBinary e k = type-as isBinary e refl
       go isIte e k = absurd (n₁ k)
       go isRead e k = type-as isRead e refl
       go isWrite e k = absurd (n₂ k)
-      go isJunk e k = absurd (no-junk (kindIn r) (omega arith) l e)
-      go (isGive true) e k = absurd (omega arith)
-      go (isGive false) e k = absurd (omega arith)
-      go (isMark true) e k = absurd (omega arith)
-      go (isMark false) e k = absurd (omega arith)
-      go (isCmp q) e k = type-as (isCmp q) e refl
+      go isUnknown e k = absurd (no-junk (kindIn r) (omega arith) l e)
+      go (isInitOrNext true) e k = absurd (omega arith)
+      go (isInitOrNext false) e k = absurd (omega arith)
+      go (isSignal true) e k = absurd (omega arith)
+      go (isSignal false) e k = absurd (omega arith)
+      go (isEquality q) e k = type-as (isEquality q) e refl

@@ -12,12 +12,12 @@ use borrow.Author.Tests.{eqb-true, eqb-false, eq-eqb, ne-eqb, leb-true, leb-fals
 use Rattle.tables.specs.declared.Ty.{Ty}
 use Rattle.tables.specs.Pick.{pick, all, among, alike}
 use Rattle.tables.specs.Kinds.{rowOf, sortClass, firstClass}
-use Rattle.tables.specs.Lines.{Shape, isBitvec, isArray, isConst, isInput, isState as stateShape, isOutput, isOne, isTwo, isIte, isRead, isWrite, isJunk, isGive, isMark, isCmp, giveKind, shapeOf, build, lineOf, kindIn, sortIn, firstIn, secondIn, thirdIn}
+use Rattle.tables.specs.Lines.{Shape, isBitvec, isArray, isConst, isInput, isState as stateShape, isOutput, isUnary, isBinary, isIte, isRead, isWrite, isUnknown, isInitOrNext, isSignal, isEquality, initOrNextKind, shapeOf, build, lineOf, kindIn, sortIn, firstIn, secondIn, thirdIn}
 use Rattle.tables.specs.Layout.{recordWords}
 use Rattle.tables.specs.Types.{ty, noTy, isState, sortAt, recordType, lineType, Ctx, tyAt, givenBy, given, givenAfter, grow}
 use Rattle.tables.specs.Rules.{suits, classes, fault}
 use Rattle.tables.specs.Tables.{formed, keeps}
-use Rattle.tables.specs.Notes.{blank, noteAt, lookIn, markIn, givenIn, Shows, typed, marked, markedBy, noted}
+use Rattle.tables.specs.Model.Notes.{blank, noteAt, lookIn, markIn, givenIn, Shows, typed, withMark, markedBy, noted}
 use Rattle.tables.proofs.Laws.{or-true, or-false}
 use Rattle.tables.proofs.Shapes.{KindOf, kind-of, line-as, no-junk}
 use Rattle.tables.proofs.Answers.{passed}
@@ -50,69 +50,69 @@ among-snoc n (x ∷ xs) q = step (eqb n x) (among n xs) (eqb n q) (among-snoc n 
 -- ---- the states that have an init or a next line
 
 -- an init or a next adds its state, any other line none
-pub given-as : (m : Bool) (c : Ctx) (r : List ℕ) → givenAfter m c (lineOf r) ≡ pick (eqb (kindIn r) (giveKind m)) (givenBy m c ++ (firstIn r ∷ [])) (givenBy m c)
+pub given-as : (m : Bool) (c : Ctx) (r : List ℕ) → givenAfter m c (lineOf r) ≡ pick (eqb (kindIn r) (initOrNextKind m)) (givenBy m c ++ (firstIn r ∷ [])) (givenBy m c)
 given-as m c r = go (shapeOf (kindIn r)) refl (kind-of (kindIn r))
   where
     k : ℕ
     k = kindIn r
 
-    six : (n : ℕ) → (kindIn r ≡ n) → (eqb n (giveKind m) ≡ false) → eqb (kindIn r) (giveKind m) ≡ false
-    six n e f = subst (λ (x : ℕ). eqb x (giveKind m) ≡ false) (sym e) f
+    six : (n : ℕ) → (kindIn r ≡ n) → (eqb n (initOrNextKind m) ≡ false) → eqb (kindIn r) (initOrNextKind m) ≡ false
+    six n e f = subst (λ (x : ℕ). eqb x (initOrNextKind m) ≡ false) (sym e) f
 
-    far : (m : Bool) → 11 ≤ kindIn r → eqb (kindIn r) (giveKind m) ≡ false
+    far : (m : Bool) → 11 ≤ kindIn r → eqb (kindIn r) (initOrNextKind m) ≡ false
     far true h = ne-eqb (kindIn r) 6 (λ e. omega arith)
     far false h = ne-eqb (kindIn r) 7 (λ e. omega arith)
 
-    junk : (m : Bool) → shapeOf (kindIn r) ≡ isJunk → eqb (kindIn r) (giveKind m) ≡ false
+    junk : (m : Bool) → shapeOf (kindIn r) ≡ isUnknown → eqb (kindIn r) (initOrNextKind m) ≡ false
     junk true e = ne-eqb (kindIn r) 6 (λ q. no-junk (kindIn r) (omega arith) (omega arith) e)
     junk false e = ne-eqb (kindIn r) 7 (λ q. no-junk (kindIn r) (omega arith) (omega arith) e)
 
-    other : (m : Bool) (n : ℕ) → (n ≡ 6 → ⊥) → (n ≡ 7 → ⊥) → eqb n (giveKind m) ≡ false
+    other : (m : Bool) (n : ℕ) → (n ≡ 6 → ⊥) → (n ≡ 7 → ⊥) → eqb n (initOrNextKind m) ≡ false
     other true n f g = ne-eqb n 6 f
     other false n f g = ne-eqb n 7 g
 
-    rest : (S : Shape) → shapeOf (kindIn r) ≡ S → givenAfter m c (build S (kindIn r) (sortIn r) (firstIn r) (secondIn r) (thirdIn r)) ≡ givenBy m c → eqb (kindIn r) (giveKind m) ≡ false
-        → givenAfter m c (lineOf r) ≡ pick (eqb (kindIn r) (giveKind m)) (givenBy m c ++ (firstIn r ∷ [])) (givenBy m c)
+    rest : (S : Shape) → shapeOf (kindIn r) ≡ S → givenAfter m c (build S (kindIn r) (sortIn r) (firstIn r) (secondIn r) (thirdIn r)) ≡ givenBy m c → eqb (kindIn r) (initOrNextKind m) ≡ false
+        → givenAfter m c (lineOf r) ≡ pick (eqb (kindIn r) (initOrNextKind m)) (givenBy m c ++ (firstIn r ∷ [])) (givenBy m c)
     rest S e q f = ap (givenAfter m c) (line-as r S e) ∙ q ∙ ap (λ (b : Bool). pick b (givenBy m c ++ (firstIn r ∷ [])) (givenBy m c)) (sym f)
 
-    gives : (n m : Bool) → kindIn r ≡ giveKind n
-        → pick (alike m n) (givenBy m c ++ (firstIn r ∷ [])) (givenBy m c) ≡ pick (eqb (kindIn r) (giveKind m)) (givenBy m c ++ (firstIn r ∷ [])) (givenBy m c)
+    gives : (n m : Bool) → kindIn r ≡ initOrNextKind n
+        → pick (alike m n) (givenBy m c ++ (firstIn r ∷ [])) (givenBy m c) ≡ pick (eqb (kindIn r) (initOrNextKind m)) (givenBy m c ++ (firstIn r ∷ [])) (givenBy m c)
     gives true true q = rw q refl
     gives true false q = rw q refl
     gives false true q = rw q refl
     gives false false q = rw q refl
 
     go : (S : Shape) → shapeOf (kindIn r) ≡ S → KindOf S (kindIn r)
-        → givenAfter m c (lineOf r) ≡ pick (eqb (kindIn r) (giveKind m)) (givenBy m c ++ (firstIn r ∷ [])) (givenBy m c)
+        → givenAfter m c (lineOf r) ≡ pick (eqb (kindIn r) (initOrNextKind m)) (givenBy m c ++ (firstIn r ∷ [])) (givenBy m c)
     go isBitvec e q = rest isBitvec e refl (other m (kindIn r) (λ z. omega arith) (λ z. omega arith))
     go isArray e q = rest isArray e refl (other m (kindIn r) (λ z. omega arith) (λ z. omega arith))
     go isConst e q = rest isConst e refl (other m (kindIn r) (λ z. omega arith) (λ z. omega arith))
     go isInput e q = rest isInput e refl (other m (kindIn r) (λ z. omega arith) (λ z. omega arith))
     go stateShape e q = rest stateShape e refl (other m (kindIn r) (λ z. omega arith) (λ z. omega arith))
     go isOutput e q = rest isOutput e refl (other m (kindIn r) (λ z. omega arith) (λ z. omega arith))
-    go isOne e (inl q) = rest isOne e refl (other m (kindIn r) (λ z. omega arith) (λ z. omega arith))
-    go isOne e (inr q) = rest isOne e refl (other m (kindIn r) (λ z. omega arith) (λ z. omega arith))
-    go isTwo e q = rest isTwo e refl (other m (kindIn r) (λ z. omega arith) (λ z. omega arith))
+    go isUnary e (inl q) = rest isUnary e refl (other m (kindIn r) (λ z. omega arith) (λ z. omega arith))
+    go isUnary e (inr q) = rest isUnary e refl (other m (kindIn r) (λ z. omega arith) (λ z. omega arith))
+    go isBinary e q = rest isBinary e refl (other m (kindIn r) (λ z. omega arith) (λ z. omega arith))
     go isIte e q = rest isIte e refl (other m (kindIn r) (λ z. omega arith) (λ z. omega arith))
     go isRead e q = rest isRead e refl (other m (kindIn r) (λ z. omega arith) (λ z. omega arith))
     go isWrite e q = rest isWrite e refl (other m (kindIn r) (λ z. omega arith) (λ z. omega arith))
-    go isJunk e q = rest isJunk e refl (junk m e)
-    go (isGive n) e q = ap (givenAfter m c) (line-as r (isGive n) e) ∙ gives n m q
-    go (isMark true) e q = rest (isMark true) e refl (other m (kindIn r) (λ z. omega arith) (λ z. omega arith))
-    go (isMark false) e q = rest (isMark false) e refl (other m (kindIn r) (λ z. omega arith) (λ z. omega arith))
-    go (isCmp true) e q = rest (isCmp true) e refl (other m (kindIn r) (λ z. omega arith) (λ z. omega arith))
-    go (isCmp false) e q = rest (isCmp false) e refl (other m (kindIn r) (λ z. omega arith) (λ z. omega arith))
+    go isUnknown e q = rest isUnknown e refl (junk m e)
+    go (isInitOrNext n) e q = ap (givenAfter m c) (line-as r (isInitOrNext n) e) ∙ gives n m q
+    go (isSignal true) e q = rest (isSignal true) e refl (other m (kindIn r) (λ z. omega arith) (λ z. omega arith))
+    go (isSignal false) e q = rest (isSignal false) e refl (other m (kindIn r) (λ z. omega arith) (λ z. omega arith))
+    go (isEquality true) e q = rest (isEquality true) e refl (other m (kindIn r) (λ z. omega arith) (λ z. omega arith))
+    go (isEquality false) e q = rest (isEquality false) e refl (other m (kindIn r) (λ z. omega arith) (λ z. omega arith))
 
 -- a mark at the state q
 marked-at : (m : Bool) (notes : List (List ℕ)) (xs : List ℕ) (q : ℕ) → q < length notes → ((n : ℕ) → givenIn notes m n ≡ among n xs)
-    → (n : ℕ) → givenIn (set notes q (marked m (noteAt notes q))) m n ≡ among n (xs ++ (q ∷ []))
+    → (n : ℕ) → givenIn (set notes q (withMark m (noteAt notes q))) m n ≡ among n (xs ++ (q ∷ []))
 marked-at m notes xs q h f n =
     by-place n q
-    (λ e. subst (λ (j : ℕ). givenIn (set notes q (marked m (noteAt notes q))) m j ≡ among j (xs ++ (q ∷ []))) (sym e)
-    (ap (λ (r : List ℕ). eqb (markIn m r) 1) (getD-set-same notes q (marked m (noteAt notes q)) blank h) ∙ own m ∙ sym (among-snoc q xs q ∙ rw (eq-eqb q q refl, or-true))))
-    (λ e. ap (λ (r : List ℕ). eqb (markIn m r) 1) (getD-set-other notes q n (marked m (noteAt notes q)) blank e) ∙ f n ∙ sym (among-snoc n xs q ∙ rw (ne-eqb n q e, or-false)))
+    (λ e. subst (λ (j : ℕ). givenIn (set notes q (withMark m (noteAt notes q))) m j ≡ among j (xs ++ (q ∷ []))) (sym e)
+    (ap (λ (r : List ℕ). eqb (markIn m r) 1) (getD-set-same notes q (withMark m (noteAt notes q)) blank h) ∙ own m ∙ sym (among-snoc q xs q ∙ rw (eq-eqb q q refl, or-true))))
+    (λ e. ap (λ (r : List ℕ). eqb (markIn m r) 1) (getD-set-other notes q n (withMark m (noteAt notes q)) blank e) ∙ f n ∙ sym (among-snoc n xs q ∙ rw (ne-eqb n q e, or-false)))
   where
-    own : (m : Bool) → eqb (markIn m (marked m (noteAt notes q))) 1 ≡ true
+    own : (m : Bool) → eqb (markIn m (withMark m (noteAt notes q))) 1 ≡ true
     own true = refl
     own false = refl
 
@@ -129,22 +129,22 @@ unfolding rowOf
 seven-state = refl
 
 -- the state that an init or a next line names is one
-pub named : (p m : Bool) (L : ℕ → Ty) (G : Bool → ℕ → Bool) (r : List ℕ) → fault p L G r ≡ 0 → kindIn r ≡ giveKind m → isState (L (firstIn r)) ≡ true
+pub named : (p m : Bool) (L : ℕ → Ty) (G : Bool → ℕ → Bool) (r : List ℕ) → fault p L G r ≡ 0 → kindIn r ≡ initOrNextKind m → isState (L (firstIn r)) ≡ true
 named p m L G r e k = at m (subst (λ (n : ℕ). all (classes (rowOf n) t (L (firstIn r)) (L (secondIn r)) (L (thirdIn r))) ≡ true) k (passed p L G r e .class))
   where
     t : Ty
     t = sortAt p L (sortIn r)
 
-    at : (m : Bool) → all (classes (rowOf (giveKind m)) t (L (firstIn r)) (L (secondIn r)) (L (thirdIn r))) ≡ true → isState (L (firstIn r)) ≡ true
+    at : (m : Bool) → all (classes (rowOf (initOrNextKind m)) t (L (firstIn r)) (L (secondIn r)) (L (thirdIn r))) ≡ true → isState (L (firstIn r)) ≡ true
     at true h = state-first 6 t (L (firstIn r)) (L (secondIn r)) (L (thirdIn r)) six-state h
     at false h = state-first 7 t (L (firstIn r)) (L (secondIn r)) (L (thirdIn r)) seven-state h
 
 -- a line of some class is an earlier line
-pub earlier : (ts : List Ty) (a : ℕ) → 1 ≤ getD ts a noTy .cls → a < length ts
+pub earlier : (ts : List Ty) (a : ℕ) → 1 ≤ getD ts a noTy .role → a < length ts
 earlier ts a h = by-length (leb (length ts) a) refl
   where
     by-length : (b : Bool) → leb (length ts) a ≡ b → a < length ts
-    by-length true e = absurd (omega (arith, subst (λ (t : Ty). 1 ≤ t .cls) (List·getD-eq-default ts noTy {n = a} (leb-true (length ts) a e)) h))
+    by-length true e = absurd (omega (arith, subst (λ (t : Ty). 1 ≤ t .role) (List·getD-eq-default ts noTy {n = a} (leb-true (length ts) a e)) h))
     by-length false e = leb-false (length ts) a e
 
 -- ---- the parts of a note
@@ -162,19 +162,19 @@ same-at g notes q r e a = go (leb (length notes) q) refl
 
 -- a mark leaves the types and the other marks
 mark-types : (m : Bool) (r : List ℕ) (notes : List (List ℕ)) (a : ℕ) → lookIn (markedBy m r notes) a ≡ lookIn notes a
-mark-types m r notes a = go (eqb (kindIn r) (giveKind m)) m
+mark-types m r notes a = go (eqb (kindIn r) (initOrNextKind m)) m
   where
-    go : (b m : Bool) → lookIn (pick b (set notes (firstIn r) (marked m (noteAt notes (firstIn r)))) notes) a ≡ lookIn notes a
-    go true true = same-at (λ (x : List ℕ). ty (getD x 0 0) (getD x 1 0) (getD x 2 0)) notes (firstIn r) (marked true (noteAt notes (firstIn r))) refl a
-    go true false = same-at (λ (x : List ℕ). ty (getD x 0 0) (getD x 1 0) (getD x 2 0)) notes (firstIn r) (marked false (noteAt notes (firstIn r))) refl a
+    go : (b m : Bool) → lookIn (pick b (set notes (firstIn r) (withMark m (noteAt notes (firstIn r)))) notes) a ≡ lookIn notes a
+    go true true = same-at (λ (x : List ℕ). ty (getD x 0 0) (getD x 1 0) (getD x 2 0)) notes (firstIn r) (withMark true (noteAt notes (firstIn r))) refl a
+    go true false = same-at (λ (x : List ℕ). ty (getD x 0 0) (getD x 1 0) (getD x 2 0)) notes (firstIn r) (withMark false (noteAt notes (firstIn r))) refl a
     go false m = refl
 
 other-mark : (m : Bool) (r : List ℕ) (notes : List (List ℕ)) (q : ℕ) → givenIn (markedBy (not m) r notes) m q ≡ givenIn notes m q
-other-mark m r notes q = go (eqb (kindIn r) (giveKind (not m))) m
+other-mark m r notes q = go (eqb (kindIn r) (initOrNextKind (not m))) m
   where
-    go : (b m : Bool) → givenIn (pick b (set notes (firstIn r) (marked (not m) (noteAt notes (firstIn r)))) notes) m q ≡ givenIn notes m q
-    go true true = same-at (λ (x : List ℕ). eqb (markIn true x) 1) notes (firstIn r) (marked false (noteAt notes (firstIn r))) refl q
-    go true false = same-at (λ (x : List ℕ). eqb (markIn false x) 1) notes (firstIn r) (marked true (noteAt notes (firstIn r))) refl q
+    go : (b m : Bool) → givenIn (pick b (set notes (firstIn r) (withMark (not m) (noteAt notes (firstIn r)))) notes) m q ≡ givenIn notes m q
+    go true true = same-at (λ (x : List ℕ). eqb (markIn true x) 1) notes (firstIn r) (withMark false (noteAt notes (firstIn r))) refl q
+    go true false = same-at (λ (x : List ℕ). eqb (markIn false x) 1) notes (firstIn r) (withMark true (noteAt notes (firstIn r))) refl q
     go false m = refl
 
 -- a type leaves the marks
@@ -183,10 +183,10 @@ type-marks true n y notes q = same-at (λ (x : List ℕ). eqb (markIn true x) 1)
 type-marks false n y notes q = same-at (λ (x : List ℕ). eqb (markIn false x) 1) notes n (typed y (noteAt notes n)) refl q
 
 same-marks : (m : Bool) (r : List ℕ) (notes : List (List ℕ)) → length (markedBy m r notes) ≡ length notes
-same-marks m r notes = go (eqb (kindIn r) (giveKind m))
+same-marks m r notes = go (eqb (kindIn r) (initOrNextKind m))
   where
-    go : (b : Bool) → length (pick b (set notes (firstIn r) (marked m (noteAt notes (firstIn r)))) notes) ≡ length notes
-    go true = length-set notes (firstIn r) (marked m (noteAt notes (firstIn r)))
+    go : (b : Bool) → length (pick b (set notes (firstIn r) (withMark m (noteAt notes (firstIn r)))) notes) ≡ length notes
+    go true = length-set notes (firstIn r) (withMark m (noteAt notes (firstIn r)))
     go false = refl
 
 pub length-noted : (p : Bool) (r : List ℕ) (n : ℕ) (notes : List (List ℕ)) → length (noted p r n notes) ≡ length notes
@@ -229,16 +229,16 @@ module _ {notes : List (List ℕ)} {c : Ctx} (p : Bool) (r : List ℕ) {n : ℕ}
   -- the marks of one kind of line
   marks-of : (m : Bool) (xs : List (List ℕ)) → length xs ≡ length notes → ((q : ℕ) → givenIn xs m q ≡ given c m q)
       → (q : ℕ) → givenIn (markedBy m r xs) m q ≡ among q (givenAfter m c (lineOf r))
-  marks-of m xs l f q = go (eqb (kindIn r) (giveKind m)) refl
+  marks-of m xs l f q = go (eqb (kindIn r) (initOrNextKind m)) refl
     where
-      go : (b : Bool) → eqb (kindIn r) (giveKind m) ≡ b → givenIn (markedBy m r xs) m q ≡ among q (givenAfter m c (lineOf r))
+      go : (b : Bool) → eqb (kindIn r) (initOrNextKind m) ≡ b → givenIn (markedBy m r xs) m q ≡ among q (givenAfter m c (lineOf r))
       go true e =
-          let st = named p m (tyAt c) (given c) r fine (eqb-true (kindIn r) (giveKind m) e) in
-          let at = earlier (c .tys) (firstIn r) (omega (arith, eqb-true (tyAt c (firstIn r) .cls) 4 st)) in
-          ap (λ (b : Bool). givenIn (pick b (set xs (firstIn r) (marked m (noteAt xs (firstIn r)))) xs) m q) e
+          let st = named p m (tyAt c) (given c) r fine (eqb-true (kindIn r) (initOrNextKind m) e) in
+          let at = earlier (c .tys) (firstIn r) (omega (arith, eqb-true (tyAt c (firstIn r) .role) 4 st)) in
+          ap (λ (b : Bool). givenIn (pick b (set xs (firstIn r) (withMark m (noteAt xs (firstIn r)))) xs) m q) e
           ∙ marked-at m xs (givenBy m c) (firstIn r) (omega arith) f q ∙ sym (ap (among q) (given-as m c r ∙ ap (λ (b : Bool). pick b (givenBy m c ++ (firstIn r ∷ [])) (givenBy m c)) e))
       go false e =
-          ap (λ (b : Bool). givenIn (pick b (set xs (firstIn r) (marked m (noteAt xs (firstIn r)))) xs) m q) e
+          ap (λ (b : Bool). givenIn (pick b (set xs (firstIn r) (withMark m (noteAt xs (firstIn r)))) xs) m q) e
           ∙ f q ∙ sym (ap (among q) (given-as m c r ∙ ap (λ (b : Bool). pick b (givenBy m c ++ (firstIn r ∷ [])) (givenBy m c)) e))
 
   marks-put : (m : Bool) (q : ℕ) → givenIn put m q ≡ given c m q

@@ -11,7 +11,7 @@ use Rattle.tables.specs.Lines.{lineOf}
 use Rattle.tables.specs.Layout.{recordAt, recordsOf, linesOf}
 use Rattle.tables.specs.Types.{Ctx, tyAt, given, grow, growAll, noCtx, context}
 use Rattle.tables.specs.Tables.{keeps, lawful}
-use Rattle.tables.specs.Notes.{lookIn, givenIn, Shows, noted}
+use Rattle.tables.specs.Model.Notes.{lookIn, givenIn, Shows, noted}
 use Rattle.tables.proofs.Places.{length-records, record-at, length-record}
 use Rattle.tables.proofs.Counted.{after, after-suc, lawful-step}
 use Rattle.tables.proofs.Showing.{length-noted, shows-more, length-more}

@@ -13,9 +13,9 @@ use Rattle.tables.specs.declared.Refusal.the-variants.{NotATable}
 use Rattle.tables.specs.declared.Checked.the-variants.{Accepted, Refused}
 use Rattle.tables.specs.Pick.{pick, all, inside}
 use Rattle.tables.specs.Kinds.{rowOf, sortClass, firstClass, secondClass, thirdClass}
-use Rattle.tables.specs.Lines.{Line, Shape, isBitvec, isArray as arrayShape, isConst, isInput, isState as stateShape, isOutput, isOne, isTwo, isIte, isRead, isWrite, isJunk, isGive, isMark, isCmp, giveKind, shapeOf, build, lineOf, kindIn, sortIn, firstIn, secondIn, thirdIn}
+use Rattle.tables.specs.Lines.{Line, Shape, isBitvec, isArray as arrayShape, isConst, isInput, isState as stateShape, isOutput, isUnary, isBinary, isIte, isRead, isWrite, isUnknown, isInitOrNext, isSignal, isEquality, initOrNextKind, shapeOf, build, lineOf, kindIn, sortIn, firstIn, secondIn, thirdIn}
 use Rattle.tables.specs.Types.{isSort, isValue, isFixed, isWord, isArray, isWordSort, isArraySort, sortAt, Ctx, tyAt, given, grow, noCtx}
-use Rattle.tables.specs.Rules.{suits, classes, fits, same, onceRules, fault}
+use Rattle.tables.specs.Rules.{suits, classes, fits, sameSort, onceRules, fault}
 use Rattle.tables.specs.Layout.{whole, room, recordsOf, linesOf}
 use Rattle.tables.specs.Tables.{known, unused, tidy, formed, keeps, lawful, broken, checked}
 use Rattle.tables.proofs.Every.{at-each}
@@ -23,29 +23,29 @@ use Rattle.tables.proofs.Shapes.{KindOf, kind-of, range}
 use Rattle.tables.proofs.Answers.{passed}
 use Rattle.tables.proofs.Kept.{both, no-yes}
 use Rattle.tables.proofs.Checking.{not-accepted}
-use Rattle.tables.proofs.Facts.{IsValue, IsWord, IsArray, IsSort, IsWordSort, IsArraySort, Same, OneKind, OkCmp, OkMark, Ok, AllOk}
+use Rattle.tables.proofs.Facts.{IsValue, IsWord, IsArray, IsSort, IsWordSort, IsArraySort, Same, OneKind, OkEquality, OkSignal, Ok, AllOk}
 
 -- ---- classes
 
 word-of : (t : Ty) → isWord t ≡ true → IsWord t
-word-of t e = let h = both (isValue t) _ e in record { is = leb-true 2 (t .cls) (h .0); flat = eqb-true (t .iw) 0 (h .1) }
+word-of t e = let h = both (isValue t) _ e in record { is = leb-true 2 (t .role) (h .0); flat = eqb-true (t .iw) 0 (h .1) }
 
 array-of : (t : Ty) → isArray t ≡ true → IsArray t
-array-of t e = let h = both (isValue t) _ e in record { is = leb-true 2 (t .cls) (h .0); deep = ltb-true 0 (t .iw) (h .1) }
+array-of t e = let h = both (isValue t) _ e in record { is = leb-true 2 (t .role) (h .0); deep = ltb-true 0 (t .iw) (h .1) }
 
 word-sort-of : (t : Ty) → isWordSort t ≡ true → IsWordSort t
-word-sort-of t e = let h = both (isSort t) _ e in record { is = eqb-true (t .cls) 1 (h .0); flat = eqb-true (t .iw) 0 (h .1) }
+word-sort-of t e = let h = both (isSort t) _ e in record { is = eqb-true (t .role) 1 (h .0); flat = eqb-true (t .iw) 0 (h .1) }
 
 array-sort-of : (t : Ty) → isArraySort t ≡ true → IsArraySort t
-array-sort-of t e = let h = both (isSort t) _ e in record { is = eqb-true (t .cls) 1 (h .0); deep = ltb-true 0 (t .iw) (h .1) }
+array-sort-of t e = let h = both (isSort t) _ e in record { is = eqb-true (t .role) 1 (h .0); deep = ltb-true 0 (t .iw) (h .1) }
 
 value-of : (t : Ty) → isValue t ≡ true → IsValue t
-value-of t e = record { is = leb-true 2 (t .cls) e }
+value-of t e = record { is = leb-true 2 (t .role) e }
 
 sort-of : (t : Ty) → isSort t ≡ true → IsSort t
-sort-of t e = record { is = eqb-true (t .cls) 1 e }
+sort-of t e = record { is = eqb-true (t .role) 1 e }
 
-same-of : (a t : Ty) → same a t ≡ true → Same a t
+same-of : (a t : Ty) → sameSort a t ≡ true → Same a t
 same-of a t e = let h = both (eqb (a .iw) (t .iw)) _ e in record { iw = eqb-true (a .iw) (t .iw) (h .0); w = eqb-true (a .w) (t .w) (h .1) }
 
 -- the four places of a row
@@ -117,12 +117,12 @@ module _ (p : Bool) (L : ℕ → Ty) (G : Bool → ℕ → Bool) (k s x y z : �
       let h₄ = both (unused (thirdClass (rowOf k)) z) _ (h₃ .1) in
       (h₃ .0, h₄ .0)
 
-  give-ok : (m : Bool) → k ≡ giveKind m → all (fits (Line.give m s x y) (sortAt p L s) (L x) (L y) (L z)) ≡ true → all (onceRules (Line.give m s x y) G (L y)) ≡ true
-      → Ok p L G (Line.give m s x y)
+  give-ok : (m : Bool) → k ≡ initOrNextKind m → all (fits (Line.initOrNext m s x y) (sortAt p L s) (L x) (L y) (L z)) ≡ true → all (onceRules (Line.initOrNext m s x y) G (L y)) ≡ true
+      → Ok p L G (Line.initOrNext m s x y)
   unfolding rowOf suits
   give-ok true q f o =
       let c = row-at 6 q in
-      let f₁ = both (same (L x) t) _ f in
+      let f₁ = both (sameSort (L x) t) _ f in
       let f₂ = both (eqb (L y .w) (t .w)) _ (f₁ .1) in
       let f₃ = both (eqb (L y .iw) 0) _ (f₂ .1) in
       let o₁ = both (not (G true x)) _ o in
@@ -130,22 +130,22 @@ module _ (p : Bool) (L : ℕ → Ty) (G : Bool → ℕ → Bool) (k s x y z : �
       let o₃ = both (isFixed (L y)) _ (o₂ .1) in
       record {
         sort = sort-of t (c .sort);
-        state = eqb-true (L x .cls) 4 (c .first);
+        state = eqb-true (L x .role) 4 (c .first);
         same = same-of (L x) t (f₁ .0);
-        value = record { word = word-of (L y) (c .second); below = ltb-true y x (o₂ .0); fixed = eqb-true (L y .cls) 2 (o₃ .0) };
+        value = record { word = word-of (L y) (c .second); below = ltb-true y x (o₂ .0); fixed = eqb-true (L y .role) 2 (o₃ .0) };
         iw = eqb-true (L y .iw) 0 (f₃ .0);
         w = eqb-true (L y .w) (t .w) (f₂ .0);
         once = not-true (G true x) (o₁ .0);
       }
   give-ok false q f o =
       let c = row-at 7 q in
-      let f₁ = both (same (L x) t) _ f in
+      let f₁ = both (sameSort (L x) t) _ f in
       let f₂ = both (eqb (L y .w) (t .w)) _ (f₁ .1) in
       let f₃ = both (eqb (L y .iw) (t .iw)) _ (f₂ .1) in
       let o₁ = both (not (G false x)) _ o in
       record {
         sort = sort-of t (c .sort);
-        state = eqb-true (L x .cls) 4 (c .first);
+        state = eqb-true (L x .role) 4 (c .first);
         same = same-of (L x) t (f₁ .0);
         value = value-of (L y) (c .second);
         iw = eqb-true (L y .iw) (t .iw) (f₃ .0);
@@ -153,11 +153,11 @@ module _ (p : Bool) (L : ℕ → Ty) (G : Bool → ℕ → Bool) (k s x y z : �
         once = not-true (G false x) (o₁ .0);
       }
 
-  mark-ok : (n : ℕ) → k ≡ n → firstClass (rowOf n) ≡ 1 → all (eqb (L x .w) 1 ∷ []) ≡ true → OkMark (L x)
+  mark-ok : (n : ℕ) → k ≡ n → firstClass (rowOf n) ≡ 1 → all (eqb (L x .w) 1 ∷ []) ≡ true → OkSignal (L x)
   unfolding suits
   mark-ok n q e f = record { word = word-of (L x) (subst (λ (m : ℕ). suits m (L x) ≡ true) e (row-at n q .first)); bit = eqb-true (L x .w) 1 (both (eqb (L x .w) 1) _ f .0) }
 
-  cmp-ok : (n : ℕ) → k ≡ n → sortClass (rowOf n) ≡ 5 → firstClass (rowOf n) ≡ 3 → secondClass (rowOf n) ≡ 3 → all (eqb (t .w) 1 ∷ same (L y) (L x) ∷ []) ≡ true → OkCmp t (L x) (L y)
+  cmp-ok : (n : ℕ) → k ≡ n → sortClass (rowOf n) ≡ 5 → firstClass (rowOf n) ≡ 3 → secondClass (rowOf n) ≡ 3 → all (eqb (t .w) 1 ∷ sameSort (L y) (L x) ∷ []) ≡ true → OkEquality t (L x) (L y)
   unfolding suits
   cmp-ok n q e₀ e₁ e₂ f =
       let c = row-at n q in
@@ -167,7 +167,7 @@ module _ (p : Bool) (L : ℕ → Ty) (G : Bool → ℕ → Bool) (k s x y z : �
         bit = eqb-true (t .w) 1 (f₁ .0);
         left = value-of (L x) (subst (λ (m : ℕ). suits m (L x) ≡ true) e₁ (c .first));
         right = value-of (L y) (subst (λ (m : ℕ). suits m (L y) ≡ true) e₂ (c .second));
-        same = same-of (L y) (L x) (both (same (L y) (L x)) _ (f₁ .1) .0);
+        same = same-of (L y) (L x) (both (sameSort (L y) (L x)) _ (f₁ .1) .0);
       }
 
   shape-ok : (S : Shape) → shapeOf k ≡ S → KindOf S k → all (fits (build S k s x y z) (sortAt p L s) (L x) (L y) (L z)) ≡ true → all (onceRules (build S k s x y z) G (L y)) ≡ true
@@ -188,7 +188,7 @@ module _ (p : Bool) (L : ℕ → Ty) (G : Bool → ℕ → Bool) (k s x y z : �
   shape-ok isInput e q f o = word-sort-of t (row-at 4 q .sort)
   shape-ok stateShape e q f o = sort-of t (row-at 5 q .sort)
   shape-ok isOutput e q f o = word-of (L x) (row-at 10 q .first)
-  shape-ok isOne e q f o =
+  shape-ok isUnary e q f o =
       let c = row-at k refl in
       let r = both (eqb (sortClass (rowOf k)) 5) _ (one-row k q) in
       record {
@@ -199,7 +199,7 @@ module _ (p : Bool) (L : ℕ → Ty) (G : Bool → ℕ → Bool) (k s x y z : �
         spare₂ = spare .0;
         spare₃ = spare .1;
       }
-  shape-ok isTwo e q f o =
+  shape-ok isBinary e q f o =
       let c = row-at k refl in
       let r = both (eqb (sortClass (rowOf k)) 5) _ (two-row k (q .0) (q .1)) in
       let r₂ = both (eqb (firstClass (rowOf k)) 1) _ (r .1) in
@@ -214,7 +214,7 @@ module _ (p : Bool) (L : ℕ → Ty) (G : Bool → ℕ → Bool) (k s x y z : �
   shape-ok isIte e q f o =
       let c = row-at 53 q in
       let f₁ = both (eqb (L x .w) 1) _ f in
-      let f₂ = both (same (L y) t) _ (f₁ .1) in
+      let f₂ = both (sameSort (L y) t) _ (f₁ .1) in
       record {
         sort = sort-of t (c .sort);
         cond = word-of (L x) (c .first);
@@ -222,7 +222,7 @@ module _ (p : Bool) (L : ℕ → Ty) (G : Bool → ℕ → Bool) (k s x y z : �
         left = value-of (L y) (c .second);
         right = value-of (L z) (c .third);
         sameA = same-of (L y) t (f₂ .0);
-        sameB = same-of (L z) t (both (same (L z) t) _ (f₂ .1) .0);
+        sameB = same-of (L z) t (both (sameSort (L z) t) _ (f₂ .1) .0);
       }
   shape-ok isRead e q f o =
       let c = row-at 54 q in
@@ -237,7 +237,7 @@ module _ (p : Bool) (L : ℕ → Ty) (G : Bool → ℕ → Bool) (k s x y z : �
       }
   shape-ok isWrite e q f o =
       let c = row-at 55 q in
-      let f₁ = both (same (L x) t) _ f in
+      let f₁ = both (sameSort (L x) t) _ f in
       let f₂ = both (eqb (L y .w) (t .iw)) _ (f₁ .1) in
       record {
         form = in-circuit p k 55 q refl kn;
@@ -249,12 +249,12 @@ module _ (p : Bool) (L : ℕ → Ty) (G : Bool → ℕ → Bool) (k s x y z : �
         iw = eqb-true (L y .w) (t .iw) (f₂ .0);
         vw = eqb-true (L z .w) (t .w) (both (eqb (L z .w) (t .w)) _ (f₂ .1) .0);
       }
-  shape-ok isJunk e q f o = no-yes f
-  shape-ok (isGive m) e q f o = give-ok m q f o
-  shape-ok (isMark true) e q f o = mark-ok 8 q refl f
-  shape-ok (isMark false) e q f o = mark-ok 9 q refl f
-  shape-ok (isCmp true) e q f o = cmp-ok 21 q refl refl refl f
-  shape-ok (isCmp false) e q f o = cmp-ok 22 q refl refl refl f
+  shape-ok isUnknown e q f o = no-yes f
+  shape-ok (isInitOrNext m) e q f o = give-ok m q f o
+  shape-ok (isSignal true) e q f o = mark-ok 8 q refl f
+  shape-ok (isSignal false) e q f o = mark-ok 9 q refl f
+  shape-ok (isEquality true) e q f o = cmp-ok 21 q refl refl refl f
+  shape-ok (isEquality false) e q f o = cmp-ok 22 q refl refl refl f
 
 -- a record that keeps the rules
 pub sound : (p : Bool) (L : ℕ → Ty) (G : Bool → ℕ → Bool) (r : List ℕ) → keeps p L G r ≡ true → Ok p L G (lineOf r)

@@ -22,22 +22,22 @@ pub record Wide (t : Ty) : Type 0 where
 
 -- every line that is a sort or a value
 abbrev pub AllWide : (ℕ → Ty) → Type 0
-AllWide L = (a : ℕ) → 1 ≤ L a .cls → Wide (L a)
+AllWide L = (a : ℕ) → 1 ≤ L a .role → Wide (L a)
 
-pub sort-wide : (p : Bool) (L : ℕ → Ty) (s : ℕ) → AllWide L → sortAt p L s .cls ≡ 1 → Wide (sortAt p L s)
+pub sort-wide : (p : Bool) (L : ℕ → Ty) (s : ℕ) → AllWide L → sortAt p L s .role ≡ 1 → Wide (sortAt p L s)
 sort-wide false L s h e = h s (omega arith)
 sort-wide true L s h e = go (inside 1 64 s) refl e
   where
-    go : (b : Bool) → inside 1 64 s ≡ b → pick b (ty 1 0 s) noTy .cls ≡ 1 → Wide (pick b (ty 1 0 s) noTy)
+    go : (b : Bool) → inside 1 64 s ≡ b → pick b (ty 1 0 s) noTy .role ≡ 1 → Wide (pick b (ty 1 0 s) noTy)
     go true q z = let r = range 1 64 s q in record { least = r .0; most = r .1; deep = omega arith }
     go false q z = absurd (omega arith)
 
 module _ (p : Bool) (L : ℕ → Ty) (G : Bool → ℕ → Bool) (h : AllWide L) where
-  sort-of-val : (s : ℕ) (e : Expr) → OkExpr p L (sortAt p L s) e → sortAt p L s .cls ≡ 1
+  sort-of-val : (s : ℕ) (e : Expr) → OkExpr p L (sortAt p L s) e → sortAt p L s .role ≡ 1
   sort-of-val s (Expr.const v) k = k .sort .is
-  sort-of-val s (Expr.one n a x y) k = k .sort .is
-  sort-of-val s (Expr.two n a b) k = k .sort .is
-  sort-of-val s (Expr.cmp e a b) k = k .sort .is
+  sort-of-val s (Expr.unary n a x y) k = k .sort .is
+  sort-of-val s (Expr.binary n a b) k = k .sort .is
+  sort-of-val s (Expr.equality e a b) k = k .sort .is
   sort-of-val s (Expr.ite c a b) k = k .sort .is
   sort-of-val s (Expr.read a i) k = k .sort .is
   sort-of-val s (Expr.write a i v) k = k .sort .is
@@ -46,32 +46,32 @@ module _ (p : Bool) (L : ℕ → Ty) (G : Bool → ℕ → Bool) (h : AllWide L)
   like t c k = record { least = k .least; most = k .most; deep = k .deep }
 
   -- the line's own type
-  pub line-wide : (l : Line) → Ok p L G l → 1 ≤ lineType p L l .cls → Wide (lineType p L l)
+  pub line-wide : (l : Line) → Ok p L G l → 1 ≤ lineType p L l .role → Wide (lineType p L l)
   line-wide (Line.bitvec w) k q = record { least = k .least; most = k .most; deep = omega arith }
   line-wide (Line.array i e) k q =
       let m = h e (omega (arith, k .element .is)) in
       record { least = m .least; most = m .most; deep = k .most }
   line-wide (Line.input s) k q = like (sortAt p L s) 3 (sort-wide p L s h (k .is))
   line-wide (Line.state s) k q = like (sortAt p L s) 4 (sort-wide p L s h (k .is))
-  line-wide (Line.val s e) k q =
+  line-wide (Line.value s e) k q =
       let m = sort-wide p L s h (sort-of-val s e k) in
       let i = val-iw p L s e in
       let w = val-w p L s e in
       record { least = omega (arith, m .least); most = omega (arith, m .most); deep = omega (arith, m .deep) }
-  line-wide (Line.give m s x v) k q = absurd (omega arith)
-  line-wide (Line.mark m a) k q = absurd (omega arith)
+  line-wide (Line.initOrNext m s x v) k q = absurd (omega arith)
+  line-wide (Line.signal m a) k q = absurd (omega arith)
   line-wide (Line.output a) k q = absurd (omega arith)
-  line-wide Line.junk k q = absurd k
+  line-wide Line.unknown k q = absurd k
 
 pub grow-wide : (p : Bool) (c : Ctx) (l : Line) → AllWide (tyAt c) → Ok p (tyAt c) (given c) l → AllWide (tyAt (grow p c l))
 grow-wide p c l h k a q =
     by-place a (length (c .tys))
     (λ e.
     let new : tyAt (grow p c l) a ≡ lineType p (tyAt c) l = ap (tyAt (grow p c l)) e ∙ getD-at (c .tys) (lineType p (tyAt c) l) [] noTy (length (c .tys)) refl in
-    subst Wide (sym new) (line-wide p (tyAt c) (given c) h l k (subst (λ (t : Ty). 1 ≤ t .cls) new q)))
+    subst Wide (sym new) (line-wide p (tyAt c) (given c) h l k (subst (λ (t : Ty). 1 ≤ t .role) new q)))
     (λ n.
     let old : tyAt (grow p c l) a ≡ tyAt c a = snoc-other (c .tys) (lineType p (tyAt c) l) noTy a n in
-    subst Wide (sym old) (h a (subst (λ (t : Ty). 1 ≤ t .cls) old q)))
+    subst Wide (sym old) (h a (subst (λ (t : Ty). 1 ≤ t .role) old q)))
 
 none-wide : AllWide (tyAt noCtx)
 none-wide zero q = absurd (omega arith)

@@ -7,7 +7,7 @@ use Rattle.tables.specs.declared.Checked.the-variants.{Accepted, Refused
 use Rattle.tables.specs.declared.Refusal.the-variants.{NotATable, BadTable, BadProgram}
 use Rattle.tables.specs.Kinds.{rowOf}
 use Rattle.tables.specs.Lines.{fields, lineOf}
-use Rattle.tables.specs.Layout.{filledBy, recordsOf, filled}
+use Rattle.tables.specs.Layout.{filledBy, recordsOf, filled, tableWith}
 use Rattle.tables.specs.Types.{tyAt, given, context}
 use Rattle.tables.specs.Rules.{suits, fault}
 use Rattle.tables.specs.Tables.{checked}
@@ -38,16 +38,16 @@ judged-small : map (judged small) (fields 2 0 1 1 0 ∷ fields 2 0 2 1 0 ∷ fie
 unfolding fault suits rowOf context
 judged-small = refl
 
--- the request's table, of 55 words, with its count; fewer records; too many; a sort that is no line; a word that is not used; a length that is no multiple of five
-answers : checked false (filled false 55 request) 11 ∷ checked false (filled false 55 request) 4 ∷ checked false (filled false 55 request) 12
-    ∷ checked false (filled false 5 (fields 4 1 0 0 0 ∷ [])) 1 ∷ checked false (filled false 5 (fields 1 0 8 0 1 ∷ [])) 1 ∷ checked false (1 ∷ []) 0 ∷ []
+-- the request's table with its count; fewer records; too many; a sort that is no line; a word that is not used; a list that is no table
+answers : checked false (tableWith false request) 11 ∷ checked false (tableWith false request) 4 ∷ checked false (tableWith false request) 12
+    ∷ checked false (tableWith false (fields 4 1 0 0 0 ∷ [])) 1 ∷ checked false (tableWith false (fields 1 0 8 0 1 ∷ [])) 1 ∷ checked false (1 ∷ []) 0 ∷ []
     ≡ Accepted ∷ Accepted ∷ Refused BadTable ∷ Refused BadTable ∷ Refused BadTable ∷ Refused NotATable ∷ []
 unfolding checked fault suits rowOf filledBy
 answers = refl
 
 -- 1 input, 2 its mask, both of width 3: a program; with a mask of another width, or with a sort record, it is none
-programs : checked true (filled true 10 (fields 4 3 0 0 0 ∷ fields 56 3 1 0 0 ∷ [])) 2 ∷ checked true (filled true 10 (fields 4 3 0 0 0 ∷ fields 56 4 1 0 0 ∷ [])) 2
-    ∷ checked true (filled true 5 (fields 1 0 3 0 0 ∷ [])) 1 ∷ []
+programs : checked true (tableWith true (fields 4 3 0 0 0 ∷ fields 56 3 1 0 0 ∷ [])) 2 ∷ checked true (tableWith true (fields 4 3 0 0 0 ∷ fields 56 4 1 0 0 ∷ [])) 2
+    ∷ checked true (tableWith true (fields 1 0 3 0 0 ∷ [])) 1 ∷ []
     ≡ Accepted ∷ Refused BadProgram ∷ Refused BadProgram ∷ []
 unfolding checked fault suits rowOf filledBy
 programs = refl

@@ -133,11 +133,11 @@ rows =
     ∷ []
 
 -- A kind's row. A mask, kind 56, stands in programs alone and has no word; it takes what `not`, kind 11, takes.
-abbrev pub placeOf : ℕ → ℕ
-placeOf k = pick (eqb k 56) 10 (k - 1)
+abbrev pub rowPlace : ℕ → ℕ
+rowPlace k = pick (eqb k 56) 10 (k - 1)
 
 unfoldable pub rowOf : ℕ → List ℕ
-rowOf k = getD rows (placeOf k) []
+rowOf k = getD rows (rowPlace k) []
 
 -- the parts of a row
 abbrev pub wordOf : List ℕ → List ℕ
@@ -146,8 +146,8 @@ wordOf r = take (getD r 0 0) (drop 1 r)
 abbrev pub sortClass : List ℕ → ℕ
 sortClass r = getD r 11 0
 
-abbrev pub countOf : List ℕ → ℕ
-countOf r = getD r 12 0
+abbrev pub operandCount : List ℕ → ℕ
+operandCount r = getD r 12 0
 
 abbrev pub firstClass : List ℕ → ℕ
 firstClass r = getD r 13 0

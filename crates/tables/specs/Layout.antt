@@ -39,8 +39,8 @@ abbrev pub byRow : Bool → Placing
 byRow p len i j = recordSize p * i + j
 
 -- the layout in use, and the number that a pass over a list of len words works out once for it
-abbrev pub placeAt : Bool → Placing
-placeAt = byRow
+abbrev pub placing : Bool → Placing
+placing = byRow
 
 abbrev pub stepOf : Bool → (len : ℕ) → ℕ
 stepOf p len = recordSize p
@@ -80,21 +80,28 @@ filledBy f len xs = putRows f (replicate len 0) 0 xs
 
 -- the record i of a list, its first n records, and their lines
 abbrev pub recordAt : Bool → List ℕ → (i : ℕ) → List ℕ
-recordAt p t i = rowBy (placeAt p) recordWords t i
+recordAt p t i = rowBy (placing p) recordWords t i
 
 abbrev pub recordsOf : Bool → List ℕ → (n : ℕ) → List (List ℕ)
-recordsOf p t n = rowsFrom (placeAt p) recordWords t 0 n
+recordsOf p t n = rowsFrom (placing p) recordWords t 0 n
 
 abbrev pub linesOf : Bool → List ℕ → (n : ℕ) → List Line
 linesOf p t n = map lineOf (recordsOf p t n)
 
 -- a list with the record r at the place i, and with the records rs from i on
 abbrev pub recorded : Bool → List ℕ → (i : ℕ) → (r : List ℕ) → List ℕ
-recorded p t i r = rowSet (placeAt p) t i r
+recorded p t i r = rowSet (placing p) t i r
 
 abbrev pub putAll : Bool → List ℕ → (i : ℕ) → (rs : List (List ℕ)) → List ℕ
-putAll p t i rs = putRows (placeAt p) t i rs
+putAll p t i rs = putRows (placing p) t i rs
 
 -- a list of len words that holds the records rs, and zeros past them
 abbrev pub filled : Bool → (len : ℕ) → (rs : List (List ℕ)) → List ℕ
-filled p len rs = filledBy (placeAt p) len rs
+filled p len rs = filledBy (placing p) len rs
+
+-- the words of a list that holds n records and no more, and such a list
+abbrev pub wordsFor : Bool → (n : ℕ) → ℕ
+wordsFor p n = recordSize p * n
+
+abbrev pub tableWith : Bool → (rs : List (List ℕ)) → List ℕ
+tableWith p rs = filled p (wordsFor p (length rs)) rs

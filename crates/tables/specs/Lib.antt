@@ -5,7 +5,7 @@ pub mod Layout
 pub mod Types
 pub mod Cone
 pub mod Rules
-pub mod Notes
+pub mod Model
 pub mod Tables
 pub mod Refusals
 pub mod Answers

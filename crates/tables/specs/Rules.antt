@@ -30,42 +30,42 @@ classes row t a b c = suits (sortClass row) t ∷ suits (firstClass row) a ∷ s
 -- ---- 9: sorts, widths, bounds or a constant do not fit
 
 -- an operator of one word: w is the line's width, u its operand's, x and y its numbers
-abbrev pub fitsOne : (k w u x y : ℕ) → Bool
-fitsOne k w u x y =
+abbrev pub fitsUnary : (k w u x y : ℕ) → Bool
+fitsUnary k w u x y =
     pick (leb k 14 || eqb k 56) (eqb w u) (
     pick (leb k 17) (eqb w 1) (
     pick (eqb k 18) (leb y x && (ltb x u && eqb (w + y) (suc x)))
     (eqb w (u + x))))
 
 -- an operator of two words: comparisons; iff and implies; those of one width; concat
-abbrev pub fitsTwo : (k w u v : ℕ) → Bool
-fitsTwo k w u v =
+abbrev pub fitsBinary : (k w u v : ℕ) → Bool
+fitsBinary k w u v =
     pick (leb k 30) (eqb w 1 && eqb v u) (
     pick (leb k 32) (eqb w 1 && (eqb u 1 && eqb v 1)) (
     pick (leb k 51) (eqb u w && eqb v w)
     (eqb w (u + v))))
 
 -- two sorts are the same if their widths are
-abbrev pub same : Ty → Ty → Bool
-same a t = eqb (a .iw) (t .iw) && eqb (a .w) (t .w)
+abbrev pub sameSort : Ty → Ty → Bool
+sameSort a t = eqb (a .iw) (t .iw) && eqb (a .w) (t .w)
 
-abbrev pub fitsCmp : (t a b : Ty) → List Bool
-fitsCmp t a b = eqb (t .w) 1 ∷ same b a ∷ []
+abbrev pub fitsEquality : (t a b : Ty) → List Bool
+fitsEquality t a b = eqb (t .w) 1 ∷ sameSort b a ∷ []
 
 abbrev pub fitsIte : (t a b c : Ty) → List Bool
-fitsIte t a b c = eqb (a .w) 1 ∷ same b t ∷ same c t ∷ []
+fitsIte t a b c = eqb (a .w) 1 ∷ sameSort b t ∷ sameSort c t ∷ []
 
 abbrev pub fitsRead : (t a b : Ty) → List Bool
 fitsRead t a b = eqb (a .w) (t .w) ∷ eqb (b .w) (a .iw) ∷ []
 
 abbrev pub fitsWrite : (t a b c : Ty) → List Bool
-fitsWrite t a b c = same a t ∷ eqb (b .w) (t .iw) ∷ eqb (c .w) (t .w) ∷ []
+fitsWrite t a b c = sameSort a t ∷ eqb (b .w) (t .iw) ∷ eqb (c .w) (t .w) ∷ []
 
 abbrev pub fitsExpr : Expr → (t a b c : Ty) → List Bool
 fitsExpr (Expr.const v) t a b c = ltb v (2 ^ (t .w)) ∷ []
-fitsExpr (Expr.one k m x y) t a b c = fitsOne k (t .w) (a .w) x y ∷ []
-fitsExpr (Expr.two k m n) t a b c = fitsTwo k (t .w) (a .w) (b .w) ∷ []
-fitsExpr (Expr.cmp e m n) t a b c = fitsCmp t a b
+fitsExpr (Expr.unary k m x y) t a b c = fitsUnary k (t .w) (a .w) x y ∷ []
+fitsExpr (Expr.binary k m n) t a b c = fitsBinary k (t .w) (a .w) (b .w) ∷ []
+fitsExpr (Expr.equality e m n) t a b c = fitsEquality t a b
 fitsExpr (Expr.ite m n o) t a b c = fitsIte t a b c
 fitsExpr (Expr.read m i) t a b c = fitsRead t a b
 fitsExpr (Expr.write m i v) t a b c = fitsWrite t a b c
@@ -75,19 +75,19 @@ abbrev pub valueIndex : Bool → Ty → ℕ
 valueIndex true t = 0
 valueIndex false t = t .iw
 
-abbrev pub fitsGive : Bool → (t a b : Ty) → List Bool
-fitsGive m t a b = same a t ∷ eqb (b .w) (t .w) ∷ eqb (b .iw) (valueIndex m t) ∷ []
+abbrev pub fitsInitOrNext : Bool → (t a b : Ty) → List Bool
+fitsInitOrNext m t a b = sameSort a t ∷ eqb (b .w) (t .w) ∷ eqb (b .iw) (valueIndex m t) ∷ []
 
 abbrev pub fits : Line → (t a b c : Ty) → List Bool
 fits (Line.bitvec w) t a b c = inside 1 64 w ∷ []
 fits (Line.array i e) t a b c = leb (a .w) 8 ∷ []
 fits (Line.input s) t a b c = []
 fits (Line.state s) t a b c = []
-fits (Line.val s e) t a b c = fitsExpr e t a b c
-fits (Line.give m s q v) t a b c = fitsGive m t a b
-fits (Line.mark m x) t a b c = eqb (a .w) 1 ∷ []
+fits (Line.value s e) t a b c = fitsExpr e t a b c
+fits (Line.initOrNext m s q v) t a b c = fitsInitOrNext m t a b
+fits (Line.signal m x) t a b c = eqb (a .w) 1 ∷ []
 fits (Line.output x) t a b c = []
-fits Line.junk t a b c = false ∷ []
+fits Line.unknown t a b c = false ∷ []
 
 -- ---- 10: a second init or next of a state, or the init rule
 
@@ -97,12 +97,12 @@ onceRules (Line.bitvec w) G b = []
 onceRules (Line.array i e) G b = []
 onceRules (Line.input s) G b = []
 onceRules (Line.state s) G b = []
-onceRules (Line.val s e) G b = []
-onceRules (Line.give true s q v) G b = not (G true q) ∷ ltb v q ∷ isFixed b ∷ []
-onceRules (Line.give false s q v) G b = not (G false q) ∷ []
-onceRules (Line.mark m x) G b = []
+onceRules (Line.value s e) G b = []
+onceRules (Line.initOrNext true s q v) G b = not (G true q) ∷ ltb v q ∷ isFixed b ∷ []
+onceRules (Line.initOrNext false s q v) G b = not (G false q) ∷ []
+onceRules (Line.signal m x) G b = []
 onceRules (Line.output x) G b = []
-onceRules Line.junk G b = []
+onceRules Line.unknown G b = []
 
 -- ---- the first that holds
 

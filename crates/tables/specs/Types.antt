@@ -13,41 +13,41 @@ use Rattle.tables.specs.Lines.{Line, Expr, wordsOf, sortIn, firstIn, sec
 -- A type is the line's class, an index width and a width. A word's index width is 0, so that a value of any sort has 2 ^ iw cells of w bits. (The classes in
 -- the table of kinds are those of places, and have their own numbers.)
 abbrev pub ty : ℕ → ℕ → ℕ → Ty
-ty c i w = record { cls = c; iw = i; w = w }
+ty c i w = record { role = c; iw = i; w = w }
 
 -- no sort and no value
-abbrev pub noCls : ℕ
-noCls = 0
+abbrev pub noRole : ℕ
+noRole = 0
 
-abbrev pub sortCls : ℕ
-sortCls = 1
+abbrev pub sortRole : ℕ
+sortRole = 1
 
 -- a value whose cone holds no input and no state
-abbrev pub fixedCls : ℕ
-fixedCls = 2
+abbrev pub fixedRole : ℕ
+fixedRole = 2
 
 -- any other value but a state
-abbrev pub valueCls : ℕ
-valueCls = 3
+abbrev pub valueRole : ℕ
+valueRole = 3
 
-abbrev pub stateCls : ℕ
-stateCls = 4
+abbrev pub stateRole : ℕ
+stateRole = 4
 
 abbrev pub noTy : Ty
-noTy = ty noCls 0 0
+noTy = ty noRole 0 0
 
 abbrev pub isSort : Ty → Bool
-isSort t = eqb (t .cls) sortCls
+isSort t = eqb (t .role) sortRole
 
 -- the last three
 abbrev pub isValue : Ty → Bool
-isValue t = leb fixedCls (t .cls)
+isValue t = leb fixedRole (t .role)
 
 abbrev pub isFixed : Ty → Bool
-isFixed t = eqb (t .cls) fixedCls
+isFixed t = eqb (t .role) fixedRole
 
 abbrev pub isState : Ty → Bool
-isState t = eqb (t .cls) stateCls
+isState t = eqb (t .role) stateRole
 
 abbrev pub isWord : Ty → Bool
 isWord t = isValue t && eqb (t .iw) 0
@@ -64,29 +64,29 @@ isArraySort t = isSort t && ltb 0 (t .iw)
 -- the sort that a line's second word names: a circuit's line names a sort line, a program's (p) holds the width itself
 abbrev pub sortAt : Bool → (ℕ → Ty) → ℕ → Ty
 sortAt false L s = L s
-sortAt true L s = pick (inside 1 64 s) (ty sortCls 0 s) noTy
+sortAt true L s = pick (inside 1 64 s) (ty sortRole 0 s) noTy
 
 -- The cone of a value holds no input and no state: those of its operands don't. a, b and c are the types of the operands as they are written.
 abbrev pub fixedExpr : Expr → (a b c : Ty) → Bool
 fixedExpr (Expr.const v) a b c = true
-fixedExpr (Expr.one k x m n) a b c = isFixed a
-fixedExpr (Expr.two k x y) a b c = isFixed a && isFixed b
-fixedExpr (Expr.cmp e x y) a b c = isFixed a && isFixed b
+fixedExpr (Expr.unary k x m n) a b c = isFixed a
+fixedExpr (Expr.binary k x y) a b c = isFixed a && isFixed b
+fixedExpr (Expr.equality e x y) a b c = isFixed a && isFixed b
 fixedExpr (Expr.ite d x y) a b c = isFixed a && (isFixed b && isFixed c)
 fixedExpr (Expr.read x i) a b c = isFixed a && isFixed b
 fixedExpr (Expr.write x i v) a b c = isFixed a && (isFixed b && isFixed c)
 
 -- the type of a line, from the types of its sort, t, and of its operands
 abbrev pub typeOf : Line → (t a b c : Ty) → Ty
-typeOf (Line.bitvec w) t a b c = ty sortCls 0 w
-typeOf (Line.array i e) t a b c = ty sortCls (a .w) (b .w)
-typeOf (Line.input s) t a b c = ty valueCls (t .iw) (t .w)
-typeOf (Line.state s) t a b c = ty stateCls (t .iw) (t .w)
-typeOf (Line.val s e) t a b c = ty (pick (fixedExpr e a b c) fixedCls valueCls) (t .iw) (t .w)
-typeOf (Line.give m s q v) t a b c = noTy
-typeOf (Line.mark m x) t a b c = noTy
+typeOf (Line.bitvec w) t a b c = ty sortRole 0 w
+typeOf (Line.array i e) t a b c = ty sortRole (a .w) (b .w)
+typeOf (Line.input s) t a b c = ty valueRole (t .iw) (t .w)
+typeOf (Line.state s) t a b c = ty stateRole (t .iw) (t .w)
+typeOf (Line.value s e) t a b c = ty (pick (fixedExpr e a b c) fixedRole valueRole) (t .iw) (t .w)
+typeOf (Line.initOrNext m s q v) t a b c = noTy
+typeOf (Line.signal m x) t a b c = noTy
 typeOf (Line.output x) t a b c = noTy
-typeOf Line.junk t a b c = noTy
+typeOf Line.unknown t a b c = noTy
 
 -- the type of a record's line after lines whose types are L, and of a line
 abbrev pub recordType : Bool → (ℕ → Ty) → List ℕ → Line → Ty
@@ -119,11 +119,11 @@ givenAfter m c (Line.bitvec w) = givenBy m c
 givenAfter m c (Line.array i e) = givenBy m c
 givenAfter m c (Line.input s) = givenBy m c
 givenAfter m c (Line.state s) = givenBy m c
-givenAfter m c (Line.val s e) = givenBy m c
-givenAfter m c (Line.give n s q v) = pick (alike m n) (givenBy m c ++ (q ∷ [])) (givenBy m c)
-givenAfter m c (Line.mark n a) = givenBy m c
+givenAfter m c (Line.value s e) = givenBy m c
+givenAfter m c (Line.initOrNext n s q v) = pick (alike m n) (givenBy m c ++ (q ∷ [])) (givenBy m c)
+givenAfter m c (Line.signal n a) = givenBy m c
 givenAfter m c (Line.output a) = givenBy m c
-givenAfter m c Line.junk = givenBy m c
+givenAfter m c Line.unknown = givenBy m c
 
 abbrev pub noCtx : Ctx
 noCtx = record { tys = noTy ∷ []; inits = []; nexts = [] }

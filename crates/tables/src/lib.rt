@@ -42,7 +42,7 @@ pub enum Checked {
 
 // What is known of a line: its class, its index width and its width.
 pub struct Ty {
-    pub cls: u8,
+    pub role: u8,
     pub iw: u8,
     pub w: u8,
 }

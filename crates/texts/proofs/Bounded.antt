@@ -18,7 +18,7 @@ use Rattle.tables.specs.Tables.{unused, formed, keeps, lawful}
 use Rattle.tables.proofs.Every.{every, at-each}
 use Rattle.tables.proofs.Kept.{both}
 use Rattle.tables.proofs.Formed.{words-back}
-use Rattle.tables.proofs.Facts.{Ok, OkExpr, OkOne}
+use Rattle.tables.proofs.Facts.{Ok, OkExpr, OkUnary}
 use Rattle.tables.proofs.Wide.{AllWide, grow-wide}
 use Rattle.tables.proofs.Places.{Sized, length-records, records-sized}
 use Rattle.tables.proofs.Sound.{sound}
@@ -60,7 +60,7 @@ all-no-third = tt
 zero-by : (c x : ℕ) → c ≡ 0 → unused c x ≡ true → x ≡ 0
 zero-by c x e u = eqb-true x 0 (subst (λ (d : ℕ). unused d x ≡ true) e u)
 
-module _ (t a : Ty) (k x y : ℕ) (h : OkOne false t k a x y) (wt : t .w ≤ 64) (wa : a .w ≤ 64) where
+module _ (t a : Ty) (k x y : ℕ) (h : OkUnary false t k a x y) (wt : t .w ≤ 64) (wa : a .w ≤ 64) where
   -- not to redxor
   plain : k ≤ 17 → (x ≡ 0) × (y ≡ 0)
   unfolding no-numbers
@@ -101,22 +101,22 @@ module _ (t a : Ty) (k x y : ℕ) (h : OkOne false t k a x y) (wt : t .w ≤ 64)
 
 module _ (c : Ctx) (w : AllWide (tyAt c)) (few : length (c .tys) ≤ 16385) where
   -- an earlier line
-  line : (a : ℕ) → 1 ≤ tyAt c a .cls → a < 2 ^ 64
+  line : (a : ℕ) → 1 ≤ tyAt c a .role → a < 2 ^ 64
   line a h = omega (arith, earlier (c .tys) a h)
 
-  expr-words : (s : ℕ) (e : Expr) → OkExpr false (tyAt c) (tyAt c s) e → Words (wordsOf (Line.val s e))
+  expr-words : (s : ℕ) (e : Expr) → OkExpr false (tyAt c) (tyAt c s) e → Words (wordsOf (Line.value s e))
   expr-words s (Expr.const v) k =
       small 3 s v 0 0 (lit< tt) (line s (omega (arith, k .sort .is))) (const-fits v (tyAt c s .w) (k .fits) (w s (omega (arith, k .sort .is)) .most)) none none
     where
       const-fits : (v n : ℕ) → v < 2 ^ n → n ≤ 64 → v < 2 ^ 64
       const-fits v n h l = let g : 2 ^ n ≤ 2 ^ 64 = pow-le-pow-right (lit≤ tt) l in omega arith
-  expr-words s (Expr.one n a x y) k =
+  expr-words s (Expr.unary n a x y) k =
       let z = one-numbers (tyAt c s) (tyAt c a) n x y k (w s (omega (arith, k .sort .is)) .most) (w a (omega (arith, k .arg .is)) .most) in
       small n s a x y (low (omega (arith, k .kind))) (line s (omega (arith, k .sort .is))) (line a (omega (arith, k .arg .is))) (z .0) (z .1)
-  expr-words s (Expr.two n a b) k =
+  expr-words s (Expr.binary n a b) k =
       small n s a b 0 (low (omega (arith, k .most))) (line s (omega (arith, k .sort .is))) (line a (omega (arith, k .left .is))) (line b (omega (arith, k .right .is))) none
-  expr-words s (Expr.cmp true a b) k = small 21 s a b 0 (lit< tt) (line s (omega (arith, k .sort .is))) (line a (omega (arith, k .left .is))) (line b (omega (arith, k .right .is))) none
-  expr-words s (Expr.cmp false a b) k = small 22 s a b 0 (lit< tt) (line s (omega (arith, k .sort .is))) (line a (omega (arith, k .left .is))) (line b (omega (arith, k .right .is))) none
+  expr-words s (Expr.equality true a b) k = small 21 s a b 0 (lit< tt) (line s (omega (arith, k .sort .is))) (line a (omega (arith, k .left .is))) (line b (omega (arith, k .right .is))) none
+  expr-words s (Expr.equality false a b) k = small 22 s a b 0 (lit< tt) (line s (omega (arith, k .sort .is))) (line a (omega (arith, k .left .is))) (line b (omega (arith, k .right .is))) none
   expr-words s (Expr.ite d a b) k =
       small 53 s d a b (lit< tt) (line s (omega (arith, k .sort .is))) (line d (omega (arith, k .cond .is))) (line a (omega (arith, k .left .is))) (line b (omega (arith, k .right .is)))
   expr-words s (Expr.read a i) k = small 54 s a i 0 (lit< tt) (line s (omega (arith, k .sort .is))) (line a (omega (arith, k .arr .is))) (line i (omega (arith, k .index .is))) none
@@ -128,13 +128,13 @@ module _ (c : Ctx) (w : AllWide (tyAt c)) (few : length (c .tys) ≤ 16385) wher
   line-words (Line.array i e) k = small 2 0 i e 0 (lit< tt) none (line i (omega (arith, k .index .is))) (line e (omega (arith, k .element .is))) none
   line-words (Line.input s) k = small 4 s 0 0 0 (lit< tt) (line s (omega (arith, k .is))) none none none
   line-words (Line.state s) k = small 5 s 0 0 0 (lit< tt) (line s (omega (arith, k .is))) none none none
-  line-words (Line.val s e) k = expr-words s e k
-  line-words (Line.give true s q v) k = small 6 s q v 0 (lit< tt) (line s (omega (arith, k .sort .is))) (line q (omega (arith, k .state))) (line v (omega (arith, k .value .word .is))) none
-  line-words (Line.give false s q v) k = small 7 s q v 0 (lit< tt) (line s (omega (arith, k .sort .is))) (line q (omega (arith, k .state))) (line v (omega (arith, k .value .is))) none
-  line-words (Line.mark true a) k = small 8 0 a 0 0 (lit< tt) none (line a (omega (arith, k .word .is))) none none
-  line-words (Line.mark false a) k = small 9 0 a 0 0 (lit< tt) none (line a (omega (arith, k .word .is))) none none
+  line-words (Line.value s e) k = expr-words s e k
+  line-words (Line.initOrNext true s q v) k = small 6 s q v 0 (lit< tt) (line s (omega (arith, k .sort .is))) (line q (omega (arith, k .state))) (line v (omega (arith, k .value .word .is))) none
+  line-words (Line.initOrNext false s q v) k = small 7 s q v 0 (lit< tt) (line s (omega (arith, k .sort .is))) (line q (omega (arith, k .state))) (line v (omega (arith, k .value .is))) none
+  line-words (Line.signal true a) k = small 8 0 a 0 0 (lit< tt) none (line a (omega (arith, k .word .is))) none none
+  line-words (Line.signal false a) k = small 9 0 a 0 0 (lit< tt) none (line a (omega (arith, k .word .is))) none none
   line-words (Line.output a) k = small 10 0 a 0 0 (lit< tt) none (line a (omega (arith, k .is))) none none
-  line-words Line.junk k = absurd k
+  line-words Line.unknown k = absurd k
 
 -- ---- the records of a table
 

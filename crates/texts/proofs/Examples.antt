@@ -11,7 +11,7 @@ use Rattle.tables.specs.declared.Refusal.the-variants.{WrongId, NoRecordLeft, U
 use Rattle.tables.specs.declared.Checked.the-variants.{Accepted}
 use Rattle.tables.specs.Kinds.{rowOf}
 use Rattle.tables.specs.Lines.{fields}
-use Rattle.tables.specs.Layout.{recordsOf, filledBy, filled}
+use Rattle.tables.specs.Layout.{recordsOf, filledBy, wordsFor, tableWith}
 use Rattle.tables.specs.Rules.{suits, fault}
 use Rattle.tables.specs.Tables.{checked}
 use Rattle.texts.specs.Forms.{formRow}
@@ -36,7 +36,7 @@ records =
     fields 1 0 1 0 0 ∷ fields 1 0 3 0 0 ∷ fields 2 0 1 2 0 ∷ fields 5 3 0 0 0 ∷ fields 4 1 0 0 0 ∷ fields 3 2 5 0 0 ∷ fields 55 3 4 5 6 ∷ fields 7 3 4 7 0 ∷ fields 54 2 4 5 0 ∷ fields 21 1 9 6 0
     ∷ fields 8 0 10 0 0 ∷ []
 
-pub sample-read : readText 100 (bytes sample) ≡ done records
+pub sample-read : readText (wordsFor false 20) (bytes sample) ≡ done records
 unfolding bytes readText readLines readLine lowest settled wordIn findIn formRow rowOf fault suits split upTo tokens decimal scanned valued digitsIn allIn valueFrom digit
 sample-read = refl
 
@@ -46,7 +46,7 @@ sample-written = refl
 
 -- a table that holds it meets the premises of the round trip
 abbrev table : List ℕ
-table = filled false 55 records
+table = tableWith false records
 
 pub sample-accepted : checked false table 11 ≡ Accepted
 unfolding checked fault suits rowOf filledBy
@@ -56,13 +56,13 @@ sample-short : T (leb (length (writeText (recordsOf false table 11))) 65536)
 unfolding writeText writeFrom digits digitsF rowOf filledBy
 sample-short = tt
 
-pub sample-trip : readText 100 (writeText (recordsOf false table 11)) ≡ done (recordsOf false table 11)
-sample-trip = round-trip table 11 100 sample-accepted (leb→le (length (writeText (recordsOf false table 11))) 65536 sample-short) refl (leb→le 11 20 tt)
+pub sample-trip : readText (wordsFor false 20) (writeText (recordsOf false table 11)) ≡ done (recordsOf false table 11)
+sample-trip = round-trip table 11 (wordsFor false 20) sample-accepted (leb→le (length (writeText (recordsOf false table 11))) 65536 sample-short) refl (leb→le 11 20 tt)
 
 -- ---- a text for each refusal, with its text line; there is room for five records
 
 pub answers : List String → List Text
-answers ts = map (λ s. readText 25 (bytes s)) ts
+answers ts = map (λ s. readText (wordsFor false 5) (bytes s)) ts
 
 pub refusals : answers (
     "\n1 sort bitvec 1\n03 input 1\n"

@@ -20,7 +20,7 @@ use Rattle.tables.proofs.Every.{every, at-each}
 use Rattle.texts.specs.declared.Num.{Num}
 use Rattle.texts.specs.declared.Num.the-variants.{Bad, Big, Is}
 use Rattle.texts.specs.Forms.{formRow, kindOf, firstOf, numbersOf}
-use Rattle.texts.specs.Reading.{Word, word, unknown, wordIn, formOf, behind, numbersFrom, placed, numberTokens, numbersIn, fresh, written, settled, recordIn, refusals, got, lowest, readLine}
+use Rattle.texts.specs.Reading.{Word, word, unknown, wordIn, formOf, behind, numbersFrom, placed, numberTokens, numbersIn, fresh, writtenRecord, settled, recordIn, refusals, got, lowest, readLine}
 use Rattle.texts.proofs.Words.{InForms, word-forms}
 use Rattle.texts.proofs.Steps.{settled-one, settled-ones, settled-other, settled-kind}
 use Rattle.texts.proofs.Lowest.{NoneHolds, got-none}
@@ -56,7 +56,7 @@ length-numbers : (f j : ℕ) (ts : List (List ℕ)) → length (numbersFrom f j 
 length-numbers f j [] = refl
 length-numbers f j (t ∷ ts) = ap suc (length-numbers f (suc j) ts)
 
-left-written : (f : ℕ) (ts : List (List ℕ)) → Left (firstOf (formRow f)) (numbersOf (formRow f)) (fresh (kindOf f)) (written f ts)
+left-written : (f : ℕ) (ts : List (List ℕ)) → Left (firstOf (formRow f)) (numbersOf (formRow f)) (fresh (kindOf f)) (writtenRecord f ts)
 left-written f ts =
     let j : ℕ = firstOf (formRow f) in
     let m : ℕ = numbersOf (formRow f) in
@@ -220,7 +220,7 @@ module _ (L : ℕ → Ty) (G : Bool → ℕ → Bool) where
     line-keeps : (keeps false L G r ≡ true) × (length r ≡ recordWords)
     line-keeps =
         let f : ℕ = formOf w in
-        let x : List ℕ = written f (behind w) in
+        let x : List ℕ = writtenRecord f (behind w) in
         let b = in-forms w forms (none .1 .1 .0) in
         let l = left-written f (behind w) in
         let h = none .1 .1 .1 .1 .1 in

@@ -13,7 +13,7 @@ use Rattle.texts.specs.Forms.{formRow, numbersOf}
 use Rattle.texts.specs.Split.{split, upTo, tokens}
 use Rattle.texts.specs.Reading.{wordIn, lineTokens}
 use Rattle.texts.specs.Naming.{leads, only, extraIn, lineName, nameIn, nameOf}
-use Rattle.texts.specs.Model.Structs.{wordAt, asWord}
+use Rattle.texts.specs.Model.Structs.{wordWith, asWord}
 use Rattle.texts.proofs.Places.{tail, line-first, next-token}
 
 -- ---- tokens passed
@@ -30,13 +30,13 @@ only-more l b t h n = ap (λ (x : List (List ℕ)). only (t ∷ x)) (next-token 
 
 -- the extra token behind a word
 pub extra-none : (l : List ℕ) (w : Form) (ts : List (List ℕ)) → wordIn ts ≡ asWord l w → w .form ≡ 0 → [] ≡ extraIn (wordIn ts)
-extra-none l w ts e h = sym (ap extraIn (e ∙ ap (λ (f : ℕ). wordAt l f (w .at)) h))
+extra-none l w ts e h = sym (ap extraIn (e ∙ ap (λ (f : ℕ). wordWith l f (w .at)) h))
 
 pub extra-of : (l : List ℕ) (w : Form) (ts : List (List ℕ)) (m : ℕ) → wordIn ts ≡ asWord l w → (w .form ≡ 0 → ⊥) → m ≡ numbersOf (formRow (w .form))
     → only (drop m (tokens (drop (w .at) l))) ≡ extraIn (wordIn ts)
 extra-of l w ts m e h q = go (w .form) h q ∙ sym (ap extraIn e)
   where
-    go : (f : ℕ) → (f ≡ 0 → ⊥) → m ≡ numbersOf (formRow f) → only (drop m (tokens (drop (w .at) l))) ≡ extraIn (wordAt l f (w .at))
+    go : (f : ℕ) → (f ≡ 0 → ⊥) → m ≡ numbersOf (formRow f) → only (drop m (tokens (drop (w .at) l))) ≡ extraIn (wordWith l f (w .at))
     go zero h q = absurd (h refl)
     go (suc f) h q = ap (λ (k : ℕ). only (drop k (tokens (drop (w .at) l)))) q
 

@@ -8,7 +8,7 @@ use lib.Dec.{eqb}
 use lib.ListN.{length, take, drop, getD, drop-of-length-le, length-drop}
 use lib.Seq.{drop-drop, getD-drop, take-take}
 use borrow.Author.Tests.{ne-eqb}
-use Rattle.texts.specs.Split.{split, upTo, filled, tokens}
+use Rattle.texts.specs.Split.{split, upTo, nonEmpty, tokens}
 use Rattle.texts.specs.Model.Structs.{several}
 
 -- ---- from a place to the first part
@@ -28,17 +28,17 @@ split-first b (c ∷ t) = go (eqb c b) refl (split-first b t)
     go true e h = rw (e, split, upTo) refl
     go false e h = rw (e, split, upTo) (rw h refl)
 
-tail-tokens : (x : List ℕ) → filled (tail 32 (drop (length (upTo 32 x)) x)) ≡ tokens (drop (length (upTo 32 x)) x)
+tail-tokens : (x : List ℕ) → nonEmpty (tail 32 (drop (length (upTo 32 x)) x)) ≡ tokens (drop (length (upTo 32 x)) x)
 unfolding split upTo tokens
 tail-tokens [] = refl
 tail-tokens (c ∷ t) = go (eqb c 32) refl (tail-tokens t)
   where
-    go : (q : Bool) → eqb c 32 ≡ q → filled (tail 32 (drop (length (upTo 32 t)) t)) ≡ tokens (drop (length (upTo 32 t)) t)
-        → filled (tail 32 (drop (length (upTo 32 (c ∷ t))) (c ∷ t))) ≡ tokens (drop (length (upTo 32 (c ∷ t))) (c ∷ t))
+    go : (q : Bool) → eqb c 32 ≡ q → nonEmpty (tail 32 (drop (length (upTo 32 t)) t)) ≡ tokens (drop (length (upTo 32 t)) t)
+        → nonEmpty (tail 32 (drop (length (upTo 32 (c ∷ t))) (c ∷ t))) ≡ tokens (drop (length (upTo 32 (c ∷ t))) (c ∷ t))
     go true e h = rw (e, upTo) (rw (e, split) refl)
     go false e h = rw (e, upTo) h
 
-filled-first : (x : List ℕ) (c : ℕ) (y : List ℕ) (r : List (List ℕ)) → x ≡ c ∷ y → filled (x ∷ r) ≡ x ∷ filled r
+filled-first : (x : List ℕ) (c : ℕ) (y : List ℕ) (r : List (List ℕ)) → x ≡ c ∷ y → nonEmpty (x ∷ r) ≡ x ∷ nonEmpty r
 filled-first x c y r e = rw e refl
 
 upTo-cons : (c : ℕ) (t : List ℕ) → eqb c 32 ≡ false → upTo 32 (c ∷ t) ≡ c ∷ upTo 32 t
@@ -50,7 +50,7 @@ tokens-first : (c : ℕ) (t : List ℕ) → eqb c 32 ≡ false
 unfolding tokens
 tokens-first c t e =
     let k : ℕ = length (upTo 32 (c ∷ t)) in
-    ap (λ (p : List (List ℕ)). filled p) (split-first 32 (c ∷ t))
+    ap (λ (p : List (List ℕ)). nonEmpty p) (split-first 32 (c ∷ t))
     ∙ (filled-first (take k (c ∷ t)) c (take (length (upTo 32 t)) t) (tail 32 (drop k (c ∷ t))) (ap (λ (u : List ℕ). take (length u) (c ∷ t)) (upTo-cons c t e))
     ∙ ap (λ (p : List (List ℕ)). take k (c ∷ t) ∷ p) (tail-tokens (c ∷ t)))
 

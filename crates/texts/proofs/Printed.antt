@@ -16,7 +16,7 @@ use Rattle.tables.specs.declared.Checked.{Checked}
 use Rattle.tables.specs.declared.Checked.the-variants.{Accepted, Refused as RefusedTable}
 use Rattle.tables.specs.declared.Answer.{Answer}
 use Rattle.tables.specs.declared.Answer.the-variants.{Done, Refused}
-use Rattle.tables.specs.Kinds.{rowOf, wordOf, countOf}
+use Rattle.tables.specs.Kinds.{rowOf, wordOf, operandCount}
 use Rattle.tables.specs.Lines.{lineOf, kindIn}
 use Rattle.tables.specs.Layout.{room, recordAt, recordsOf}
 use Rattle.tables.specs.Types.{Ctx, noCtx, tyAt, given, grow}
@@ -119,8 +119,8 @@ and-then l p a l₁ p₁ b l₂ p₂ h k = (
 )
 
 -- what holds of a kind's row
-pub row-fit : (k : ℕ) → 1 ≤ k → k ≤ 55 → (getD (rowOf k) 0 0 ≤ 10) × (countOf (rowOf k) ≤ 3)
-row-fit k a b = subst (λ (x : List ℕ). (getD x 0 0 ≤ 10) × (countOf x ≤ 3)) (row-kind k b) (row-shape k a (omega arith))
+pub row-fit : (k : ℕ) → 1 ≤ k → k ≤ 55 → (getD (rowOf k) 0 0 ≤ 10) × (operandCount (rowOf k) ≤ 3)
+row-fit k a b = subst (λ (x : List ℕ). (getD x 0 0 ≤ 10) × (operandCount x ≤ 3)) (row-kind k b) (row-shape k a (omega arith))
 
 pub row-words : (r : List ℕ) (k : ℕ) → r ≡ rowOf k → 1 ≤ k → k ≤ 55 → getD r 0 0 ≤ 10
 row-words r k e a b = subst (λ (x : List ℕ). getD x 0 0 ≤ 10) (sym e) (row-fit k a b .0)
@@ -128,19 +128,19 @@ row-words r k e a b = subst (λ (x : List ℕ). getD x 0 0 ≤ 10) (sym e) (row-
 -- a line, from its parts; s says whether the row r has a sort
 module _ (id : ℕ) (rec r : List ℕ) (s : ℕ) (er : r ≡ rowOf (kindIn rec)) (es : s ≡ sorted r) where
   abbrev nums : List ℕ
-  nums = spaced (numbers (s + countOf r) (2 - s) rec)
+  nums = spaced (numbers (s + operandCount r) (2 - s) rec)
 
-  same-nums : spaced (numbers (s + countOf r) (2 - s) rec) ≡ spaced (numbers (numbersOf (rowOf (kindIn rec))) (firstOf (rowOf (kindIn rec))) rec)
-  same-nums = ap (λ (x : ℕ). spaced (numbers (x + countOf r) (2 - x) rec)) es ∙ ap (λ (x : List ℕ). spaced (numbers (numbersOf x) (firstOf x) rec)) er
+  same-nums : spaced (numbers (s + operandCount r) (2 - s) rec) ≡ spaced (numbers (numbersOf (rowOf (kindIn rec))) (firstOf (rowOf (kindIn rec))) rec)
+  same-nums = ap (λ (x : ℕ). spaced (numbers (x + operandCount r) (2 - x) rec)) es ∙ ap (λ (x : List ℕ). spaced (numbers (numbersOf x) (firstOf x) rec)) er
 
-  pub line-bytes : ((digits id ++ spaced (kindTokens (kindIn rec))) ++ spaced (numbers (s + countOf r) (2 - s) rec)) ++ (10 ∷ []) ≡ join (tokensOf id rec) ++ (10 ∷ [])
+  pub line-bytes : ((digits id ++ spaced (kindTokens (kindIn rec))) ++ spaced (numbers (s + operandCount r) (2 - s) rec)) ++ (10 ∷ []) ≡ join (tokensOf id rec) ++ (10 ∷ [])
   line-bytes =
       ap (λ (x : List ℕ). ((digits id ++ spaced (kindTokens (kindIn rec))) ++ x) ++ (10 ∷ [])) same-nums
       ∙ ap (λ (x : List ℕ). x ++ (10 ∷ []))
       (append-assoc (digits id) (spaced (kindTokens (kindIn rec))) (spaced (numbers (numbersOf (rowOf (kindIn rec))) (firstOf (rowOf (kindIn rec))) rec))
       ∙ ap (λ (x : List ℕ). digits id ++ x) (sym (spaced-append (kindTokens (kindIn rec)) (numbers (numbersOf (rowOf (kindIn rec))) (firstOf (rowOf (kindIn rec))) rec))))
 
-  pub line-length : length (join (tokensOf id rec) ++ (10 ∷ [])) ≡ length (digits id) + length (spaced (kindTokens (kindIn rec))) + length (spaced (numbers (s + countOf r) (2 - s) rec)) + 1
+  pub line-length : length (join (tokensOf id rec) ++ (10 ∷ [])) ≡ length (digits id) + length (spaced (kindTokens (kindIn rec))) + length (spaced (numbers (s + operandCount r) (2 - s) rec)) + 1
   line-length =
       sym (ap length line-bytes)
       ∙ (length-append ((digits id ++ spaced (kindTokens (kindIn rec))) ++ nums) (10 ∷ [])
@@ -149,7 +149,7 @@ module _ (id : ℕ) (rec r : List ℕ) (s : ℕ) (er : r ≡ rowOf (kindIn rec))
   -- the parts were put one after the other
   pub line-put : (l : List ℕ) (p : ℕ) {l₁ l₂ l₃ l₄ : List ℕ} {p₁ p₂ p₃ p₄ : ℕ} → (p₁ ≡ p + length (digits id)) × (l₁ ≡ sets l p (digits id))
       → (p₂ ≡ p₁ + length (spaced (kindTokens (kindIn rec)))) × (l₂ ≡ sets l₁ p₁ (spaced (kindTokens (kindIn rec))))
-      → (p₃ ≡ p₂ + length (spaced (numbers (s + countOf r) (2 - s) rec))) × (l₃ ≡ sets l₂ p₂ (spaced (numbers (s + countOf r) (2 - s) rec)))
+      → (p₃ ≡ p₂ + length (spaced (numbers (s + operandCount r) (2 - s) rec))) × (l₃ ≡ sets l₂ p₂ (spaced (numbers (s + operandCount r) (2 - s) rec)))
       → (p₄ ≡ p₃ + 1) × (l₄ ≡ set l₃ p₃ 10) → (p₄ ≡ p + length (join (tokensOf id rec) ++ (10 ∷ []))) × (l₄ ≡ sets l p (join (tokensOf id rec) ++ (10 ∷ [])))
   line-put l p {l₁} {l₂} {l₃} {l₄} {p₁} {p₂} {p₃} {p₄} a b c d =
       let x = and-then l p (digits id) l₁ p₁ (spaced (kindTokens (kindIn rec))) l₂ p₂ a b in

@@ -18,7 +18,7 @@ use Rattle.tables.specs.Pick.{inside, all}
 use Rattle.tables.specs.Lines.{Line, exprWords, lineOf, kindIn, sortIn, firstIn, secondIn, thirdIn}
 use Rattle.tables.specs.Layout.{recordWords, whole, room, recorded, filled}
 use Rattle.tables.specs.Types.{noTy, lineType, Ctx, noCtx, tyAt, given, grow}
-use Rattle.tables.specs.Notes.{lookIn, givenIn, Shows, noted}
+use Rattle.tables.specs.Model.Notes.{lookIn, givenIn, Shows, noted}
 use Rattle.tables.specs.Tables.{formed, keeps}
 use Rattle.tables.specs.Rules.{fits, fault}
 use Rattle.tables.specs.Answers.{Outcome, told}
@@ -30,7 +30,7 @@ use Rattle.tables.proofs.Shapes.{range}
 use Rattle.tables.proofs.Showing.{length-noted, shows-more, length-more}
 use Rattle.texts.specs.declared.Readout.{Readout}
 use Rattle.texts.specs.Split.{split, upTo, tokens}
-use Rattle.texts.specs.Reading.{Reply, skip, no, got, lineTokens, readLine, Text, done, refused, readLines, linesRead, readText, answerOf, tableOf, outcomeOf, reads}
+use Rattle.texts.specs.Reading.{Reply, skip, no, got, lineTokens, readLine, Text, done, refused, readLines, linesRead, readText, textAnswer, tableOf, outcomeOf, reads}
 use Rattle.texts.specs.Model.Stages.{stagedLine}
 use Rattle.texts.specs.Model.Structs.{asRead}
 use Rattle.texts.proofs.Places.{tail, line-first}
@@ -114,11 +114,11 @@ narrow-type c (Line.bitvec w) h b = b w refl
 narrow-type c (Line.array i e) h b = h e
 narrow-type c (Line.input s) h b = h s
 narrow-type c (Line.state s) h b = h s
-narrow-type c (Line.val s e) h b = h (sortIn (exprWords s e))
-narrow-type c (Line.give m s q v) h b = omega arith
-narrow-type c (Line.mark m a) h b = omega arith
+narrow-type c (Line.value s e) h b = h (sortIn (exprWords s e))
+narrow-type c (Line.initOrNext m s q v) h b = omega arith
+narrow-type c (Line.signal m a) h b = omega arith
 narrow-type c (Line.output a) h b = omega arith
-narrow-type c Line.junk h b = omega arith
+narrow-type c Line.unknown h b = omega arith
 
 narrow-kept : (c : Ctx) (r : List ℕ) → Narrow c → keeps false (tyAt c) (given c) r ≡ true → Narrow (grow false c (lineOf r))
 narrow-kept c r h k =
@@ -283,10 +283,10 @@ pub out-lines : (len k : ℕ) (s : List ℕ) {o : Outcome} → k ≡ len → who
 out-lines len k s {o} q w h e = subst (λ (m : ℕ). o ≡ reads m s) q (out-text k s (e ∙ ap (outcomeOf k) (sym (text-lines k s w h))))
 
 -- what was told of a reading, taken apart
-pub read-told : (len : ℕ) (s : List ℕ) (r : Answer) (t : List ℕ) → told r (t ∷ []) ≡ reads len s → (r ≡ answerOf (readText len s)) × (t ≡ tableOf len (readText len s))
+pub read-told : (len : ℕ) (s : List ℕ) (r : Answer) (t : List ℕ) → told r (t ∷ []) ≡ reads len s → (r ≡ textAnswer (readText len s)) × (t ≡ tableOf len (readText len s))
 unfolding reads
 read-told len s r t e =
     let x : Text = readText len s in (
-      told-answer r (answerOf x) (t ∷ []) (tableOf len x ∷ []) e,
-      ap (λ (y : List (List ℕ)). getD y 0 []) {x = t ∷ []} {y = tableOf len x ∷ []} (told-left r (answerOf x) (t ∷ []) (tableOf len x ∷ []) e),
+      told-answer r (textAnswer x) (t ∷ []) (tableOf len x ∷ []) e,
+      ap (λ (y : List (List ℕ)). getD y 0 []) {x = t ∷ []} {y = tableOf len x ∷ []} (told-left r (textAnswer x) (t ∷ []) (tableOf len x ∷ []) e),
     )

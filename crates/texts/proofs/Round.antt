@@ -14,7 +14,7 @@ use Rattle.tables.specs.declared.Refusal.the-variants.{TextBuffer}
 use Rattle.tables.specs.declared.Checked.{Checked}
 use Rattle.tables.specs.declared.Checked.the-variants.{Accepted, Refused}
 use Rattle.tables.specs.Pick.{pick, inside}
-use Rattle.tables.specs.Kinds.{rowOf, sortClass, countOf, firstClass, secondClass, thirdClass}
+use Rattle.tables.specs.Kinds.{rowOf, sortClass, operandCount, firstClass, secondClass, thirdClass}
 use Rattle.tables.specs.Lines.{isBitvec, shapeOf, lineOf, fields, kindIn, sortIn, firstIn, secondIn, thirdIn}
 use Rattle.tables.specs.Layout.{recordWords, whole, room, recordsOf}
 use Rattle.tables.specs.Types.{Ctx, noCtx, tyAt, given, grow}
@@ -33,7 +33,7 @@ use Rattle.texts.specs.declared.Num.the-variants.{Is}
 use Rattle.texts.specs.Forms.{formRow, kindOf, firstOf, numbersOf}
 use Rattle.texts.specs.Split.{split, join}
 use Rattle.texts.specs.Decimal.{digits}
-use Rattle.texts.specs.Reading.{Word, word, wordIn, formOf, behind, numberAt, numbersFrom, anyBad, anyBig, placed, numberTokens, extraTokens, numbersIn, fresh, written, settled, recordIn, misfit, refusals, got, lowest, readLine, done, lineTokens, readLines, readText}
+use Rattle.texts.specs.Reading.{Word, word, wordIn, formOf, behind, numberAt, numbersFrom, anyBad, anyBig, placed, numberTokens, extraTokens, numbersIn, fresh, writtenRecord, settled, recordIn, misfit, refusals, got, lowest, readLine, done, lineTokens, readLines, readText}
 use Rattle.texts.specs.Writing.{numbers, kindTokens, tokensOf, writeFrom, writeText, wrote, refuse, fitted, writeTable}
 use Rattle.texts.proofs.Splitting.{Toks, toks-append, tokens-join, lines-join}
 use Rattle.texts.proofs.Decimals.{digits-tok, decimal-digits}
@@ -97,7 +97,7 @@ by-count false (suc (suc (suc (suc n)))) k s a b c l z₁ z₂ z₃ z₄ = absur
 
 -- a row has a class for each of its operands and for no more: one computed test
 abbrev counts : List ℕ → Bool
-counts row = leb (countOf row) 3 && ((ltb 0 (countOf row) || eqb (firstClass row) 0) && ((ltb 1 (countOf row) || eqb (secondClass row) 0) && (ltb 2 (countOf row) || eqb (thirdClass row) 0)))
+counts row = leb (operandCount row) 3 && ((ltb 0 (operandCount row) || eqb (firstClass row) 0) && ((ltb 1 (operandCount row) || eqb (secondClass row) 0) && (ltb 2 (operandCount row) || eqb (thirdClass row) 0)))
 
 test : ℕ → Bool
 test i = counts (rowOf (suc i))
@@ -128,14 +128,14 @@ copied-fields k s a b c h =
     let u₃ = both (unused (secondClass (rowOf k)) b) _ (u₂ .1) in
     let u₄ = both (unused (thirdClass (rowOf k)) c) _ (u₃ .1) in
     let t = count-at k (g .0) (g .1) in
-    let t₁ = and-yes (leb (countOf (rowOf k)) 3) _ t in
-    let t₂ = and-yes (ltb 0 (countOf (rowOf k)) || eqb (firstClass (rowOf k)) 0) _ (t₁ .1) in
-    let t₃ = and-yes (ltb 1 (countOf (rowOf k)) || eqb (secondClass (rowOf k)) 0) _ (t₂ .1) in
-    by-count (eqb (sortClass (rowOf k)) 0) (countOf (rowOf k)) k s a b c (leb→le (countOf (rowOf k)) 3 (t₁ .0))
+    let t₁ = and-yes (leb (operandCount (rowOf k)) 3) _ t in
+    let t₂ = and-yes (ltb 0 (operandCount (rowOf k)) || eqb (firstClass (rowOf k)) 0) _ (t₁ .1) in
+    let t₃ = and-yes (ltb 1 (operandCount (rowOf k)) || eqb (secondClass (rowOf k)) 0) _ (t₂ .1) in
+    by-count (eqb (sortClass (rowOf k)) 0) (operandCount (rowOf k)) k s a b c (leb→le (operandCount (rowOf k)) 3 (t₁ .0))
     (λ e. eqb-true s 0 (subst (λ (d : ℕ). unused d s ≡ true) (eqb-true (sortClass (rowOf k)) 0 e) (u₁ .0)))
-    (no-class (countOf (rowOf k)) 0 (firstClass (rowOf k)) a (t₂ .0) (u₂ .0))
-    (no-class (countOf (rowOf k)) 1 (secondClass (rowOf k)) b (t₃ .0) (u₃ .0))
-    (no-class (countOf (rowOf k)) 2 (thirdClass (rowOf k)) c (t₃ .1) (u₄ .0))
+    (no-class (operandCount (rowOf k)) 0 (firstClass (rowOf k)) a (t₂ .0) (u₂ .0))
+    (no-class (operandCount (rowOf k)) 1 (secondClass (rowOf k)) b (t₃ .0) (u₃ .0))
+    (no-class (operandCount (rowOf k)) 2 (thirdClass (rowOf k)) c (t₃ .1) (u₄ .0))
 
 copied-back : (r : List ℕ) → length r ≡ recordWords → formed false r ≡ true → copied (numbersOf (rowOf (kindIn r))) (firstOf (rowOf (kindIn r))) r (fresh (kindIn r)) ≡ r
 copied-back r l h =
@@ -203,7 +203,7 @@ module _ (L : ℕ → Ty) (G : Bool → ℕ → Bool) (r : List ℕ) (sized : le
       ap (numbersFrom (kindIn r) (firstOf (formRow (kindIn r)))) all-taken
       ∙ (ap (λ (x : List ℕ). numbersFrom (kindIn r) (firstOf x) printed) own-row ∙ numbers-read (kindIn r) most r words (numbersOf row) (firstOf row))
 
-  written-same : written (kindIn r) printed ≡ r
+  written-same : writtenRecord (kindIn r) printed ≡ r
   written-same =
       ap (λ (ns : List Num). placed (firstOf (formRow (kindIn r))) ns (fresh (kindOf (kindIn r)))) are-values
       ∙ (ap (λ (x : List ℕ). placed (firstOf x) (values (numbersOf row) (firstOf row) r) (fresh (kindOf (kindIn r)))) own-row

@@ -5,7 +5,7 @@ use mathlib.Core.Bool.{false}
 use mathlib.Core.List.{List, [], _∷_, _++_, append-nil}
 use lib.Dec.{eqb}
 use borrow.Author.Tests.{eq-eqb}
-use Rattle.texts.specs.Split.{split, upTo, filled, tokens, spaced, join}
+use Rattle.texts.specs.Split.{split, upTo, nonEmpty, tokens, spaced, join}
 
 -- no byte of it is b
 abbrev pub Lacks : ℕ → List ℕ → Type 0
@@ -86,7 +86,7 @@ split-join : (t : List ℕ) (ts : List (List ℕ)) → Tok t → Toks ts → spl
 split-join t [] h k = split-end 32 (t ++ []) (lacks-append 32 t [] (lacks-space t (tok-clean t h)) tt) ∙ ap (λ (x : List ℕ). x ∷ []) (append-nil t)
 split-join t (u ∷ ts) h k = split-at 32 t (u ++ spaced ts) (lacks-space t (tok-clean t h)) ∙ ap (λ (x : List (List ℕ)). t ∷ x) (split-join u ts (k .0) (k .1))
 
-filled-toks : (ts : List (List ℕ)) → Toks ts → filled ts ≡ ts
+filled-toks : (ts : List (List ℕ)) → Toks ts → nonEmpty ts ≡ ts
 filled-toks [] h = refl
 filled-toks ([] ∷ ts) h = absurd (h .0)
 filled-toks ((c ∷ t) ∷ ts) h = ap (λ (x : List (List ℕ)). (c ∷ t) ∷ x) (filled-toks ts (h .1))

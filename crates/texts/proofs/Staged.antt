@@ -19,7 +19,7 @@ use Rattle.texts.specs.declared.Num.{Num}
 use Rattle.texts.specs.declared.Num.the-variants.{Bad, Big, Is}
 use Rattle.texts.specs.Forms.{formRow, kindOf, firstOf, numbersOf}
 use Rattle.texts.specs.Decimal.{decimal}
-use Rattle.texts.specs.Reading.{Word, word, unknown, wordIn, formOf, behind, numberAt, numbersFrom, anyBad, anyBig, placed, lastOf, numberTokens, extraTokens, numbersIn, fresh, written, settled, recordIn, isId, lowest, readLine}
+use Rattle.texts.specs.Reading.{Word, word, unknown, wordIn, formOf, behind, numberAt, numbersFrom, anyBad, anyBig, placed, lastOf, numberTokens, extraTokens, numbersIn, fresh, writtenRecord, settled, recordIn, isId, lowest, readLine}
 use Rattle.texts.specs.Model.Stages.{Took, operands, takenIn, judged, large, ended, worded, stagedLine}
 use Rattle.texts.specs.Model.Structs.{tookAt, several}
 use Rattle.texts.proofs.Words.{InForms, word-forms}
@@ -171,19 +171,19 @@ module _ (L : ℕ → Ty) (G : Bool → ℕ → Bool) where
         go true q r ep eq er =
             let k : not (less || anyBad (numbersIn f ts)) ≡ false = rw ep refl in
             let h : unfit ≡ true = rw ep refl in
-            ended-bad L G f (written f ts) digits _ _ (extraTokens f ts) k ∙ sym (holds _ _ _ _ h)
+            ended-bad L G f (writtenRecord f ts) digits _ _ (extraTokens f ts) k ∙ sym (holds _ _ _ _ h)
         go false true r ep eq er =
             let k : not (less || anyBad (numbersIn f ts)) ≡ false = rw (ep, eq) refl in
             let h : unfit ≡ true = rw (ep, eq) refl in
-            ended-bad L G f (written f ts) digits _ _ (extraTokens f ts) k ∙ sym (holds _ _ _ _ h)
+            ended-bad L G f (writtenRecord f ts) digits _ _ (extraTokens f ts) k ∙ sym (holds _ _ _ _ h)
         go false false true ep eq er =
             let k : not (less || anyBad (numbersIn f ts)) ≡ true = rw (ep, eq) refl in
             let h : unfit ≡ true = rw (ep, eq) (several-two (extraTokens f ts) ∙ er) in
-            ended-many L G f (written f ts) digits _ _ (extraTokens f ts) k er ∙ sym (holds _ _ _ _ h)
+            ended-many L G f (writtenRecord f ts) digits _ _ (extraTokens f ts) k er ∙ sym (holds _ _ _ _ h)
         go false false false ep eq er =
             let k : not (less || anyBad (numbersIn f ts)) ≡ true = rw (ep, eq) refl in
             let h : unfit ≡ false = rw (ep, eq) (several-two (extraTokens f ts) ∙ er) in
-            ended-few L G f (written f ts) digits _ _ (extraTokens f ts) k er ∙ (large-first f (written f ts) (anyBig (numbersIn f ts)) digits ∙ sym (passes _ _ _ _ h))
+            ended-few L G f (writtenRecord f ts) digits _ _ (extraTokens f ts) k er ∙ (large-first f (writtenRecord f ts) (anyBig (numbersIn f ts)) digits ∙ sym (passes _ _ _ _ h))
 
   -- ---- 5
 

@@ -14,7 +14,7 @@ use Rattle.tables.specs.Pick.{inside}
 use Rattle.tables.specs.Lines.{kindIn, sortIn, firstIn}
 use Rattle.tables.specs.Rules.{fault}
 use Rattle.texts.specs.declared.Num.the-variants.{Bad, Big, Is}
-use Rattle.tables.specs.Kinds.{countOf}
+use Rattle.tables.specs.Kinds.{operandCount}
 use Rattle.texts.specs.Forms.{formRow, kindOf, sorted, firstOf, numbersOf}
 use Rattle.texts.specs.Split.{tokens}
 use Rattle.texts.specs.Decimal.{decimal}
@@ -23,7 +23,7 @@ use Rattle.texts.specs.Model.Stages.{Took, took, malformed, operands, ta
 use Rattle.texts.specs.declared.Readout.{Readout}
 use Rattle.texts.specs.declared.Taken.{Taken}
 use Rattle.texts.specs.declared.Form.{Form}
-use Rattle.texts.specs.Model.Structs.{wordAt, asWord, tookAt, asTook, asRead, several}
+use Rattle.texts.specs.Model.Structs.{wordWith, asWord, tookAt, asTook, asRead, several}
 
 -- ---- operands
 
@@ -163,16 +163,16 @@ module _ (L : ℕ → Ty) (G : Bool → ℕ → Bool) (f : ℕ) (l : List ℕ) (
   taken-few e h k = e ∙ ap asRead (sym (ended-few L G f (t .rec) (t .len) (t .big) (t .ok) (tokens (drop (t .at) l)) h k))
 
   -- the numbers were taken from a line of the form f, whose row is row
-  pub taken-from : (row start : List ℕ) (k s i : ℕ) → x ≡ asRead (ended L G f (asTook l t)) → operands f (s + countOf row) (2 - s) start false 0 (tokens (drop i l)) ≡ asTook l t
+  pub taken-from : (row start : List ℕ) (k s i : ℕ) → x ≡ asRead (ended L G f (asTook l t)) → operands f (s + operandCount row) (2 - s) start false 0 (tokens (drop i l)) ≡ asTook l t
       → start ≡ fresh k → s ≡ sorted row → row ≡ formRow f → k ≡ kindOf f → x ≡ asRead (ended L G f (takenIn f (tokens (drop i l))))
   taken-from row start k s i e o eb es er ek =
       let ts : List (List ℕ) = tokens (drop i l) in
       e
       ∙ ap (λ (u : Took). asRead (ended L G f u))
       (sym o
-      ∙ (ap (λ (r : List ℕ). operands f (s + countOf row) (2 - s) r false 0 ts) eb
-      ∙ (ap (λ (m : ℕ). operands f (m + countOf row) (2 - m) (fresh k) false 0 ts) es
-      ∙ (ap (λ (r : List ℕ). operands f (sorted r + countOf r) (2 - sorted r) (fresh k) false 0 ts) er
+      ∙ (ap (λ (r : List ℕ). operands f (s + operandCount row) (2 - s) r false 0 ts) eb
+      ∙ (ap (λ (m : ℕ). operands f (m + operandCount row) (2 - m) (fresh k) false 0 ts) es
+      ∙ (ap (λ (r : List ℕ). operands f (sorted r + operandCount r) (2 - sorted r) (fresh k) false 0 ts) er
       ∙ ap (λ (m : ℕ). operands f (numbersOf (formRow f)) (firstOf (formRow f)) (fresh m) false 0 ts) ek))))
 
 -- ---- lines
@@ -196,13 +196,13 @@ module _ (L : ℕ → Ty) (G : Bool → ℕ → Bool) (m n : ℕ) where
     line-word h k = rw (rw add-one at h, lt-ltb n m k, stagedLine) refl
 
 module _ (L : ℕ → Ty) (G : Bool → ℕ → Bool) (l : List ℕ) (f z : ℕ) where
-  pub word-no : f ≡ 0 → worded L G (wordAt l f z) ≡ no UnknownWord
+  pub word-no : f ≡ 0 → worded L G (wordWith l f z) ≡ no UnknownWord
   word-no h = rw h refl
 
-  pub word-form : (f ≡ 0 → ⊥) → worded L G (wordAt l f z) ≡ ended L G f (takenIn f (tokens (drop z l)))
+  pub word-form : (f ≡ 0 → ⊥) → worded L G (wordWith l f z) ≡ ended L G f (takenIn f (tokens (drop z l)))
   word-form h = go f h
     where
-      go : (f : ℕ) → (f ≡ 0 → ⊥) → worded L G (wordAt l f z) ≡ ended L G f (takenIn f (tokens (drop z l)))
+      go : (f : ℕ) → (f ≡ 0 → ⊥) → worded L G (wordWith l f z) ≡ ended L G f (takenIn f (tokens (drop z l)))
       go zero h = absurd (h refl)
       go (suc f) h = refl
 

@@ -11,18 +11,18 @@ use lib.Seq.{drop-cons, length-take-le, getD-take, getD-drop}
 use mir.Facts.{and-yes}
 use borrow.Author.Tests.{eq-eqb, ne-eqb, le-leb, lt-leb}
 use Rattle.tables.specs.Pick.{pick}
-use Rattle.tables.specs.Kinds.{rows, rowOf, wordOf, countOf}
+use Rattle.tables.specs.Kinds.{rows, rowOf, wordOf, operandCount}
 use Rattle.tables.proofs.Every.{every, at-each}
 use Rattle.texts.specs.Forms.{extra, formRow, kindOf, sorted, sortWord}
-use Rattle.texts.specs.Split.{same, tokens}
-use Rattle.texts.specs.Reading.{findIn, Word, word, unknown, known, sortWords, wordIn}
+use Rattle.texts.specs.Split.{sameBytes, tokens}
+use Rattle.texts.specs.Reading.{findIn, Word, word, unknown, formWord, sortWords, wordIn}
 use Rattle.texts.specs.Writing.{headed, kindTokens}
-use Rattle.texts.specs.Model.Structs.{wordAt}
+use Rattle.texts.specs.Model.Structs.{wordWith}
 use Rattle.texts.proofs.Splitting.{Clean, Tok, Toks}
 
 -- ---- a token against a word
 
-pub same-not : (x y : List ℕ) → (length x ≡ length y → ⊥) → same x y ≡ false
+pub same-not : (x y : List ℕ) → (length x ≡ length y → ⊥) → sameBytes x y ≡ false
 same-not [] [] h = absurd (h refl)
 same-not [] (b ∷ y) h = refl
 same-not (a ∷ x) [] h = refl
@@ -33,13 +33,13 @@ same-not (a ∷ x) (b ∷ y) h = rw (same-not x y (λ e. h (ap suc e))) (and-fal
     and-false false = refl
 
 module _ (t w : List ℕ) (i : ℕ) (lt : i < length t) (lw : i < length w) where
-  pub same-more : getD t i 0 ≡ getD w i 0 → same (drop i t) (drop i w) ≡ same (drop (i + 1) t) (drop (i + 1) w)
+  pub same-more : getD t i 0 ≡ getD w i 0 → sameBytes (drop i t) (drop i w) ≡ sameBytes (drop (i + 1) t) (drop (i + 1) w)
   same-more e = rw (add-one, drop-cons t i 0 lt, drop-cons w i 0 lw) (rw (eq-eqb (getD t i 0) (getD w i 0) e) refl)
 
-  pub same-differ : (getD t i 0 ≡ getD w i 0 → ⊥) → same (drop i t) (drop i w) ≡ false
+  pub same-differ : (getD t i 0 ≡ getD w i 0 → ⊥) → sameBytes (drop i t) (drop i w) ≡ false
   same-differ e = rw (drop-cons t i 0 lt, drop-cons w i 0 lw) (rw (ne-eqb (getD t i 0) (getD w i 0) e) refl)
 
-pub same-end : (t w : List ℕ) (i : ℕ) → length t ≤ i → length w ≤ i → same (drop i t) (drop i w) ≡ true
+pub same-end : (t w : List ℕ) (i : ℕ) → length t ≤ i → length w ≤ i → sameBytes (drop i t) (drop i w) ≡ true
 same-end t w i h k = rw (drop-of-length-le t h, drop-of-length-le w k) refl
 
 -- the word of a row
@@ -50,11 +50,11 @@ pub word-at : (r : List ℕ) (i : ℕ) → i < getD r 0 0 → getD (wordOf r) i 
 word-at r i h = getD-take (getD r 0 0) (drop 1 r) i 0 h ∙ (getD-drop 1 r i 0 ∙ ap (λ (n : ℕ). getD r n 0) (omega arith))
 
 module _ (j e : ℕ) (t : List ℕ) (l : j < e) where
-  pub find-hit : same t (wordOf (formRow j)) ≡ true → findIn j (e - j) t ≡ j
+  pub find-hit : sameBytes t (wordOf (formRow j)) ≡ true → findIn j (e - j) t ≡ j
   unfolding findIn
   find-hit h = let q : e - j ≡ suc (e - (j + 1)) = omega arith in ap (λ (m : ℕ). findIn j m t) q ∙ rw (h, findIn) refl
 
-  pub find-miss : same t (wordOf (formRow j)) ≡ false → findIn j (e - j) t ≡ findIn (j + 1) (e - (j + 1)) t
+  pub find-miss : sameBytes t (wordOf (formRow j)) ≡ false → findIn j (e - j) t ≡ findIn (j + 1) (e - (j + 1)) t
   unfolding findIn
   find-miss h =
       let q : e - j ≡ suc (e - (j + 1)) = omega arith in
@@ -68,11 +68,11 @@ pub find-end : (k : ℕ) (t : List ℕ) → findIn k 0 t ≡ 0
 unfolding findIn
 find-end k t = refl
 
-pub word-sort : (t : List ℕ) (ts : List (List ℕ)) → same t sortWord ≡ true → wordIn (t ∷ ts) ≡ sortWords ts
+pub word-sort : (t : List ℕ) (ts : List (List ℕ)) → sameBytes t sortWord ≡ true → wordIn (t ∷ ts) ≡ sortWords ts
 unfolding wordIn
 word-sort t ts h = rw (h, wordIn) refl
 
-pub word-other : (t : List ℕ) (ts : List (List ℕ)) → same t sortWord ≡ false → wordIn (t ∷ ts) ≡ known (findIn 3 58 t) ts
+pub word-other : (t : List ℕ) (ts : List (List ℕ)) → sameBytes t sortWord ≡ false → wordIn (t ∷ ts) ≡ formWord (findIn 3 58 t) ts
 unfolding wordIn
 word-other t ts h = rw (h, wordIn) refl
 
@@ -80,16 +80,16 @@ pub word-none : wordIn [] ≡ unknown
 unfolding wordIn
 word-none = refl
 
-pub known-at : (l : List ℕ) (f z : ℕ) → known f (tokens (drop z l)) ≡ wordAt l f z
+pub known-at : (l : List ℕ) (f z : ℕ) → formWord f (tokens (drop z l)) ≡ wordWith l f z
 known-at l zero z = refl
 known-at l (suc f) z = refl
 
 pub find-most : (k n : ℕ) (t : List ℕ) → findIn k n t ≤ k + n - 1
 unfolding findIn
 find-most k zero t = zero-le
-find-most k (suc n) t = go (same t (wordOf (formRow k))) refl (find-most (suc k) n t)
+find-most k (suc n) t = go (sameBytes t (wordOf (formRow k))) refl (find-most (suc k) n t)
   where
-    go : (q : Bool) → same t (wordOf (formRow k)) ≡ q → findIn (suc k) n t ≤ suc k + n - 1 → findIn k (suc n) t ≤ k + suc n - 1
+    go : (q : Bool) → sameBytes t (wordOf (formRow k)) ≡ q → findIn (suc k) n t ≤ suc k + n - 1 → findIn k (suc n) t ≤ k + suc n - 1
     go true e h = rw (e, findIn) (omega arith)
     go false e h = rw (e, findIn) (omega arith)
 
@@ -98,21 +98,21 @@ abbrev pub InForms : Word → Type 0
 InForms unknown = Unit {0}
 InForms (word f ts) = (1 ≤ f) × (f ≤ 60)
 
-known-forms : (f : ℕ) (ts : List (List ℕ)) → f ≤ 60 → InForms (known f ts)
+known-forms : (f : ℕ) (ts : List (List ℕ)) → f ≤ 60 → InForms (formWord f ts)
 known-forms zero ts h = tt
 known-forms (suc f) ts h = (omega arith, h)
 
 pub word-forms : (ts : List (List ℕ)) → InForms (wordIn ts)
 unfolding wordIn
 word-forms [] = tt
-word-forms (t ∷ ts) = go (same t sortWord) ts
+word-forms (t ∷ ts) = go (sameBytes t sortWord) ts
   where
-    go : (b : Bool) (ts : List (List ℕ)) → InForms (elim b [ true ↦ sortWords ts | false ↦ known (findIn 3 58 t) ts ])
+    go : (b : Bool) (ts : List (List ℕ)) → InForms (elim b [ true ↦ sortWords ts | false ↦ formWord (findIn 3 58 t) ts ])
     go true [] = tt
     go true (u ∷ ts) = known-forms (findIn 1 2 u) ts (omega (arith, find-most 1 2 u))
     go false ts = known-forms (findIn 3 58 t) ts (omega (arith, find-most 3 58 t))
 
-same-at : (x y : List ℕ) (i : ℕ) → i < length x → i < length y → (getD x i 0 ≡ getD y i 0 → ⊥) → same x y ≡ false
+same-at : (x y : List ℕ) (i : ℕ) → i < length x → i < length y → (getD x i 0 ≡ getD y i 0 → ⊥) → sameBytes x y ≡ false
 same-at [] y i h k n = absurd (omega arith)
 same-at (a ∷ x) [] i h k n = absurd (omega arith)
 same-at (a ∷ x) (b ∷ y) zero h k n = rw (ne-eqb a b n) refl
@@ -122,13 +122,13 @@ same-at (a ∷ x) (b ∷ y) (suc i) h k n = rw (same-at x y i (omega arith) (ome
     and-false true = refl
     and-false false = refl
 
-pub sort-differs : (t : List ℕ) (i : ℕ) → length t ≡ 4 → i < 4 → (getD t i 0 ≡ getD sortWord i 0 → ⊥) → same t sortWord ≡ false
+pub sort-differs : (t : List ℕ) (i : ℕ) → length t ≡ 4 → i < 4 → (getD t i 0 ≡ getD sortWord i 0 → ⊥) → sameBytes t sortWord ≡ false
 sort-differs t i e h n = same-at t sortWord i (omega arith) h n
 
-pub sort-length : (t : List ℕ) → (length t ≡ 4 → ⊥) → same t sortWord ≡ false
+pub sort-length : (t : List ℕ) → (length t ≡ 4 → ⊥) → sameBytes t sortWord ≡ false
 sort-length t n = same-not t sortWord n
 
-pub sort-last : (t : List ℕ) → length t ≡ 4 → getD t 0 0 ≡ 115 → getD t 1 0 ≡ 111 → getD t 2 0 ≡ 114 → same t sortWord ≡ eqb (getD t 3 0) 116
+pub sort-last : (t : List ℕ) → length t ≡ 4 → getD t 0 0 ≡ 115 → getD t 1 0 ≡ 111 → getD t 2 0 ≡ 114 → sameBytes t sortWord ≡ eqb (getD t 3 0) 116
 sort-last [] h a b c = absurd (omega arith)
 sort-last (x ∷ []) h a b c = absurd (omega arith)
 sort-last (x ∷ y ∷ []) h a b c = absurd (omega arith)
@@ -149,9 +149,9 @@ find-on k zero n s t h q e =
     let b : k ≡ k + 0 = omega arith in
     ap (λ (j : ℕ). findIn k j t) a ∙ ap (λ (j : ℕ). findIn j n t) b
 find-on k (suc m) n zero t h q e = absurd (omega arith)
-find-on k (suc m) n (suc s) t h q e = go (same t (wordOf (formRow k))) refl (λ x. find-on (suc k) m n s t (omega arith) (omega arith) x)
+find-on k (suc m) n (suc s) t h q e = go (sameBytes t (wordOf (formRow k))) refl (λ x. find-on (suc k) m n s t (omega arith) (omega arith) x)
   where
-    go : (b : Bool) → same t (wordOf (formRow k)) ≡ b → (findIn (suc k) m t ≡ 0 → findIn (suc k) s t ≡ findIn (suc k + m) n t)
+    go : (b : Bool) → sameBytes t (wordOf (formRow k)) ≡ b → (findIn (suc k) m t ≡ 0 → findIn (suc k) s t ≡ findIn (suc k + m) n t)
         → findIn k (suc s) t ≡ findIn (k + suc m) n t
     go true x r = let z : k ≡ 0 = (rw (x, findIn) at e) in absurd (omega arith)
     go false x r =
@@ -163,9 +163,9 @@ pub find-past : (k m n s : ℕ) (t : List ℕ) (f : ℕ) → s ≡ m + n → fin
 unfolding findIn
 find-past k zero n s t f q e h = absurd (h (sym e))
 find-past k (suc m) n zero t f q e h = absurd (omega arith)
-find-past k (suc m) n (suc s) t f q e h = go (same t (wordOf (formRow k))) refl (λ x. find-past (suc k) m n s t f (omega arith) x h)
+find-past k (suc m) n (suc s) t f q e h = go (sameBytes t (wordOf (formRow k))) refl (λ x. find-past (suc k) m n s t f (omega arith) x h)
   where
-    go : (b : Bool) → same t (wordOf (formRow k)) ≡ b → (findIn (suc k) m t ≡ f → findIn (suc k) s t ≡ f) → findIn k (suc s) t ≡ f
+    go : (b : Bool) → sameBytes t (wordOf (formRow k)) ≡ b → (findIn (suc k) m t ≡ f → findIn (suc k) s t ≡ f) → findIn k (suc s) t ≡ f
     go true x r = rw (x, findIn) (rw (x, findIn) at e)
     go false x r = rw (x, findIn) (r (rw (x, findIn) at e))
 
@@ -201,19 +201,19 @@ kind-high f h = rw (lt-leb f 55 h, kindOf) refl
 
 -- no row's word is longer than ten bytes, and no row has more than three operands
 shape : ℕ → Bool
-shape i = leb (getD (formRow (suc i)) 0 0) 10 && leb (countOf (formRow (suc i))) 3
+shape i = leb (getD (formRow (suc i)) 0 0) 10 && leb (operandCount (formRow (suc i))) 3
 
 all-shaped : T (every shape 60)
 unfolding shape formRow rowOf
 all-shaped = tt
 
-shaped-at : (i : ℕ) → i < 60 → (getD (formRow (suc i)) 0 0 ≤ 10) × (countOf (formRow (suc i)) ≤ 3)
+shaped-at : (i : ℕ) → i < 60 → (getD (formRow (suc i)) 0 0 ≤ 10) × (operandCount (formRow (suc i)) ≤ 3)
 unfolding shape
 shaped-at i h =
-    let q = and-yes (leb (getD (formRow (suc i)) 0 0) 10) (leb (countOf (formRow (suc i))) 3) (at-each shape 60 all-shaped i h) in
-    (leb→le (getD (formRow (suc i)) 0 0) 10 (q .0), leb→le (countOf (formRow (suc i))) 3 (q .1))
+    let q = and-yes (leb (getD (formRow (suc i)) 0 0) 10) (leb (operandCount (formRow (suc i))) 3) (at-each shape 60 all-shaped i h) in
+    (leb→le (getD (formRow (suc i)) 0 0) 10 (q .0), leb→le (operandCount (formRow (suc i))) 3 (q .1))
 
-pub row-shape : (f : ℕ) → 1 ≤ f → f ≤ 60 → (getD (formRow f) 0 0 ≤ 10) × (countOf (formRow f) ≤ 3)
+pub row-shape : (f : ℕ) → 1 ≤ f → f ≤ 60 → (getD (formRow f) 0 0 ≤ 10) × (operandCount (formRow f) ≤ 3)
 row-shape zero a b = absurd (omega arith)
 row-shape (suc i) a b = shaped-at i (omega arith)
 
@@ -264,19 +264,19 @@ tok-of (c ∷ t) h = clean-of (c ∷ t) h
 -- the word w of the kind k is found again, and is a token
 abbrev passes : Bool → ℕ → List ℕ → Bool
 passes true k w = tokb w && eqb (findIn 1 2 w) k
-passes false k w = tokb w && (eqb (findIn 3 58 w) k && not (same w sortWord))
+passes false k w = tokb w && (eqb (findIn 3 58 w) k && not (sameBytes w sortWord))
 
 found : (q : Bool) (i : ℕ) (w : List ℕ) (rest : List (List ℕ)) → T (passes q (suc i) w) → wordIn (headed q w ++ rest) ≡ word (suc i) rest
 unfolding wordIn
 found true i w rest h = rw (eqb→eq (findIn 1 2 w) (suc i) (and-right (tokb w) (eqb (findIn 1 2 w) (suc i)) h)) refl
 found false i w rest h =
-    let a = and-right (tokb w) (eqb (findIn 3 58 w) (suc i) && not (same w sortWord)) h in
-    rw (not-of (same w sortWord) (and-right (eqb (findIn 3 58 w) (suc i)) (not (same w sortWord)) a), wordIn)
-    (rw (eqb→eq (findIn 3 58 w) (suc i) (and-left (eqb (findIn 3 58 w) (suc i)) (not (same w sortWord)) a)) refl)
+    let a = and-right (tokb w) (eqb (findIn 3 58 w) (suc i) && not (sameBytes w sortWord)) h in
+    rw (not-of (sameBytes w sortWord) (and-right (eqb (findIn 3 58 w) (suc i)) (not (sameBytes w sortWord)) a), wordIn)
+    (rw (eqb→eq (findIn 3 58 w) (suc i) (and-left (eqb (findIn 3 58 w) (suc i)) (not (sameBytes w sortWord)) a)) refl)
 
 clear : (q : Bool) (k : ℕ) (w : List ℕ) → T (passes q k w) → Toks (headed q w)
 clear true k w h = (tok-of sortWord tt, (tok-of w (and-left (tokb w) (eqb (findIn 1 2 w) k) h), tt))
-clear false k w h = (tok-of w (and-left (tokb w) (eqb (findIn 3 58 w) k && not (same w sortWord)) h), tt)
+clear false k w h = (tok-of w (and-left (tokb w) (eqb (findIn 3 58 w) k && not (sameBytes w sortWord)) h), tt)
 
 test : ℕ → Bool
 test i = passes (leb (suc i) 2) (suc i) (wordOf (rowOf (suc i)))

@@ -6,7 +6,7 @@ use mathlib.Core.List.{List, [], _∷_}
 use lib.Dec.{eqb, leb}
 use lib.ListN.{getD}
 use Rattle.tables.specs.Pick.{pick}
-use Rattle.tables.specs.Kinds.{none, wordSort, number, letters, row, rowOf, sortClass, countOf}
+use Rattle.tables.specs.Kinds.{none, wordSort, number, letters, row, rowOf, sortClass, operandCount}
 
 -- In the table of kinds a kind has one word, the one that the writer prints: constd for kind 3. These five are further words for kind 3 that only the reader knows,
 -- so they have a table of their own.
@@ -35,7 +35,7 @@ abbrev pub firstOf : List ℕ → ℕ
 firstOf r = 2 - sorted r
 
 abbrev pub numbersOf : List ℕ → ℕ
-numbersOf r = sorted r + countOf r
+numbersOf r = sorted r + operandCount r
 
 -- `sort` stands before the words of kinds 1 and 2
 abbrev pub sortWord : List ℕ

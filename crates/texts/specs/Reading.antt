@@ -20,7 +20,7 @@ use Rattle.tables.specs.Answers.{Outcome, told}
 use Rattle.texts.specs.declared.Num.{Num}
 use Rattle.texts.specs.declared.Num.the-variants.{Bad, Big, Is}
 use Rattle.texts.specs.Forms.{formRow, kindOf, firstOf, numbersOf, sortWord}
-use Rattle.texts.specs.Split.{split, upTo, tokens, same}
+use Rattle.texts.specs.Split.{split, upTo, tokens, sameBytes}
 use Rattle.texts.specs.Decimal.{decimal, digitsIn}
 
 -- ---- the word
@@ -28,25 +28,25 @@ use Rattle.texts.specs.Decimal.{decimal, digitsIn}
 -- the first of n forms from k on that has the word t, or 0
 unfoldable pub findIn : ℕ → ℕ → List ℕ → ℕ
 findIn k zero t = 0
-findIn k (suc n) t = elim (same t (wordOf (formRow k))) [ true ↦ k | false ↦ findIn (suc k) n t ]
+findIn k (suc n) t = elim (sameBytes t (wordOf (formRow k))) [ true ↦ k | false ↦ findIn (suc k) n t ]
 
 -- a form and the tokens behind its word
 pub data Word : Type 0 where
   unknown : Word
   word : (f : ℕ) (rest : List (List ℕ)) → Word
 
-abbrev pub known : ℕ → List (List ℕ) → Word
-known zero ts = unknown
-known (suc f) ts = word (suc f) ts
+abbrev pub formWord : ℕ → List (List ℕ) → Word
+formWord zero ts = unknown
+formWord (suc f) ts = word (suc f) ts
 
 -- behind `sort` a second word says which of kinds 1 and 2 it is
 abbrev pub sortWords : List (List ℕ) → Word
 sortWords [] = unknown
-sortWords (t ∷ ts) = known (findIn 1 2 t) ts
+sortWords (t ∷ ts) = formWord (findIn 1 2 t) ts
 
 unfoldable pub wordIn : List (List ℕ) → Word
 wordIn [] = unknown
-wordIn (t ∷ ts) = elim (same t sortWord) [ true ↦ sortWords ts | false ↦ known (findIn 3 58 t) ts ]
+wordIn (t ∷ ts) = elim (sameBytes t sortWord) [ true ↦ sortWords ts | false ↦ formWord (findIn 3 58 t) ts ]
 
 -- its form, 0 where it is unknown or missing, and what stands behind it
 abbrev pub formOf : Word → ℕ
@@ -113,8 +113,8 @@ numbersIn f ts = numbersFrom f (firstOf (formRow f)) (numberTokens f ts)
 abbrev pub fresh : ℕ → List ℕ
 fresh k = fields k 0 0 0 0
 
-abbrev pub written : ℕ → List (List ℕ) → List ℕ
-written f ts = placed (firstOf (formRow f)) (numbersIn f ts) (fresh (kindOf f))
+abbrev pub writtenRecord : ℕ → List (List ℕ) → List ℕ
+writtenRecord f ts = placed (firstOf (formRow f)) (numbersIn f ts) (fresh (kindOf f))
 
 -- one and ones have their value from the word; w is the width of the line's sort
 unfoldable pub settled : (w f : ℕ) → List ℕ → List ℕ
@@ -122,7 +122,7 @@ settled w f rec = elim (eqb f 59) [ true ↦ set rec 2 1 | false ↦ elim (eqb f
 
 -- the line's record, after lines whose types are L
 abbrev pub recordIn : (ℕ → Ty) → ℕ → List (List ℕ) → List ℕ
-recordIn L f ts = settled (L (sortIn (written f ts)) .w) f (written f ts)
+recordIn L f ts = settled (L (sortIn (writtenRecord f ts)) .w) f (writtenRecord f ts)
 
 -- ---- the refusals of a line
 
@@ -232,16 +232,16 @@ readText len s =
     ]
 
 -- what is answered, and the words of the table afterwards: zero past the records, and zero after a refusal
-abbrev pub answerOf : Text → Answer
-answerOf (done rs) = Done (length rs)
-answerOf (refused r l) = Refused r l
+abbrev pub textAnswer : Text → Answer
+textAnswer (done rs) = Done (length rs)
+textAnswer (refused r l) = Refused r l
 
 abbrev pub tableOf : (len : ℕ) → Text → List ℕ
 tableOf len (done rs) = filled false len rs
 tableOf len (refused r l) = replicate len 0
 
 abbrev pub outcomeOf : (len : ℕ) → Text → Outcome
-outcomeOf len x = told (answerOf x) (tableOf len x ∷ [])
+outcomeOf len x = told (textAnswer x) (tableOf len x ∷ [])
 
 -- the outcome of reading the text s into a table of len words
 unfoldable pub reads : (len : ℕ) → List ℕ → Outcome

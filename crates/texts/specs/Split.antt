@@ -18,14 +18,14 @@ unfoldable pub upTo : ℕ → List ℕ → List ℕ
 upTo b [] = []
 upTo b (c ∷ t) = elim (eqb c b) [ true ↦ [] | false ↦ c ∷ upTo b t ]
 
-abbrev pub filled : List (List ℕ) → List (List ℕ)
-filled [] = []
-filled ([] ∷ ls) = filled ls
-filled ((c ∷ l) ∷ ls) = (c ∷ l) ∷ filled ls
+abbrev pub nonEmpty : List (List ℕ) → List (List ℕ)
+nonEmpty [] = []
+nonEmpty ([] ∷ ls) = nonEmpty ls
+nonEmpty ((c ∷ l) ∷ ls) = (c ∷ l) ∷ nonEmpty ls
 
 -- the parts between spaces that are not empty
 unfoldable pub tokens : List ℕ → List (List ℕ)
-tokens l = filled (split 32 l)
+tokens l = nonEmpty (split 32 l)
 
 -- tokens with one space between two of them
 abbrev pub spaced : List (List ℕ) → List ℕ
@@ -36,8 +36,8 @@ abbrev pub join : List (List ℕ) → List ℕ
 join [] = []
 join (t ∷ ts) = t ++ spaced ts
 
-abbrev pub same : List ℕ → List ℕ → Bool
-same [] [] = true
-same [] (y ∷ ys) = false
-same (x ∷ xs) [] = false
-same (x ∷ xs) (y ∷ ys) = eqb x y && same xs ys
+abbrev pub sameBytes : List ℕ → List ℕ → Bool
+sameBytes [] [] = true
+sameBytes [] (y ∷ ys) = false
+sameBytes (x ∷ xs) [] = false
+sameBytes (x ∷ xs) (y ∷ ys) = eqb x y && sameBytes xs ys

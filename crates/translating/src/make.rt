@@ -10,7 +10,7 @@ ghost use Rattle.tables.specs.declared.Checked.the-variants.{Accepted};
 ghost use Rattle.tables.specs.Tables.{checked};
 ghost use Rattle.tables.specs.Answers.{told};
 ghost use Rattle.programs.specs.Answers.{programOf};
-ghost use Rattle.programs.specs.Model.Passes.{Prepared, Ready, programIn, makes};
+ghost use Rattle.programs.specs.Model.Passes.{Prepared, Fitted, programIn, makes};
 
 // How many instructions the program has. A small circuit takes small lists, which are sooner zero.
 fn counting(table: &[u64], count: usize, marks: &[u8]) -> usize
@@ -45,7 +45,7 @@ fn count_many(table: &[u64], count: usize, marks: &[u8]) -> usize
 
 // The instructions go to the target.
 fn writing(table: &[u64], count: usize, marks: &[u8], target: &mut [u64])
-    requires { ⌜ Ready (now table) count (now marks) (now target) ⌝ }
+    requires { ⌜ Fitted (now table) count (now marks) (now target) ⌝ }
     ensures { λ _. ⌜ now (target .exit) ≡ programIn (now (table .entry)) count (length (now (target .entry))) ⌝ }
 {
     if count < 512 {
@@ -56,7 +56,7 @@ fn writing(table: &[u64], count: usize, marks: &[u8], target: &mut [u64])
 }
 
 fn write_few(table: &[u64], count: usize, marks: &[u8], target: &mut [u64])
-    requires { ⌜ Ready (now table) count (now marks) (now target) × (count < 512) ⌝ }
+    requires { ⌜ Fitted (now table) count (now marks) (now target) × (count < 512) ⌝ }
     ensures { λ _. ⌜ now (target .exit) ≡ programIn (now (table .entry)) count (length (now (target .entry))) ⌝ }
 {
     let mut wd = [0u64; 512];
@@ -66,7 +66,7 @@ fn write_few(table: &[u64], count: usize, marks: &[u8], target: &mut [u64])
 }
 
 fn write_many(table: &[u64], count: usize, marks: &[u8], target: &mut [u64])
-    requires { ⌜ Ready (now table) count (now marks) (now target) ⌝ }
+    requires { ⌜ Fitted (now table) count (now marks) (now target) ⌝ }
     ensures { λ _. ⌜ now (target .exit) ≡ programIn (now (table .entry)) count (length (now (target .entry))) ⌝ }
 {
     let mut wd = [0u64; 16385];

@@ -6,7 +6,7 @@ use tables::WORDS;
 ghost use mathlib.Core.Path.{_≡_};
 ghost use mathlib.Core.Bool.{_&&_};
 ghost use Prim.Native.Nat.{_≤_, _<_};
-ghost use Rattle.tables.specs.Notes.{lookIn};
+ghost use Rattle.tables.specs.Model.Notes.{lookIn};
 ghost use Rattle.tables.specs.Types.{sortAt, isWord, isArray, isWordSort, isArraySort, isFixed, ty, typeOf};
 ghost use Rattle.tables.specs.Pick.{pick};
 ghost use Rattle.tables.specs.Lines.{lineOf, kindIn, firstIn};
@@ -20,20 +20,20 @@ pub fn sort_at(program: bool, notes: &[[u8; BYTES]], s: u64) -> Ty
     }
     if s < 1 {
         return Ty {
-            cls: 0,
+            role: 0,
             iw: 0,
             w: 0,
         };
     }
     if 64 < s {
         return Ty {
-            cls: 0,
+            role: 0,
             iw: 0,
             w: 0,
         };
     }
     Ty {
-        cls: 1,
+        role: 1,
         iw: 0,
         w: s as u8,
     }
@@ -42,7 +42,7 @@ pub fn sort_at(program: bool, notes: &[[u8; BYTES]], s: u64) -> Ty
 pub fn is_word(t: Ty) -> bool
     ensures { λ r. ⌜ r ≡ isWord t ⌝ }
 {
-    if t.cls < 2 {
+    if t.role < 2 {
         return false;
     }
     t.iw == 0
@@ -51,7 +51,7 @@ pub fn is_word(t: Ty) -> bool
 pub fn is_array(t: Ty) -> bool
     ensures { λ r. ⌜ r ≡ isArray t ⌝ }
 {
-    if t.cls < 2 {
+    if t.role < 2 {
         return false;
     }
     0 < t.iw
@@ -60,7 +60,7 @@ pub fn is_array(t: Ty) -> bool
 pub fn is_word_sort(t: Ty) -> bool
     ensures { λ r. ⌜ r ≡ isWordSort t ⌝ }
 {
-    if t.cls != 1 {
+    if t.role != 1 {
         return false;
     }
     t.iw == 0
@@ -69,7 +69,7 @@ pub fn is_word_sort(t: Ty) -> bool
 pub fn is_array_sort(t: Ty) -> bool
     ensures { λ r. ⌜ r ≡ isArraySort t ⌝ }
 {
-    if t.cls != 1 {
+    if t.role != 1 {
         return false;
     }
     0 < t.iw
@@ -79,16 +79,16 @@ pub fn is_array_sort(t: Ty) -> bool
 fn fixed_two(a: Ty, b: Ty) -> bool
     ensures { λ r. ⌜ r ≡ (isFixed a && isFixed b) ⌝ }
 {
-    if a.cls != 2 {
+    if a.role != 2 {
         return false;
     }
-    b.cls == 2
+    b.role == 2
 }
 
 fn fixed_three(a: Ty, b: Ty, c: Ty) -> bool
     ensures { λ r. ⌜ r ≡ (isFixed a && (isFixed b && isFixed c)) ⌝ }
 {
-    if a.cls != 2 {
+    if a.role != 2 {
         return false;
     }
     fixed_two(b, c)
@@ -100,13 +100,13 @@ fn value(fixed: bool, t: Ty) -> Ty
 {
     if fixed {
         return Ty {
-            cls: 2,
+            role: 2,
             iw: t.iw,
             w: t.w,
         };
     }
     Ty {
-        cls: 3,
+        role: 3,
         iw: t.iw,
         w: t.w,
     }
@@ -120,7 +120,7 @@ pub fn type_of(rec: [u64; WORDS], t: Ty, a: Ty, b: Ty, c: Ty) -> Ty
     let k = rec[0];
     if k < 1 {
         return Ty {
-            cls: 0,
+            role: 0,
             iw: 0,
             w: 0,
         };
@@ -130,24 +130,24 @@ pub fn type_of(rec: [u64; WORDS], t: Ty, a: Ty, b: Ty, c: Ty) -> Ty
     }
     match k {
         1 => Ty {
-            cls: 1,
+            role: 1,
             iw: 0,
             w: rec[2] as u8,
         },
         2 => Ty {
-            cls: 1,
+            role: 1,
             iw: a.w,
             w: b.w,
         },
         3 => value(true, t),
         4 => value(false, t),
         5 => Ty {
-            cls: 4,
+            role: 4,
             iw: t.iw,
             w: t.w,
         },
         _ => Ty {
-            cls: 0,
+            role: 0,
             iw: 0,
             w: 0,
         },
@@ -161,11 +161,11 @@ fn type_of_value(rec: [u64; WORDS], t: Ty, a: Ty, b: Ty, c: Ty) -> Ty
 {
     let k = rec[0];
     if k <= 20 {
-        return value(a.cls == 2, t);
+        return value(a.role == 2, t);
     }
     if 56 < k {
         return Ty {
-            cls: 0,
+            role: 0,
             iw: 0,
             w: 0,
         };
@@ -173,7 +173,7 @@ fn type_of_value(rec: [u64; WORDS], t: Ty, a: Ty, b: Ty, c: Ty) -> Ty
     match k {
         53 => value(fixed_three(a, b, c), t),
         55 => value(fixed_three(a, b, c), t),
-        56 => value(a.cls == 2, t),
+        56 => value(a.role == 2, t),
         _ => value(fixed_two(a, b), t),
     }
 }

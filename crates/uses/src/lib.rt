@@ -5,7 +5,7 @@ use tables::WORDS;
 ghost use mathlib.Core.Path.{_≡_};
 ghost use mathlib.Core.Bool.{_&&_};
 ghost use Prim.Native.Nat.{_≤_, _/_, _%_, _^_};
-ghost use Rattle.programs.specs.Model.Kinds.{usesOf, looseHow, firstLine, secondLine, thirdLine, hasValue, flagAt, markIf, marked};
+ghost use Rattle.programs.specs.Model.Kinds.{usesOf, looseHow, firstLine, secondLine, thirdLine, hasValue, flagAt, markIf, usesMarked};
 ghost use Rattle.tables.specs.Lines.{kindIn};
 
 // Sets of kinds, a bit for each: those whose first operand has to be clean, those whose second operand does, and the three bits of the number that says when a kind's line
@@ -139,7 +139,7 @@ fn mark_if(v: u8, a: u64, marks: &mut [u8])
 // A mark at each line that the record needs clean.
 pub fn mark(rec: [u64; WORDS], marks: &mut [u8])
     requires { ⌜ kindIn rec ≤ 55 ⌝ }
-    ensures { λ _. ⌜ now (marks .exit) ≡ marked rec (now (marks .entry)) ⌝ }
+    ensures { λ _. ⌜ now (marks .exit) ≡ usesMarked rec (now (marks .entry)) ⌝ }
 {
     let r = row(rec[0]);
     mark_if(r[0], rec[2], marks);

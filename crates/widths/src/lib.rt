@@ -4,13 +4,13 @@ use tables::WORDS;
 ghost use mathlib.Core.Path.{_≡_};
 ghost use Prim.Native.Nat.{_^_};
 ghost use lib.Dec.{ltb};
-ghost use Rattle.tables.specs.Rules.{fitsOne, fitsTwo, same as sameOf, fitsCmp, fitsIte, fitsRead, fitsWrite, fitsGive, fits as fitsOf};
+ghost use Rattle.tables.specs.Rules.{fitsUnary, fitsBinary, sameSort as sameOf, fitsEquality, fitsIte, fitsRead, fitsWrite, fitsInitOrNext, fits as fitsOf};
 ghost use Rattle.tables.specs.Pick.{all, inside};
 ghost use Rattle.tables.specs.Lines.{lineOf};
 
 // The line's width w, the operand's u and the numbers of an operator of one word fit.
-fn fits_one(k: u64, w: u8, u: u8, x: u64, y: u64) -> bool
-    ensures { λ r. ⌜ r ≡ fitsOne k w u x y ⌝ }
+fn fits_unary(k: u64, w: u8, u: u8, x: u64, y: u64) -> bool
+    ensures { λ r. ⌜ r ≡ fitsUnary k w u x y ⌝ }
 {
     if k <= 14 {
         return w == u;
@@ -37,8 +37,8 @@ fn fits_one(k: u64, w: u8, u: u8, x: u64, y: u64) -> bool
 }
 
 // The widths of an operator of two words fit.
-fn fits_two(k: u64, w: u8, u: u8, v: u8) -> bool
-    ensures { λ r. ⌜ r ≡ fitsTwo k w u v ⌝ }
+fn fits_binary(k: u64, w: u8, u: u8, v: u8) -> bool
+    ensures { λ r. ⌜ r ≡ fitsBinary k w u v ⌝ }
 {
     if k <= 30 {
         if w != 1 {
@@ -84,8 +84,8 @@ fn fits_const(v: u64, w: u8) -> bool
     v >> w == 0
 }
 
-fn fits_cmp(t: Ty, a: Ty, b: Ty) -> bool
-    ensures { λ r. ⌜ r ≡ all (fitsCmp t a b) ⌝ }
+fn fits_equality(t: Ty, a: Ty, b: Ty) -> bool
+    ensures { λ r. ⌜ r ≡ all (fitsEquality t a b) ⌝ }
 {
     if t.w != 1 {
         return false;
@@ -127,8 +127,8 @@ fn fits_write(t: Ty, a: Ty, b: Ty, c: Ty) -> bool
 }
 
 // The value's type b fits the state's, a, which is the sort t; an init's value is one word.
-fn fits_give(init: bool, t: Ty, a: Ty, b: Ty) -> bool
-    ensures { λ r. ⌜ r ≡ all (fitsGive init t a b) ⌝ }
+fn fits_init_or_next(init: bool, t: Ty, a: Ty, b: Ty) -> bool
+    ensures { λ r. ⌜ r ≡ all (fitsInitOrNext init t a b) ⌝ }
 {
     if !same(a, t) {
         return false;
@@ -149,21 +149,21 @@ pub fn fits(rec: [u64; WORDS], t: Ty, a: Ty, b: Ty, c: Ty) -> bool
     let k = rec[0];
     let x = rec[2];
     match k {
-        11..=20 => fits_one(k, t.w, a.w, rec[3], rec[4]),
-        23..=52 => fits_two(k, t.w, a.w, b.w),
+        11..=20 => fits_unary(k, t.w, a.w, rec[3], rec[4]),
+        23..=52 => fits_binary(k, t.w, a.w, b.w),
         1 => is_width(x),
         2 => a.w <= 8,
         3 => fits_const(x, t.w),
-        6 => fits_give(true, t, a, b),
-        7 => fits_give(false, t, a, b),
+        6 => fits_init_or_next(true, t, a, b),
+        7 => fits_init_or_next(false, t, a, b),
         8 => a.w == 1,
         9 => a.w == 1,
-        21 => fits_cmp(t, a, b),
-        22 => fits_cmp(t, a, b),
+        21 => fits_equality(t, a, b),
+        22 => fits_equality(t, a, b),
         53 => fits_ite(t, a, b, c),
         54 => fits_read(t, a, b),
         55 => fits_write(t, a, b, c),
-        56 => fits_one(k, t.w, a.w, rec[3], rec[4]),
+        56 => fits_unary(k, t.w, a.w, rec[3], rec[4]),
         4 => true,
         5 => true,
         10 => true,

@@ -5,12 +5,12 @@ use mathlib.Core.Bool.{Bool, _&&_, _||_}
 use lib.Dec.{leb, eqb}
 
 -- k from i to j
-abbrev pub from : (i j k : ℕ) → Bool
-from i j k = leb i k && leb k j
+abbrev pub within : (i j k : ℕ) → Bool
+within i j k = leb i k && leb k j
 
 -- loose whatever its operands are: input, 11 to 14, 18, 31, 32, 36 to 41, 47
 abbrev pub alwaysLoose : ℕ → Bool
-alwaysLoose k = eqb k 4 || from 11 14 k || eqb k 18 || eqb k 31 || eqb k 32 || from 36 41 k || eqb k 47
+alwaysLoose k = eqb k 4 || within 11 14 k || eqb k 18 || eqb k 31 || eqb k 32 || within 36 41 k || eqb k 47
 
 -- or by them: and (33) if both are; or (34), xor (35) and ite (53) if a data operand is; concat (52) if its high operand is.
 -- l₁, l₂ and l₃ say which operands are loose. Width 64 is never loose: that test is the translator's, which has the width
@@ -21,7 +21,7 @@ looseKind k l₁ l₂ l₃ =
 
 -- each operand that is a line has to be clean: 6 to 10, 15 to 17, 19 to 30, 42 to 46, 48 to 51
 abbrev pub needEach : ℕ → Bool
-needEach k = from 6 10 k || from 15 17 k || from 19 30 k || from 42 46 k || from 48 51 k
+needEach k = within 6 10 k || within 15 17 k || within 19 30 k || within 42 46 k || within 48 51 k
 
 -- the first: those, and the condition of ite
 abbrev pub needKind₁ : ℕ → Bool

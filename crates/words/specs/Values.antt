@@ -23,8 +23,8 @@ computed w = map (λ (r : Row). circ (r .op) w w (r .a) (r .b) 0)
 abbrev pub expected : List Row → List ℕ
 expected = map (λ (r : Row). r .result)
 
-abbrev pub marked : List Row
-marked =
+abbrev pub markedRows : List Row
+markedRows =
     row udiv 5 0 7 ∷ row urem 5 0 5
     ∷ row sdiv 4 7 4 ∷ row sdiv 5 0 1
     ∷ row srem 5 2 7
@@ -32,7 +32,7 @@ marked =
     ∷ row sra 4 3 7 ∷ row sll 1 3 0 ∷ row rol 1 4 2
     ∷ row slt 4 3 1 ∷ row add 7 1 0 ∷ []
 
-pub marked-values : computed 3 marked ≡ expected marked
+pub marked-values : computed 3 markedRows ≡ expected markedRows
 marked-values = refl
 
 abbrev pub wide : List Row

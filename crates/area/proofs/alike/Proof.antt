@@ -5,13 +5,13 @@ use mathlib.Core.List.{List}
 use Prim.Native.Nat.{ℕ, _-_, _≤_}
 use native.Mathlib.Omega.{arith}
 use lib.ListN.{length, drop, drop-of-length-le}
-use Rattle.circuits.specs.Cells.{part, same}
+use Rattle.circuits.specs.Cells.{part, sameCells}
 use Rattle.circuits.proofs.Puts as laws
 use Rattle.area.proofs.alike.Statement.{statement}
 use Rattle.area.proofs.alike.Tie as tie
 
 abbrev Inv-loop : tie.InvT-loop
-Inv-loop words x y n i₀ i = (i ≤ n) × (same (part words x n) (part words y n) ≡ same (drop i (part words x n)) (drop i (part words y n)))
+Inv-loop words x y n i₀ i = (i ≤ n) × (sameCells (part words x n) (part words y n) ≡ sameCells (drop i (part words x n)) (drop i (part words y n)))
 
 abbrev μ-loop : tie.MeasureT-loop
 μ-loop words x y n i₀ i = n - i
@@ -77,7 +77,7 @@ returns-2 c =
     let xs : List ℕ = part (a .words .now) (a .x) (a .n) in
     let ys : List ℕ = part (a .words .now) (a .y) (a .n) in
     let lx : length xs ≡ a .n = laws.length-part (a .words .now) (a .x) (a .n) (p .0) in
-    sym (l .inv .1 ∙ ap (λ (u : List ℕ). same u (drop (l .i) ys)) (drop-of-length-le xs {i = l .i} (omega arith)))
+    sym (l .inv .1 ∙ ap (λ (u : List ℕ). sameCells u (drop (l .i) ys)) (drop-of-length-le xs {i = l .i} (omega arith)))
 
 pub alike-spec : {M : Type 1} → statement M
 alike-spec =

@@ -6,13 +6,13 @@ use Prim.Native.Nat.{ℕ, _-_, _%_, _^_, _≤_}
 use native.Mathlib.Omega.{arith}
 use lib.ListN.{length, take, drop, getD, set, length-set}
 use lib.Seq.{drop-length, take-length}
-use Rattle.circuits.specs.Cells.{lows}
+use Rattle.circuits.specs.Cells.{maskWords}
 use Rattle.circuits.proofs.Puts as laws
 use Rattle.area.proofs.mask_all.Statement.{statement}
 use Rattle.area.proofs.mask_all.Tie as tie
 
 abbrev Inv-loop : tie.InvT-loop
-Inv-loop cells₀ w i₀ cells i = (i ≤ length cells₀) × ((length cells ≡ length cells₀) × (cells ≡ lows w (take i cells₀) ++ drop i cells₀))
+Inv-loop cells₀ w i₀ cells i = (i ≤ length cells₀) × ((length cells ≡ length cells₀) × (cells ≡ maskWords w (take i cells₀) ++ drop i cells₀))
 
 abbrev μ-loop : tie.MeasureT-loop
 μ-loop cells₀ w i₀ cells i = length cells₀ - i
@@ -59,8 +59,8 @@ returns c =
     let w = c .before .before .before .args .w in
     let past : c .before .loop .i ≡ length d₀ = omega arith in
     c .before .loop .inv .1 .1
-    ∙ ap (λ (k : ℕ). lows w (take k d₀) ++ drop k d₀) past
-    ∙ ap₂ (λ (l m : List ℕ). lows w l ++ m) (take-length d₀) (drop-length d₀)
+    ∙ ap (λ (k : ℕ). maskWords w (take k d₀) ++ drop k d₀) past
+    ∙ ap₂ (λ (l m : List ℕ). maskWords w l ++ m) (take-length d₀) (drop-length d₀)
     ∙ append-nil _
 
 pub mask-all-spec : {M : Type 1} → statement M

@@ -8,15 +8,15 @@ use lib.Seq.{length-take-le}
 use borrow.Author.Needs.{needs}
 use borrow.Author.Tests.{not-true, not-false}
 use Rattle.circuits.specs.declared.Ran.the-variants.{Nothing}
-use Rattle.circuits.specs.Run.{badAt, counted, firstBad}
-use Rattle.circuits.specs.Model.{zipSig, sigRows}
+use Rattle.circuits.specs.Run.{badAt, badOr, firstBad}
+use Rattle.circuits.specs.Model.Signals.{zipSig, sigRows}
 use Rattle.circuits.proofs.Repeated.{fewer}
 use Rattle.circuits.proofs.Rows.{step-stops, step-met, steps-end, counted-hit, steps-begin, bad-ends, hit-row, pass-row, met-row, place-next}
 use Rattle.bad.proofs.first_bad.Statement.{statement}
 use Rattle.bad.proofs.first_bad.Tie as tie
 
 abbrev Inv-loop : tie.InvT-loop
-Inv-loop k signals bad n found₀ i row p₀ j₀ found p j = (j ≤ length bad) × ((row + length bad ≤ length signals) × (((1 ≤ p) × (p ≤ j + 1)) × ((found ≡ Nothing) × (firstBad 0 (sigRows bad k signals) ≡ counted i (badAt p (zipSig (drop j bad) (drop j (drop row signals)))) (firstBad (i + 1) (sigRows bad (k - (i + 1)) (drop (row + length bad) signals)))))))
+Inv-loop k signals bad n found₀ i row p₀ j₀ found p j = (j ≤ length bad) × ((row + length bad ≤ length signals) × (((1 ≤ p) × (p ≤ j + 1)) × ((found ≡ Nothing) × (firstBad 0 (sigRows bad k signals) ≡ badOr i (badAt p (zipSig (drop j bad) (drop j (drop row signals)))) (firstBad (i + 1) (sigRows bad (k - (i + 1)) (drop (row + length bad) signals)))))))
 
 abbrev μ-loop : tie.MeasureT-loop
 μ-loop k signals bad n found₀ i row p₀ j₀ found p j = length bad - j
@@ -81,7 +81,7 @@ loop-again c = let a = c .before .before .before .before .before .before .before
     let h : l .j < length (a .bad .now) = c .before .before .before .before .before .before .loop-test .taken in
     let e = c .next-place .ensures in
     let q = place-next (eqb (getD (a .bad .now) (l .j) 0) 1) (l .p) (l .j) (l .inv .1 .1 .0) in
-    (omega arith, (l .inv .1 .0, ((subst (λ (x : ℕ). 1 ≤ x) (sym e) (q .0), subst (λ (x : ℕ). x ≤ l .j + 1 + 1) (sym e) (q .1)), (l .inv .1 .1 .1 .0, l .inv .1 .1 .1 .1 ∙ ap (λ (x : ℕ). counted (s .i) x (firstBad (s .i + 1) (sigRows (a .bad .now) (a .k - (s .i + 1)) (drop (s .row + length (a .bad .now)) (a .signals .now))))) (pass-row (a .bad .now) (a .signals .now) (s .row) (l .j) (l .p) h (omega (arith, l .inv .1 .0)) (sym (c .before .before .before .hits .ensures) ∙ c .before .before .if2 .left) ∙ ap (λ (x : ℕ). badAt x (zipSig (drop (l .j + 1) (a .bad .now)) (drop (l .j + 1) (drop (s .row) (a .signals .now))))) (sym e))))))
+    (omega arith, (l .inv .1 .0, ((subst (λ (x : ℕ). 1 ≤ x) (sym e) (q .0), subst (λ (x : ℕ). x ≤ l .j + 1 + 1) (sym e) (q .1)), (l .inv .1 .1 .1 .0, l .inv .1 .1 .1 .1 ∙ ap (λ (x : ℕ). badOr (s .i) x (firstBad (s .i + 1) (sigRows (a .bad .now) (a .k - (s .i + 1)) (drop (s .row + length (a .bad .now)) (a .signals .now))))) (pass-row (a .bad .now) (a .signals .now) (s .row) (l .j) (l .p) h (omega (arith, l .inv .1 .0)) (sym (c .before .before .before .hits .ensures) ∙ c .before .before .if2 .left) ∙ ap (λ (x : ℕ). badAt x (zipSig (drop (l .j + 1) (a .bad .now)) (drop (l .j + 1) (drop (s .row) (a .signals .now))))) (sym e))))))
 
 add-row : tie.Need-add-row Inv-loop μ-loop Inv-steps μ-steps
 add-row c = let a = c .before .before .before .before .before .before .before .before .before .args in let s = c .before .before .before .before .before .before .steps in let f = fewer (a .k) (s .i) (length (a .bad .now)) (c .before .before .before .before .before .steps-test .taken) in
@@ -96,7 +96,7 @@ steps-less c = let t = c .before .before .before .before .before .steps-test .ta
 steps-again : tie.Need-steps-again Inv-loop μ-loop Inv-steps μ-steps
 steps-again c = let a = c .before .before .before .before .before .before .before .before .before .args in let s = c .before .before .before .before .before .before .steps in let f = fewer (a .k) (s .i) (length (a .bad .now)) (c .before .before .before .before .before .steps-test .taken) in
     let l = c .before .loop in
-    (omega (arith, c .before .before .before .before .before .steps-test .taken), (omega (arith, s .inv .1 .0), (l .inv .1 .1 .1 .0, l .inv .1 .1 .1 .1 ∙ ap (λ (x : ℕ). counted (s .i) x (firstBad (s .i + 1) (sigRows (a .bad .now) (a .k - (s .i + 1)) (drop (s .row + length (a .bad .now)) (a .signals .now))))) (bad-ends (a .bad .now) (drop (s .row) (a .signals .now)) (l .j) (l .p) (c .loop-test .left)))))
+    (omega (arith, c .before .before .before .before .before .steps-test .taken), (omega (arith, s .inv .1 .0), (l .inv .1 .1 .1 .0, l .inv .1 .1 .1 .1 ∙ ap (λ (x : ℕ). badOr (s .i) x (firstBad (s .i + 1) (sigRows (a .bad .now) (a .k - (s .i + 1)) (drop (s .row + length (a .bad .now)) (a .signals .now))))) (bad-ends (a .bad .now) (drop (s .row) (a .signals .now)) (l .j) (l .p) (c .loop-test .left)))))
 
 returns : tie.Need-returns Inv-loop μ-loop Inv-steps μ-steps
 returns c = let a = c .before .before .before .before .args in let s = c .before .steps in s .inv .1 .1 .0 ∙ sym (s .inv .1 .1 .1 ∙ steps-end (a .bad .now) (a .signals .now) (a .k) (s .i) (s .row) (c .steps-test .left))
@@ -108,7 +108,7 @@ returns-2 c = let a = c .before .before .before .before .before .before .before 
 returns-3 : tie.Need-returns-3 Inv-loop μ-loop Inv-steps μ-steps
 returns-3 c = let a = c .before .before .before .before .before .before .before .before .before .before .before .before .before .args in let s = c .before .before .before .before .before .before .before .before .before .before .steps in let l = c .before .before .before .before .before .loop in
     let h : l .j < length (a .bad .now) = c .before .before .before .before .loop-test .taken in
-    sym (l .inv .1 .1 .1 .1 ∙ ap (λ (x : ℕ). counted (s .i) x (firstBad (s .i + 1) (sigRows (a .bad .now) (a .k - (s .i + 1)) (drop (s .row + length (a .bad .now)) (a .signals .now))))) (hit-row (a .bad .now) (a .signals .now) (s .row) (l .j) (l .p) h (omega (arith, l .inv .1 .0)) (sym (c .before .hits .ensures) ∙ c .if2 .taken)) ∙ counted-hit (s .i) (l .p) (firstBad (s .i + 1) (sigRows (a .bad .now) (a .k - (s .i + 1)) (drop (s .row + length (a .bad .now)) (a .signals .now)))) (l .inv .1 .1 .0 .0))
+    sym (l .inv .1 .1 .1 .1 ∙ ap (λ (x : ℕ). badOr (s .i) x (firstBad (s .i + 1) (sigRows (a .bad .now) (a .k - (s .i + 1)) (drop (s .row + length (a .bad .now)) (a .signals .now))))) (hit-row (a .bad .now) (a .signals .now) (s .row) (l .j) (l .p) h (omega (arith, l .inv .1 .0)) (sym (c .before .hits .ensures) ∙ c .if2 .taken)) ∙ counted-hit (s .i) (l .p) (firstBad (s .i + 1) (sigRows (a .bad .now) (a .k - (s .i + 1)) (drop (s .row + length (a .bad .now)) (a .signals .now)))) (l .inv .1 .1 .0 .0))
 
 pub first-bad-spec : {M : Type 1} → statement M
 first-bad-spec =

@@ -5,7 +5,7 @@ use native.Mathlib.Omega.{arith}
 use lib.ListN.{length, drop}
 use borrow.Author.Needs.{needs}
 use Rattle.circuits.specs.Run.{met}
-use Rattle.circuits.specs.Model.{zipSig}
+use Rattle.circuits.specs.Model.Signals.{zipSig}
 use Rattle.circuits.proofs.Rows.{row-stops, row-passes, row-ends}
 use Rattle.bad.proofs.met.Statement.{statement}
 use Rattle.bad.proofs.met.Tie as tie

@@ -1,7 +1,7 @@
 use mathlib.Core.Path.{sym, _∙_}
 use borrow.Author.Tests.{not-true, not-false}
 use Rattle.tables.specs.Lines.{kindIn}
-use Rattle.tables.specs.Notes.{lookIn, givenIn}
+use Rattle.tables.specs.Model.Notes.{lookIn, givenIn}
 use Rattle.tables.proofs.Kept.{known-range, breaks-kind, breaks-place, by-fault}
 use borrow.Author.Needs.{needs}
 use Rattle.checks.proofs.keeps_rules.Statement.{statement}

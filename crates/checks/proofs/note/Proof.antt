@@ -2,7 +2,7 @@ use mathlib.Core.Path.{refl, ap, _∙_}
 use lib.ListN.{set}
 use mathlib.Core.Bool.{true, false}
 use Rattle.tables.specs.declared.Ty.{Ty}
-use Rattle.tables.specs.Notes.{noteAt, typed, markedBy, noted}
+use Rattle.tables.specs.Model.Notes.{noteAt, typed, markedBy, noted}
 use borrow.Author.Needs.{needs}
 use Rattle.checks.proofs.note.Statement.{statement}
 use Rattle.checks.proofs.note.Tie as tie

@@ -1,6 +1,6 @@
 use mathlib.Core.Path.{refl, sym, _∙_}
 use borrow.Author.Tests.{not-true, not-false}
-use Rattle.tables.specs.Notes.{lookIn, givenIn}
+use Rattle.tables.specs.Model.Notes.{lookIn, givenIn}
 use Rattle.tables.proofs.Answers.{sort-width}
 use Rattle.tables.proofs.Kept.{no-yes, kept-fault}
 use Rattle.checks.proofs.take_record.Statement.{statement}

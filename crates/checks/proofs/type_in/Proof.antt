@@ -1,4 +1,4 @@
-use Rattle.tables.specs.Notes.{lookIn}
+use Rattle.tables.specs.Model.Notes.{lookIn}
 use Rattle.tables.proofs.Answers.{typed}
 use borrow.Author.Needs.{needs}
 use Rattle.checks.proofs.type_in.Statement.{statement}

@@ -1,5 +1,5 @@
 -- `engine::lent` meets its contract, test by test. Assumes nothing.
-use Rattle.circuits.specs.Model.{countsOf}
+use Rattle.circuits.specs.Model.Passes.{countsOf}
 use Rattle.circuits.proofs.Answering.{is-13, is-14, is-15, is-16, is-17, is-lent, times-small}
 use borrow.Author.Needs.{needs}
 use Rattle.engine.proofs.lent.Statement.{statement}

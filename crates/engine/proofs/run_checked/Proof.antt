@@ -5,7 +5,7 @@ use mathlib.Core.Path.{sym, _∙_}
 use lib.ListN.{length, length-replicate}
 use Rattle.circuits.specs.Layout.{layout}
 use Rattle.tables.specs.Layout.{linesOf}
-use Rattle.circuits.specs.Model.{laidAs}
+use Rattle.circuits.specs.Model.Work.{laidAs}
 use Rattle.circuits.proofs.Placing.{ready-laid, lent-small}
 use Rattle.circuits.proofs.Answering.{lent-on, lent-refused, lent-runs}
 use borrow.Author.Needs.{needs}

@@ -5,7 +5,8 @@ use native.Mathlib.Omega.{arith}
 use lib.ListN.{length, take, replicate, length-replicate}
 use lib.Seq.{length-take-le}
 use Rattle.tables.specs.Layout.{linesOf}
-use Rattle.circuits.specs.Model.{countsOf, marks}
+use Rattle.circuits.specs.Model.Passes.{countsOf}
+use Rattle.circuits.specs.Model.Signals.{marks}
 use Rattle.circuits.proofs.Repeated.{ready-as}
 use Rattle.circuits.proofs.Answering.{told-run, nonzero, lent-facts, none-ran, none-signals, bad-found, signals-many, zero-front}
 use Rattle.circuits.proofs.Placing.{signals-few, words-few}
@@ -37,32 +38,32 @@ run-laid-requires c κs = let a = c .before .before .before .before .before .bef
     let pos : 0 < a .k = nonzero (a .k) (c .before .before .before .if1 .left) in
     (length-take-le (a .t .cells + a .t .states) (a .work .now) (f .work) ∙ ap (λ (n : ℕ). a .t .cells + n) (sym (f .starts)), (ready-as (sym (f .starts)) refl refl (c .before .before .before .before .before .before .before .before .before .pre .0), (omega (arith, f .inputs), (f .signals, pos))))
 
-slice-aggregate-classes : tie.Need-slice-aggregate-classes
-slice-aggregate-classes c = search needs
+slice-aggregate-bad-marks : tie.Need-slice-aggregate-bad-marks
+slice-aggregate-bad-marks c = search needs
 
-classes-requires : tie.Need-classes-requires
-classes-requires c κs = search needs
+bad-marks-requires : tie.Need-bad-marks-requires
+bad-marks-requires c κs = search needs
 
 array-share-prefix-marks : tie.Need-array-share-prefix-marks
 array-share-prefix-marks c = let a = c .before .before .before .before .before .before .before .before .before .before .before .before .before .before .before .before .before .before .args in
     let f = lent-facts (countsOf (a .t)) (a .k) (length (a .starts .now)) (length (a .inputs .now)) (length (a .signals .now)) (length (a .work .now)) (c .before .before .before .before .before .before .before .before .before .before .before .before .before .before .before .before .before .before .pre .1 .0) in
-    let lm : length (c .before .before .classes .last .1 .1 .1 .0) ≡ 16385 = c .before .before .classes .kept .1 .1 .1 .0 ∙ length-replicate {A = ℕ} 16385 0 in
+    let lm : length (c .before .before .bad-marks .last .1 .1 .1 .0) ≡ 16385 = c .before .before .bad-marks .kept .1 .1 .1 .0 ∙ length-replicate {A = ℕ} 16385 0 in
     let few : a .t .signals ≤ 16384 = omega (arith, signals-few (a .program) (a .table .now) (a .count) (c .before .before .before .before .before .before .before .before .before .before .before .before .before .before .before .before .before .before .pre .0 .accepted), c .before .before .before .before .before .before .before .before .before .before .before .before .before .before .before .before .before .before .pre .0 .signals) in
     omega arith
 
 slice-aggregate-first-bad : tie.Need-slice-aggregate-first-bad
 slice-aggregate-first-bad c = let a = c .before .before .before .before .before .before .before .before .before .before .before .before .before .before .before .before .before .before .before .args in
     let f = lent-facts (countsOf (a .t)) (a .k) (length (a .starts .now)) (length (a .inputs .now)) (length (a .signals .now)) (length (a .work .now)) (c .before .before .before .before .before .before .before .before .before .before .before .before .before .before .before .before .before .before .before .pre .1 .0) in
-    let lm : length (c .before .before .before .classes .last .1 .1 .1 .0) ≡ 16385 = c .before .before .before .classes .kept .1 .1 .1 .0 ∙ length-replicate {A = ℕ} 16385 0 in
+    let lm : length (c .before .before .before .bad-marks .last .1 .1 .1 .0) ≡ 16385 = c .before .before .before .bad-marks .kept .1 .1 .1 .0 ∙ length-replicate {A = ℕ} 16385 0 in
     let few : a .t .signals ≤ 16384 = omega (arith, signals-few (a .program) (a .table .now) (a .count) (c .before .before .before .before .before .before .before .before .before .before .before .before .before .before .before .before .before .before .before .pre .0 .accepted), c .before .before .before .before .before .before .before .before .before .before .before .before .before .before .before .before .before .before .before .pre .0 .signals) in
-    sym (length-take-le (a .t .signals) (c .before .before .before .classes .last .1 .1 .1 .0) (omega arith))
+    sym (length-take-le (a .t .signals) (c .before .before .before .bad-marks .last .1 .1 .1 .0) (omega arith))
 
 first-bad-requires : tie.Need-first-bad-requires
 first-bad-requires c κs = let a = c .before .before .before .before .before .before .before .before .before .before .before .before .before .before .before .before .before .before .before .args in
     let f = lent-facts (countsOf (a .t)) (a .k) (length (a .starts .now)) (length (a .inputs .now)) (length (a .signals .now)) (length (a .work .now)) (c .before .before .before .before .before .before .before .before .before .before .before .before .before .before .before .before .before .before .before .pre .1 .0) in
-    let lm : length (c .before .before .before .classes .last .1 .1 .1 .0) ≡ 16385 = c .before .before .before .classes .kept .1 .1 .1 .0 ∙ length-replicate {A = ℕ} 16385 0 in
+    let lm : length (c .before .before .before .bad-marks .last .1 .1 .1 .0) ≡ 16385 = c .before .before .before .bad-marks .kept .1 .1 .1 .0 ∙ length-replicate {A = ℕ} 16385 0 in
     let few : a .t .signals ≤ 16384 = omega (arith, signals-few (a .program) (a .table .now) (a .count) (c .before .before .before .before .before .before .before .before .before .before .before .before .before .before .before .before .before .before .before .pre .0 .accepted), c .before .before .before .before .before .before .before .before .before .before .before .before .before .before .before .before .before .before .before .pre .0 .signals) in
-    let l : length (take (a .t .signals) (c .before .before .before .classes .last .1 .1 .1 .0)) ≡ a .t .signals = length-take-le (a .t .signals) (c .before .before .before .classes .last .1 .1 .1 .0) (omega arith) in
+    let l : length (take (a .t .signals) (c .before .before .before .bad-marks .last .1 .1 .1 .0)) ≡ a .t .signals = length-take-le (a .t .signals) (c .before .before .before .bad-marks .last .1 .1 .1 .0) (omega arith) in
     (f .steps, (omega arith, omega (arith, ap (λ (n : ℕ). a .k * n) l, c .before .before .before .before .before .before .before .before .before .run-laid .kept .1 .1 .1 .1 .1 .1 .1 .1 .1 .1 .0, f .signals)))
 
 same-length : tie.Need-same-length
@@ -74,10 +75,10 @@ same-length-2 c = search needs
 returns-2 : tie.Need-returns-2
 returns-2 c = let a = c .before .before .before .before .before .before .before .before .before .before .before .before .before .before .before .before .before .before .before .before .args in
     let f = lent-facts (countsOf (a .t)) (a .k) (length (a .starts .now)) (length (a .inputs .now)) (length (a .signals .now)) (length (a .work .now)) (c .before .before .before .before .before .before .before .before .before .before .before .before .before .before .before .before .before .before .before .before .pre .1 .0) in
-    let lm : length (c .before .before .before .before .classes .last .1 .1 .1 .0) ≡ 16385 = c .before .before .before .before .classes .kept .1 .1 .1 .0 ∙ length-replicate {A = ℕ} 16385 0 in
+    let lm : length (c .before .before .before .before .bad-marks .last .1 .1 .1 .0) ≡ 16385 = c .before .before .before .before .bad-marks .kept .1 .1 .1 .0 ∙ length-replicate {A = ℕ} 16385 0 in
     let few : a .t .signals ≤ 16384 = omega (arith, signals-few (a .program) (a .table .now) (a .count) (c .before .before .before .before .before .before .before .before .before .before .before .before .before .before .before .before .before .before .before .before .pre .0 .accepted), c .before .before .before .before .before .before .before .before .before .before .before .before .before .before .before .before .before .before .before .before .pre .0 .signals) in
     let eq : a .t .signals ≡ length (marks (linesOf (a .program) (a .table .now) (a .count))) = sym (c .before .before .before .before .before .before .before .before .before .before .before .before .before .before .before .before .before .before .before .before .pre .0 .signals) ∙ signals-many (a .program) (linesOf (a .program) (a .table .now) (a .count)) in
-    told-run (c .first-bad .ensures ∙ bad-found (a .program) (linesOf (a .program) (a .table .now) (a .count)) (a .k) (a .starts .now) (a .inputs .now) (ap (λ (n : ℕ). take n (c .before .before .before .before .classes .last .1 .1 .1 .0)) eq ∙ c .before .before .before .before .classes .ensures) (c .before .before .before .before .before .before .before .before .before .before .run-laid .ensures .0)) (c .before .before .before .before .before .before .before .before .before .before .run-laid .ensures .0) (zero-front (a .work .now) (c .before .before .before .before .before .before .before .before .before .before .run-laid .last .1 .1 .1 .1 .1 .1 .1 .1 .1 .1 .1 .0) (a .t .cells + a .t .states) (c .before .before .before .before .before .before .before .before .before .before .before .before .before .before .before .before .before .before .before .before .pre .1 .1) (f .work) (c .before .before .before .before .before .before .before .before .before .before .run-laid .ensures .1 ∙ ap (λ (n : ℕ). replicate n 0) (length-take-le (a .t .cells + a .t .states) (a .work .now) (f .work))))
+    told-run (c .first-bad .ensures ∙ bad-found (a .program) (linesOf (a .program) (a .table .now) (a .count)) (a .k) (a .starts .now) (a .inputs .now) (ap (λ (n : ℕ). take n (c .before .before .before .before .bad-marks .last .1 .1 .1 .0)) eq ∙ c .before .before .before .before .bad-marks .ensures) (c .before .before .before .before .before .before .before .before .before .before .run-laid .ensures .0)) (c .before .before .before .before .before .before .before .before .before .before .run-laid .ensures .0) (zero-front (a .work .now) (c .before .before .before .before .before .before .before .before .before .before .run-laid .last .1 .1 .1 .1 .1 .1 .1 .1 .1 .1 .1 .0) (a .t .cells + a .t .states) (c .before .before .before .before .before .before .before .before .before .before .before .before .before .before .before .before .before .before .before .before .pre .1 .1) (f .work) (c .before .before .before .before .before .before .before .before .before .before .run-laid .ensures .1 ∙ ap (λ (n : ℕ). replicate n 0) (length-take-le (a .t .cells + a .t .states) (a .work .now) (f .work))))
 
 pub run-lent-spec : {M : Type 1} → statement M
 run-lent-spec =
@@ -88,8 +89,8 @@ run-lent-spec =
     slice-relend-prefix-run-laid
     slice-aggregate-run-laid
     run-laid-requires
-    slice-aggregate-classes
-    classes-requires
+    slice-aggregate-bad-marks
+    bad-marks-requires
     array-share-prefix-marks
     slice-aggregate-first-bad
     first-bad-requires

@@ -4,7 +4,7 @@ use mathlib.Core.Path.{_≡_, ap}
 use Prim.Native.Nat.{ℕ}
 use native.Mathlib.Omega.{arith}
 use lib.ListN.{getD}
-use Rattle.circuits.specs.Model.{offIn, numIn}
+use Rattle.circuits.specs.Model.Work.{offIn, numIn}
 use Rattle.circuits.proofs.Puts as laws
 use Rattle.evaluation.proofs.line_read.Statement.{statement}
 use Rattle.evaluation.proofs.line_read.Tie as tie

@@ -4,7 +4,7 @@ use mathlib.Core.Path.{_≡_, sym, ap, _∙_}
 use Prim.Native.Nat.{ℕ}
 use native.Mathlib.Omega.{arith}
 use lib.ListN.{getD}
-use Rattle.circuits.specs.Model.{offIn}
+use Rattle.circuits.specs.Model.Work.{offIn}
 use Rattle.circuits.proofs.Puts as laws
 use Rattle.evaluation.proofs.line_write.Statement.{statement}
 use Rattle.evaluation.proofs.line_write.Tie as tie

@@ -7,13 +7,13 @@ use native.Mathlib.Omega.{arith}
 use lib.ListN.{length}
 use Rattle.tables.specs.Layout.{held}
 use Rattle.flattening.specs.Placed.{putFlat}
-use Rattle.flattening.specs.Model.{Tame, rowsFor, pairAt}
-use Rattle.flattening.specs.Making.{notes, run, still, of, conIn, made}
+use Rattle.flattening.specs.Model.Rows.{Tame, rowsFor, pairAt, stepping, still, of}
+use Rattle.flattening.specs.Model.Lines.{notes, conIn, madeAs}
 use Rattle.flattening.proofs.Placing.{flat-none}
 use Rattle.flattening.proofs.Holding.{cell-bound}
 use Rattle.flattening.proofs.Holding.{tame-run, tame-of}
 use Rattle.flattening.proofs.Laying.{size-le, write-con, write-con-records, write-any, write-any-count, write-any-records}
-use Rattle.tables.specs.Notes.{lookIn}
+use Rattle.tables.specs.Model.Notes.{lookIn}
 use borrow.Author.Needs.{needs}
 use Rattle.flat_arrays.proofs.line_write.Statement.{statement}
 use Rattle.flat_arrays.proofs.line_write.Tie as tie
@@ -31,7 +31,7 @@ sub-t14 : tie.Need-sub-t14
 sub-t14 c = search needs
 
 returns : tie.Need-returns
-returns c = let a = c .before .before .before .before .before .args in let H = a .kept .now in let N = notes (a .kept .now) (a .types .now) in let d : conIn N (a .i) ≢ 0 = (λ z. c .if1 .taken (c .before .before .before .entry .ensures ∙ z)) in record { kept = (λ i. made (a .p) (c .before .cell .ensures i) (c .before .before .entry2 .ensures i) (a .a) (c .before .before .before .entry .ensures i - 1) 0) ∙ sym (write-con N (a .p) (a .s) (a .a) (a .i) (a .v) d); records = flat-none (a .target .now) (a .p) ∙ ap (putFlat (a .target .now) (a .p)) (sym (write-con-records N (a .p) (a .s) (a .a) (a .i) (a .v) d)) }
+returns c = let a = c .before .before .before .before .before .args in let H = a .kept .now in let N = notes (a .kept .now) (a .types .now) in let d : conIn N (a .i) ≢ 0 = (λ z. c .if1 .taken (c .before .before .before .entry .ensures ∙ z)) in record { kept = (λ i. madeAs (a .p) (c .before .cell .ensures i) (c .before .before .entry2 .ensures i) (a .a) (c .before .before .before .entry .ensures i - 1) 0) ∙ sym (write-con N (a .p) (a .s) (a .a) (a .i) (a .v) d); records = flat-none (a .target .now) (a .p) ∙ ap (putFlat (a .target .now) (a .p)) (sym (write-con-records N (a .p) (a .s) (a .a) (a .i) (a .v) d)) }
 
 size-requires : tie.Need-size-requires
 size-requires c κs = c .before .before .before .before .before .pre .neat .deep (c .before .before .before .before .before .args .s)
@@ -70,7 +70,7 @@ same-length : tie.Need-same-length
 same-length c = c .before .before .pairs .kept .1 .0
 
 returns-2 : tie.Need-returns-2
-returns-2 c = let a = c .before .before .before .before .before .before .before .before .before .before .before .before .before .before .before .args in let H = a .kept .now in let N = notes (a .kept .now) (a .types .now) in let e = (sym (c .before .before .before .before .before .before .before .before .before .before .before .before .before .entry .ensures) ∙ c .before .before .before .before .before .before .before .before .before .before .if1 .left) in let c1 = c .before .before .before .before .before .run .ensures ∙ ap (λ (o : ℕ). run (o + 1) 1) (c .before .before .before .before .before .before .before .before .before .before .before .before .entry2 .ensures) in let c2 = c .before .before .before .before .run2 .ensures ∙ ap still (c .before .before .before .before .before .before .before .before .before .before .before .cell .ensures) in record { kept = (λ i. made (a .p + 2 * c .before .before .before .before .before .before .before .before .before .size .ensures i) (a .p + 2) (c .before .before .before .before .before .before .before .before .before .before .before .before .entry2 .ensures i) 0 2 0) ∙ sym (write-any N (a .p) (a .s) (a .a) (a .i) (a .v) e); records = c .before .before .pairs .ensures ∙ (λ i. putFlat (a .target .now) (a .p) (rowsFor (c .before .before .before .before .before .before .before .before .before .size .ensures i) (pairAt H (a .p) (c .before .before .before .before .before .before .before .before .before .before .before .before .entry2 .ensures i) (c .before .before .before .before .before .before .before .cell2 .ensures i) (c .before .before .before .before .before .before .entry3 .ensures i) (c1 i) (c2 i) (c .before .before .before .of .ensures i)))) ∙ ap (putFlat (a .target .now) (a .p)) (sym (write-any-records N (a .p) (a .s) (a .a) (a .i) (a .v) e)) }
+returns-2 c = let a = c .before .before .before .before .before .before .before .before .before .before .before .before .before .before .before .args in let H = a .kept .now in let N = notes (a .kept .now) (a .types .now) in let e = (sym (c .before .before .before .before .before .before .before .before .before .before .before .before .before .entry .ensures) ∙ c .before .before .before .before .before .before .before .before .before .before .if1 .left) in let c1 = c .before .before .before .before .before .run .ensures ∙ ap (λ (o : ℕ). stepping (o + 1) 1) (c .before .before .before .before .before .before .before .before .before .before .before .before .entry2 .ensures) in let c2 = c .before .before .before .before .run2 .ensures ∙ ap still (c .before .before .before .before .before .before .before .before .before .before .before .cell .ensures) in record { kept = (λ i. madeAs (a .p + 2 * c .before .before .before .before .before .before .before .before .before .size .ensures i) (a .p + 2) (c .before .before .before .before .before .before .before .before .before .before .before .before .entry2 .ensures i) 0 2 0) ∙ sym (write-any N (a .p) (a .s) (a .a) (a .i) (a .v) e); records = c .before .before .pairs .ensures ∙ (λ i. putFlat (a .target .now) (a .p) (rowsFor (c .before .before .before .before .before .before .before .before .before .size .ensures i) (pairAt H (a .p) (c .before .before .before .before .before .before .before .before .before .before .before .before .entry2 .ensures i) (c .before .before .before .before .before .before .before .cell2 .ensures i) (c .before .before .before .before .before .before .entry3 .ensures i) (c1 i) (c2 i) (c .before .before .before .of .ensures i)))) ∙ ap (putFlat (a .target .now) (a .p)) (sym (write-any-records N (a .p) (a .s) (a .a) (a .i) (a .v) e)) }
 
 pub line-write-spec : {M : Type 1} → statement M
 line-write-spec =

@@ -7,8 +7,7 @@ use native.Mathlib.Omega.{arith}
 use Rattle.tables.specs.Lines.{fields}
 use Rattle.tables.specs.Layout.{held}
 use Rattle.flattening.specs.Placed.{putFlat}
-use Rattle.flattening.specs.Model.{Tame, rowsFor, rowAt}
-use Rattle.flattening.specs.Making.{run, still}
+use Rattle.flattening.specs.Model.Rows.{Tame, rowsFor, rowAt, stepping, still}
 use Rattle.flattening.proofs.Holding.{tame-run}
 use Rattle.flattening.proofs.Placing.{flat-append}
 use borrow.Author.Needs.{needs}
@@ -37,7 +36,7 @@ same-length : tie.Need-same-length
 same-length c = c .before .before .rows .kept .1 .0 ∙ c .before .before .before .before .before .before .before .before .put .kept .0
 
 returns : tie.Need-returns
-returns c = let a = c .before .before .before .before .before .before .before .before .before .before .before .before .args in let H = a .kept .now in let W = rowsFor (a .n) (rowAt H 3 (a .s) (run 0 1) (still 0) (still 0)) in c .before .before .rows .ensures ∙ (λ i. putFlat (c .before .before .before .before .before .before .before .before .put .ensures i) (a .p + 1) (rowsFor (a .n) (rowAt H 3 (a .s) (c .before .before .before .run2 .ensures i) (c .before .before .before .before .before .run .ensures i) (c .before .before .before .before .before .run .ensures i)))) ∙ (λ i. putFlat (putFlat (a .target .now) (a .p) (c .before .before .before .before .before .before .before .before .before .of .ensures i ∷ [])) (a .p + 1) W) ∙ flat-append (a .target .now) (a .p) (fields 1 0 1 0 0 ∷ []) (a .p + 1) W (omega arith)
+returns c = let a = c .before .before .before .before .before .before .before .before .before .before .before .before .args in let H = a .kept .now in let W = rowsFor (a .n) (rowAt H 3 (a .s) (stepping 0 1) (still 0) (still 0)) in c .before .before .rows .ensures ∙ (λ i. putFlat (c .before .before .before .before .before .before .before .before .put .ensures i) (a .p + 1) (rowsFor (a .n) (rowAt H 3 (a .s) (c .before .before .before .run2 .ensures i) (c .before .before .before .before .before .run .ensures i) (c .before .before .before .before .before .run .ensures i)))) ∙ (λ i. putFlat (putFlat (a .target .now) (a .p) (c .before .before .before .before .before .before .before .before .before .of .ensures i ∷ [])) (a .p + 1) W) ∙ flat-append (a .target .now) (a .p) (fields 1 0 1 0 0 ∷ []) (a .p + 1) W (omega arith)
 
 pub array-lines-spec : {M : Type 1} → statement M
 array-lines-spec =

@@ -7,8 +7,7 @@ use native.Mathlib.Omega.{arith}
 use Rattle.tables.specs.Lines.{fields}
 use Rattle.tables.specs.Layout.{held}
 use Rattle.flattening.specs.Placed.{putFlat}
-use Rattle.flattening.specs.Model.{Tame, rowsFor, rowAt}
-use Rattle.flattening.specs.Making.{run, still}
+use Rattle.flattening.specs.Model.Rows.{Tame, rowsFor, rowAt, stepping, still}
 use Rattle.flattening.proofs.Holding.{tame-run}
 use Rattle.flattening.proofs.Laying.{join-none, join-some}
 use Rattle.flattening.proofs.Placing.{flat-none, flat-append}
@@ -65,7 +64,7 @@ same-length : tie.Need-same-length
 same-length c = search needs
 
 returns-2 : tie.Need-returns-2
-returns-2 c = let a = c .before .before .before .before .before .before .before .before .before .before .before .before .before .before .args in let H = a .kept .now in let two : 2 ≤ a .n = c .before .before .before .before .before .before .before .before .before .before .before .before .if1 .left in let r = fields (a .j) (a .s) (a .p + 1) (a .p + 2) 0 in let W = rowsFor (a .n - 2) (rowAt H (a .j) (a .s) (run (a .p + a .n + 1) 1) (run (a .p + 3) 1) (still 0)) in c .before .before .rows .ensures ∙ (λ i. putFlat (c .before .before .before .before .before .before .before .before .before .put .ensures i) (a .p + a .n + 1) (rowsFor (a .n - 2) (rowAt H (a .j) (a .s) (c .before .before .before .before .before .run .ensures i) (c .before .before .before .before .run2 .ensures i) (c .before .before .before .run3 .ensures i)))) ∙ (λ i. putFlat (putFlat (a .target .now) (a .p + a .n) (c .before .before .before .before .before .before .before .before .before .before .of .ensures i ∷ [])) (a .p + a .n + 1) W) ∙ flat-append (a .target .now) (a .p + a .n) (r ∷ []) (a .p + a .n + 1) W (omega arith) ∙ ap (putFlat (a .target .now) (a .p + a .n)) (sym (join-some H (a .p) (a .j) (a .s) (a .n) two))
+returns-2 c = let a = c .before .before .before .before .before .before .before .before .before .before .before .before .before .before .args in let H = a .kept .now in let two : 2 ≤ a .n = c .before .before .before .before .before .before .before .before .before .before .before .before .if1 .left in let r = fields (a .j) (a .s) (a .p + 1) (a .p + 2) 0 in let W = rowsFor (a .n - 2) (rowAt H (a .j) (a .s) (stepping (a .p + a .n + 1) 1) (stepping (a .p + 3) 1) (still 0)) in c .before .before .rows .ensures ∙ (λ i. putFlat (c .before .before .before .before .before .before .before .before .before .put .ensures i) (a .p + a .n + 1) (rowsFor (a .n - 2) (rowAt H (a .j) (a .s) (c .before .before .before .before .before .run .ensures i) (c .before .before .before .before .run2 .ensures i) (c .before .before .before .run3 .ensures i)))) ∙ (λ i. putFlat (putFlat (a .target .now) (a .p + a .n) (c .before .before .before .before .before .before .before .before .before .before .of .ensures i ∷ [])) (a .p + a .n + 1) W) ∙ flat-append (a .target .now) (a .p + a .n) (r ∷ []) (a .p + a .n + 1) W (omega arith) ∙ ap (putFlat (a .target .now) (a .p + a .n)) (sym (join-some H (a .p) (a .j) (a .s) (a .n) two))
 
 pub join-lines-spec : {M : Type 1} → statement M
 join-lines-spec =

@@ -6,8 +6,8 @@ use mathlib.Core.List.{List}
 use native.Mathlib.Omega.{arith}
 use Rattle.tables.specs.Layout.{held}
 use Rattle.flattening.specs.Placed.{putFlat}
-use Rattle.flattening.specs.Model.{Tame, cellIn, rowsFor, pairAt}
-use Rattle.flattening.specs.Making.{run, still, runDown, ofDown}
+use Rattle.flattening.specs.Model.Cells.{cellIn}
+use Rattle.flattening.specs.Model.Rows.{Tame, rowsFor, pairAt, stepping, still, runDown, ofDown}
 use Rattle.flattening.proofs.Holding.{cell-bound, tame-run, tame-run-down, tame-of-down}
 use Rattle.flattening.proofs.Placing.{flat-append, length-pairs}
 use borrow.Author.Needs.{needs}
@@ -66,7 +66,7 @@ same-length : tie.Need-same-length
 same-length c = c .before .before .pairs2 .kept .1 .0 ∙ c .before .before .before .before .before .before .before .before .before .before .pairs .kept .1 .0
 
 returns : tie.Need-returns
-returns c = let a = c .before .before .before .before .before .before .before .before .before .before .before .before .before .before .before .before .before .args in let H = a .kept .now in let U = rowsFor 1 (pairAt H (a .p) (a .o) (a .i) (a .s) (runDown (a .o + 1) (a .n - 2)) (ofDown (a .a) (a .n - 2)) (still (cellIn H (a .a) (a .n - 1)))) in let Z = rowsFor (a .n - 2) (pairAt H (a .p + 2) (a .o) (a .i) (a .s) (runDown (a .o + 1) (a .n - 3)) (ofDown (a .a) (a .n - 3)) (run (a .p + 2) 2)) in c .before .before .pairs2 .ensures ∙ (λ i. putFlat (c .before .before .before .before .before .before .before .before .before .before .pairs .ensures i) (a .p + 2) (rowsFor (a .n - 2) (pairAt H (a .p + 2) (a .o) (a .i) (a .s) ((c .before .before .before .before .before .run-down2 .ensures ∙ ap (λ (t : ℕ). runDown (a .o + 1) t) (c .before .before .before .before .before .before .before .less .ensures)) i) ((c .before .before .before .before .of-down2 .ensures ∙ ap (λ (t : ℕ). ofDown (a .a) t) (c .before .before .before .before .before .before .before .less .ensures)) i) (c .before .before .before .run2 .ensures i)))) ∙ ap (λ (t : List ℕ). putFlat t (a .p + 2) Z) (λ i. putFlat (a .target .now) (a .p) (rowsFor 1 (pairAt H (a .p) (a .o) (a .i) (a .s) (c .before .before .before .before .before .before .before .before .before .before .before .before .before .run-down .ensures i) (c .before .before .before .before .before .before .before .before .before .before .before .before .of-down .ensures i) ((c .before .before .before .before .before .before .before .before .before .before .before .run .ensures ∙ ap still (c .before .before .before .before .before .before .before .before .before .before .before .before .before .before .before .cell .ensures)) i)))) ∙ flat-append (a .target .now) (a .p) U (a .p + 2) Z (omega (arith, length-pairs H (a .p) (a .o) (a .i) (a .s) (runDown (a .o + 1) (a .n - 2)) (ofDown (a .a) (a .n - 2)) (still (cellIn H (a .a) (a .n - 1))) 1))
+returns c = let a = c .before .before .before .before .before .before .before .before .before .before .before .before .before .before .before .before .before .args in let H = a .kept .now in let U = rowsFor 1 (pairAt H (a .p) (a .o) (a .i) (a .s) (runDown (a .o + 1) (a .n - 2)) (ofDown (a .a) (a .n - 2)) (still (cellIn H (a .a) (a .n - 1)))) in let Z = rowsFor (a .n - 2) (pairAt H (a .p + 2) (a .o) (a .i) (a .s) (runDown (a .o + 1) (a .n - 3)) (ofDown (a .a) (a .n - 3)) (stepping (a .p + 2) 2)) in c .before .before .pairs2 .ensures ∙ (λ i. putFlat (c .before .before .before .before .before .before .before .before .before .before .pairs .ensures i) (a .p + 2) (rowsFor (a .n - 2) (pairAt H (a .p + 2) (a .o) (a .i) (a .s) ((c .before .before .before .before .before .run-down2 .ensures ∙ ap (λ (t : ℕ). runDown (a .o + 1) t) (c .before .before .before .before .before .before .before .less .ensures)) i) ((c .before .before .before .before .of-down2 .ensures ∙ ap (λ (t : ℕ). ofDown (a .a) t) (c .before .before .before .before .before .before .before .less .ensures)) i) (c .before .before .before .run2 .ensures i)))) ∙ ap (λ (t : List ℕ). putFlat t (a .p + 2) Z) (λ i. putFlat (a .target .now) (a .p) (rowsFor 1 (pairAt H (a .p) (a .o) (a .i) (a .s) (c .before .before .before .before .before .before .before .before .before .before .before .before .before .run-down .ensures i) (c .before .before .before .before .before .before .before .before .before .before .before .before .of-down .ensures i) ((c .before .before .before .before .before .before .before .before .before .before .before .run .ensures ∙ ap still (c .before .before .before .before .before .before .before .before .before .before .before .before .before .before .before .cell .ensures)) i)))) ∙ flat-append (a .target .now) (a .p) U (a .p + 2) Z (omega (arith, length-pairs H (a .p) (a .o) (a .i) (a .s) (runDown (a .o + 1) (a .n - 2)) (ofDown (a .a) (a .n - 2)) (still (cellIn H (a .a) (a .n - 1))) 1))
 
 pub read-lines-spec : {M : Type 1} → statement M
 read-lines-spec =

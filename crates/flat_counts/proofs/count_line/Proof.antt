@@ -4,9 +4,10 @@ use mathlib.Core.Path.{sym, ap, _∙_, subst, subst⁻¹}
 use native.Mathlib.Omega.{arith}
 use lib.ListN.{getD}
 use Rattle.tables.specs.Lines.{Line}
-use Rattle.flattening.specs.Making.{notes, flatCount, readCount, writeCount, Deep}
+use Rattle.flattening.specs.Model.Lines.{notes, flatCount, readCount, writeCount}
+use Rattle.flattening.specs.Model.Fits.{Deep}
 use Rattle.flattening.proofs.Laying.{size-le, as-key, count-rest}
-use Rattle.tables.specs.Notes.{lookIn}
+use Rattle.tables.specs.Model.Notes.{lookIn}
 use borrow.Author.Needs.{needs}
 use Rattle.flat_counts.proofs.count_line.Statement.{statement}
 use Rattle.flat_counts.proofs.count_line.Tie as tie

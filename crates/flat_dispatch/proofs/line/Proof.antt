@@ -34,14 +34,14 @@ same-length-2 c = c .before .before .line-output .kept .1 .1 .1 .1 .0
 returns-2 : tie.Need-returns-2
 returns-2 c = laid-as (as-key (c .before .before .before .before .before .before .before .before .args .t1) 10 (c .before .before .before .before .if3 .taken)) (c .before .before .line-output .ensures)
 
-line-mark-requires : tie.Need-line-mark-requires
-line-mark-requires c κs = fit-as (as-mark (c .before .before .before .before .before .args .t1) (c .before .before .if2 .taken) (c .before .before .before .if1 .left) (c .before .if3 .left)) (c .before .before .before .before .before .pre .1)
+line-signal-requires : tie.Need-line-signal-requires
+line-signal-requires c κs = fit-as (as-mark (c .before .before .before .before .before .args .t1) (c .before .before .if2 .taken) (c .before .before .before .if1 .left) (c .before .if3 .left)) (c .before .before .before .before .before .pre .1)
 
 same-length-3 : tie.Need-same-length-3
-same-length-3 c = c .before .before .line-mark .kept .1 .1 .1 .1 .1 .0
+same-length-3 c = c .before .before .line-signal .kept .1 .1 .1 .1 .1 .0
 
 returns-3 : tie.Need-returns-3
-returns-3 c = laid-as (as-mark (c .before .before .before .before .before .before .before .before .args .t1) (c .before .before .before .before .before .if2 .taken) (c .before .before .before .before .before .before .if1 .left) (c .before .before .before .before .if3 .left)) (c .before .before .line-mark .ensures)
+returns-3 c = laid-as (as-mark (c .before .before .before .before .before .before .before .before .args .t1) (c .before .before .before .before .before .if2 .taken) (c .before .before .before .before .before .before .if1 .left) (c .before .before .before .before .if3 .left)) (c .before .before .line-signal .ensures)
 
 line-bitvec-requires : tie.Need-line-bitvec-requires
 line-bitvec-requires c κs = fit-as (as-key (c .before .before .before .before .before .args .t1) 1 (c .before .match .keys1)) (c .before .before .before .before .before .pre .1)
@@ -58,8 +58,8 @@ line-input-requires c κs = fit-as (as-key (c .before .before .before .before .b
 line-state-requires : tie.Need-line-state-requires
 line-state-requires c κs = fit-as (as-key (c .before .before .before .before .before .args .t1) 5 (c .before .match .keys5)) (c .before .before .before .before .before .pre .1)
 
-line-give-requires : tie.Need-line-give-requires
-line-give-requires c κs = fit-as (as-give (c .before .before .before .before .before .args .t1) (c .before .before .before .before .before .pre .0) (c .before .before .if2 .left) (c .before .match .rest .0 .0 .0 .0 .1) (c .before .match .rest .0 .0 .0 .1) (c .before .match .rest .0 .0 .1) (c .before .match .rest .0 .1) (c .before .match .rest .1)) (c .before .before .before .before .before .pre .1)
+line-init-or-next-requires : tie.Need-line-init-or-next-requires
+line-init-or-next-requires c κs = fit-as (as-give (c .before .before .before .before .before .args .t1) (c .before .before .before .before .before .pre .0) (c .before .before .if2 .left) (c .before .match .rest .0 .0 .0 .0 .1) (c .before .match .rest .0 .0 .0 .1) (c .before .match .rest .0 .0 .1) (c .before .match .rest .0 .1) (c .before .match .rest .1)) (c .before .before .before .before .before .pre .1)
 
 same-length-4 : tie.Need-same-length-4
 same-length-4 c = c .before .before .line-bitvec .kept .1 .1 .1 .1 .0
@@ -92,10 +92,10 @@ returns-8 : tie.Need-returns-8
 returns-8 c = laid-as (as-key (c .before .before .before .before .before .before .before .before .args .t1) 5 (c .before .before .before .before .match .keys5)) (c .before .before .line-state .ensures)
 
 same-length-9 : tie.Need-same-length-9
-same-length-9 c = c .before .before .line-give .kept .1 .1 .1 .1 .1 .1 .1 .0
+same-length-9 c = c .before .before .line-init-or-next .kept .1 .1 .1 .1 .1 .1 .1 .0
 
 returns-9 : tie.Need-returns-9
-returns-9 c = laid-as (as-give (c .before .before .before .before .before .before .before .before .args .t1) (c .before .before .before .before .before .before .before .before .pre .0) (c .before .before .before .before .before .if2 .left) (c .before .before .before .before .match .rest .0 .0 .0 .0 .1) (c .before .before .before .before .match .rest .0 .0 .0 .1) (c .before .before .before .before .match .rest .0 .0 .1) (c .before .before .before .before .match .rest .0 .1) (c .before .before .before .before .match .rest .1)) (c .before .before .line-give .ensures)
+returns-9 c = laid-as (as-give (c .before .before .before .before .before .before .before .before .args .t1) (c .before .before .before .before .before .before .before .before .pre .0) (c .before .before .before .before .before .if2 .left) (c .before .before .before .before .match .rest .0 .0 .0 .0 .1) (c .before .before .before .before .match .rest .0 .0 .0 .1) (c .before .before .before .before .match .rest .0 .0 .1) (c .before .before .before .before .match .rest .0 .1) (c .before .before .before .before .match .rest .1)) (c .before .before .line-init-or-next .ensures)
 
 pub line-spec : {M : Type 1} → statement M
 line-spec = tie.close (tie.spec
@@ -109,7 +109,7 @@ line-spec = tie.close (tie.spec
     line-output-requires
     same-length-2
     returns-2
-    line-mark-requires
+    line-signal-requires
     same-length-3
     returns-3
     line-bitvec-requires
@@ -117,7 +117,7 @@ line-spec = tie.close (tie.spec
     line-const-requires
     line-input-requires
     line-state-requires
-    line-give-requires
+    line-init-or-next-requires
     same-length-4
     returns-4
     same-length-5

@@ -19,23 +19,23 @@ array-read-b c = search needs
 array-read-c : tie.Need-array-read-c
 array-read-c c = search needs
 
-line-one-requires : tie.Need-line-one-requires
-line-one-requires c κs = fit-as (as-one (c .before .before .before .args .t1) (c .before .before .before .pre .1 .0) (c .before .if1 .taken)) (c .before .before .before .pre .1 .1)
+line-unary-requires : tie.Need-line-unary-requires
+line-unary-requires c κs = fit-as (as-one (c .before .before .before .args .t1) (c .before .before .before .pre .1 .0) (c .before .if1 .taken)) (c .before .before .before .pre .1 .1)
 
 same-length : tie.Need-same-length
-same-length c = c .before .before .line-one .kept .1 .1 .1 .1 .1 .1 .1 .1 .0
+same-length c = c .before .before .line-unary .kept .1 .1 .1 .1 .1 .1 .1 .1 .0
 
 returns : tie.Need-returns
-returns c = laid-as (as-one (c .before .before .before .before .before .before .args .t1) (c .before .before .before .before .before .before .pre .1 .0) (c .before .before .before .before .if1 .taken)) (c .before .before .line-one .ensures)
+returns c = laid-as (as-one (c .before .before .before .before .before .before .args .t1) (c .before .before .before .before .before .before .pre .1 .0) (c .before .before .before .before .if1 .taken)) (c .before .before .line-unary .ensures)
 
-line-cmp-requires : tie.Need-line-cmp-requires
-line-cmp-requires c κs = fit-as (as-cmp (c .before .before .before .before .args .t1) (c .before .before .if1 .left) (c .before .if2 .taken)) (c .before .before .before .before .pre .1 .1)
+line-equality-requires : tie.Need-line-equality-requires
+line-equality-requires c κs = fit-as (as-cmp (c .before .before .before .before .args .t1) (c .before .before .if1 .left) (c .before .if2 .taken)) (c .before .before .before .before .pre .1 .1)
 
 same-length-2 : tie.Need-same-length-2
-same-length-2 c = c .before .before .line-cmp .kept .1 .1 .1 .1 .1 .1 .1 .0
+same-length-2 c = c .before .before .line-equality .kept .1 .1 .1 .1 .1 .1 .1 .0
 
 returns-2 : tie.Need-returns-2
-returns-2 c = laid-as (as-cmp (c .before .before .before .before .before .before .before .args .t1) (c .before .before .before .before .before .if1 .left) (c .before .before .before .before .if2 .taken)) (c .before .before .line-cmp .ensures)
+returns-2 c = laid-as (as-cmp (c .before .before .before .before .before .before .before .args .t1) (c .before .before .before .before .before .if1 .left) (c .before .before .before .before .if2 .taken)) (c .before .before .line-equality .ensures)
 
 line-ite-requires : tie.Need-line-ite-requires
 line-ite-requires c κs = fit-as (as-key (c .before .before .before .before .before .args .t1) 53 (c .before .match .keys1)) (c .before .before .before .before .before .pre .1 .1)
@@ -46,8 +46,8 @@ line-read-requires c κs = fit-as (as-key (c .before .before .before .before .be
 line-write-requires : tie.Need-line-write-requires
 line-write-requires c κs = fit-as (as-key (c .before .before .before .before .before .args .t1) 55 (c .before .match .keys3)) (c .before .before .before .before .before .pre .1 .1)
 
-line-two-requires : tie.Need-line-two-requires
-line-two-requires c κs = fit-as (as-two (c .before .before .before .before .before .args .t1) (c .before .before .if2 .left) (c .before .before .before .before .before .pre .0) (c .before .match .rest .0 .0 .1) (c .before .match .rest .0 .1) (c .before .match .rest .1)) (c .before .before .before .before .before .pre .1 .1)
+line-binary-requires : tie.Need-line-binary-requires
+line-binary-requires c κs = fit-as (as-two (c .before .before .before .before .before .args .t1) (c .before .before .if2 .left) (c .before .before .before .before .before .pre .0) (c .before .match .rest .0 .0 .1) (c .before .match .rest .0 .1) (c .before .match .rest .1)) (c .before .before .before .before .before .pre .1 .1)
 
 same-length-3 : tie.Need-same-length-3
 same-length-3 c = c .before .before .line-ite .kept .1 .1 .1 .1 .1 .1 .1 .0
@@ -68,10 +68,10 @@ returns-5 : tie.Need-returns-5
 returns-5 c = laid-as (as-key (c .before .before .before .before .before .before .before .before .args .t1) 55 (c .before .before .before .before .match .keys3)) (c .before .before .line-write .ensures)
 
 same-length-6 : tie.Need-same-length-6
-same-length-6 c = c .before .before .line-two .kept .1 .1 .1 .1 .1 .1 .1 .0
+same-length-6 c = c .before .before .line-binary .kept .1 .1 .1 .1 .1 .1 .1 .0
 
 returns-6 : tie.Need-returns-6
-returns-6 c = laid-as (as-two (c .before .before .before .before .before .before .before .before .args .t1) (c .before .before .before .before .before .if2 .left) (c .before .before .before .before .before .before .before .before .pre .0) (c .before .before .before .before .match .rest .0 .0 .1) (c .before .before .before .before .match .rest .0 .1) (c .before .before .before .before .match .rest .1)) (c .before .before .line-two .ensures)
+returns-6 c = laid-as (as-two (c .before .before .before .before .before .before .before .before .args .t1) (c .before .before .before .before .before .if2 .left) (c .before .before .before .before .before .before .before .before .pre .0) (c .before .before .before .before .match .rest .0 .0 .1) (c .before .before .before .before .match .rest .0 .1) (c .before .before .before .before .match .rest .1)) (c .before .before .line-binary .ensures)
 
 pub operator-spec : {M : Type 1} → statement M
 operator-spec = tie.close (tie.spec
@@ -80,16 +80,16 @@ operator-spec = tie.close (tie.spec
     array-read-a
     array-read-b
     array-read-c
-    line-one-requires
+    line-unary-requires
     same-length
     returns
-    line-cmp-requires
+    line-equality-requires
     same-length-2
     returns-2
     line-ite-requires
     line-read-requires
     line-write-requires
-    line-two-requires
+    line-binary-requires
     same-length-3
     returns-3
     same-length-4

@@ -6,9 +6,10 @@ use native.Mathlib.Omega.{arith}
 use lib.ListN.{length}
 use Rattle.tables.specs.Layout.{held}
 use Rattle.flattening.specs.Placed.{putFlat}
-use Rattle.flattening.specs.Making.{made, arrayRecords}
+use Rattle.flattening.specs.Model.Rows.{arrayRecords}
+use Rattle.flattening.specs.Model.Lines.{madeAs}
 use Rattle.flattening.proofs.Laying.{size-le}
-use Rattle.tables.specs.Notes.{lookIn}
+use Rattle.tables.specs.Model.Notes.{lookIn}
 use borrow.Author.Needs.{needs}
 use Rattle.flat_lines.proofs.line_array.Statement.{statement}
 use Rattle.flat_lines.proofs.line_array.Tie as tie
@@ -38,7 +39,7 @@ same-length : tie.Need-same-length
 same-length c = c .before .before .before .array-lines .kept .1 .1 .1 .1 .0
 
 returns : tie.Need-returns
-returns c = let a = c .before .before .before .before .before .before .before .before .args in let H = a .kept .now in let e = c .before .before .before .before .before .before .index-size .ensures in record { kept = λ i. made (a .p + (1 + e i)) (c .entry2 .ensures i) (a .p + 1) 0 0 0; records = c .before .before .before .array-lines .ensures ∙ (λ i. putFlat (a .target .now) (a .p) (arrayRecords H (c .before .before .before .before .before .entry .ensures i) (e i))) }
+returns c = let a = c .before .before .before .before .before .before .before .before .args in let H = a .kept .now in let e = c .before .before .before .before .before .before .index-size .ensures in record { kept = λ i. madeAs (a .p + (1 + e i)) (c .entry2 .ensures i) (a .p + 1) 0 0 0; records = c .before .before .before .array-lines .ensures ∙ (λ i. putFlat (a .target .now) (a .p) (arrayRecords H (c .before .before .before .before .before .entry .ensures i) (e i))) }
 
 pub line-array-spec : {M : Type 1} → statement M
 line-array-spec =

@@ -7,7 +7,7 @@ use mathlib.Core.Bool.{true, false}
 use mathlib.Core.List.{List}
 use lib.ListN.{getD}
 use Rattle.tables.specs.Kinds.{rows as kindRows, wordOf}
-use Rattle.texts.specs.Split.{same}
+use Rattle.texts.specs.Split.{sameBytes}
 use Rattle.texts.specs.Forms.{formRow}
 use Rattle.texts.specs.Reading.{findIn}
 use Rattle.texts.proofs.Words.{find-hit, find-miss, find-done, listed-kind, row-shape}
@@ -49,7 +49,7 @@ returns c =
     let j : ℕ = c .before .before .before .before .loop .j in
     let e : ℕ = start .args .k + start .args .n in
     let r = listed-kind _ j (v .1 .1 .1 .0) (omega arith) in
-    let h : same t (wordOf (formRow j)) ≡ true = ap (λ (r : List ℕ). same t (wordOf r)) (sym r) ∙ (sym (c .before .is-word .ensures) ∙ c .if1 .taken) in
+    let h : sameBytes t (wordOf (formRow j)) ≡ true = ap (λ (r : List ℕ). sameBytes t (wordOf r)) (sym r) ∙ (sym (c .before .is-word .ensures) ∙ c .if1 .taken) in
     sym (v .1 .1 .1 .1 ∙ find-hit j e t (c .before .before .before .loop-test .taken) h)
 
 add-j : tie.Need-add-j Inv-loop μ-loop
@@ -66,7 +66,7 @@ loop-again c =
     let j : ℕ = c .before .before .before .before .loop .j in
     let e : ℕ = start .args .k + start .args .n in
     let r = listed-kind _ j (v .1 .1 .1 .0) (omega arith) in
-    let h : same t (wordOf (formRow j)) ≡ false = ap (λ (r : List ℕ). same t (wordOf r)) (sym r) ∙ (sym (c .before .is-word .ensures) ∙ c .if1 .left) in
+    let h : sameBytes t (wordOf (formRow j)) ≡ false = ap (λ (r : List ℕ). sameBytes t (wordOf r)) (sym r) ∙ (sym (c .before .is-word .ensures) ∙ c .if1 .left) in
     (omega arith, (omega arith, (refl, (v .1 .1 .1 .0, v .1 .1 .1 .1 ∙ find-miss j e t (c .before .before .before .loop-test .taken) h))))
 
 returns-2 : tie.Need-returns-2 Inv-loop μ-loop

@@ -7,7 +7,7 @@ use mathlib.Core.Bool.{true, false}
 use mathlib.Core.List.{List}
 use lib.ListN.{getD}
 use Rattle.tables.specs.Kinds.{wordOf}
-use Rattle.texts.specs.Split.{same}
+use Rattle.texts.specs.Split.{sameBytes}
 use Rattle.texts.specs.Forms.{extra, formRow}
 use Rattle.texts.specs.Reading.{findIn}
 use Rattle.texts.proofs.Words.{find-hit, find-miss, find-done, listed-other, row-shape}
@@ -41,7 +41,7 @@ add-result c = search needs
 returns : tie.Need-returns Inv-loop μ-loop
 returns c = let t : List ℕ = c .before .before .before .before .before .before .before .args .t .now in
     let j : ℕ = c .before .before .before .before .loop .j + 56 in
-    let h : same t (wordOf (formRow j)) ≡ true = ap (λ (r : List ℕ). same t (wordOf r)) (sym (listed-other _ (c .before .before .before .before .loop .j) (c .before .before .before .before .loop .inv .1 .0))) ∙ (sym (c .before .is-word .ensures) ∙ c .if1 .taken) in
+    let h : sameBytes t (wordOf (formRow j)) ≡ true = ap (λ (r : List ℕ). sameBytes t (wordOf r)) (sym (listed-other _ (c .before .before .before .before .loop .j) (c .before .before .before .before .loop .inv .1 .0))) ∙ (sym (c .before .is-word .ensures) ∙ c .if1 .taken) in
     sym (c .before .before .before .before .loop .inv .1 .1 ∙ find-hit j 61 t (omega arith) h)
 
 add-j : tie.Need-add-j Inv-loop μ-loop
@@ -53,7 +53,7 @@ loop-less c = search needs
 loop-again : tie.Need-loop-again Inv-loop μ-loop
 loop-again c = let t : List ℕ = c .before .before .before .before .before .before .before .args .t .now in
     let j : ℕ = c .before .before .before .before .loop .j + 56 in
-    let h : same t (wordOf (formRow j)) ≡ false = ap (λ (r : List ℕ). same t (wordOf r)) (sym (listed-other _ (c .before .before .before .before .loop .j) (c .before .before .before .before .loop .inv .1 .0))) ∙ (sym (c .before .is-word .ensures) ∙ c .if1 .left) in
+    let h : sameBytes t (wordOf (formRow j)) ≡ false = ap (λ (r : List ℕ). sameBytes t (wordOf r)) (sym (listed-other _ (c .before .before .before .before .loop .j) (c .before .before .before .before .loop .inv .1 .0))) ∙ (sym (c .before .is-word .ensures) ∙ c .if1 .left) in
     let q : j + 1 ≡ c .before .before .before .before .loop .j + 1 + 56 = omega arith in
     (omega arith, (c .before .before .before .before .loop .inv .1 .0, c .before .before .before .before .loop .inv .1 .1 ∙ (find-miss j 61 t (omega arith) h ∙ ap (λ (m : ℕ). findIn m (61 - m) t) q)))
 

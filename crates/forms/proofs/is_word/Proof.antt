@@ -6,13 +6,13 @@ use mathlib.Core.Path.{_≡_, refl, sym, _∙_}
 use mathlib.Core.List.{List}
 use lib.ListN.{length, drop, getD}
 use Rattle.tables.specs.Kinds.{wordOf}
-use Rattle.texts.specs.Split.{same}
+use Rattle.texts.specs.Split.{sameBytes}
 use Rattle.texts.proofs.Words.{same-not, same-more, same-differ, same-end, word-length, word-at}
 use Rattle.forms.proofs.is_word.Statement.{statement}
 use Rattle.forms.proofs.is_word.Tie as tie
 
 abbrev Inv-loop : tie.InvT-loop
-Inv-loop t r n i₀ i = (i ≤ n) × ((length t ≡ n) × ((n ≡ getD r 0 0) × ((length r ≡ 16) × ((length (wordOf r) ≡ n) × (same t (wordOf r) ≡ same (drop i t) (drop i (wordOf r)))))))
+Inv-loop t r n i₀ i = (i ≤ n) × ((length t ≡ n) × ((n ≡ getD r 0 0) × ((length r ≡ 16) × ((length (wordOf r) ≡ n) × (sameBytes t (wordOf r) ≡ sameBytes (drop i t) (drop i (wordOf r)))))))
 
 abbrev μ-loop : tie.MeasureT-loop
 μ-loop t r n i₀ i = n - i

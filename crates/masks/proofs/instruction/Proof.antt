@@ -1,6 +1,6 @@
 -- Width and operands, each as the kind asks. Assumes nothing.
 use mathlib.Core.Path.{_∙_}
-use Rattle.programs.specs.Model.Kinds.{numberAt}
+use Rattle.programs.specs.Model.Kinds.{entryAt}
 use Rattle.programs.proofs.Reading.{instruction-read}
 use borrow.Author.Needs.{needs}
 use Rattle.masks.proofs.instruction.Statement.{statement}
@@ -46,7 +46,7 @@ of-requires : tie.Need-of-requires
 of-requires c κs = tt
 
 returns : tie.Need-returns
-returns c = c .of .ensures ∙ instruction-read (numberAt (c .before .before .before .before .before .before .before .before .before .before .args .wd .now)) (numberAt (c .before .before .before .before .before .before .before .before .before .before .args .num .now)) (c .before .before .before .before .before .before .before .before .before .before .args .t1) (c .before .before .before .before .before .before .before .entry .ensures) (c .before .before .before .before .before .before .first-line .ensures) (c .before .before .before .before .before .operand .ensures) (c .before .before .before .before .second-line .ensures) (c .before .before .before .operand2 .ensures) (c .before .before .third-line .ensures) (c .before .operand3 .ensures)
+returns c = c .of .ensures ∙ instruction-read (entryAt (c .before .before .before .before .before .before .before .before .before .before .args .wd .now)) (entryAt (c .before .before .before .before .before .before .before .before .before .before .args .num .now)) (c .before .before .before .before .before .before .before .before .before .before .args .t1) (c .before .before .before .before .before .before .before .entry .ensures) (c .before .before .before .before .before .before .first-line .ensures) (c .before .before .before .before .before .operand .ensures) (c .before .before .before .before .second-line .ensures) (c .before .before .before .operand2 .ensures) (c .before .before .third-line .ensures) (c .before .operand3 .ensures)
 
 pub instruction-spec : {M : Type 1} → statement M
 instruction-spec =

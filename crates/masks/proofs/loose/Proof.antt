@@ -1,6 +1,6 @@
 -- Width 64, or the row of the kind. Assumes nothing.
 use mathlib.Core.Path.{sym, _∙_}
-use Rattle.programs.specs.Model.Kinds.{numberAt, flagAt}
+use Rattle.programs.specs.Model.Kinds.{entryAt, flagAt}
 use Rattle.programs.proofs.Reading.{never-64, loose-read}
 use borrow.Author.Needs.{needs}
 use Rattle.masks.proofs.loose.Statement.{statement}
@@ -13,7 +13,7 @@ entry-requires : tie.Need-entry-requires
 entry-requires c κs = search needs
 
 returns : tie.Need-returns
-returns c = never-64 (numberAt (c .before .before .before .before .args .wd .now)) (flagAt (c .before .before .before .before .args .lo .now)) (c .before .before .before .before .args .t1) (sym (c .before .entry .ensures) ∙ c .if1 .taken)
+returns c = never-64 (entryAt (c .before .before .before .before .args .wd .now)) (flagAt (c .before .before .before .before .args .lo .now)) (c .before .before .before .before .args .t1) (sym (c .before .entry .ensures) ∙ c .if1 .taken)
 
 array-read-k : tie.Need-array-read-k
 array-read-k c = search needs
@@ -55,7 +55,7 @@ loose-how-requires : tie.Need-loose-how-requires
 loose-how-requires c κs = search needs
 
 returns-2 : tie.Need-returns-2
-returns-2 c = loose-read (numberAt (c .before .before .before .before .before .before .before .before .before .before .before .before .args .wd .now)) (flagAt (c .before .before .before .before .before .before .before .before .before .before .before .before .args .lo .now)) (c .before .before .before .before .before .before .before .before .before .before .before .before .args .t1) (λ e. c .before .before .before .before .before .before .before .before .if1 .left (c .before .before .before .before .before .before .before .before .before .entry .ensures ∙ e)) (c .before .before .before .before .before .before .before .before .before .before .before .before .pre) (c .before .before .before .before .before .before .before .row .result) (c .before .before .before .before .before .before .before .row .ensures) (c .before .before .before .before .before .before .first-line .ensures) (c .before .before .before .before .before .used .ensures) (c .before .before .before .before .second-line .ensures) (c .before .before .before .used2 .ensures) (c .before .before .third-line .ensures) (c .before .used3 .ensures) (c .loose-how .ensures)
+returns-2 c = loose-read (entryAt (c .before .before .before .before .before .before .before .before .before .before .before .before .args .wd .now)) (flagAt (c .before .before .before .before .before .before .before .before .before .before .before .before .args .lo .now)) (c .before .before .before .before .before .before .before .before .before .before .before .before .args .t1) (λ e. c .before .before .before .before .before .before .before .before .if1 .left (c .before .before .before .before .before .before .before .before .before .entry .ensures ∙ e)) (c .before .before .before .before .before .before .before .before .before .before .before .before .pre) (c .before .before .before .before .before .before .before .row .result) (c .before .before .before .before .before .before .before .row .ensures) (c .before .before .before .before .before .before .first-line .ensures) (c .before .before .before .before .before .used .ensures) (c .before .before .before .before .second-line .ensures) (c .before .before .before .used2 .ensures) (c .before .before .third-line .ensures) (c .before .used3 .ensures) (c .loose-how .ensures)
 
 pub loose-spec : {M : Type 1} → statement M
 loose-spec =

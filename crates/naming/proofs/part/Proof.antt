@@ -4,7 +4,7 @@ use native.Mathlib.Omega.{arith}
 use mathlib.Core.Path.{_≡_, sym, ap, _∙_, subst}
 use mathlib.Core.List.{List}
 use lib.ListN.{drop}
-use Rattle.tables.specs.Kinds.{countOf}
+use Rattle.tables.specs.Kinds.{operandCount}
 use Rattle.texts.specs.Forms.{formRow, sorted, numbersOf}
 use Rattle.texts.specs.Split.{tokens}
 use Rattle.texts.specs.Reading.{wordIn}
@@ -38,7 +38,7 @@ cast-c c = search needs
 
 add-pass : tie.Need-add-pass
 add-pass c = let h : (c .before .before .before .before .word .result .form ≡ 0 → ⊥) = c .before .before .if1 .left in
-    omega (arith, subst (λ (r : List ℕ). countOf r ≤ 3) (sym (c .before .row .ensures)) (row-shape (c .before .before .before .before .word .result .form) (omega arith) (c .before .before .before .before .word .ensures .1 .0) .1), sorted-most (c .before .row .result), c .sorted .ensures)
+    omega (arith, subst (λ (r : List ℕ). operandCount r ≤ 3) (sym (c .before .row .ensures)) (row-shape (c .before .before .before .before .word .result .form) (omega arith) (c .before .before .before .before .word .ensures .1 .0) .1), sorted-most (c .before .row .result), c .sorted .ensures)
 
 pass-requires-2 : tie.Need-pass-requires-2
 pass-requires-2 c κs = c .before .before .before .before .word .ensures .0
@@ -47,8 +47,8 @@ only-requires : tie.Need-only-requires
 only-requires c κs = c .pass2 .ensures .0
 
 returns-2 : tie.Need-returns-2
-returns-2 c = let m : c .before .before .sorted .result + countOf (c .before .before .before .row .result) ≡ numbersOf (formRow (c .before .before .before .before .before .before .word .result .form)) = ap (λ (k : ℕ). k + countOf (c .before .before .before .row .result)) (c .before .before .sorted .ensures) ∙ ap numbersOf (c .before .before .before .row .ensures) in
-    (c .only .ensures .0, (c .only .ensures .1 .0, c .only .ensures .1 .1 ∙ (ap only (c .before .pass2 .ensures .1) ∙ (extra-of (c .before .before .before .before .before .before .before .before .before .args .l .now) (c .before .before .before .before .before .before .word .result) (tokens (drop (c .before .before .before .before .before .before .before .pass .result) (c .before .before .before .before .before .before .before .before .before .args .l .now))) (c .before .before .sorted .result + countOf (c .before .before .before .row .result)) (c .before .before .before .before .before .before .word .ensures .1 .1) (c .before .before .before .before .if1 .left) m ∙ ap (λ (ts : List (List ℕ)). extraIn (wordIn ts)) (c .before .before .before .before .before .before .before .pass .ensures .1)))))
+returns-2 c = let m : c .before .before .sorted .result + operandCount (c .before .before .before .row .result) ≡ numbersOf (formRow (c .before .before .before .before .before .before .word .result .form)) = ap (λ (k : ℕ). k + operandCount (c .before .before .before .row .result)) (c .before .before .sorted .ensures) ∙ ap numbersOf (c .before .before .before .row .ensures) in
+    (c .only .ensures .0, (c .only .ensures .1 .0, c .only .ensures .1 .1 ∙ (ap only (c .before .pass2 .ensures .1) ∙ (extra-of (c .before .before .before .before .before .before .before .before .before .args .l .now) (c .before .before .before .before .before .before .word .result) (tokens (drop (c .before .before .before .before .before .before .before .pass .result) (c .before .before .before .before .before .before .before .before .before .args .l .now))) (c .before .before .sorted .result + operandCount (c .before .before .before .row .result)) (c .before .before .before .before .before .before .word .ensures .1 .1) (c .before .before .before .before .if1 .left) m ∙ ap (λ (ts : List (List ℕ)). extraIn (wordIn ts)) (c .before .before .before .before .before .before .before .pass .ensures .1)))))
 
 pub part-spec : {M : Type 1} → statement M
 part-spec =

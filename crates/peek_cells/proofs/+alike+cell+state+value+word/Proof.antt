@@ -8,8 +8,8 @@ use native.Mathlib.Omega.{arith}
 use lib.Dec.{eqb}
 use lib.ListN.{getD}
 use Rattle.words.specs.Word.{bit}
-use Rattle.tables.specs.Lines.{isOne, isTwo, isIte, isRead, isWrite, isCmp, shapeOf, kindIn, thirdIn}
-use Rattle.circuits.specs.Cells.{say}
+use Rattle.tables.specs.Lines.{isUnary, isBinary, isIte, isRead, isWrite, isEquality, shapeOf, kindIn, thirdIn}
+use Rattle.circuits.specs.Cells.{eqOrNeq}
 use Rattle.circuits.specs.Meaning.{cellsAt}
 use Rattle.tables.specs.Layout.{linesOf}
 use Rattle.circuits.proofs.Fitting.{fit-as, op-as}
@@ -39,9 +39,9 @@ use Rattle.area.proofs.cells.Reads as cells-reads
 use Rattle.peek_values.proofs.chosen.Reads as chosen-reads
 use Rattle.peek_values.proofs.given.Reads as given-reads
 use Rattle.peek_values.proofs.keep.Reads as keep-reads
-use Rattle.peek_values.proofs.one.Reads as one-reads
+use Rattle.peek_values.proofs.unary.Reads as unary-reads
 use Rattle.peek_values.proofs.start_word.Reads as start-word-reads
-use Rattle.peek_values.proofs.two.Reads as two-reads
+use Rattle.peek_values.proofs.binary.Reads as binary-reads
 use Rattle.peek_values.proofs.record.Reads as record-reads
 use Rattle.peek_cells.proofs.+alike+cell+state+value+word.{statement}
 use Rattle.peek_cells.proofs.+alike+cell+state+value+word.Tie.{close}
@@ -101,7 +101,7 @@ abbrev state-uses : ℕ → state-lts.Claims
 state-uses t = (start-word-reads.Asked, start-word-reads.Learnt, word-below t, word.Post)
 
 abbrev value-uses : ℕ → value-lts.Claims
-value-uses t = (record-reads.Asked, record-reads.Learnt, state-below t, state.Post, word-below t, word.Post, chosen-reads.Asked, chosen-reads.Learnt, cell-below t, cell.Post, given-reads.Asked, given-reads.Learnt, one-reads.Asked, one-reads.Learnt, alike-below t, alike.Post, says-reads.Asked, says-reads.Learnt, two-reads.Asked, two-reads.Learnt)
+value-uses t = (record-reads.Asked, record-reads.Learnt, state-below t, state.Post, word-below t, word.Post, chosen-reads.Asked, chosen-reads.Learnt, cell-below t, cell.Post, given-reads.Asked, given-reads.Learnt, unary-reads.Asked, unary-reads.Learnt, alike-below t, alike.Post, says-reads.Asked, says-reads.Learnt, binary-reads.Asked, binary-reads.Learnt)
 
 abbrev word-uses : ℕ → word-lts.Claims
 word-uses t = (value-below t, value.Post, keep-reads.Asked, keep-reads.Learnt)
@@ -317,25 +317,25 @@ value-given-requires : (t : ℕ) → value-lts.Need-given-requires (value-uses t
 value-given-requires t c κs = let a = c .before .before .before .before .before .before .before .before .before .args in let p = c .before .before .before .before .before .before .before .before .before .pre in let lk = p .1 .0 in let ln = p .1 .1 .0 in given-asks lk (a .n) 0 (ln .value) (first-cell lk (a .n)) (c .before .before .«record» .ensures) (c .if1 .taken)
 
 value-word-requires-4 : (t : ℕ) → value-lts.Need-word-requires-4 (value-uses t) (value-at t) value.Post
-value-word-requires-4 t c κs = let a = c .before .before .before .before .before .before .before .before .before .before .before .before .args in let p = c .before .before .before .before .before .before .before .before .before .before .before .before .pre in let lk = p .1 .0 in let ln = p .1 .1 .0 in let F = fact lk (a .n) 0 (ln .value) (first-cell lk (a .n)) (c .before .before .before .before .before .«record» .ensures) isOne (is-one lk (a .n) 0 (ln .value) (first-cell lk (a .n)) (c .before .before .before .before .before .«record» .ensures) (c .before .before .before .if1 .left) (c .before .before .if2 .taken) (c .before .before .before .before .match .rest .0 .0 .1)) in (omega (arith, p .0, F .arg .below), (lk, (word-arg lk (F .arg), p .1 .1 .1)))
+value-word-requires-4 t c κs = let a = c .before .before .before .before .before .before .before .before .before .before .before .before .args in let p = c .before .before .before .before .before .before .before .before .before .before .before .before .pre in let lk = p .1 .0 in let ln = p .1 .1 .0 in let F = fact lk (a .n) 0 (ln .value) (first-cell lk (a .n)) (c .before .before .before .before .before .«record» .ensures) isUnary (is-one lk (a .n) 0 (ln .value) (first-cell lk (a .n)) (c .before .before .before .before .before .«record» .ensures) (c .before .before .before .if1 .left) (c .before .before .if2 .taken) (c .before .before .before .before .match .rest .0 .0 .1)) in (omega (arith, p .0, F .arg .below), (lk, (word-arg lk (F .arg), p .1 .1 .1)))
 
-value-one-requires : (t : ℕ) → value-lts.Need-one-requires (value-uses t) (value-at t) value.Post
-value-one-requires t c κs = let a = c .before .before .before .before .before .before .before .before .before .before .before .before .before .before .before .before .before .args in let p = c .before .before .before .before .before .before .before .before .before .before .before .before .before .before .before .before .before .pre in let lk = p .1 .0 in let ln = p .1 .1 .0 in let F = fact lk (a .n) 0 (ln .value) (first-cell lk (a .n)) (c .before .before .before .before .before .before .before .before .before .before .«record» .ensures) isOne (is-one lk (a .n) 0 (ln .value) (first-cell lk (a .n)) (c .before .before .before .before .before .before .before .before .before .before .«record» .ensures) (c .before .before .before .before .before .before .before .before .if1 .left) (c .before .before .before .before .before .before .before .if2 .taken) (c .before .before .before .before .before .before .before .before .before .match .rest .0 .0 .1)) in let m = number lk (a .n) (ln .value) .most in (omega arith, (omega (arith, F .arg .below), fit-as refl refl refl (c .before .before .before .before .word4 .ensures .0) refl (F .op)))
+value-one-requires : (t : ℕ) → value-lts.Need-unary-requires (value-uses t) (value-at t) value.Post
+value-one-requires t c κs = let a = c .before .before .before .before .before .before .before .before .before .before .before .before .before .before .before .before .before .args in let p = c .before .before .before .before .before .before .before .before .before .before .before .before .before .before .before .before .before .pre in let lk = p .1 .0 in let ln = p .1 .1 .0 in let F = fact lk (a .n) 0 (ln .value) (first-cell lk (a .n)) (c .before .before .before .before .before .before .before .before .before .before .«record» .ensures) isUnary (is-one lk (a .n) 0 (ln .value) (first-cell lk (a .n)) (c .before .before .before .before .before .before .before .before .before .before .«record» .ensures) (c .before .before .before .before .before .before .before .before .if1 .left) (c .before .before .before .before .before .before .before .if2 .taken) (c .before .before .before .before .before .before .before .before .before .match .rest .0 .0 .1)) in let m = number lk (a .n) (ln .value) .most in (omega arith, (omega (arith, F .arg .below), fit-as refl refl refl (c .before .before .before .before .word4 .ensures .0) refl (F .op)))
 
 value-alike-requires : (t : ℕ) → value-lts.Need-alike-requires (value-uses t) (value-at t) value.Post
-value-alike-requires t c κs = let a = c .before .before .before .before .before .before .before .before .before .before .before .before .before .args in let p = c .before .before .before .before .before .before .before .before .before .before .before .before .before .pre in let lk = p .1 .0 in let ln = p .1 .1 .0 in let F = fact lk (a .n) 0 (ln .value) (first-cell lk (a .n)) (c .before .before .before .before .before .before .«record» .ensures) (isCmp (eqb (kindIn (c .before .before .before .before .before .before .«record» .result)) 21)) (shape-cmp (c .before .before .before .if2 .left) (c .before .before .if3 .taken)) in (omega (arith, p .0, F .left .below, F .right .below), (lk, (pair lk F, p .1 .1 .1)))
+value-alike-requires t c κs = let a = c .before .before .before .before .before .before .before .before .before .before .before .before .before .args in let p = c .before .before .before .before .before .before .before .before .before .before .before .before .before .pre in let lk = p .1 .0 in let ln = p .1 .1 .0 in let F = fact lk (a .n) 0 (ln .value) (first-cell lk (a .n)) (c .before .before .before .before .before .before .«record» .ensures) (isEquality (eqb (kindIn (c .before .before .before .before .before .before .«record» .result)) 21)) (shape-cmp (c .before .before .before .if2 .left) (c .before .before .if3 .taken)) in (omega (arith, p .0, F .left .below, F .right .below), (lk, (pair lk F, p .1 .1 .1)))
 
 value-says-requires : (t : ℕ) → value-lts.Need-says-requires (value-uses t) (value-at t) value.Post
 value-says-requires t c κs = tt
 
 value-word-requires-5 : (t : ℕ) → value-lts.Need-word-requires-5 (value-uses t) (value-at t) value.Post
-value-word-requires-5 t c κs = let a = c .before .before .before .before .before .before .before .before .before .before .before .before .before .args in let p = c .before .before .before .before .before .before .before .before .before .before .before .before .before .pre in let lk = p .1 .0 in let ln = p .1 .1 .0 in let F = fact lk (a .n) 0 (ln .value) (first-cell lk (a .n)) (c .before .before .before .before .before .before .«record» .ensures) isTwo (is-two lk (a .n) 0 (ln .value) (first-cell lk (a .n)) (c .before .before .before .before .before .before .«record» .ensures) (ln .flat) (c .before .before .if3 .left) (c .before .before .before .before .before .match .rest .0 .1) (c .before .before .before .before .before .match .rest .1)) in (omega (arith, p .0, F .left .below), (lk, (word-arg lk (F .left), p .1 .1 .1)))
+value-word-requires-5 t c κs = let a = c .before .before .before .before .before .before .before .before .before .before .before .before .before .args in let p = c .before .before .before .before .before .before .before .before .before .before .before .before .before .pre in let lk = p .1 .0 in let ln = p .1 .1 .0 in let F = fact lk (a .n) 0 (ln .value) (first-cell lk (a .n)) (c .before .before .before .before .before .before .«record» .ensures) isBinary (is-two lk (a .n) 0 (ln .value) (first-cell lk (a .n)) (c .before .before .before .before .before .before .«record» .ensures) (ln .flat) (c .before .before .if3 .left) (c .before .before .before .before .before .match .rest .0 .1) (c .before .before .before .before .before .match .rest .1)) in (omega (arith, p .0, F .left .below), (lk, (word-arg lk (F .left), p .1 .1 .1)))
 
 value-word-requires-6 : (t : ℕ) → value-lts.Need-word-requires-6 (value-uses t) (value-at t) value.Post
-value-word-requires-6 t c κs = let a = c .before .before .before .before .before .before .before .before .before .before .before .before .before .before .before .before .before .before .before .before .args in let p = c .before .before .before .before .before .before .before .before .before .before .before .before .before .before .before .before .before .before .before .before .pre in let lk = p .1 .0 in let ln = p .1 .1 .0 in let F = fact lk (a .n) 0 (ln .value) (first-cell lk (a .n)) (c .before .before .before .before .before .before .before .before .before .before .before .before .before .«record» .ensures) isTwo (is-two lk (a .n) 0 (ln .value) (first-cell lk (a .n)) (c .before .before .before .before .before .before .before .before .before .before .before .before .before .«record» .ensures) (ln .flat) (c .before .before .before .before .before .before .before .before .before .if3 .left) (c .before .before .before .before .before .before .before .before .before .before .before .before .match .rest .0 .1) (c .before .before .before .before .before .before .before .before .before .before .before .before .match .rest .1)) in (omega (arith, p .0, F .right .below), (lk, (word-arg lk (F .right), c .before .before .before .before .before .before .word5 .ensures .1)))
+value-word-requires-6 t c κs = let a = c .before .before .before .before .before .before .before .before .before .before .before .before .before .before .before .before .before .before .before .before .args in let p = c .before .before .before .before .before .before .before .before .before .before .before .before .before .before .before .before .before .before .before .before .pre in let lk = p .1 .0 in let ln = p .1 .1 .0 in let F = fact lk (a .n) 0 (ln .value) (first-cell lk (a .n)) (c .before .before .before .before .before .before .before .before .before .before .before .before .before .«record» .ensures) isBinary (is-two lk (a .n) 0 (ln .value) (first-cell lk (a .n)) (c .before .before .before .before .before .before .before .before .before .before .before .before .before .«record» .ensures) (ln .flat) (c .before .before .before .before .before .before .before .before .before .if3 .left) (c .before .before .before .before .before .before .before .before .before .before .before .before .match .rest .0 .1) (c .before .before .before .before .before .before .before .before .before .before .before .before .match .rest .1)) in (omega (arith, p .0, F .right .below), (lk, (word-arg lk (F .right), c .before .before .before .before .before .before .word5 .ensures .1)))
 
-value-two-requires : (t : ℕ) → value-lts.Need-two-requires (value-uses t) (value-at t) value.Post
-value-two-requires t c κs = let a = c .before .before .before .before .before .before .before .before .before .before .before .before .before .before .before .before .before .before .before .before .before .before .before .before .before .args in let p = c .before .before .before .before .before .before .before .before .before .before .before .before .before .before .before .before .before .before .before .before .before .before .before .before .before .pre in let lk = p .1 .0 in let ln = p .1 .1 .0 in let F = fact lk (a .n) 0 (ln .value) (first-cell lk (a .n)) (c .before .before .before .before .before .before .before .before .before .before .before .before .before .before .before .before .before .before .«record» .ensures) isTwo (is-two lk (a .n) 0 (ln .value) (first-cell lk (a .n)) (c .before .before .before .before .before .before .before .before .before .before .before .before .before .before .before .before .before .before .«record» .ensures) (ln .flat) (c .before .before .before .before .before .before .before .before .before .before .before .before .before .before .if3 .left) (c .before .before .before .before .before .before .before .before .before .before .before .before .before .before .before .before .before .match .rest .0 .1) (c .before .before .before .before .before .before .before .before .before .before .before .before .before .before .before .before .before .match .rest .1)) in let m = number lk (a .n) (ln .value) .most in (omega arith, (omega (arith, F .left .below), (omega (arith, F .right .below), fit-as refl refl refl (c .before .before .before .before .before .before .before .before .before .before .before .word5 .ensures .0) (c .before .before .before .before .word6 .ensures .0) (F .op))))
+value-two-requires : (t : ℕ) → value-lts.Need-binary-requires (value-uses t) (value-at t) value.Post
+value-two-requires t c κs = let a = c .before .before .before .before .before .before .before .before .before .before .before .before .before .before .before .before .before .before .before .before .before .before .before .before .before .args in let p = c .before .before .before .before .before .before .before .before .before .before .before .before .before .before .before .before .before .before .before .before .before .before .before .before .before .pre in let lk = p .1 .0 in let ln = p .1 .1 .0 in let F = fact lk (a .n) 0 (ln .value) (first-cell lk (a .n)) (c .before .before .before .before .before .before .before .before .before .before .before .before .before .before .before .before .before .before .«record» .ensures) isBinary (is-two lk (a .n) 0 (ln .value) (first-cell lk (a .n)) (c .before .before .before .before .before .before .before .before .before .before .before .before .before .before .before .before .before .before .«record» .ensures) (ln .flat) (c .before .before .before .before .before .before .before .before .before .before .before .before .before .before .if3 .left) (c .before .before .before .before .before .before .before .before .before .before .before .before .before .before .before .before .before .match .rest .0 .1) (c .before .before .before .before .before .before .before .before .before .before .before .before .before .before .before .before .before .match .rest .1)) in let m = number lk (a .n) (ln .value) .most in (omega arith, (omega (arith, F .left .below), (omega (arith, F .right .below), fit-as refl refl refl (c .before .before .before .before .before .before .before .before .before .before .before .word5 .ensures .0) (c .before .before .before .before .word6 .ensures .0) (F .op))))
 
 value-same-length : (t : ℕ) → value-lts.Need-same-length (value-uses t) (value-at t) value.Post
 value-same-length t c = c .before .before .before .before .state .ensures .1 .long ∙ sym (c .before .before .before .before .before .before .before .before .before .before .before .before .before .before .before .pre .1 .1 .1 .long)
@@ -374,7 +374,7 @@ value-same-length-8 : (t : ℕ) → value-lts.Need-same-length-8 (value-uses t) 
 value-same-length-8 t c = c .before .before .before .before .before .word4 .ensures .1 .marks ∙ sym (c .before .before .before .before .before .before .before .before .before .before .before .before .before .before .before .before .before .before .pre .1 .1 .1 .marks)
 
 value-returns-5 : (t : ℕ) → value-lts.Need-returns-5 (value-uses t) (value-at t) value.Post
-value-returns-5 t c = let a = c .before .before .before .before .before .before .before .before .before .before .before .before .before .before .before .before .before .before .args in let p = c .before .before .before .before .before .before .before .before .before .before .before .before .before .before .before .before .before .before .pre in let lk = p .1 .0 in let ln = p .1 .1 .0 in let F = fact lk (a .n) 0 (ln .value) (first-cell lk (a .n)) (c .before .before .before .before .before .before .before .before .before .before .before .«record» .ensures) isOne (is-one lk (a .n) 0 (ln .value) (first-cell lk (a .n)) (c .before .before .before .before .before .before .before .before .before .before .before .«record» .ensures) (c .before .before .before .before .before .before .before .before .before .if1 .left) (c .before .before .before .before .before .before .before .before .if2 .taken) (c .before .before .before .before .before .before .before .before .before .before .match .rest .0 .0 .1)) in (op-as false (kindIn (c .before .before .before .before .before .before .before .before .before .before .before .«record» .result)) (thirdIn (c .before .before .before .before .before .before .before .before .before .before .before .«record» .result)) (c .one .ensures) refl refl (c .before .before .before .before .before .word4 .ensures .0) refl ∙ F .is, c .before .before .before .before .before .word4 .ensures .1)
+value-returns-5 t c = let a = c .before .before .before .before .before .before .before .before .before .before .before .before .before .before .before .before .before .before .args in let p = c .before .before .before .before .before .before .before .before .before .before .before .before .before .before .before .before .before .before .pre in let lk = p .1 .0 in let ln = p .1 .1 .0 in let F = fact lk (a .n) 0 (ln .value) (first-cell lk (a .n)) (c .before .before .before .before .before .before .before .before .before .before .before .«record» .ensures) isUnary (is-one lk (a .n) 0 (ln .value) (first-cell lk (a .n)) (c .before .before .before .before .before .before .before .before .before .before .before .«record» .ensures) (c .before .before .before .before .before .before .before .before .before .if1 .left) (c .before .before .before .before .before .before .before .before .if2 .taken) (c .before .before .before .before .before .before .before .before .before .before .match .rest .0 .0 .1)) in (op-as false (kindIn (c .before .before .before .before .before .before .before .before .before .before .before .«record» .result)) (thirdIn (c .before .before .before .before .before .before .before .before .before .before .before .«record» .result)) (c .unary .ensures) refl refl (c .before .before .before .before .before .word4 .ensures .0) refl ∙ F .is, c .before .before .before .before .before .word4 .ensures .1)
 
 value-same-length-9 : (t : ℕ) → value-lts.Need-same-length-9 (value-uses t) (value-at t) value.Post
 value-same-length-9 t c = c .before .before .before .before .before .alike .ensures .1 .long ∙ sym (c .before .before .before .before .before .before .before .before .before .before .before .before .before .before .before .before .before .before .before .pre .1 .1 .1 .long)
@@ -383,7 +383,7 @@ value-same-length-10 : (t : ℕ) → value-lts.Need-same-length-10 (value-uses t
 value-same-length-10 t c = c .before .before .before .before .before .alike .ensures .1 .marks ∙ sym (c .before .before .before .before .before .before .before .before .before .before .before .before .before .before .before .before .before .before .before .pre .1 .1 .1 .marks)
 
 value-returns-6 : (t : ℕ) → value-lts.Need-returns-6 (value-uses t) (value-at t) value.Post
-value-returns-6 t c = let a = c .before .before .before .before .before .before .before .before .before .before .before .before .before .before .before .before .before .before .before .args in let p = c .before .before .before .before .before .before .before .before .before .before .before .before .before .before .before .before .before .before .before .pre in let lk = p .1 .0 in let ln = p .1 .1 .0 in let F = fact lk (a .n) 0 (ln .value) (first-cell lk (a .n)) (c .before .before .before .before .before .before .before .before .before .before .before .before .«record» .ensures) (isCmp (eqb (kindIn (c .before .before .before .before .before .before .before .before .before .before .before .before .«record» .result)) 21)) (shape-cmp (c .before .before .before .before .before .before .before .before .before .if2 .left) (c .before .before .before .before .before .before .before .before .if3 .taken)) in (c .says .ensures ∙ ap (λ (s : Bool). bit (say (eqb (kindIn (c .before .before .before .before .before .before .before .before .before .before .before .before .«record» .result)) 21) s)) (c .before .before .before .before .before .alike .ensures .0) ∙ F .is, c .before .before .before .before .before .alike .ensures .1)
+value-returns-6 t c = let a = c .before .before .before .before .before .before .before .before .before .before .before .before .before .before .before .before .before .before .before .args in let p = c .before .before .before .before .before .before .before .before .before .before .before .before .before .before .before .before .before .before .before .pre in let lk = p .1 .0 in let ln = p .1 .1 .0 in let F = fact lk (a .n) 0 (ln .value) (first-cell lk (a .n)) (c .before .before .before .before .before .before .before .before .before .before .before .before .«record» .ensures) (isEquality (eqb (kindIn (c .before .before .before .before .before .before .before .before .before .before .before .before .«record» .result)) 21)) (shape-cmp (c .before .before .before .before .before .before .before .before .before .if2 .left) (c .before .before .before .before .before .before .before .before .if3 .taken)) in (c .says .ensures ∙ ap (λ (s : Bool). bit (eqOrNeq (eqb (kindIn (c .before .before .before .before .before .before .before .before .before .before .before .before .«record» .result)) 21) s)) (c .before .before .before .before .before .alike .ensures .0) ∙ F .is, c .before .before .before .before .before .alike .ensures .1)
 
 value-same-length-11 : (t : ℕ) → value-lts.Need-same-length-11 (value-uses t) (value-at t) value.Post
 value-same-length-11 t c = c .before .before .before .before .before .word6 .ensures .1 .long ∙ sym (c .before .before .before .before .before .before .before .before .before .before .before .before .before .before .before .before .before .before .before .before .before .before .before .before .before .before .pre .1 .1 .1 .long)
@@ -392,7 +392,7 @@ value-same-length-12 : (t : ℕ) → value-lts.Need-same-length-12 (value-uses t
 value-same-length-12 t c = c .before .before .before .before .before .word6 .ensures .1 .marks ∙ sym (c .before .before .before .before .before .before .before .before .before .before .before .before .before .before .before .before .before .before .before .before .before .before .before .before .before .before .pre .1 .1 .1 .marks)
 
 value-returns-7 : (t : ℕ) → value-lts.Need-returns-7 (value-uses t) (value-at t) value.Post
-value-returns-7 t c = let a = c .before .before .before .before .before .before .before .before .before .before .before .before .before .before .before .before .before .before .before .before .before .before .before .before .before .before .args in let p = c .before .before .before .before .before .before .before .before .before .before .before .before .before .before .before .before .before .before .before .before .before .before .before .before .before .before .pre in let lk = p .1 .0 in let ln = p .1 .1 .0 in let F = fact lk (a .n) 0 (ln .value) (first-cell lk (a .n)) (c .before .before .before .before .before .before .before .before .before .before .before .before .before .before .before .before .before .before .before .«record» .ensures) isTwo (is-two lk (a .n) 0 (ln .value) (first-cell lk (a .n)) (c .before .before .before .before .before .before .before .before .before .before .before .before .before .before .before .before .before .before .before .«record» .ensures) (ln .flat) (c .before .before .before .before .before .before .before .before .before .before .before .before .before .before .before .if3 .left) (c .before .before .before .before .before .before .before .before .before .before .before .before .before .before .before .before .before .before .match .rest .0 .1) (c .before .before .before .before .before .before .before .before .before .before .before .before .before .before .before .before .before .before .match .rest .1)) in (op-as false (kindIn (c .before .before .before .before .before .before .before .before .before .before .before .before .before .before .before .before .before .before .before .«record» .result)) 0 (c .two .ensures) refl refl (c .before .before .before .before .before .before .before .before .before .before .before .before .word5 .ensures .0) (c .before .before .before .before .before .word6 .ensures .0) ∙ F .is, c .before .before .before .before .before .word6 .ensures .1)
+value-returns-7 t c = let a = c .before .before .before .before .before .before .before .before .before .before .before .before .before .before .before .before .before .before .before .before .before .before .before .before .before .before .args in let p = c .before .before .before .before .before .before .before .before .before .before .before .before .before .before .before .before .before .before .before .before .before .before .before .before .before .before .pre in let lk = p .1 .0 in let ln = p .1 .1 .0 in let F = fact lk (a .n) 0 (ln .value) (first-cell lk (a .n)) (c .before .before .before .before .before .before .before .before .before .before .before .before .before .before .before .before .before .before .before .«record» .ensures) isBinary (is-two lk (a .n) 0 (ln .value) (first-cell lk (a .n)) (c .before .before .before .before .before .before .before .before .before .before .before .before .before .before .before .before .before .before .before .«record» .ensures) (ln .flat) (c .before .before .before .before .before .before .before .before .before .before .before .before .before .before .before .if3 .left) (c .before .before .before .before .before .before .before .before .before .before .before .before .before .before .before .before .before .before .match .rest .0 .1) (c .before .before .before .before .before .before .before .before .before .before .before .before .before .before .before .before .before .before .match .rest .1)) in (op-as false (kindIn (c .before .before .before .before .before .before .before .before .before .before .before .before .before .before .before .before .before .before .before .«record» .result)) 0 (c .binary .ensures) refl refl (c .before .before .before .before .before .before .before .before .before .before .before .before .word5 .ensures .0) (c .before .before .before .before .before .word6 .ensures .0) ∙ F .is, c .before .before .before .before .before .word6 .ensures .1)
 
 word-slice-read-if1 : (t : ℕ) → word-lts.Need-slice-read-if1 (word-uses t) (word-at t) word.Post
 word-slice-read-if1 t c = let a = c .before .before .before .before .before .before .before .args in let p = c .before .before .before .before .before .before .before .pre in let lk = p .1 .0 in let ln = p .1 .1 .0 in omega (arith, number lk (a .n) (ln .value) .most, p .1 .1 .1 .marks)

@@ -1,6 +1,6 @@
 -- `peeking::may_peek` meets its contract. Assumes nothing.
 use native.Mathlib.Omega.{arith}
-use Rattle.circuits.specs.Model.{countsOf}
+use Rattle.circuits.specs.Model.Passes.{countsOf}
 use Rattle.circuits.proofs.Placing.{shift-one}
 use Rattle.peeks.proofs.Seen.{may-14, may-15, may-many, may-class, may-cell, may-see}
 use borrow.Author.Needs.{needs}

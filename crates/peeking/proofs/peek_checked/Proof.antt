@@ -5,7 +5,7 @@ use mathlib.Core.List.{List}
 use lib.ListN.{length, length-replicate}
 use Rattle.circuits.specs.Layout.{typeAt, layout}
 use Rattle.tables.specs.Layout.{linesOf}
-use Rattle.circuits.specs.Model.{laidAs}
+use Rattle.circuits.specs.Model.Work.{laidAs}
 use Rattle.peeks.proofs.Seen.{may-on, type-is, type-deep, peek-laid, lent-refused, lent-value}
 use borrow.Author.Needs.{needs}
 use Rattle.peeking.proofs.peek_checked.Statement.{statement}

@@ -1,7 +1,7 @@
 -- `places::count_line` meets its contract, kind by kind. Assumes nothing.
 use mathlib.Core.Path.{_∙_, ap}
 use native.Mathlib.Omega.{arith}
-use Rattle.circuits.specs.Model.{countsOf, totalsOf}
+use Rattle.circuits.specs.Model.Passes.{countsOf, totalsOf}
 use Rattle.circuits.proofs.Placing.{way-input, way-state, way-const, way-mark, way-val, way-none}
 use borrow.Author.Needs.{needs}
 use Rattle.places.proofs.count_line.Statement.{statement}

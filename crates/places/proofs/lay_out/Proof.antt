@@ -5,8 +5,9 @@ use native.Mathlib.Omega.{arith}
 use Rattle.tables.specs.declared.Ty.{Ty}
 use Rattle.tables.specs.Lines.{lineOf}
 use Rattle.tables.proofs.Encoding.{fits-table}
+use Rattle.circuits.specs.declared.Spot.{Spot}
 use Rattle.circuits.specs.Layout.{size}
-use Rattle.circuits.specs.Model.{countsOf}
+use Rattle.circuits.specs.Model.Passes.{countsOf}
 use Rattle.circuits.proofs.Placing.{Sofar, begun, deep-here, small-here, further, laid, place-small}
 use Rattle.places.proofs.lay_out.Statement.{statement}
 use Rattle.places.proofs.lay_out.Tie as tie
@@ -50,7 +51,7 @@ put-line-requires-2 c κs = let s = c .before .before .before .before .before .b
     let r = place-small (countsOf (c .before .before .before .before .before .before .loop .t)) _ (lineOf (c .before .before .before .before .«record» .result)) (q .0) in
     let f = fits-table (s .program) (s .table .now) (s .count) (c .before .before .before .before .before .before .before .before .before .before .before .before .pre .0 .accepted) .0 in
     let t = c .before .before .before .before .before .loop-test .taken in
-    (omega (arith, c .before .before .before .before .before .before .loop .inv .long), (omega (arith, c .before .find-spot .ensures .0, r .0), (omega (arith, c .before .find-spot .ensures .1, r .1), omega (arith, q .1))))
+    (omega (arith, c .before .before .before .before .before .before .loop .inv .long), (omega (arith, ap (λ (x : Spot). x .off) (c .before .find-spot .ensures), r .0), (omega (arith, ap (λ (x : Spot). x .at) (c .before .find-spot .ensures), r .1), omega (arith, q .1))))
 
 count-line-requires : tie.Need-count-line-requires Inv-loop μ-loop
 count-line-requires c κs = let s = c .before .before .before .before .before .before .before .before .before .before .before .before .before .before .args in small-here (s .program) (s .table .now) (s .count) (s .notes .now) (c .before .before .before .before .before .before .before .before .before .before .before .before .before .before .pre .0) (c .before .before .before .before .before .before .before .before .loop .i) (c .before .before .before .before .before .before .before .loop-test .taken) (c .before .before .before .before .before .before .before .before .loop .inv) (c .before .before .before .before .cells-of .ensures ∙ ap size (c .before .before .before .before .before .look .ensures)) .0
@@ -63,7 +64,7 @@ loop-less c = let m = c .before .before .before .before .before .before .before 
 
 loop-again : tie.Need-loop-again Inv-loop μ-loop
 loop-again c = let s = c .before .before .before .before .before .before .before .before .before .before .before .before .before .before .before .args in
-    further (s .program) (s .table .now) (s .count) (s .notes .now) (c .before .before .before .before .before .before .before .before .before .before .before .before .before .before .before .pre .0) (c .before .before .before .before .before .before .before .before .before .loop .i) (c .before .before .before .before .before .before .before .before .loop-test .taken) (c .before .before .before .before .before .before .before .before .before .loop .laid) (c .before .before .before .before .before .before .before .before .before .loop .inv) (c .before .before .before .before .before .before .before .«record» .ensures) (c .before .before .before .before .before .before .look .ensures) (c .before .before .before .before .before .cells-of .ensures) (c .before .before .before .before .find-spot .ensures .0) (c .before .before .before .before .find-spot .ensures .1) (c .count-line .ensures) (c .before .before .put-line2 .ensures)
+    further (s .program) (s .table .now) (s .count) (s .notes .now) (c .before .before .before .before .before .before .before .before .before .before .before .before .before .before .before .pre .0) (c .before .before .before .before .before .before .before .before .before .loop .i) (c .before .before .before .before .before .before .before .before .loop-test .taken) (c .before .before .before .before .before .before .before .before .before .loop .laid) (c .before .before .before .before .before .before .before .before .before .loop .inv) (c .before .before .before .before .before .before .before .«record» .ensures) (c .before .before .before .before .before .before .look .ensures) (c .before .before .before .before .before .cells-of .ensures) (c .before .before .before .before .find-spot .ensures) (c .count-line .ensures) (c .before .before .put-line2 .ensures)
 
 same-length : tie.Need-same-length Inv-loop μ-loop
 same-length c = c .before .loop .inv .long ∙ sym (c .before .before .before .before .before .before .before .pre .1)

@@ -22,8 +22,8 @@ hasValue k = inside 3 5 k || leb 11 k
 
 -- Of each kind from 0 to 55: 1 if the first operand has to be clean; 1 if the second is a line that has to be; and when the line is loose: 0 never, 1 always, 2 if both
 -- operands are, 3 if one is, 4 if the second or third is, 5 if the first is
-abbrev pub uses : List (List ℕ)
-uses =
+abbrev pub useRows : List (List ℕ)
+useRows =
     (0 ∷ 0 ∷ 0 ∷ []) ∷ (0 ∷ 0 ∷ 0 ∷ []) ∷ (0 ∷ 0 ∷ 0 ∷ []) ∷ (0 ∷ 0 ∷ 0 ∷ []) ∷ (0 ∷ 0 ∷ 1 ∷ []) ∷ (0 ∷ 0 ∷ 0 ∷ []) ∷ (1 ∷ 1 ∷ 0 ∷ []) ∷ (1 ∷ 1 ∷ 0 ∷ [])
     ∷ (1 ∷ 0 ∷ 0 ∷ []) ∷ (1 ∷ 0 ∷ 0 ∷ []) ∷ (1 ∷ 0 ∷ 0 ∷ []) ∷ (0 ∷ 0 ∷ 1 ∷ []) ∷ (0 ∷ 0 ∷ 1 ∷ []) ∷ (0 ∷ 0 ∷ 1 ∷ []) ∷ (0 ∷ 0 ∷ 1 ∷ []) ∷ (1 ∷ 0 ∷ 0 ∷ [])
     ∷ (1 ∷ 0 ∷ 0 ∷ []) ∷ (1 ∷ 0 ∷ 0 ∷ []) ∷ (0 ∷ 0 ∷ 1 ∷ []) ∷ (1 ∷ 0 ∷ 0 ∷ []) ∷ (1 ∷ 0 ∷ 0 ∷ []) ∷ (1 ∷ 1 ∷ 0 ∷ []) ∷ (1 ∷ 1 ∷ 0 ∷ []) ∷ (1 ∷ 1 ∷ 0 ∷ [])
@@ -34,7 +34,7 @@ uses =
     ∷ []
 
 unfoldable pub usesOf : ℕ → List ℕ
-usesOf k = getD uses k []
+usesOf k = getD useRows k []
 
 -- the line is loose, by the last of these and its operands
 abbrev pub looseHow : ℕ → (l₁ l₂ l₃ : Bool) → Bool
@@ -48,8 +48,8 @@ looseHow h l₁ l₂ l₃ =
 -- ---- lists with an entry for each line number
 
 -- the entry of the line a: a number, and a mark
-abbrev pub numberAt : List ℕ → ℕ → ℕ
-numberAt xs a = getD xs a 0
+abbrev pub entryAt : List ℕ → ℕ → ℕ
+entryAt xs a = getD xs a 0
 
 abbrev pub flagAt : List ℕ → ℕ → Bool
 flagAt xs a = eqb (getD xs a 0) 1
@@ -58,5 +58,5 @@ flagAt xs a = eqb (getD xs a 0) 1
 abbrev pub markIf : (v a : ℕ) → List ℕ → List ℕ
 markIf v a ms = pick (eqb v 1) (set ms a 1) ms
 
-abbrev pub marked : List ℕ → List ℕ → List ℕ
-marked r ms = markIf (getD (usesOf (kindIn r)) 1 0) (secondIn r) (markIf (getD (usesOf (kindIn r)) 0 0) (firstIn r) ms)
+abbrev pub usesMarked : List ℕ → List ℕ → List ℕ
+usesMarked r ms = markIf (getD (usesOf (kindIn r)) 1 0) (secondIn r) (markIf (getD (usesOf (kindIn r)) 0 0) (firstIn r) ms)

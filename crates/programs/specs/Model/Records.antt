@@ -10,7 +10,7 @@ use Rattle.words.specs.Word.{bit}
 use Rattle.tables.specs.Pick.{pick}
 use Rattle.tables.specs.Lines.{fields, kindIn, sortIn, firstIn, secondIn, thirdIn}
 use Rattle.programs.specs.Uses.{looseLine}
-use Rattle.programs.specs.Model.Kinds.{firstLine, secondLine, thirdLine, hasValue, numberAt, flagAt}
+use Rattle.programs.specs.Model.Kinds.{firstLine, secondLine, thirdLine, hasValue, entryAt, flagAt}
 
 -- its line is loose
 abbrev pub looseIn : (W : ℕ → ℕ) (L : ℕ → Bool) → List ℕ → Bool
@@ -22,8 +22,8 @@ instruction W M r =
     fields (kindIn r) (W (sortIn r)) (pick (firstLine (kindIn r)) (M (firstIn r)) (firstIn r)) (pick (secondLine (kindIn r)) (M (secondIn r)) (secondIn r))
     (pick (thirdLine (kindIn r)) (M (thirdIn r)) (thirdIn r))
 
-abbrev pub maskWords : (w b : ℕ) → List ℕ
-maskWords w b = fields 56 w b 0 0
+abbrev pub maskRecord : (w b : ℕ) → List ℕ
+maskRecord w b = fields 56 w b 0 0
 
 -- what is kept of it: its width, and the instruction that uses of it take, where m says that it has a mask
 abbrev pub widthIn : (W : ℕ → ℕ) → List ℕ → ℕ
@@ -38,7 +38,7 @@ emitted k m = pick (leb k 2) 0 (pick m 2 1)
 
 -- the lists after the line n, of the record r, whose instruction would be number b; nd says whether it has a needing use
 pub record Taken (r : List ℕ) (n : ℕ) (nd : Bool) (b : ℕ) (wd num lo wd₁ num₁ lo₁ : List ℕ) (m : Bool) : Type 0 where
-  pub mask : m ≡ (looseIn (numberAt wd) (flagAt lo) r && nd)
-  pub widths : wd₁ ≡ set wd n (widthIn (numberAt wd) r)
+  pub mask : m ≡ (looseIn (entryAt wd) (flagAt lo) r && nd)
+  pub widths : wd₁ ≡ set wd n (widthIn (entryAt wd) r)
   pub numbers : num₁ ≡ set num n (numberIn (kindIn r) b m)
-  pub flags : lo₁ ≡ set lo n (bit (looseIn (numberAt wd) (flagAt lo) r))
+  pub flags : lo₁ ≡ set lo n (bit (looseIn (entryAt wd) (flagAt lo) r))

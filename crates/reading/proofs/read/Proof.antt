@@ -5,7 +5,7 @@ use mathlib.Core.Path.{sym, ap, _∙_}
 use mathlib.Core.Bool.{false}
 use lib.ListN.{length, replicate, length-replicate}
 use borrow.Author.Tests.{not-true, not-false}
-use Rattle.tables.specs.Notes.{blank}
+use Rattle.tables.specs.Model.Notes.{blank}
 use Rattle.tables.specs.Layout.{whole}
 use Rattle.tables.proofs.Checking.{fresh, shows-none}
 use Rattle.texts.proofs.Reached.{text-1, text-2, out-refused, out-text, out-lines}

@@ -1,6 +1,6 @@
 use mathlib.Core.Path.{sym, _∙_}
 use borrow.Author.Tests.{not-true, not-false}
-use Rattle.tables.specs.Notes.{lookIn, givenIn}
+use Rattle.tables.specs.Model.Notes.{lookIn, givenIn}
 use Rattle.tables.proofs.Answers.{is-eight, is-nine, is-ten, is-none}
 use borrow.Author.Needs.{needs}
 use Rattle.rules.proofs.fault.Statement.{statement}

@@ -4,7 +4,7 @@ use mathlib.Core.Path.{ap₂, sym, _∙_, ap}
 use native.Mathlib.Omega.{arith}
 use lib.ListN.{length, replicate}
 use Rattle.tables.proofs.Checking.{fresh}
-use Rattle.circuits.specs.Model.{lentRuns}
+use Rattle.circuits.specs.Model.Answers.{lentRuns}
 use Rattle.circuits.proofs.Answering.{runs-refused, runs-lent}
 use borrow.Author.Needs.{needs}
 use Rattle.runs.proofs.run_table.Statement.{statement}

@@ -1,7 +1,7 @@
 -- Rule 6, and then the others. Assumes nothing.
 use mathlib.Core.Path.{sym, _∙_}
 use borrow.Author.Tests.{not-true, not-false}
-use Rattle.tables.specs.Notes.{lookIn, givenIn}
+use Rattle.tables.specs.Model.Notes.{lookIn, givenIn}
 use Rattle.texts.proofs.Steps.{taken-bad, taken-many, taken-few}
 use Rattle.stages.proofs.finish.Statement.{statement}
 use Rattle.stages.proofs.finish.Tie as tie

@@ -3,9 +3,9 @@ use Prim.Native.Nat.{ℕ, _≤_}
 use native.Mathlib.Omega.{arith}
 use mathlib.Core.Path.{sym, ap, _∙_, subst}
 use mathlib.Core.List.{List}
-use Rattle.tables.specs.Kinds.{rowOf, countOf}
+use Rattle.tables.specs.Kinds.{rowOf, operandCount}
 use Rattle.tables.specs.Lines.{kindIn}
-use Rattle.tables.specs.Notes.{lookIn, givenIn}
+use Rattle.tables.specs.Model.Notes.{lookIn, givenIn}
 use Rattle.texts.proofs.Words.{row-shape, sorted-most}
 use Rattle.texts.proofs.Steps.{taken-from}
 use borrow.Author.Needs.{needs}
@@ -28,16 +28,16 @@ kind-of-requires : tie.Need-kind-of-requires
 kind-of-requires c κs = tt
 
 add-operands : tie.Need-add-operands
-add-operands c = let g = subst (λ (r : List ℕ). countOf r ≤ 3) (sym (c .before .before .row .ensures)) (row-shape (c .before .before .before .before .args .f) (omega arith) (omega arith) .1) in omega (arith, c .before .sorted .ensures, sorted-most (c .before .before .row .result))
+add-operands c = let g = subst (λ (r : List ℕ). operandCount r ≤ 3) (sym (c .before .before .row .ensures)) (row-shape (c .before .before .before .before .args .f) (omega arith) (omega arith) .1) in omega (arith, c .before .sorted .ensures, sorted-most (c .before .before .row .result))
 
 sub-operands : tie.Need-sub-operands
-sub-operands c = let g = subst (λ (r : List ℕ). countOf r ≤ 3) (sym (c .before .before .row .ensures)) (row-shape (c .before .before .before .before .args .f) (omega arith) (omega arith) .1) in omega (arith, c .before .sorted .ensures, sorted-most (c .before .before .row .result))
+sub-operands c = let g = subst (λ (r : List ℕ). operandCount r ≤ 3) (sym (c .before .before .row .ensures)) (row-shape (c .before .before .before .before .args .f) (omega arith) (omega arith) .1) in omega (arith, c .before .sorted .ensures, sorted-most (c .before .before .row .result))
 
 of-requires : tie.Need-of-requires
 of-requires c κs = tt
 
 operands-requires : tie.Need-operands-requires
-operands-requires c κs = let g = subst (λ (r : List ℕ). countOf r ≤ 3) (sym (c .before .before .before .row .ensures)) (row-shape (c .before .before .before .before .before .args .f) (omega arith) (omega arith) .1) in
+operands-requires c κs = let g = subst (λ (r : List ℕ). operandCount r ≤ 3) (sym (c .before .before .before .row .ensures)) (row-shape (c .before .before .before .before .before .args .f) (omega arith) (omega arith) .1) in
     let h = sorted-most (c .before .before .before .row .result) in
     (c .before .before .before .before .before .pre .0, (omega (arith, c .before .before .sorted .ensures), omega (arith, c .before .before .sorted .ensures)))
 

@@ -5,10 +5,10 @@ use Prim.Native.Nat.{_+_}
 use native.Mathlib.Omega.{arith}
 use lib.ListN.{replicate, getD}
 use Rattle.tables.specs.Pick.{pick}
-use Rattle.tables.specs.Lines.{isConst, isInput, isState, isOne, isTwo, isIte, isRead, isWrite, isGive, isMark, isCmp, shapeOf, kindIn}
+use Rattle.tables.specs.Lines.{isConst, isInput, isState, isUnary, isBinary, isIte, isRead, isWrite, isInitOrNext, isSignal, isEquality, shapeOf, kindIn}
 use Rattle.tables.proofs.Shapes.{shape-one, shape-two}
 use Rattle.circuits.specs.Cells.{put}
-use Rattle.circuits.specs.Model.{numIn, posIn, wordIn, runIn}
+use Rattle.circuits.specs.Model.Work.{numIn, posIn, wordKept, cellsKept}
 use Rattle.circuits.proofs.Dispatch.{fit-line, does-line, idle-line, alike-true, alike-false, from-two}
 use borrow.Author.Needs.{needs}
 use Rattle.step_dispatch.proofs.line.Statement.{statement}
@@ -39,22 +39,22 @@ line-state-requires : tie.Need-line-state-requires
 line-state-requires c κs = let h = fit-line (c .before .before .before .before .before .args .t3) isState (ap shapeOf (c .before .match .keys3)) (c .before .before .before .before .before .args .program) (c .before .before .before .before .before .args .laid .now) (c .before .before .before .before .before .args .all) (c .before .before .before .before .before .args .row .now) (c .before .before .before .before .before .args .work .now) (c .before .before .before .before .before .args .sig .now) (c .before .before .before .before .before .args .n) (c .before .before .before .before .before .pre) in h
 
 line-init-requires : tie.Need-line-init-requires
-line-init-requires c κs = let h = fit-line (c .before .before .before .before .before .args .t3) (isGive true) (ap shapeOf (c .before .match .keys4)) (c .before .before .before .before .before .args .program) (c .before .before .before .before .before .args .laid .now) (c .before .before .before .before .before .args .all) (c .before .before .before .before .before .args .row .now) (c .before .before .before .before .before .args .work .now) (c .before .before .before .before .before .args .sig .now) (c .before .before .before .before .before .args .n) (c .before .before .before .before .before .pre) in h
+line-init-requires c κs = let h = fit-line (c .before .before .before .before .before .args .t3) (isInitOrNext true) (ap shapeOf (c .before .match .keys4)) (c .before .before .before .before .before .args .program) (c .before .before .before .before .before .args .laid .now) (c .before .before .before .before .before .args .all) (c .before .before .before .before .before .args .row .now) (c .before .before .before .before .before .args .work .now) (c .before .before .before .before .before .args .sig .now) (c .before .before .before .before .before .args .n) (c .before .before .before .before .before .pre) in h
 
 line-next-requires : tie.Need-line-next-requires
-line-next-requires c κs = let h = fit-line (c .before .before .before .before .before .args .t3) (isGive false) (ap shapeOf (c .before .match .keys5)) (c .before .before .before .before .before .args .program) (c .before .before .before .before .before .args .laid .now) (c .before .before .before .before .before .args .all) (c .before .before .before .before .before .args .row .now) (c .before .before .before .before .before .args .work .now) (c .before .before .before .before .before .args .sig .now) (c .before .before .before .before .before .args .n) (c .before .before .before .before .before .pre) in h
+line-next-requires c κs = let h = fit-line (c .before .before .before .before .before .args .t3) (isInitOrNext false) (ap shapeOf (c .before .match .keys5)) (c .before .before .before .before .before .args .program) (c .before .before .before .before .before .args .laid .now) (c .before .before .before .before .before .args .all) (c .before .before .before .before .before .args .row .now) (c .before .before .before .before .before .args .work .now) (c .before .before .before .before .before .args .sig .now) (c .before .before .before .before .before .args .n) (c .before .before .before .before .before .pre) in h
 
-line-mark-requires : tie.Need-line-mark-requires
-line-mark-requires c κs = let h = fit-line (c .before .before .before .before .before .before .args .t3) (isMark true) (ap shapeOf (c .before .before .match .keys6)) (c .before .before .before .before .before .before .args .program) (c .before .before .before .before .before .before .args .laid .now) (c .before .before .before .before .before .before .args .all) (c .before .before .before .before .before .before .args .row .now) (c .before .before .before .before .before .before .args .work .now) (c .before .before .before .before .before .before .args .sig .now) (c .before .before .before .before .before .before .args .n) (c .before .before .before .before .before .before .pre) in h
+line-signal-requires : tie.Need-line-signal-requires
+line-signal-requires c κs = let h = fit-line (c .before .before .before .before .before .before .args .t3) (isSignal true) (ap shapeOf (c .before .before .match .keys6)) (c .before .before .before .before .before .before .args .program) (c .before .before .before .before .before .before .args .laid .now) (c .before .before .before .before .before .before .args .all) (c .before .before .before .before .before .before .args .row .now) (c .before .before .before .before .before .before .args .work .now) (c .before .before .before .before .before .before .args .sig .now) (c .before .before .before .before .before .before .args .n) (c .before .before .before .before .before .before .pre) in h
 
-line-mark-requires-2 : tie.Need-line-mark-requires-2
-line-mark-requires-2 c κs = let h = fit-line (c .before .before .before .before .before .before .args .t3) (isMark false) (ap shapeOf (c .before .before .match .keys7)) (c .before .before .before .before .before .before .args .program) (c .before .before .before .before .before .before .args .laid .now) (c .before .before .before .before .before .before .args .all) (c .before .before .before .before .before .before .args .row .now) (c .before .before .before .before .before .before .args .work .now) (c .before .before .before .before .before .before .args .sig .now) (c .before .before .before .before .before .before .args .n) (c .before .before .before .before .before .before .pre) in h
+line-signal-requires-2 : tie.Need-line-signal-requires-2
+line-signal-requires-2 c κs = let h = fit-line (c .before .before .before .before .before .before .args .t3) (isSignal false) (ap shapeOf (c .before .before .match .keys7)) (c .before .before .before .before .before .before .args .program) (c .before .before .before .before .before .before .args .laid .now) (c .before .before .before .before .before .before .args .all) (c .before .before .before .before .before .before .args .row .now) (c .before .before .before .before .before .before .args .work .now) (c .before .before .before .before .before .before .args .sig .now) (c .before .before .before .before .before .before .args .n) (c .before .before .before .before .before .before .pre) in h
 
-line-cmp-requires : tie.Need-line-cmp-requires
-line-cmp-requires c κs = let h = fit-line (c .before .before .before .before .before .args .t3) (isCmp true) (ap shapeOf (c .before .match .keys8)) (c .before .before .before .before .before .args .program) (c .before .before .before .before .before .args .laid .now) (c .before .before .before .before .before .args .all) (c .before .before .before .before .before .args .row .now) (c .before .before .before .before .before .args .work .now) (c .before .before .before .before .before .args .sig .now) (c .before .before .before .before .before .args .n) (c .before .before .before .before .before .pre) in (h .own .word, h .expr)
+line-equality-requires : tie.Need-line-equality-requires
+line-equality-requires c κs = let h = fit-line (c .before .before .before .before .before .args .t3) (isEquality true) (ap shapeOf (c .before .match .keys8)) (c .before .before .before .before .before .args .program) (c .before .before .before .before .before .args .laid .now) (c .before .before .before .before .before .args .all) (c .before .before .before .before .before .args .row .now) (c .before .before .before .before .before .args .work .now) (c .before .before .before .before .before .args .sig .now) (c .before .before .before .before .before .args .n) (c .before .before .before .before .before .pre) in (h .own .word, h .expr)
 
-line-cmp-requires-2 : tie.Need-line-cmp-requires-2
-line-cmp-requires-2 c κs = let h = fit-line (c .before .before .before .before .before .args .t3) (isCmp false) (ap shapeOf (c .before .match .keys9)) (c .before .before .before .before .before .args .program) (c .before .before .before .before .before .args .laid .now) (c .before .before .before .before .before .args .all) (c .before .before .before .before .before .args .row .now) (c .before .before .before .before .before .args .work .now) (c .before .before .before .before .before .args .sig .now) (c .before .before .before .before .before .args .n) (c .before .before .before .before .before .pre) in (h .own .word, h .expr)
+line-equality-requires-2 : tie.Need-line-equality-requires-2
+line-equality-requires-2 c κs = let h = fit-line (c .before .before .before .before .before .args .t3) (isEquality false) (ap shapeOf (c .before .match .keys9)) (c .before .before .before .before .before .args .program) (c .before .before .before .before .before .args .laid .now) (c .before .before .before .before .before .args .all) (c .before .before .before .before .before .args .row .now) (c .before .before .before .before .before .args .work .now) (c .before .before .before .before .before .args .sig .now) (c .before .before .before .before .before .args .n) (c .before .before .before .before .before .pre) in (h .own .word, h .expr)
 
 line-ite-requires : tie.Need-line-ite-requires
 line-ite-requires c κs = let h = fit-line (c .before .before .before .before .before .args .t3) isIte (ap shapeOf (c .before .match .keys10)) (c .before .before .before .before .before .args .program) (c .before .before .before .before .before .args .laid .now) (c .before .before .before .before .before .args .all) (c .before .before .before .before .before .args .row .now) (c .before .before .before .before .before .args .work .now) (c .before .before .before .before .before .args .sig .now) (c .before .before .before .before .before .args .n) (c .before .before .before .before .before .pre) in (h .own .run, h .expr)
@@ -65,26 +65,26 @@ line-read-requires c κs = let h = fit-line (c .before .before .before .before .
 line-write-requires : tie.Need-line-write-requires
 line-write-requires c κs = let h = fit-line (c .before .before .before .before .before .args .t3) isWrite (ap shapeOf (c .before .match .keys12)) (c .before .before .before .before .before .args .program) (c .before .before .before .before .before .args .laid .now) (c .before .before .before .before .before .args .all) (c .before .before .before .before .before .args .row .now) (c .before .before .before .before .before .args .work .now) (c .before .before .before .before .before .args .sig .now) (c .before .before .before .before .before .args .n) (c .before .before .before .before .before .pre) in (h .own .run, h .expr)
 
-array-read-line-one : tie.Need-array-read-line-one
-array-read-line-one c = search needs
+array-read-line-unary : tie.Need-array-read-line-unary
+array-read-line-unary c = search needs
 
-array-read-line-one-2 : tie.Need-array-read-line-one-2
-array-read-line-one-2 c = search needs
+array-read-line-unary-2 : tie.Need-array-read-line-unary-2
+array-read-line-unary-2 c = search needs
 
-line-one-requires : tie.Need-line-one-requires
-line-one-requires c κs = let h = fit-line (c .before .before .before .before .before .args .t3) isOne (ap shapeOf (c .before .match .keys13)) (c .before .before .before .before .before .args .program) (c .before .before .before .before .before .args .laid .now) (c .before .before .before .before .before .args .all) (c .before .before .before .before .before .args .row .now) (c .before .before .before .before .before .args .work .now) (c .before .before .before .before .before .args .sig .now) (c .before .before .before .before .before .args .n) (c .before .before .before .before .before .pre) in (h .own .word, h .expr)
+line-unary-requires : tie.Need-line-unary-requires
+line-unary-requires c κs = let h = fit-line (c .before .before .before .before .before .args .t3) isUnary (ap shapeOf (c .before .match .keys13)) (c .before .before .before .before .before .args .program) (c .before .before .before .before .before .args .laid .now) (c .before .before .before .before .before .args .all) (c .before .before .before .before .before .args .row .now) (c .before .before .before .before .before .args .work .now) (c .before .before .before .before .before .args .sig .now) (c .before .before .before .before .before .args .n) (c .before .before .before .before .before .pre) in (h .own .word, h .expr)
 
-array-read-line-one-3 : tie.Need-array-read-line-one-3
-array-read-line-one-3 c = search needs
+array-read-line-unary-3 : tie.Need-array-read-line-unary-3
+array-read-line-unary-3 c = search needs
 
-array-read-line-one-4 : tie.Need-array-read-line-one-4
-array-read-line-one-4 c = search needs
+array-read-line-unary-4 : tie.Need-array-read-line-unary-4
+array-read-line-unary-4 c = search needs
 
-line-one-requires-2 : tie.Need-line-one-requires-2
-line-one-requires-2 c κs = let h = fit-line (c .before .before .before .before .before .before .before .args .t3) isOne (shape-one (kindIn (c .before .before .before .before .before .before .before .args .t3)) (c .before .before .if1 .left) (omega (arith, c .before .if2 .taken))) (c .before .before .before .before .before .before .before .args .program) (c .before .before .before .before .before .before .before .args .laid .now) (c .before .before .before .before .before .before .before .args .all) (c .before .before .before .before .before .before .before .args .row .now) (c .before .before .before .before .before .before .before .args .work .now) (c .before .before .before .before .before .before .before .args .sig .now) (c .before .before .before .before .before .before .before .args .n) (c .before .before .before .before .before .before .before .pre) in (h .own .word, h .expr)
+line-unary-requires-2 : tie.Need-line-unary-requires-2
+line-unary-requires-2 c κs = let h = fit-line (c .before .before .before .before .before .before .before .args .t3) isUnary (shape-one (kindIn (c .before .before .before .before .before .before .before .args .t3)) (c .before .before .if1 .left) (omega (arith, c .before .if2 .taken))) (c .before .before .before .before .before .before .before .args .program) (c .before .before .before .before .before .before .before .args .laid .now) (c .before .before .before .before .before .before .before .args .all) (c .before .before .before .before .before .before .before .args .row .now) (c .before .before .before .before .before .before .before .args .work .now) (c .before .before .before .before .before .before .before .args .sig .now) (c .before .before .before .before .before .before .before .args .n) (c .before .before .before .before .before .before .before .pre) in (h .own .word, h .expr)
 
-line-two-requires : tie.Need-line-two-requires
-line-two-requires c κs = let h = fit-line (c .before .before .before .before .before .before .before .before .args .t3) isTwo (shape-two (kindIn (c .before .before .before .before .before .before .before .before .args .t3)) (from-two (c .before .before .if2 .left) (c .before .before .before .before .match .rest .0 .0 .0 .0 .0 .1) (c .before .before .before .before .match .rest .0 .0 .0 .0 .1)) (omega (arith, c .before .if3 .taken))) (c .before .before .before .before .before .before .before .before .args .program) (c .before .before .before .before .before .before .before .before .args .laid .now) (c .before .before .before .before .before .before .before .before .args .all) (c .before .before .before .before .before .before .before .before .args .row .now) (c .before .before .before .before .before .before .before .before .args .work .now) (c .before .before .before .before .before .before .before .before .args .sig .now) (c .before .before .before .before .before .before .before .before .args .n) (c .before .before .before .before .before .before .before .before .pre) in (h .own .word, h .expr)
+line-binary-requires : tie.Need-line-binary-requires
+line-binary-requires c κs = let h = fit-line (c .before .before .before .before .before .before .before .before .args .t3) isBinary (shape-two (kindIn (c .before .before .before .before .before .before .before .before .args .t3)) (from-two (c .before .before .if2 .left) (c .before .before .before .before .match .rest .0 .0 .0 .0 .0 .1) (c .before .before .before .before .match .rest .0 .0 .0 .0 .1)) (omega (arith, c .before .if3 .taken))) (c .before .before .before .before .before .before .before .before .args .program) (c .before .before .before .before .before .before .before .before .args .laid .now) (c .before .before .before .before .before .before .before .before .args .all) (c .before .before .before .before .before .before .before .before .args .row .now) (c .before .before .before .before .before .before .before .before .args .work .now) (c .before .before .before .before .before .before .before .before .args .sig .now) (c .before .before .before .before .before .before .before .before .args .n) (c .before .before .before .before .before .before .before .before .pre) in (h .own .word, h .expr)
 
 same-length : tie.Need-same-length
 same-length c = search needs
@@ -108,13 +108,13 @@ same-length-4 : tie.Need-same-length-4
 same-length-4 c = search needs
 
 returns-4 : tie.Need-returns-4
-returns-4 c = does-line (c .before .before .before .before .before .before .before .before .args .t3) (isGive true) (ap shapeOf (c .before .before .before .before .match .keys4)) (c .before .before .before .before .before .before .before .before .args .program) (c .before .before .before .before .before .before .before .before .args .first) (c .before .before .before .before .before .before .before .before .args .laid .now) (c .before .before .before .before .before .before .before .before .args .all) (c .before .before .before .before .before .before .before .before .args .row .now) (c .before .before .before .before .before .before .before .before .args .work .now) (c .before .before .before .before .before .before .before .before .args .sig .now) (c .before .before .before .before .before .before .before .before .args .n) (c .before .before .line-init .ensures ∙ ap (λ (b : Bool). pick b (put (c .before .before .before .before .before .before .before .before .args .work .now) (c .before .before .before .before .before .before .before .before .args .all + posIn (c .before .before .before .before .before .before .before .before .args .laid .now) (getD (c .before .before .before .before .before .before .before .before .args .t3) 2 0)) (replicate (numIn (c .before .before .before .before .before .before .before .before .args .laid .now) (getD (c .before .before .before .before .before .before .before .before .args .t3) 2 0)) (wordIn (c .before .before .before .before .before .before .before .before .args .laid .now) (c .before .before .before .before .before .before .before .before .args .work .now) (getD (c .before .before .before .before .before .before .before .before .args .t3) 3 0)))) (c .before .before .before .before .before .before .before .before .args .work .now)) (alike-true (c .before .before .before .before .before .before .before .before .args .first))) refl
+returns-4 c = does-line (c .before .before .before .before .before .before .before .before .args .t3) (isInitOrNext true) (ap shapeOf (c .before .before .before .before .match .keys4)) (c .before .before .before .before .before .before .before .before .args .program) (c .before .before .before .before .before .before .before .before .args .first) (c .before .before .before .before .before .before .before .before .args .laid .now) (c .before .before .before .before .before .before .before .before .args .all) (c .before .before .before .before .before .before .before .before .args .row .now) (c .before .before .before .before .before .before .before .before .args .work .now) (c .before .before .before .before .before .before .before .before .args .sig .now) (c .before .before .before .before .before .before .before .before .args .n) (c .before .before .line-init .ensures ∙ ap (λ (b : Bool). pick b (put (c .before .before .before .before .before .before .before .before .args .work .now) (c .before .before .before .before .before .before .before .before .args .all + posIn (c .before .before .before .before .before .before .before .before .args .laid .now) (getD (c .before .before .before .before .before .before .before .before .args .t3) 2 0)) (replicate (numIn (c .before .before .before .before .before .before .before .before .args .laid .now) (getD (c .before .before .before .before .before .before .before .before .args .t3) 2 0)) (wordKept (c .before .before .before .before .before .before .before .before .args .laid .now) (c .before .before .before .before .before .before .before .before .args .work .now) (getD (c .before .before .before .before .before .before .before .before .args .t3) 3 0)))) (c .before .before .before .before .before .before .before .before .args .work .now)) (alike-true (c .before .before .before .before .before .before .before .before .args .first))) refl
 
 same-length-5 : tie.Need-same-length-5
 same-length-5 c = search needs
 
 returns-5 : tie.Need-returns-5
-returns-5 c = does-line (c .before .before .before .before .before .before .before .before .args .t3) (isGive false) (ap shapeOf (c .before .before .before .before .match .keys5)) (c .before .before .before .before .before .before .before .before .args .program) (c .before .before .before .before .before .before .before .before .args .first) (c .before .before .before .before .before .before .before .before .args .laid .now) (c .before .before .before .before .before .before .before .before .args .all) (c .before .before .before .before .before .before .before .before .args .row .now) (c .before .before .before .before .before .before .before .before .args .work .now) (c .before .before .before .before .before .before .before .before .args .sig .now) (c .before .before .before .before .before .before .before .before .args .n) (c .before .before .line-next .ensures ∙ ap (λ (b : Bool). pick b (put (c .before .before .before .before .before .before .before .before .args .work .now) (c .before .before .before .before .before .before .before .before .args .all + posIn (c .before .before .before .before .before .before .before .before .args .laid .now) (getD (c .before .before .before .before .before .before .before .before .args .t3) 2 0)) (runIn (c .before .before .before .before .before .before .before .before .args .laid .now) (c .before .before .before .before .before .before .before .before .args .work .now) (getD (c .before .before .before .before .before .before .before .before .args .t3) 3 0))) (c .before .before .before .before .before .before .before .before .args .work .now)) (alike-false (c .before .before .before .before .before .before .before .before .args .first))) refl
+returns-5 c = does-line (c .before .before .before .before .before .before .before .before .args .t3) (isInitOrNext false) (ap shapeOf (c .before .before .before .before .match .keys5)) (c .before .before .before .before .before .before .before .before .args .program) (c .before .before .before .before .before .before .before .before .args .first) (c .before .before .before .before .before .before .before .before .args .laid .now) (c .before .before .before .before .before .before .before .before .args .all) (c .before .before .before .before .before .before .before .before .args .row .now) (c .before .before .before .before .before .before .before .before .args .work .now) (c .before .before .before .before .before .before .before .before .args .sig .now) (c .before .before .before .before .before .before .before .before .args .n) (c .before .before .line-next .ensures ∙ ap (λ (b : Bool). pick b (put (c .before .before .before .before .before .before .before .before .args .work .now) (c .before .before .before .before .before .before .before .before .args .all + posIn (c .before .before .before .before .before .before .before .before .args .laid .now) (getD (c .before .before .before .before .before .before .before .before .args .t3) 2 0)) (cellsKept (c .before .before .before .before .before .before .before .before .args .laid .now) (c .before .before .before .before .before .before .before .before .args .work .now) (getD (c .before .before .before .before .before .before .before .before .args .t3) 3 0))) (c .before .before .before .before .before .before .before .before .args .work .now)) (alike-false (c .before .before .before .before .before .before .before .before .args .first))) refl
 
 same-length-6 : tie.Need-same-length-6
 same-length-6 c = search needs
@@ -123,7 +123,7 @@ same-length-7 : tie.Need-same-length-7
 same-length-7 c = search needs
 
 returns-6 : tie.Need-returns-6
-returns-6 c = does-line (c .before .before .before .before .before .before .before .before .before .args .t3) (isMark true) (ap shapeOf (c .before .before .before .before .before .match .keys6)) (c .before .before .before .before .before .before .before .before .before .args .program) (c .before .before .before .before .before .before .before .before .before .args .first) (c .before .before .before .before .before .before .before .before .before .args .laid .now) (c .before .before .before .before .before .before .before .before .before .args .all) (c .before .before .before .before .before .before .before .before .before .args .row .now) (c .before .before .before .before .before .before .before .before .before .args .work .now) (c .before .before .before .before .before .before .before .before .before .args .sig .now) (c .before .before .before .before .before .before .before .before .before .args .n) refl (c .before .before .line-mark .ensures)
+returns-6 c = does-line (c .before .before .before .before .before .before .before .before .before .args .t3) (isSignal true) (ap shapeOf (c .before .before .before .before .before .match .keys6)) (c .before .before .before .before .before .before .before .before .before .args .program) (c .before .before .before .before .before .before .before .before .before .args .first) (c .before .before .before .before .before .before .before .before .before .args .laid .now) (c .before .before .before .before .before .before .before .before .before .args .all) (c .before .before .before .before .before .before .before .before .before .args .row .now) (c .before .before .before .before .before .before .before .before .before .args .work .now) (c .before .before .before .before .before .before .before .before .before .args .sig .now) (c .before .before .before .before .before .before .before .before .before .args .n) refl (c .before .before .line-signal .ensures)
 
 same-length-8 : tie.Need-same-length-8
 same-length-8 c = search needs
@@ -132,19 +132,19 @@ same-length-9 : tie.Need-same-length-9
 same-length-9 c = search needs
 
 returns-7 : tie.Need-returns-7
-returns-7 c = does-line (c .before .before .before .before .before .before .before .before .before .args .t3) (isMark false) (ap shapeOf (c .before .before .before .before .before .match .keys7)) (c .before .before .before .before .before .before .before .before .before .args .program) (c .before .before .before .before .before .before .before .before .before .args .first) (c .before .before .before .before .before .before .before .before .before .args .laid .now) (c .before .before .before .before .before .before .before .before .before .args .all) (c .before .before .before .before .before .before .before .before .before .args .row .now) (c .before .before .before .before .before .before .before .before .before .args .work .now) (c .before .before .before .before .before .before .before .before .before .args .sig .now) (c .before .before .before .before .before .before .before .before .before .args .n) refl (c .before .before .line-mark2 .ensures)
+returns-7 c = does-line (c .before .before .before .before .before .before .before .before .before .args .t3) (isSignal false) (ap shapeOf (c .before .before .before .before .before .match .keys7)) (c .before .before .before .before .before .before .before .before .before .args .program) (c .before .before .before .before .before .before .before .before .before .args .first) (c .before .before .before .before .before .before .before .before .before .args .laid .now) (c .before .before .before .before .before .before .before .before .before .args .all) (c .before .before .before .before .before .before .before .before .before .args .row .now) (c .before .before .before .before .before .before .before .before .before .args .work .now) (c .before .before .before .before .before .before .before .before .before .args .sig .now) (c .before .before .before .before .before .before .before .before .before .args .n) refl (c .before .before .line-signal2 .ensures)
 
 same-length-10 : tie.Need-same-length-10
 same-length-10 c = search needs
 
 returns-8 : tie.Need-returns-8
-returns-8 c = does-line (c .before .before .before .before .before .before .before .before .args .t3) (isCmp true) (ap shapeOf (c .before .before .before .before .match .keys8)) (c .before .before .before .before .before .before .before .before .args .program) (c .before .before .before .before .before .before .before .before .args .first) (c .before .before .before .before .before .before .before .before .args .laid .now) (c .before .before .before .before .before .before .before .before .args .all) (c .before .before .before .before .before .before .before .before .args .row .now) (c .before .before .before .before .before .before .before .before .args .work .now) (c .before .before .before .before .before .before .before .before .args .sig .now) (c .before .before .before .before .before .before .before .before .args .n) (c .before .before .line-cmp .ensures) refl
+returns-8 c = does-line (c .before .before .before .before .before .before .before .before .args .t3) (isEquality true) (ap shapeOf (c .before .before .before .before .match .keys8)) (c .before .before .before .before .before .before .before .before .args .program) (c .before .before .before .before .before .before .before .before .args .first) (c .before .before .before .before .before .before .before .before .args .laid .now) (c .before .before .before .before .before .before .before .before .args .all) (c .before .before .before .before .before .before .before .before .args .row .now) (c .before .before .before .before .before .before .before .before .args .work .now) (c .before .before .before .before .before .before .before .before .args .sig .now) (c .before .before .before .before .before .before .before .before .args .n) (c .before .before .line-equality .ensures) refl
 
 same-length-11 : tie.Need-same-length-11
 same-length-11 c = search needs
 
 returns-9 : tie.Need-returns-9
-returns-9 c = does-line (c .before .before .before .before .before .before .before .before .args .t3) (isCmp false) (ap shapeOf (c .before .before .before .before .match .keys9)) (c .before .before .before .before .before .before .before .before .args .program) (c .before .before .before .before .before .before .before .before .args .first) (c .before .before .before .before .before .before .before .before .args .laid .now) (c .before .before .before .before .before .before .before .before .args .all) (c .before .before .before .before .before .before .before .before .args .row .now) (c .before .before .before .before .before .before .before .before .args .work .now) (c .before .before .before .before .before .before .before .before .args .sig .now) (c .before .before .before .before .before .before .before .before .args .n) (c .before .before .line-cmp2 .ensures) refl
+returns-9 c = does-line (c .before .before .before .before .before .before .before .before .args .t3) (isEquality false) (ap shapeOf (c .before .before .before .before .match .keys9)) (c .before .before .before .before .before .before .before .before .args .program) (c .before .before .before .before .before .before .before .before .args .first) (c .before .before .before .before .before .before .before .before .args .laid .now) (c .before .before .before .before .before .before .before .before .args .all) (c .before .before .before .before .before .before .before .before .args .row .now) (c .before .before .before .before .before .before .before .before .args .work .now) (c .before .before .before .before .before .before .before .before .args .sig .now) (c .before .before .before .before .before .before .before .before .args .n) (c .before .before .line-equality2 .ensures) refl
 
 same-length-12 : tie.Need-same-length-12
 same-length-12 c = search needs
@@ -168,7 +168,7 @@ same-length-15 : tie.Need-same-length-15
 same-length-15 c = search needs
 
 returns-13 : tie.Need-returns-13
-returns-13 c = does-line (c .before .before .before .before .before .before .before .before .args .t3) isOne (ap shapeOf (c .before .before .before .before .match .keys13)) (c .before .before .before .before .before .before .before .before .args .program) (c .before .before .before .before .before .before .before .before .args .first) (c .before .before .before .before .before .before .before .before .args .laid .now) (c .before .before .before .before .before .before .before .before .args .all) (c .before .before .before .before .before .before .before .before .args .row .now) (c .before .before .before .before .before .before .before .before .args .work .now) (c .before .before .before .before .before .before .before .before .args .sig .now) (c .before .before .before .before .before .before .before .before .args .n) (c .before .before .line-one .ensures) refl
+returns-13 c = does-line (c .before .before .before .before .before .before .before .before .args .t3) isUnary (ap shapeOf (c .before .before .before .before .match .keys13)) (c .before .before .before .before .before .before .before .before .args .program) (c .before .before .before .before .before .before .before .before .args .first) (c .before .before .before .before .before .before .before .before .args .laid .now) (c .before .before .before .before .before .before .before .before .args .all) (c .before .before .before .before .before .before .before .before .args .row .now) (c .before .before .before .before .before .before .before .before .args .work .now) (c .before .before .before .before .before .before .before .before .args .sig .now) (c .before .before .before .before .before .before .before .before .args .n) (c .before .before .line-unary .ensures) refl
 
 returns-14 : tie.Need-returns-14
 returns-14 c = idle-line (c .before .before .before .before .before .args .t3) (c .before .before .before .before .before .args .program) (c .before .before .before .before .before .args .first) (c .before .before .before .before .before .args .laid .now) (c .before .before .before .before .before .args .all) (c .before .before .before .before .before .args .row .now) (c .before .before .before .before .before .args .work .now) (c .before .before .before .before .before .args .sig .now) (c .before .before .before .before .before .args .n) (c .before .match .rest .0 .0 .0 .0 .0 .0 .0 .0 .0 .0 .0 .0 .1) (c .before .match .rest .0 .0 .0 .0 .0 .0 .0 .0 .0 .0 .0 .1) (c .before .match .rest .0 .0 .0 .0 .0 .0 .0 .0 .0 .0 .1) (c .before .match .rest .0 .0 .0 .0 .0 .0 .0 .0 .0 .1) (c .before .match .rest .0 .0 .0 .0 .0 .0 .0 .0 .1) (c .before .match .rest .0 .0 .0 .0 .0 .0 .0 .1) (c .before .match .rest .0 .0 .0 .0 .0 .0 .1) (λ h l. omega (arith, c .if1 .taken)) (c .before .match .rest .0 .0 .0 .0 .0 .1) (c .before .match .rest .0 .0 .0 .0 .1) (λ h l. omega (arith, c .if1 .taken)) (c .before .match .rest .0 .0 .0 .1) (c .before .match .rest .0 .0 .1) (c .before .match .rest .0 .1) (c .before .match .rest .1)
@@ -177,13 +177,13 @@ same-length-16 : tie.Need-same-length-16
 same-length-16 c = search needs
 
 returns-15 : tie.Need-returns-15
-returns-15 c = does-line (c .before .before .before .before .before .before .before .before .before .before .args .t3) isOne (shape-one (kindIn (c .before .before .before .before .before .before .before .before .before .before .args .t3)) (c .before .before .before .before .before .if1 .left) (omega (arith, c .before .before .before .before .if2 .taken))) (c .before .before .before .before .before .before .before .before .before .before .args .program) (c .before .before .before .before .before .before .before .before .before .before .args .first) (c .before .before .before .before .before .before .before .before .before .before .args .laid .now) (c .before .before .before .before .before .before .before .before .before .before .args .all) (c .before .before .before .before .before .before .before .before .before .before .args .row .now) (c .before .before .before .before .before .before .before .before .before .before .args .work .now) (c .before .before .before .before .before .before .before .before .before .before .args .sig .now) (c .before .before .before .before .before .before .before .before .before .before .args .n) (c .before .before .line-one2 .ensures) refl
+returns-15 c = does-line (c .before .before .before .before .before .before .before .before .before .before .args .t3) isUnary (shape-one (kindIn (c .before .before .before .before .before .before .before .before .before .before .args .t3)) (c .before .before .before .before .before .if1 .left) (omega (arith, c .before .before .before .before .if2 .taken))) (c .before .before .before .before .before .before .before .before .before .before .args .program) (c .before .before .before .before .before .before .before .before .before .before .args .first) (c .before .before .before .before .before .before .before .before .before .before .args .laid .now) (c .before .before .before .before .before .before .before .before .before .before .args .all) (c .before .before .before .before .before .before .before .before .before .before .args .row .now) (c .before .before .before .before .before .before .before .before .before .before .args .work .now) (c .before .before .before .before .before .before .before .before .before .before .args .sig .now) (c .before .before .before .before .before .before .before .before .before .before .args .n) (c .before .before .line-unary2 .ensures) refl
 
 same-length-17 : tie.Need-same-length-17
 same-length-17 c = search needs
 
 returns-16 : tie.Need-returns-16
-returns-16 c = does-line (c .before .before .before .before .before .before .before .before .before .before .before .args .t3) isTwo (shape-two (kindIn (c .before .before .before .before .before .before .before .before .before .before .before .args .t3)) (from-two (c .before .before .before .before .before .if2 .left) (c .before .before .before .before .before .before .before .match .rest .0 .0 .0 .0 .0 .1) (c .before .before .before .before .before .before .before .match .rest .0 .0 .0 .0 .1)) (omega (arith, c .before .before .before .before .if3 .taken))) (c .before .before .before .before .before .before .before .before .before .before .before .args .program) (c .before .before .before .before .before .before .before .before .before .before .before .args .first) (c .before .before .before .before .before .before .before .before .before .before .before .args .laid .now) (c .before .before .before .before .before .before .before .before .before .before .before .args .all) (c .before .before .before .before .before .before .before .before .before .before .before .args .row .now) (c .before .before .before .before .before .before .before .before .before .before .before .args .work .now) (c .before .before .before .before .before .before .before .before .before .before .before .args .sig .now) (c .before .before .before .before .before .before .before .before .before .before .before .args .n) (c .before .before .line-two .ensures) refl
+returns-16 c = does-line (c .before .before .before .before .before .before .before .before .before .before .before .args .t3) isBinary (shape-two (kindIn (c .before .before .before .before .before .before .before .before .before .before .before .args .t3)) (from-two (c .before .before .before .before .before .if2 .left) (c .before .before .before .before .before .before .before .match .rest .0 .0 .0 .0 .0 .1) (c .before .before .before .before .before .before .before .match .rest .0 .0 .0 .0 .1)) (omega (arith, c .before .before .before .before .if3 .taken))) (c .before .before .before .before .before .before .before .before .before .before .before .args .program) (c .before .before .before .before .before .before .before .before .before .before .before .args .first) (c .before .before .before .before .before .before .before .before .before .before .before .args .laid .now) (c .before .before .before .before .before .before .before .before .before .before .before .args .all) (c .before .before .before .before .before .before .before .before .before .before .before .args .row .now) (c .before .before .before .before .before .before .before .before .before .before .before .args .work .now) (c .before .before .before .before .before .before .before .before .before .before .before .args .sig .now) (c .before .before .before .before .before .before .before .before .before .before .before .args .n) (c .before .before .line-binary .ensures) refl
 
 returns-17 : tie.Need-returns-17
 returns-17 c = idle-line (c .before .before .before .before .before .before .before .args .t3) (c .before .before .before .before .before .before .before .args .program) (c .before .before .before .before .before .before .before .args .first) (c .before .before .before .before .before .before .before .args .laid .now) (c .before .before .before .before .before .before .before .args .all) (c .before .before .before .before .before .before .before .args .row .now) (c .before .before .before .before .before .before .before .args .work .now) (c .before .before .before .before .before .before .before .args .sig .now) (c .before .before .before .before .before .before .before .args .n) (c .before .before .before .match .rest .0 .0 .0 .0 .0 .0 .0 .0 .0 .0 .0 .0 .1) (c .before .before .before .match .rest .0 .0 .0 .0 .0 .0 .0 .0 .0 .0 .0 .1) (c .before .before .before .match .rest .0 .0 .0 .0 .0 .0 .0 .0 .0 .0 .1) (c .before .before .before .match .rest .0 .0 .0 .0 .0 .0 .0 .0 .0 .1) (c .before .before .before .match .rest .0 .0 .0 .0 .0 .0 .0 .0 .1) (c .before .before .before .match .rest .0 .0 .0 .0 .0 .0 .0 .1) (c .before .before .before .match .rest .0 .0 .0 .0 .0 .0 .1) (λ h l. omega (arith, c .if3 .left)) (c .before .before .before .match .rest .0 .0 .0 .0 .0 .1) (c .before .before .before .match .rest .0 .0 .0 .0 .1) (λ h l. omega (arith, c .if3 .left)) (c .before .before .before .match .rest .0 .0 .0 .1) (c .before .before .before .match .rest .0 .0 .1) (c .before .before .before .match .rest .0 .1) (c .before .before .before .match .rest .1)
@@ -202,20 +202,20 @@ line-spec =
     line-state-requires
     line-init-requires
     line-next-requires
-    line-mark-requires
-    line-mark-requires-2
-    line-cmp-requires
-    line-cmp-requires-2
+    line-signal-requires
+    line-signal-requires-2
+    line-equality-requires
+    line-equality-requires-2
     line-ite-requires
     line-read-requires
     line-write-requires
-    array-read-line-one
-    array-read-line-one-2
-    line-one-requires
-    array-read-line-one-3
-    array-read-line-one-4
-    line-one-requires-2
-    line-two-requires
+    array-read-line-unary
+    array-read-line-unary-2
+    line-unary-requires
+    array-read-line-unary-3
+    array-read-line-unary-4
+    line-unary-requires-2
+    line-binary-requires
     same-length
     returns
     same-length-2

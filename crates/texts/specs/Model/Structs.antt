@@ -13,12 +13,12 @@ use Rattle.texts.specs.Reading.{Word, word, unknown, Reply, skip, no, go
 use Rattle.texts.specs.Model.Stages.{Took, took, malformed}
 
 -- a form and the place behind its word; 0 for an unknown word
-abbrev pub wordAt : List ℕ → ℕ → ℕ → Word
-wordAt l zero i = unknown
-wordAt l (suc f) i = word (suc f) (tokens (drop i l))
+abbrev pub wordWith : List ℕ → ℕ → ℕ → Word
+wordWith l zero i = unknown
+wordWith l (suc f) i = word (suc f) (tokens (drop i l))
 
 abbrev pub asWord : List ℕ → Form → Word
-asWord l w = wordAt l (w .form) (w .at)
+asWord l w = wordWith l (w .form) (w .at)
 
 abbrev pub tookAt : Bool → List ℕ → Bool → ℕ → List (List ℕ) → Took
 tookAt true rec big len ts = took rec big len ts

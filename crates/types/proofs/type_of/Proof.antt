@@ -1,6 +1,6 @@
 use mathlib.Core.Path.{refl, ap}
 use native.Mathlib.Omega.{arith}
-use Rattle.tables.specs.Lines.{isBitvec, isArray, isConst, isInput, isState, isJunk, shapeOf, kindIn}
+use Rattle.tables.specs.Lines.{isBitvec, isArray, isConst, isInput, isState, isUnknown, shapeOf, kindIn}
 use Rattle.tables.proofs.Laws.{past}
 use Rattle.tables.proofs.Shapes.{shape-zero, type-as, no-type}
 use borrow.Author.Needs.{needs}
@@ -15,7 +15,7 @@ array-read-k : tie.Need-array-read-k
 array-read-k c = search needs
 
 returns : tie.Need-returns
-returns c = let s = c .before .args in type-as (s .t1) (s .t) (s .a) (s .b) (s .c) isJunk (shape-zero (kindIn (s .t1)) (c .if1 .taken)) refl
+returns c = let s = c .before .args in type-as (s .t1) (s .t) (s .a) (s .b) (s .c) isUnknown (shape-zero (kindIn (s .t1)) (c .if1 .taken)) refl
 
 type-of-value-requires : tie.Need-type-of-value-requires
 type-of-value-requires c κs = search needs

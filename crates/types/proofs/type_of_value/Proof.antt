@@ -2,7 +2,7 @@ use mathlib.Core.Path.{refl, ap, _∙_}
 use mathlib.Core.Bool.{Bool}
 use Rattle.tables.specs.Pick.{pick}
 use Rattle.tables.specs.Types.{ty}
-use Rattle.tables.specs.Lines.{isOne, isIte, isWrite, isJunk, shapeOf, kindIn}
+use Rattle.tables.specs.Lines.{isUnary, isIte, isWrite, isUnknown, shapeOf, kindIn}
 use Rattle.tables.proofs.Shapes.{shape-one, shape-past, type-as, two-type}
 use borrow.Author.Needs.{needs}
 use Rattle.types.proofs.type_of_value.Statement.{statement}
@@ -20,10 +20,10 @@ value-requires : tie.Need-value-requires
 value-requires c κs = search needs
 
 returns : tie.Need-returns
-returns c = let s = c .before .before .before .args in type-as (s .t1) (s .t) (s .a) (s .b) (s .c) isOne (shape-one (kindIn (s .t1)) (c .before .before .before .pre) (c .before .before .if1 .taken)) (c .value .ensures)
+returns c = let s = c .before .before .before .args in type-as (s .t1) (s .t) (s .a) (s .b) (s .c) isUnary (shape-one (kindIn (s .t1)) (c .before .before .before .pre) (c .before .before .if1 .taken)) (c .value .ensures)
 
 returns-2 : tie.Need-returns-2
-returns-2 c = let s = c .before .before .args in type-as (s .t1) (s .t) (s .a) (s .b) (s .c) isJunk (shape-past (kindIn (s .t1)) (c .if2 .taken)) refl
+returns-2 c = let s = c .before .before .args in type-as (s .t1) (s .t) (s .a) (s .b) (s .c) isUnknown (shape-past (kindIn (s .t1)) (c .if2 .taken)) refl
 
 fixed-three-requires : tie.Need-fixed-three-requires
 fixed-three-requires c κs = tt
@@ -53,7 +53,7 @@ returns-4 : tie.Need-returns-4
 returns-4 c = let s = c .before .before .before .before .before .args in type-as (s .t1) (s .t) (s .a) (s .b) (s .c) isWrite (ap shapeOf (c .before .before .match .keys2)) (c .value3 .ensures ∙ ap (λ (f : Bool). ty (pick f 2 3) (s .t .iw) (s .t .w)) (c .before .fixed-three2 .ensures))
 
 returns-5 : tie.Need-returns-5
-returns-5 c = let s = c .before .before .before .before .before .args in type-as (s .t1) (s .t) (s .a) (s .b) (s .c) isOne (ap shapeOf (c .before .before .match .keys3)) (c .value4 .ensures)
+returns-5 c = let s = c .before .before .before .before .before .args in type-as (s .t1) (s .t) (s .a) (s .b) (s .c) isUnary (ap shapeOf (c .before .before .match .keys3)) (c .value4 .ensures)
 
 returns-6 : tie.Need-returns-6
 returns-6 c = let s = c .before .before .before .before .before .args in c .value5 .ensures ∙ ap (λ (f : Bool). ty (pick f 2 3) (s .t .iw) (s .t .w)) (c .before .fixed-two .ensures) ∙ two-type (s .t1) (s .t) (s .a) (s .b) (s .c) (c .before .before .before .before .if1 .left) (c .before .before .before .if2 .left) (c .before .before .match .rest .0 .0 .1) (c .before .before .match .rest .0 .1) (c .before .before .match .rest .1)

@@ -4,7 +4,7 @@ use Prim.Native.Nat.{ℕ, _≤_}
 use native.Mathlib.Omega.{arith}
 use mathlib.Core.Path.{sym, subst, _∙_}
 use mathlib.Core.List.{List}
-use Rattle.tables.specs.Kinds.{countOf}
+use Rattle.tables.specs.Kinds.{operandCount}
 use Rattle.tables.specs.Lines.{kindIn}
 use Rattle.texts.proofs.Words.{sorted-most}
 use Rattle.texts.proofs.Printed.{row-fit, line-length, line-put}
@@ -34,13 +34,13 @@ put-kind-requires : tie.Need-put-kind-requires
 put-kind-requires c κs = (c .before .before .before .before .before .before .before .before .pre .1 .0, (c .before .before .before .before .before .before .before .before .pre .1 .1 .0, (c .before .before .before .before .before .before .row-of .ensures, omega (arith, c .before .before .before .before .before .before .before .before .pre .1 .1 .1, c .before .before .before .put-number .ensures .0, line-length (c .before .before .before .before .before .before .before .before .args .id) (c .before .before .before .before .before .before .before .before .args .t5) (c .before .before .before .before .before .before .row-of .result) (c .before .before .before .before .before .sorted .result) (c .before .before .before .before .before .before .row-of .ensures) (c .before .before .before .before .before .sorted .ensures)))))
 
 add-put-numbers : tie.Need-add-put-numbers
-add-put-numbers c = omega (arith, subst (λ (r : List ℕ). countOf r ≤ 3) (sym (c .before .before .before .before .before .before .before .before .before .before .row-of .ensures)) (row-fit (kindIn (c .before .before .before .before .before .before .before .before .before .before .before .before .args .t5)) (c .before .before .before .before .before .before .before .before .before .before .before .before .pre .1 .0) (c .before .before .before .before .before .before .before .before .before .before .before .before .pre .1 .1 .0) .1), sorted-most (c .before .before .before .before .before .before .before .before .before .before .row-of .result), c .before .before .before .before .before .before .before .before .before .sorted .ensures)
+add-put-numbers c = omega (arith, subst (λ (r : List ℕ). operandCount r ≤ 3) (sym (c .before .before .before .before .before .before .before .before .before .before .row-of .ensures)) (row-fit (kindIn (c .before .before .before .before .before .before .before .before .before .before .before .before .args .t5)) (c .before .before .before .before .before .before .before .before .before .before .before .before .pre .1 .0) (c .before .before .before .before .before .before .before .before .before .before .before .before .pre .1 .1 .0) .1), sorted-most (c .before .before .before .before .before .before .before .before .before .before .row-of .result), c .before .before .before .before .before .before .before .before .before .sorted .ensures)
 
 sub-put-numbers : tie.Need-sub-put-numbers
-sub-put-numbers c = omega (arith, subst (λ (r : List ℕ). countOf r ≤ 3) (sym (c .before .before .before .before .before .before .before .before .before .before .row-of .ensures)) (row-fit (kindIn (c .before .before .before .before .before .before .before .before .before .before .before .before .args .t5)) (c .before .before .before .before .before .before .before .before .before .before .before .before .pre .1 .0) (c .before .before .before .before .before .before .before .before .before .before .before .before .pre .1 .1 .0) .1), sorted-most (c .before .before .before .before .before .before .before .before .before .before .row-of .result), c .before .before .before .before .before .before .before .before .before .sorted .ensures)
+sub-put-numbers c = omega (arith, subst (λ (r : List ℕ). operandCount r ≤ 3) (sym (c .before .before .before .before .before .before .before .before .before .before .row-of .ensures)) (row-fit (kindIn (c .before .before .before .before .before .before .before .before .before .before .before .before .args .t5)) (c .before .before .before .before .before .before .before .before .before .before .before .before .pre .1 .0) (c .before .before .before .before .before .before .before .before .before .before .before .before .pre .1 .1 .0) .1), sorted-most (c .before .before .before .before .before .before .before .before .before .before .row-of .result), c .before .before .before .before .before .before .before .before .before .sorted .ensures)
 
 put-numbers-requires : tie.Need-put-numbers-requires
-put-numbers-requires c κs = (omega (arith, subst (λ (r : List ℕ). countOf r ≤ 3) (sym (c .before .before .before .before .before .before .before .before .before .before .row-of .ensures)) (row-fit (kindIn (c .before .before .before .before .before .before .before .before .before .before .before .before .args .t5)) (c .before .before .before .before .before .before .before .before .before .before .before .before .pre .1 .0) (c .before .before .before .before .before .before .before .before .before .before .before .before .pre .1 .1 .0) .1), sorted-most (c .before .before .before .before .before .before .before .before .before .before .row-of .result), c .before .before .before .before .before .before .before .before .before .sorted .ensures), omega (arith, c .before .before .before .before .before .before .before .before .before .before .before .before .pre .1 .1 .1, c .before .before .before .before .before .before .before .put-number .ensures .0, c .before .before .before .put-kind .ensures .0, line-length (c .before .before .before .before .before .before .before .before .before .before .before .before .args .id) (c .before .before .before .before .before .before .before .before .before .before .before .before .args .t5) (c .before .before .before .before .before .before .before .before .before .before .row-of .result) (c .before .before .before .before .before .before .before .before .before .sorted .result) (c .before .before .before .before .before .before .before .before .before .before .row-of .ensures) (c .before .before .before .before .before .before .before .before .before .sorted .ensures)))
+put-numbers-requires c κs = (omega (arith, subst (λ (r : List ℕ). operandCount r ≤ 3) (sym (c .before .before .before .before .before .before .before .before .before .before .row-of .ensures)) (row-fit (kindIn (c .before .before .before .before .before .before .before .before .before .before .before .before .args .t5)) (c .before .before .before .before .before .before .before .before .before .before .before .before .pre .1 .0) (c .before .before .before .before .before .before .before .before .before .before .before .before .pre .1 .1 .0) .1), sorted-most (c .before .before .before .before .before .before .before .before .before .before .row-of .result), c .before .before .before .before .before .before .before .before .before .sorted .ensures), omega (arith, c .before .before .before .before .before .before .before .before .before .before .before .before .pre .1 .1 .1, c .before .before .before .before .before .before .before .put-number .ensures .0, c .before .before .before .put-kind .ensures .0, line-length (c .before .before .before .before .before .before .before .before .before .before .before .before .args .id) (c .before .before .before .before .before .before .before .before .before .before .before .before .args .t5) (c .before .before .before .before .before .before .before .before .before .before .row-of .result) (c .before .before .before .before .before .before .before .before .before .sorted .result) (c .before .before .before .before .before .before .before .before .before .before .row-of .ensures) (c .before .before .before .before .before .before .before .before .before .sorted .ensures)))
 
 put-requires : tie.Need-put-requires
 put-requires c κs = omega (arith, c .before .before .before .before .before .before .before .before .before .before .before .before .before .before .before .before .pre .1 .1 .1, c .before .before .before .before .before .before .before .before .before .before .before .put-number .ensures .0, c .before .before .before .before .before .before .before .put-kind .ensures .0, c .before .before .before .put-numbers .ensures .0, line-length (c .before .before .before .before .before .before .before .before .before .before .before .before .before .before .before .before .args .id) (c .before .before .before .before .before .before .before .before .before .before .before .before .before .before .before .before .args .t5) (c .before .before .before .before .before .before .before .before .before .before .before .before .before .before .row-of .result) (c .before .before .before .before .before .before .before .before .before .before .before .before .before .sorted .result) (c .before .before .before .before .before .before .before .before .before .before .before .before .before .before .row-of .ensures) (c .before .before .before .before .before .before .before .before .before .before .before .before .before .sorted .ensures))

@@ -2,7 +2,7 @@
 use Prim.Native.Nat.{ℕ, _+_, _*_, _≤_, _<_}
 use mathlib.Core.Path.{_≡_, refl, sym, ap, ap₂, _∙_, subst⁻¹}
 use native.Mathlib.Omega.{arith}
-use Rattle.flattening.specs.Model.{cellIn}
+use Rattle.flattening.specs.Model.Cells.{cellIn}
 use Rattle.flattening.proofs.Holding.{cell-own, cell-new, cell-old, product}
 use Rattle.flat_cells.proofs.cells.cell.Statement.{statement}
 use Rattle.flat_cells.proofs.cells.cell.Tie as tie

@@ -3,7 +3,7 @@ use mathlib.Core.Path.{sym, ap, _∙_}
 use mathlib.Core.List.{List}
 use Prim.Native.Nat.{ℕ}
 use lib.ListN.{getD, List·getD-eq-default}
-use Rattle.flattening.specs.Model.{nothing}
+use Rattle.flattening.specs.Model.Cells.{nothing}
 use Rattle.flattening.proofs.Holding.{nothing-at, read-kept}
 use borrow.Author.Needs.{needs}
 use Rattle.flat_cells.proofs.cells.entry.Statement.{statement}

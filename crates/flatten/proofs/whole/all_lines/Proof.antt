@@ -3,7 +3,7 @@ use Prim.Native.Nat.{ℕ, _-_}
 use mathlib.Core.Path.{ap, _∙_}
 use native.Mathlib.Omega.{arith}
 use lib.ListN.{length, length-replicate}
-use Rattle.flattening.proofs.Pass.{Going, shallow, going, record-fits, line-fits, rec-known, rec-deep, rec-fit, rec-next, rec-stopped, rec-done, same-kept, same-target}
+use Rattle.flattening.proofs.Going.{Going, shallow, going, record-fits, line-fits, rec-known, rec-deep, rec-fit, rec-next, rec-stopped, rec-done, same-kept, same-target}
 use Rattle.flatten.proofs.whole.all_lines.Statement.{statement}
 use Rattle.flatten.proofs.whole.all_lines.Tie as tie
 

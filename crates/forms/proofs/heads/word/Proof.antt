@@ -5,7 +5,7 @@ use mathlib.Core.Path.{_≡_, sym, ap, _∙_}
 use mathlib.Core.List.{List, [], _∷_}
 use lib.ListN.{take, drop}
 use Rattle.texts.specs.Split.{tokens}
-use Rattle.texts.specs.Reading.{wordIn, known, sortWords}
+use Rattle.texts.specs.Reading.{wordIn, formWord, sortWords}
 use Rattle.texts.proofs.Places.{next-token, no-token}
 use Rattle.texts.proofs.Words.{word-none, word-sort, word-other, known-at, find-most}
 use borrow.Author.Needs.{needs}
@@ -79,7 +79,7 @@ returns-3 c =
       (
         omega (arith, c .find-kind .ensures, find-most 1 2 (take (y - b) (drop b l))),
         ap (λ (x : List (List ℕ)). wordIn x) n ∙ (word-sort (take (z - a) (drop a l)) (tokens (drop z l)) (sym (c .before .before .before .before .before .before .is-sort .ensures) ∙ c .before .before .before .before .before .if2 .taken)
-            ∙ (ap (λ (x : List (List ℕ)). sortWords x) k ∙ (ap (λ (f : ℕ). known f (tokens (drop y l))) (sym (c .find-kind .ensures)) ∙ known-at l (c .find-kind .result) y))),
+            ∙ (ap (λ (x : List (List ℕ)). sortWords x) k ∙ (ap (λ (f : ℕ). formWord f (tokens (drop y l))) (sym (c .find-kind .ensures)) ∙ known-at l (c .find-kind .result) y))),
       ),
     )
 
@@ -106,7 +106,7 @@ returns-4 c =
       (
         omega (arith, c .find .ensures, find-most 3 58 (take (z - a) (drop a l))),
         ap (λ (x : List (List ℕ)). wordIn x) n ∙ (word-other (take (z - a) (drop a l)) (tokens (drop z l)) (sym (c .before .before .before .is-sort .ensures) ∙ c .before .before .if2 .left)
-            ∙ (ap (λ (f : ℕ). known f (tokens (drop z l))) (sym (c .find .ensures)) ∙ known-at l (c .find .result) z)),
+            ∙ (ap (λ (f : ℕ). formWord f (tokens (drop z l))) (sym (c .find .ensures)) ∙ known-at l (c .find .result) z)),
       ),
     )
 

@@ -4,7 +4,7 @@ use Prim.Native.Nat.{_-_, zero-le}
 use native.Mathlib.Omega.{arith}
 use mathlib.Core.Path.{_≡_, refl, sym, _∙_}
 use borrow.Author.Tests.{not-true, not-false}
-use Rattle.tables.specs.Notes.{lookIn, givenIn}
+use Rattle.tables.specs.Model.Notes.{lookIn, givenIn}
 use Rattle.texts.proofs.Places.{no-token, next-token}
 use Rattle.texts.proofs.Steps.{read-skip, read-3, read-4, read-5, read-on}
 use borrow.Author.Needs.{needs}

@@ -1,7 +1,7 @@
 use mathlib.Core.List.{[]}
 use mathlib.Core.Path.{sym}
 use lib.ListN.{List·getD-eq-default}
-use Rattle.tables.specs.Notes.{blank}
+use Rattle.tables.specs.Model.Notes.{blank}
 use Rattle.tables.proofs.Laws.{getD-in}
 use borrow.Author.Needs.{needs}
 use Rattle.records.proofs.notes.at.Statement.{statement}

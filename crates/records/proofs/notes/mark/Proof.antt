@@ -1,8 +1,8 @@
 use mathlib.Core.Path.{sym, ap, _∙_}
 use lib.ListN.{set}
 use borrow.Author.Tests.{eq-eqb, ne-eqb}
-use Rattle.tables.specs.Notes.{marked}
-use Rattle.tables.specs.Lines.{kindIn, firstIn, giveKind}
+use Rattle.tables.specs.Model.Notes.{withMark}
+use Rattle.tables.specs.Lines.{kindIn, firstIn, initOrNextKind}
 use borrow.Author.Needs.{needs}
 use Rattle.records.proofs.notes.mark.Statement.{statement}
 use Rattle.records.proofs.notes.mark.Tie as tie
@@ -34,10 +34,10 @@ same-length : tie.Need-same-length
 same-length c = search needs
 
 returns : tie.Need-returns
-returns c = rw (eq-eqb (kindIn (c .before .before .before .before .before .before .before .args .t3)) (giveKind (c .before .before .before .before .before .before .before .args .init)) (c .before .before .before .before .before .before .if1 .taken ∙ c .before .before .before .before .before .before .before .pre)) (c .before .put .ensures ∙ ap (set (c .before .before .before .before .before .before .before .args .notes .now) (firstIn (c .before .before .before .before .before .before .before .args .t3))) (c .before .before .marked .ensures ∙ ap (marked (c .before .before .before .before .before .before .before .args .init)) (c .before .before .before .before .at .ensures)))
+returns c = rw (eq-eqb (kindIn (c .before .before .before .before .before .before .before .args .t3)) (initOrNextKind (c .before .before .before .before .before .before .before .args .init)) (c .before .before .before .before .before .before .if1 .taken ∙ c .before .before .before .before .before .before .before .pre)) (c .before .put .ensures ∙ ap (set (c .before .before .before .before .before .before .before .args .notes .now) (firstIn (c .before .before .before .before .before .before .before .args .t3))) (c .before .before .marked .ensures ∙ ap (withMark (c .before .before .before .before .before .before .before .args .init)) (c .before .before .before .before .at .ensures)))
 
 returns-2 : tie.Need-returns-2
-returns-2 c = rw (ne-eqb (kindIn (c .before .args .t3)) (giveKind (c .before .args .init)) (λ e. c .if1 .left (e ∙ sym (c .before .pre))))
+returns-2 c = rw (ne-eqb (kindIn (c .before .args .t3)) (initOrNextKind (c .before .args .init)) (λ e. c .if1 .left (e ∙ sym (c .before .pre))))
 
 pub mark-spec : {M : Type 1} → statement M
 mark-spec =

@@ -2,7 +2,7 @@ use mathlib.Core.Path.{ap, _∙_}
 use mathlib.Core.List.{List}
 use Prim.Native.Nat.{ℕ}
 use lib.ListN.{set}
-use Rattle.tables.specs.Notes.{typed}
+use Rattle.tables.specs.Model.Notes.{typed}
 use borrow.Author.Needs.{needs}
 use Rattle.records.proofs.notes.put_type.Statement.{statement}
 use Rattle.records.proofs.notes.put_type.Tie as tie

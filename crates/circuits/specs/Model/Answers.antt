@@ -1,0 +1,20 @@
+-- The answers of a run of an accepted table. Assumes nothing.
+use Prim.Native.Nat.{ℕ}
+use mathlib.Core.Bool.{Bool}
+use mathlib.Core.List.{List, [], _∷_}
+use lib.ListN.{length, replicate}
+use Rattle.tables.specs.Layout.{linesOf}
+use Rattle.tables.specs.Answers.{Outcome}
+use Rattle.circuits.specs.declared.Ran.{Ran}
+use Rattle.circuits.specs.Layout.{layout}
+use Rattle.circuits.specs.Run.{run, bytes, firstBad}
+use Rattle.circuits.specs.Answers.{lent, answerOf, leftOf, toldRun}
+
+abbrev pub lentAnswer : (program : Bool) (t : List ℕ) (n k : ℕ) (S I : List ℕ) (g w : ℕ) → Ran
+lentAnswer p t n k S I g w = answerOf (lent (layout p (linesOf p t n) .counts) k (length S) (length I) g w) (firstBad 0 (run p (linesOf p t n) k S I))
+
+abbrev pub lentSignals : (program : Bool) (t : List ℕ) (n k : ℕ) (S I : List ℕ) (g w : ℕ) → List ℕ
+lentSignals p t n k S I g w = leftOf (lent (layout p (linesOf p t n) .counts) k (length S) (length I) g w) g (bytes (run p (linesOf p t n) k S I))
+
+abbrev pub lentRuns : (program : Bool) (t : List ℕ) (n k : ℕ) (S I : List ℕ) (g w : ℕ) → Outcome
+lentRuns p t n k S I g w = toldRun (lentAnswer p t n k S I g w) (lentSignals p t n k S I g w ∷ replicate w 0 ∷ [])
