@@ -1,7 +1,7 @@
 -- Demand 3: the runs of a circuit, of its flat circuit and of that one's program are alike in every signal byte and in the first counted bad, for all starts, inputs and
 -- step counts: one theorem. Assumes nothing.
 use Prim.Native.Nat.{ℕ, _*_}
-use mathlib.Core.Path.{_≡_, sym, ap, _∙_, subst, subst⁻¹}
+use mathlib.Core.Path.{_≡_, sym, ap, _∙_, subst⁻¹}
 use mathlib.Core.Bool.{Bool, true, false}
 use mathlib.Core.List.{List, [], _∷_}
 use native.Mathlib.Omega.{arith}
@@ -68,7 +68,7 @@ module _ (R : Runs) (G : Given R) where
       is-ready true P (R .lent) (R .workP) (target-accepted (F .words) (F .count) (R .programWords) (R .programCount) (G .program)) (G .steps) (G .starts ∙ sym (countsF .0) ∙ sym (countsP .0))
       (G .inputs ∙ ap (λ (i : ℕ). k * i) (sym (countsF .1 .0) ∙ sym (countsP .1 .0))) (G .signals ∙ ap (λ (i : ℕ). k * i) (sym (countsF .1 .1) ∙ sym (countsP .1 .1))) (G .workP)
 
-  -- the runs, step by step with the classes of the signals
+  -- the runs, step by step, with the marks of their signals
   runF : run false (lines false F) k S I ≡ run false (lines false C) k S I
   runF = flat-run (C .words) (C .count) (R .flatWords) (R .flatCount) (G .flat) k S I (omega (arith, G .starts))
 

@@ -26,7 +26,7 @@ use Rattle.circuits.specs.Run.{rowLength, start, steps, run, bytesOf, by
 use Rattle.tables.specs.Layout.{linesOf}
 use Rattle.circuits.specs.Answers.{lent, ready, ran, signalsLeft, toldRun, started, runs}
 use Rattle.circuits.specs.Model.Passes.{countsOf, totalsOf}
-use Rattle.circuits.specs.Model.Signals.{markOf, marks, zipSig, sigRows}
+use Rattle.circuits.specs.Model.Signals.{badMark, marks, zipSig, sigRows}
 use Rattle.circuits.specs.Model.Answers.{lentRuns}
 
 -- ---- 13 to 17
@@ -74,7 +74,7 @@ lent-facts c k s i g w = go (leb k 4096) (eqb s (c .states)) (eqb i (k * c .inpu
 pub times-small : (k n : ℕ) → k ≤ 4096 → n < 4294967296 → k * n < 18446744073709551616
 times-small k n h l = let e : n * k ≤ n * 4096 = mul-le-mul-left n h in omega (arith, mul-comm k n)
 
--- ---- the signals' classes
+-- ---- the signals' marks
 
 classesOf : List Signal → List ℕ
 classesOf [] = []
@@ -85,7 +85,7 @@ unfolding classesOf
 classes-snoc [] m v = refl
 classes-snoc (signalByte b x ∷ g) m v = ap (λ (l : List ℕ). bit b ∷ l) (classes-snoc g m v)
 
-class-line : (A : Frame) (l : Line) → classesOf (signalsAfter A l) ≡ classesOf (A .sigs) ++ markOf l
+class-line : (A : Frame) (l : Line) → classesOf (signalsAfter A l) ≡ classesOf (A .sigs) ++ badMark l
 class-line A (Line.bitvec w) = sym (append-nil (classesOf (A .sigs)))
 class-line A (Line.array i e) = sym (append-nil (classesOf (A .sigs)))
 class-line A (Line.input s) = sym (append-nil (classesOf (A .sigs)))
@@ -99,7 +99,7 @@ class-line A Line.unknown = sym (append-nil (classesOf (A .sigs)))
 class-all : (p f : Bool) (σ ι : List ℕ) (A : Frame) (C : List Line) → classesOf (evalAll p f σ ι A C .sigs) ≡ classesOf (A .sigs) ++ marks C
 class-all p f σ ι A [] = sym (append-nil (classesOf (A .sigs)))
 class-all p f σ ι A (l ∷ C) =
-    class-all p f σ ι (evalLine p f σ ι A l) C ∙ ap (λ (x : List ℕ). x ++ marks C) (class-line A l) ∙ append-assoc (classesOf (A .sigs)) (markOf l) (marks C)
+    class-all p f σ ι (evalLine p f σ ι A l) C ∙ ap (λ (x : List ℕ). x ++ marks C) (class-line A l) ∙ append-assoc (classesOf (A .sigs)) (badMark l) (marks C)
 
 step-classes : (p f : Bool) (C : List Line) (σ ι : List ℕ) → classesOf (step p f C σ ι .sigs) ≡ marks C
 unfolding step classesOf
@@ -134,7 +134,7 @@ pub bad-found : (p : Bool) (C : List Line) (k : ℕ) (S I : List ℕ) {m g : Lis
 unfolding run
 bad-found p C k S I em eg = ap₂ (λ (x y : List ℕ). firstBad 0 (sigRows x k y)) em eg ∙ ap (firstBad 0) (rows-back p C k (start p C S I) I)
 
-signal-line : (c : Counts) (m : ℕ) (l : Line) → countsAfter c m l .signals ≡ c .signals + length (markOf l)
+signal-line : (c : Counts) (m : ℕ) (l : Line) → countsAfter c m l .signals ≡ c .signals + length (badMark l)
 signal-line c m (Line.bitvec w) = omega arith
 signal-line c m (Line.array i e) = omega arith
 signal-line c m (Line.input s) = omega arith
@@ -148,7 +148,7 @@ signal-line c m Line.unknown = omega arith
 signals-all : (p : Bool) (Y : Layout) (C : List Line) → layAll p Y C .counts .signals ≡ Y .counts .signals + length (marks C)
 signals-all p Y [] = omega arith
 signals-all p Y (l ∷ C) =
-    signals-all p (lay p Y l) C ∙ omega (arith, signal-line (Y .counts) (size (lineTypeIn p Y l)) l, length-append (markOf l) (marks C))
+    signals-all p (lay p Y l) C ∙ omega (arith, signal-line (Y .counts) (size (lineTypeIn p Y l)) l, length-append (badMark l) (marks C))
 
 pub signals-many : (p : Bool) (C : List Line) → layout p C .counts .signals ≡ length (marks C)
 unfolding layout

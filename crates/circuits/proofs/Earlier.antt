@@ -94,7 +94,7 @@ module _ (p : Bool) (W : ℕ → ℕ) (L : ℕ → Ty) (X Y : ℕ → List ℕ) 
       let k = both (isFixed (L i)) _ (h .1) in
       ap₂ (λ (l : List ℕ) (n : ℕ). set l n (getD (X v) 0 0)) (fixed a (h .0)) (word i (k .0)) ∙ ap (set (Y a) (getD (Y i) 0 0)) (word v (k .1))
 
--- a value line of the class 2 has such operands
+-- a fixed value line has such operands
 fixed-two : (b : Bool) → _≡_ {A = ℕ} (pick b 2 3) 2 → b ≡ true
 fixed-two true e = refl
 fixed-two false e = absurd (omega arith)
@@ -163,12 +163,12 @@ module _ (p f f′ : Bool) (σ σ′ ι ι′ : List ℕ) where
 -- ---- the state words that a run starts from depend on no input
 
 module _ (p : Bool) (σ ι ι′ : List ℕ) where
-  give-alike : (A B : Frame) → Alike A B → A .sts ≡ B .sts → (m : Bool) (s q v : ℕ) → Ok p (tyAt (A .lay .ctx)) (given (A .lay .ctx)) (Line.initOrNext m s q v)
+  init-next-alike : (A B : Frame) → Alike A B → A .sts ≡ B .sts → (m : Bool) (s q v : ℕ) → Ok p (tyAt (A .lay .ctx)) (given (A .lay .ctx)) (Line.initOrNext m s q v)
       → statesAfter p true σ A (Line.initOrNext m s q v) ≡ statesAfter p true σ B (Line.initOrNext m s q v)
-  give-alike A B k e true s q v ok =
+  init-next-alike A B k e true s q v ok =
       ap₂ (λ (x : List ℕ) (Y : Layout). put x (placeAt Y q) (replicate (size (typeAt Y q)) (wordAt A v))) e (k .lay)
       ∙ ap (λ (x : List ℕ). put (B .sts) (placeAt (B .lay) q) (replicate (size (typeAt (B .lay) q)) (getD x 0 0))) (k .cells v (ok .value .fixed))
-  give-alike A B k e false s q v ok = e
+  init-next-alike A B k e false s q v ok = e
 
   sts-alike : (A B : Frame) → Alike A B → A .sts ≡ B .sts → (l : Line) → Ok p (tyAt (A .lay .ctx)) (given (A .lay .ctx)) l → statesAfter p true σ A l ≡ statesAfter p true σ B l
   sts-alike A B k e (Line.bitvec w) ok = e
@@ -177,7 +177,7 @@ module _ (p : Bool) (σ ι ι′ : List ℕ) where
   sts-alike A B k e (Line.state s) ok =
       ap₂ (λ (x : List ℕ) (Y : Layout). x ++ stateWords p true (lineTypeIn p Y (Line.state s) .w) (part σ (Y .counts .states) (size (lineTypeIn p Y (Line.state s))))) e (k .lay)
   sts-alike A B k e (Line.value s x) ok = e
-  sts-alike A B k e (Line.initOrNext m s q v) ok = give-alike A B k e m s q v ok
+  sts-alike A B k e (Line.initOrNext m s q v) ok = init-next-alike A B k e m s q v ok
   sts-alike A B k e (Line.signal m a) ok = e
   sts-alike A B k e (Line.output a) ok = e
   sts-alike A B k e Line.unknown ok = e

@@ -265,11 +265,11 @@ module _ (k w u v x y : ℕ) where
 
 -- ---- lines that keep the rules
 
-pub fit-one : (p : Bool) (t a : Ty) (k x y : ℕ) → t .w ≤ 64 → OkUnary p t k a x y → Suits (classOf (opOf k)) (t .w) (a .w) 64 x y
-fit-one p t a k x y h ok = suits-one k (t .w) (a .w) x y p (ok .kind) h (ok .rule)
+pub fit-unary : (p : Bool) (t a : Ty) (k x y : ℕ) → t .w ≤ 64 → OkUnary p t k a x y → Suits (classOf (opOf k)) (t .w) (a .w) 64 x y
+fit-unary p t a k x y h ok = suits-one k (t .w) (a .w) x y p (ok .kind) h (ok .rule)
 
-pub fit-two : (t a b : Ty) (k x y : ℕ) → t .w ≤ 64 → OkBinary t k a b → Suits (classOf (opOf k)) (t .w) (a .w) (b .w) x y
-fit-two t a b k x y h ok = suits-two k (t .w) (a .w) (b .w) x y (ok .least) (ok .most) h (ok .rule)
+pub fit-binary : (t a b : Ty) (k x y : ℕ) → t .w ≤ 64 → OkBinary t k a b → Suits (classOf (opOf k)) (t .w) (a .w) (b .w) x y
+fit-binary t a b k x y h ok = suits-two k (t .w) (a .w) (b .w) x y (ok .least) (ok .most) h (ok .rule)
 
 pub least-one : (p : Bool) (k : ℕ) → OneKind p k → 11 ≤ k
 least-one false k h = h .0

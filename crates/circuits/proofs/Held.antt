@@ -200,8 +200,8 @@ module _ {all : ℕ} {σ w sts : List ℕ} {n : ℕ} (k : Kept all σ w sts n) w
       (length-append sts vs ∙ ap₂ (λ (x y : ℕ). x + y) (k .many) l)
 
   -- words that an init or a next line gives a state
-  pub kept-give : (p : ℕ) (vs : List ℕ) → p + length vs ≤ n → n ≤ length σ → Kept all σ (put w (all + p) vs) (put sts p vs) n
-  kept-give p vs h g =
+  pub kept-init-next : (p : ℕ) (vs : List ℕ) → p + length vs ≤ n → n ≤ length σ → Kept all σ (put w (all + p) vs) (put sts p vs) n
+  kept-init-next p vs h g =
       let m = k .many in
       stored p vs (put sts p vs) n (omega arith) (put-front sts (drop n σ) p vs (omega arith)) (laws.length-put sts p vs (omega arith) ∙ m)
 

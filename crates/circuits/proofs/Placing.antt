@@ -15,14 +15,14 @@ use Rattle.tables.specs.Lines.{Line, Shape, isBitvec, isArray, isConst, isInput
 use Rattle.tables.specs.Layout.{recordAt, linesOf}
 use Rattle.tables.specs.Types.{tyAt, Ctx, growAll, context}
 use Rattle.tables.specs.Model.Notes.{lookIn}
-use Rattle.tables.proofs.Shapes.{KindOf, kind-of, line-as, no-junk}
+use Rattle.tables.proofs.Shapes.{KindOf, kind-of, line-as, no-unknown}
 use Rattle.tables.proofs.Showing.{by-place}
 use Rattle.circuits.specs.declared.Spot.{Spot}
 use Rattle.circuits.specs.Layout.{Counts, Layout, counting, typeAt, placeAt, size, lineTypeIn, placeOf, countsAfter, noLayout, lay, layAll, layout}
 use Rattle.circuits.specs.Model.Work.{laidAs, laidIn}
 use Rattle.circuits.specs.Model.Places.{offAt, ShowsAll, Ready}
 use Rattle.circuits.specs.Model.Passes.{Noted, countsOf, totalsOf, spot, noSpot, spotBy, Small}
-use Rattle.circuits.specs.Model.Signals.{markOf, marks}
+use Rattle.circuits.specs.Model.Signals.{badMark, marks}
 use Rattle.tables.specs.declared.Checked.the-variants.{Accepted}
 use Rattle.tables.specs.Tables.{checked}
 use Rattle.tables.proofs.Encoding.{fits-table}
@@ -64,8 +64,8 @@ module _ (r : List ℕ) (c : Counts) (m : ℕ) where
   pub way-const : kindIn r ≡ 3 → Way c m r (counting (c .cells + m) (c .states) (c .inputs) (c .signals)) (spot (c .cells) 0)
   way-const k = way-as isConst (ap shapeOf k) refl refl
 
-  pub way-mark : 8 ≤ kindIn r → kindIn r < 10 → Way c m r (counting (c .cells) (c .states) (c .inputs) (c .signals + 1)) (spot 0 (c .signals))
-  way-mark h l = go (shapeOf (kindIn r)) refl (kind-of (kindIn r))
+  pub way-signal : 8 ≤ kindIn r → kindIn r < 10 → Way c m r (counting (c .cells) (c .states) (c .inputs) (c .signals + 1)) (spot 0 (c .signals))
+  way-signal h l = go (shapeOf (kindIn r)) refl (kind-of (kindIn r))
     where
       bump : counting (c .cells) (c .states) (c .inputs) (c .signals + 1) ≡ counting (c .cells) (c .states) (c .inputs) (suc (c .signals))
       bump = ap (counting (c .cells) (c .states) (c .inputs)) (add-one (c .signals))
@@ -83,15 +83,15 @@ module _ (r : List ℕ) (c : Counts) (m : ℕ) where
       go isIte e k = absurd (omega arith)
       go isRead e k = absurd (omega arith)
       go isWrite e k = absurd (omega arith)
-      go isUnknown e k = absurd (no-junk (kindIn r) (omega arith) (omega arith) e)
+      go isUnknown e k = absurd (no-unknown (kindIn r) (omega arith) (omega arith) e)
       go (isInitOrNext true) e k = absurd (omega arith)
       go (isInitOrNext false) e k = absurd (omega arith)
       go (isSignal n) e k = way-as (isSignal n) e bump refl
       go (isEquality true) e k = absurd (omega arith)
       go (isEquality false) e k = absurd (omega arith)
 
-  pub way-val : 11 ≤ kindIn r → kindIn r < 57 → Way c m r (counting (c .cells + m) (c .states) (c .inputs) (c .signals)) (spot (c .cells) 0)
-  way-val h l = go (shapeOf (kindIn r)) refl (kind-of (kindIn r))
+  pub way-value : 11 ≤ kindIn r → kindIn r < 57 → Way c m r (counting (c .cells + m) (c .states) (c .inputs) (c .signals)) (spot (c .cells) 0)
+  way-value h l = go (shapeOf (kindIn r)) refl (kind-of (kindIn r))
     where
       go : (S : Shape) → shapeOf (kindIn r) ≡ S → KindOf S (kindIn r) → Way c m r (counting (c .cells + m) (c .states) (c .inputs) (c .signals)) (spot (c .cells) 0)
       go isBitvec e k = absurd (omega arith)
@@ -105,7 +105,7 @@ module _ (r : List ℕ) (c : Counts) (m : ℕ) where
       go isIte e k = way-as isIte e refl refl
       go isRead e k = way-as isRead e refl refl
       go isWrite e k = way-as isWrite e refl refl
-      go isUnknown e k = absurd (no-junk (kindIn r) (omega arith) (omega arith) e)
+      go isUnknown e k = absurd (no-unknown (kindIn r) (omega arith) (omega arith) e)
       go (isInitOrNext true) e k = absurd (omega arith)
       go (isInitOrNext false) e k = absurd (omega arith)
       go (isSignal true) e k = absurd (omega arith)
@@ -268,22 +268,22 @@ place-small c m (Line.signal n a) s = (omega arith, omega (arith, s .signals))
 place-small c m (Line.output a) s = (omega arith, omega arith)
 place-small c m Line.unknown s = (omega arith, omega arith)
 
--- ---- the classes of the signals
+-- ---- the marks of the signals
 
 module _ (r : List ℕ) where
-  mark-as : (S : Shape) → shapeOf (kindIn r) ≡ S → markOf (build S (kindIn r) (sortIn r) (firstIn r) (secondIn r) (thirdIn r)) ≡ markOf (lineOf r)
-  mark-as S e = ap markOf (sym (line-as r S e))
+  mark-as : (S : Shape) → shapeOf (kindIn r) ≡ S → badMark (build S (kindIn r) (sortIn r) (firstIn r) (secondIn r) (thirdIn r)) ≡ badMark (lineOf r)
+  mark-as S e = ap badMark (sym (line-as r S e))
 
-  pub mark-bad : kindIn r ≡ 8 → 1 ∷ [] ≡ markOf (lineOf r)
+  pub mark-bad : kindIn r ≡ 8 → 1 ∷ [] ≡ badMark (lineOf r)
   mark-bad k = mark-as (isSignal true) (ap shapeOf k)
 
-  pub mark-constraint : kindIn r ≡ 9 → 0 ∷ [] ≡ markOf (lineOf r)
+  pub mark-constraint : kindIn r ≡ 9 → 0 ∷ [] ≡ badMark (lineOf r)
   mark-constraint k = mark-as (isSignal false) (ap shapeOf k)
 
-  pub mark-none : (kindIn r ≡ 8 → ⊥) → (kindIn r ≡ 9 → ⊥) → [] ≡ markOf (lineOf r)
+  pub mark-none : (kindIn r ≡ 8 → ⊥) → (kindIn r ≡ 9 → ⊥) → [] ≡ badMark (lineOf r)
   mark-none n₈ n₉ = go (shapeOf (kindIn r)) refl (kind-of (kindIn r))
     where
-      go : (S : Shape) → shapeOf (kindIn r) ≡ S → KindOf S (kindIn r) → [] ≡ markOf (lineOf r)
+      go : (S : Shape) → shapeOf (kindIn r) ≡ S → KindOf S (kindIn r) → [] ≡ badMark (lineOf r)
       go isBitvec e k = mark-as isBitvec e
       go isArray e k = mark-as isArray e
       go isConst e k = mark-as isConst e
@@ -301,20 +301,20 @@ module _ (r : List ℕ) where
       go (isSignal false) e k = absurd (n₉ k)
       go (isEquality b) e k = mark-as (isEquality b) e
 
--- a signal's class goes to the place g
-pub noted : (r bad : List ℕ) (g : ℕ) {v : ℕ} → g < length bad → v ∷ [] ≡ markOf (lineOf r)
-    → (take (g + 1) (set bad g v) ≡ take g bad ++ markOf (lineOf r)) × (g + 1 ≡ g + length (markOf (lineOf r)))
+-- a signal's mark goes to the place g
+pub noted : (r bad : List ℕ) (g : ℕ) {v : ℕ} → g < length bad → v ∷ [] ≡ badMark (lineOf r)
+    → (take (g + 1) (set bad g v) ≡ take g bad ++ badMark (lineOf r)) × (g + 1 ≡ g + length (badMark (lineOf r)))
 noted r bad g {v} h e =
     (ap (λ (n : ℕ). take n (set bad g v)) (add-one g) ∙ take-suc-set bad g v h ∙ ap (λ (x : List ℕ). take g bad ++ x) e, ap (λ (x : List ℕ). g + length x) e)
 
-pub not-noted : (r bad : List ℕ) (g : ℕ) → [] ≡ markOf (lineOf r) → (take g bad ≡ take g bad ++ markOf (lineOf r)) × (g ≡ g + length (markOf (lineOf r)))
+pub not-noted : (r bad : List ℕ) (g : ℕ) → [] ≡ badMark (lineOf r) → (take g bad ≡ take g bad ++ badMark (lineOf r)) × (g ≡ g + length (badMark (lineOf r)))
 not-noted r bad g e = (sym (append-nil (take g bad)) ∙ ap (λ (x : List ℕ). take g bad ++ x) e, sym (add-zero g) ∙ ap (λ (x : List ℕ). g + length x) e)
 
 pub marks-append : (C D : List Line) → marks (C ++ D) ≡ marks C ++ marks D
 marks-append [] D = refl
-marks-append (l ∷ C) D = ap (λ (x : List ℕ). markOf l ++ x) (marks-append C D) ∙ sym (append-assoc (markOf l) (marks C) (marks D))
+marks-append (l ∷ C) D = ap (λ (x : List ℕ). badMark l ++ x) (marks-append C D) ∙ sym (append-assoc (badMark l) (marks C) (marks D))
 
-one-mark : (l : Line) → length (markOf l) ≤ 1
+one-mark : (l : Line) → length (badMark l) ≤ 1
 one-mark (Line.bitvec w) = omega arith
 one-mark (Line.array i e) = omega arith
 one-mark (Line.input s) = omega arith
@@ -327,7 +327,7 @@ one-mark Line.unknown = omega arith
 
 marks-few : (C : List Line) → length (marks C) ≤ length C
 marks-few [] = omega arith
-marks-few (l ∷ C) = omega (arith, length-append (markOf l) (marks C), one-mark l, marks-few C)
+marks-few (l ∷ C) = omega (arith, length-append (badMark l) (marks C), one-mark l, marks-few C)
 
 pub record Classed (C : List Line) (n i g : ℕ) (bad : List ℕ) : Type 0 where
   pub most : i ≤ n
@@ -338,19 +338,19 @@ pub record Classed (C : List Line) (n i g : ℕ) (bad : List ℕ) : Type 0 where
 
 module _ (p : Bool) (t : List ℕ) (n : ℕ) (acc : checked p t n ≡ Accepted) where
   pub class-more : {r : List ℕ} (i g g′ : ℕ) (bad bad′ : List ℕ) → i < n → Classed (linesOf p t n) n i g bad → r ≡ recordAt p t i → length bad′ ≡ length bad
-      → take g′ bad′ ≡ take g bad ++ markOf (lineOf r) → g′ ≡ g + length (markOf (lineOf r)) → Classed (linesOf p t n) n (i + 1) g′ bad′
+      → take g′ bad′ ≡ take g bad ++ badMark (lineOf r) → g′ ≡ g + length (badMark (lineOf r)) → Classed (linesOf p t n) n (i + 1) g′ bad′
   class-more {r} i g g′ bad bad′ h s er lb e₁ e₂ =
       let l = getD (linesOf p t n) i Line.unknown in
       let el : lineOf r ≡ l = ap lineOf er ∙ sym (line-here p t n acc i h) in
       let q : i < length (linesOf p t n) = omega (arith, lines-many p t n acc) in
-      let em : marks (take (i + 1) (linesOf p t n)) ≡ marks (take i (linesOf p t n)) ++ markOf l =
-      ap (λ (j : ℕ). marks (take j (linesOf p t n))) (add-one i) ∙ ap marks (take-suc (linesOf p t n) i Line.unknown q) ∙ marks-append (take i (linesOf p t n)) (l ∷ []) ∙ ap (λ (x : List ℕ). marks (take i (linesOf p t n)) ++ x) (append-nil (markOf l)) in
+      let em : marks (take (i + 1) (linesOf p t n)) ≡ marks (take i (linesOf p t n)) ++ badMark l =
+      ap (λ (j : ℕ). marks (take j (linesOf p t n))) (add-one i) ∙ ap marks (take-suc (linesOf p t n) i Line.unknown q) ∙ marks-append (take i (linesOf p t n)) (l ∷ []) ∙ ap (λ (x : List ℕ). marks (take i (linesOf p t n)) ++ x) (append-nil (badMark l)) in
       record {
         most = omega arith;
         few = omega (arith, s .few, e₂, one-mark (lineOf r));
         long = lb ∙ s .long;
-        count = e₂ ∙ ap₂ (λ (x : ℕ) (y : Line). x + length (markOf y)) (s .count) el ∙ sym (length-append (marks (take i (linesOf p t n))) (markOf l)) ∙ ap length (sym em);
-        classes = e₁ ∙ ap₂ (λ (x : List ℕ) (y : Line). x ++ markOf y) (s .classes) el ∙ sym em;
+        count = e₂ ∙ ap₂ (λ (x : ℕ) (y : Line). x + length (badMark y)) (s .count) el ∙ sym (length-append (marks (take i (linesOf p t n))) (badMark l)) ∙ ap length (sym em);
+        classes = e₁ ∙ ap₂ (λ (x : List ℕ) (y : Line). x ++ badMark y) (s .classes) el ∙ sym em;
       }
 
   pub class-ends : (i g : ℕ) (bad : List ℕ) → n ≤ i → Classed (linesOf p t n) n i g bad → take (length (marks (linesOf p t n))) bad ≡ marks (linesOf p t n)

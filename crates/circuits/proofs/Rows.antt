@@ -1,4 +1,4 @@
--- The signals of a step by their bytes and classes: the constraints met, and the first bad. Assumes nothing.
+-- The signals of a step by their bytes and marks: the constraints met, and the first bad. Assumes nothing.
 use Prim.Native.Nat.{ℕ, zero, suc, _+_, _-_, _≤_, _<_}
 use mathlib.Core.Path.{_≡_, refl, sym, ap, ap₂, _∙_}
 use mathlib.Core.Bool.{Bool, true, false, not, _&&_}

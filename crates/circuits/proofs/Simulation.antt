@@ -29,10 +29,10 @@ use Rattle.circuits.specs.Model.Fits.{WordBelow, RunBelow, FitWord, FitE
 use Rattle.circuits.specs.Model.Places.{offAt, Shown, ShowsAll}
 use Rattle.circuits.specs.Model.Passes.{spotBy}
 use Rattle.circuits.proofs.Puts as laws
-use Rattle.circuits.proofs.Fitting.{fit-one, fit-two, least-one, plain-one, fit-as}
+use Rattle.circuits.proofs.Fitting.{fit-unary, fit-binary, least-one, plain-one, fit-as}
 use Rattle.circuits.proofs.Offsets.{off-new, off-old}
 use Rattle.circuits.proofs.Laid.{Sound, low, sound-more, type-new, place-new, type-old, place-old, more-places}
-use Rattle.circuits.proofs.Held.{Holds, holds-alike, cells-at, word-at, holds-quiet, holds-value, Kept, kept-below, kept-state, kept-give, state-words, Held}
+use Rattle.circuits.proofs.Held.{Holds, holds-alike, cells-at, word-at, holds-quiet, holds-value, Kept, kept-below, kept-state, kept-init-next, state-words, Held}
 
 -- ---- small words
 
@@ -137,7 +137,7 @@ module _ {p : Bool} {all : ℕ} {σ w : List ℕ} {A : Frame} (H : Held p all σ
 
   pub word-one : (t : Ty) (k a x y : ℕ) → t .w ≤ 64 → OkUnary p t k (typeAt (A .lay) a) x y → FitWord p k (t .w) (widthAt A a) 64 (wordAt A a) x y
   word-one t k a x y h ok =
-      let s = fit-one p t (typeAt (A .lay) a) k x y h ok in
+      let s = fit-unary p t (typeAt (A .lay) a) k x y h ok in
       let u = width-of a (ok .arg .is) in
       let b = plain-one p t (typeAt (A .lay) a) k x y h (u .most) ok in
       record {
@@ -149,7 +149,7 @@ module _ {p : Bool} {all : ℕ} {σ w : List ℕ} {A : Frame} (H : Held p all σ
 
   pub word-two : (t : Ty) (k a b : ℕ) → t .w ≤ 64 → OkBinary t k (typeAt (A .lay) a) (typeAt (A .lay) b) → FitWord p k (t .w) (widthAt A a) (widthAt A b) (wordAt A a) (wordAt A b) 0
   word-two t k a b h ok =
-      let s = fit-two t (typeAt (A .lay) a) (typeAt (A .lay) b) k (wordAt A b) 0 h ok in
+      let s = fit-binary t (typeAt (A .lay) a) (typeAt (A .lay) b) k (wordAt A b) 0 h ok in
       record {
         least = omega (arith, ok .least);
         wide = width-of a (ok .left .is);
@@ -268,20 +268,20 @@ module _ {p : Bool} {all : ℕ} {σ w : List ℕ} {A : Frame} (H : Held p all σ
   state-room : (q : ℕ) → typeAt (A .lay) q .role ≡ 4 → placeAt (A .lay) q + size (typeAt (A .lay) q) ≤ A .lay .counts .states
   state-room q e = H .sound .room q e
 
-  give-value : (m : Bool) (q v : ℕ) (b : Ty) → OkValue m q v b → 2 ≤ b .role
-  give-value true q v b ok = ok .word .is
-  give-value false q v b ok = ok .is
+  init-next-value : (m : Bool) (q v : ℕ) (b : Ty) → OkValue m q v b → 2 ≤ b .role
+  init-next-value true q v b ok = ok .word .is
+  init-next-value false q v b ok = ok .is
 
-  fit-give : (m : Bool) (s q v : ℕ) → OkInitOrNext m (given (A .lay .ctx)) (sortAt p (tyAt (A .lay .ctx)) s) (typeAt (A .lay) q) (typeAt (A .lay) v) q v → A .lay .counts .states ≤ length σ
+  fit-init-next : (m : Bool) (s q v : ℕ) → OkInitOrNext m (given (A .lay .ctx)) (sortAt p (tyAt (A .lay .ctx)) s) (typeAt (A .lay) q) (typeAt (A .lay) v) q v → A .lay .counts .states ≤ length σ
       → FitInitOrNext m P all (length w) q v
-  fit-give true s q v ok h =
+  fit-init-next true s q v ok h =
       let r = shown q (omega (arith, ok .state)) in
       record {
         known = r .known;
         value = word-fit (length w) v (omega (arith, H .kept .len)) (ok .value .word .is);
         words = omega (arith, state-room q (ok .state), r .isPos, r .isNum, H .kept .len);
       }
-  fit-give false s q v ok h =
+  fit-init-next false s q v ok h =
       let r = shown q (omega (arith, ok .state)) in
       record {
         known = r .known;
@@ -397,14 +397,14 @@ module _ (p f : Bool) (P : List (List ℕ)) (all : ℕ) (σ ι w : List ℕ) (A 
       let fits : all + o + length vs ≤ length w = omega arith in
       let hold : Holds p (put w (all + o) vs) (A .lay) (A .env) =
       holds-alike (H .sound) (H .holds) (put w (all + o) vs) all hv (laws.length-put w (all + o) vs fits) (omega arith) (λ i k. laws.put-lo w (all + o) vs fits i (omega arith)) in
-      give-case S (alike f m) eq hold (kept-give (H .kept) o vs h hs)
+      init-next-case S (alike f m) eq hold (kept-init-next (H .kept) o vs h hs)
     where
-      give-case : {w₁ w₂ s₁ : List ℕ} → Sound (lay p (A .lay) (Line.initOrNext m s q v)) → (b : Bool) → w₁ ≡ w₂ → Holds p w₂ (A .lay) (A .env) → Kept all σ w₂ s₁ (A .lay .counts .states)
+      init-next-case : {w₁ w₂ s₁ : List ℕ} → Sound (lay p (A .lay) (Line.initOrNext m s q v)) → (b : Bool) → w₁ ≡ w₂ → Holds p w₂ (A .lay) (A .env) → Kept all σ w₂ s₁ (A .lay .counts .states)
           → Held p all σ (pick b w₁ w) (record { lay = lay p (A .lay) (Line.initOrNext m s q v); env = A .env ++ ([] ∷ []); sts = pick b s₁ (A .sts); sigs = A .sigs })
-      give-case {w₁} {w₂} {s₁} S true e h k =
+      init-next-case {w₁} {w₂} {s₁} S true e h k =
           subst (λ (x : List ℕ). Held p all σ x (record { lay = lay p (A .lay) (Line.initOrNext m s q v); env = A .env ++ ([] ∷ []); sts = s₁; sigs = A .sigs })) (sym e)
           (record { sound = S; holds = holds-quiet (H .sound) h (Line.initOrNext m s q v) (omega arith); kept = k })
-      give-case S false e h k = record { sound = S; holds = holds-quiet (H .sound) (H .holds) (Line.initOrNext m s q v) (omega arith); kept = H .kept }
+      init-next-case S false e h k = record { sound = S; holds = holds-quiet (H .sound) (H .holds) (Line.initOrNext m s q v) (omega arith); kept = H .kept }
   sim (Line.signal m a) ok sh hv hs = quiet (Line.signal m a) (sound-more p (A .lay) (Line.signal m a) (H .sound) ok) (omega arith) refl refl refl
   sim (Line.output a) ok sh hv hs = quiet (Line.output a) (sound-more p (A .lay) (Line.output a) (H .sound) ok) (omega arith) refl refl refl
   sim Line.unknown ok sh hv hs = absurd ok
@@ -437,7 +437,7 @@ module _ (p f : Bool) (P : List (List ℕ)) (all : ℕ) (σ ι w : List ℕ) (A 
         own = fit-own H (omega arith) l P sh refl hv (own l ok (val-value p L s e));
         expr = fit-expr H (omega arith) l P sh refl (sortAt p L s) (val-iw p L s e) (val-w p L s e) (sort-ok s e ok) e ok;
       }
-  fit ins sigs (Line.initOrNext m s q v) ok sh hv hs hi hg = fit-give H hv (Line.initOrNext m s q v) P sh m s q v ok hs
+  fit ins sigs (Line.initOrNext m s q v) ok sh hv hs hi hg = fit-init-next H hv (Line.initOrNext m s q v) P sh m s q v ok hs
   fit ins sigs (Line.signal m a) ok sh hv hs hi hg =
       let me = mine H hv (Line.signal m a) P sh in
       record {

@@ -27,7 +27,7 @@ use Rattle.flattening.proofs.Walk.{holds-length}
 use Rattle.flattening.proofs.CellLaws.{from-at, length-from}
 use Rattle.flattening.proofs.Rel.{Inv, KnownRel, word-small}
 use Rattle.flattening.proofs.Laying.{size-two, join-some}
-use Rattle.flattening.proofs.Rowing.{rows-ext, rows-more, const-records, state-records, give-records, ite-records, cmp-records, join-records, writePair, write-records, soFar, readPair, read-records}
+use Rattle.flattening.proofs.Rowing.{rows-ext, rows-more, const-records, state-records, init-next-records, ite-records, equality-records, join-records, writePair, write-records, soFar, readPair, read-records}
 
 -- what is kept of a constant
 abbrev pub KnownNote : Option ℕ → ℕ → Type 0
@@ -179,15 +179,15 @@ module _ {A B : Frame} {I : List Info} (v : Inv A B I) (N : Notes) (ne : Neat N)
       let z : sizeIn N a ≡ n = ap (λ (i : ℕ). 2 ^ i) (tl .iw a (let g : 2 ≤ typeAt (A .lay) a .role = k .is in omega arith) ∙ e) ∙ h in
       record { len = size-of a (k .is) ∙ z; at = λ j l. from-line a (k .is) j (subst⁻¹ (λ (x : ℕ). j < x) z l) }
 
-  give-line-records : (m : Bool) (s q a : ℕ) → Ok false (tyAt (A .lay .ctx)) (given (A .lay .ctx)) (Line.initOrNext m s q a) → map wordsOf (chunk I (suc p) (Line.initOrNext m s q a) .lines) ≡ lineRecords N p (Line.initOrNext m s q a)
-  give-line-records m s q a k =
+  init-next-line-records : (m : Bool) (s q a : ℕ) → Ok false (tyAt (A .lay .ctx)) (given (A .lay .ctx)) (Line.initOrNext m s q a) → map wordsOf (chunk I (suc p) (Line.initOrNext m s q a) .lines) ≡ lineRecords N p (Line.initOrNext m s q a)
+  init-next-line-records m s q a k =
       let H = N .held in
       let hq : 2 ≤ typeAt (A .lay) q .role = (let h : typeAt (A .lay) q .role ≡ 4 = k .state in omega arith) in
       let n = length (linesAt I q) in
       let eq = size-of q hq in
       let e = infoAt I s .elem in
       let g = given-as m n q a (typeAt (A .lay) s) (k .value) (k .iw) (ap (λ (i : ℕ). 2 ^ i) (sym (k .same .iw) ∙ sym (tl .iw q (omega arith))) ∙ sym eq) in
-      give-records m e (linesAt I q) (valueLines I m n a) (sym (g .len))
+      init-next-records m e (linesAt I q) (valueLines I m n a) (sym (g .len))
       ∙ rows-as H n (initOrNextKind m) e (of q) (givenFrom N m a) (still 0) (λ j. getD (linesAt I q) j 0) (λ j. getD (valueLines I m n a) j 0) (λ j. 0) (λ j l. from-line q hq j (subst (λ (x : ℕ). j < x) eq l)) (g .at) (λ j l. still-at H 0 j)
       ∙ ap₂ (λ (x y : ℕ). rowsFor x (rowAt H (initOrNextKind m) y (of q) (givenFrom N m a) (still 0))) eq (elem-of s (k .sort .is))
 
@@ -204,8 +204,8 @@ module _ {A B : Frame} {I : List Info} (v : Inv A B I) (N : Notes) (ne : Neat N)
       (λ j l. from-line y (k .right .is) j (subst (λ (m : ℕ). j < m) (ex ∙ sym exy) l))
       ∙ (λ i. rowsFor (ex i) (rowAt H 53 (elem-of s (k .sort .is) i) (still (word-line c (k .cond) i)) (of x) (of y)))
 
-  cmp-line-records : (s : ℕ) (e : Bool) (x y : ℕ) → Ok false (tyAt (A .lay .ctx)) (given (A .lay .ctx)) (Line.value s (Expr.equality e x y)) → map wordsOf (chunk I (suc p) (Line.value s (Expr.equality e x y)) .lines) ≡ lineRecords N p (Line.value s (Expr.equality e x y))
-  cmp-line-records s e x y k =
+  equality-line-records : (s : ℕ) (e : Bool) (x y : ℕ) → Ok false (tyAt (A .lay .ctx)) (given (A .lay .ctx)) (Line.value s (Expr.equality e x y)) → map wordsOf (chunk I (suc p) (Line.value s (Expr.equality e x y)) .lines) ≡ lineRecords N p (Line.value s (Expr.equality e x y))
+  equality-line-records s e x y k =
       let H = N .held in
       let ex = size-of x (k .left .is) in
       let exy : sizeIn N y ≡ sizeIn N x = same-size x y (k .left .is) (k .right .is) (k .same .iw) in
@@ -215,7 +215,7 @@ module _ {A B : Frame} {I : List Info} (v : Inv A B I) (N : Notes) (ne : Neat N)
       let one : n ≡ suc (n - 1) = omega (arith, ex, pow-pos (deepIn N x)) in
       map-append wordsOf (equalityLines e t (linesAt I x) (linesAt I y)) (joinLines e t (suc p) (suc p + n) (from (suc (suc p)) (n - 1)))
       ∙ ap₂ (λ (u w : List (List ℕ)). u ++ w)
-      (cmp-records e t (linesAt I x) (linesAt I y) (ex ∙ sym exy ∙ sym (size-of y (k .right .is)))
+      (equality-records e t (linesAt I x) (linesAt I y) (ex ∙ sym exy ∙ sym (size-of y (k .right .is)))
       ∙ rows-as H n (equalityKind e) t (of x) (of y) (still 0) (λ j. getD (linesAt I x) j 0) (λ j. getD (linesAt I y) j 0) (λ j. 0) (λ j l. from-line x (k .left .is) j (subst (λ (m : ℕ). j < m) ex l))
       (λ j l. from-line y (k .right .is) j (subst (λ (m : ℕ). j < m) (ex ∙ sym exy) l)) (λ j l. still-at H 0 j)
       ∙ (λ i. rowsFor (ex i) (rowAt H (equalityKind e) (es i) (of x) (of y) (still 0))))
@@ -310,11 +310,11 @@ module _ {A B : Frame} {I : List Info} (v : Inv A B I) (N : Notes) (ne : Neat N)
   line-records (Line.value s (Expr.const c)) k = ap (λ (e : ℕ). fields 3 e c 0 0 ∷ []) (elem-of s (k .sort .is))
   line-records (Line.value s (Expr.unary h a x y)) k = ap₂ (λ (e w : ℕ). fields h e w x y ∷ []) (elem-of s (k .sort .is)) (word-line a (k .arg))
   line-records (Line.value s (Expr.binary h a b)) k = λ i. fields h (elem-of s (k .sort .is) i) (word-line a (k .left) i) (word-line b (k .right) i) 0 ∷ []
-  line-records (Line.value s (Expr.equality e a b)) k = cmp-line-records s e a b k
+  line-records (Line.value s (Expr.equality e a b)) k = equality-line-records s e a b k
   line-records (Line.value s (Expr.ite c a b)) k = ite-line-records s c a b k
   line-records (Line.value s (Expr.read a i)) k = read-line-records s a i k
   line-records (Line.value s (Expr.write a i x)) k = write-line-records s a i x k
-  line-records (Line.initOrNext m s q a) k = give-line-records m s q a k
+  line-records (Line.initOrNext m s q a) k = init-next-line-records m s q a k
   line-records (Line.signal true a) k = ap (λ (w : ℕ). fields 8 0 w 0 0 ∷ []) (word-line a (k .word))
   line-records (Line.signal false a) k = ap (λ (w : ℕ). fields 9 0 w 0 0 ∷ []) (word-line a (k .word))
   line-records (Line.output a) k = ap (λ (w : ℕ). fields 10 0 w 0 0 ∷ []) (word-line a k)

@@ -15,24 +15,24 @@ use Rattle.circuits.specs.Run.{rowLength, start, steps, run}
 use Rattle.flattening.specs.Flat.{Info, noInfo, chunk, flattenFrom, flatten}
 use Rattle.flattening.proofs.Walk.{Alike, alike-refl, ev1, evs, evs-append, len-all, states-all, ok-append}
 use Rattle.flattening.proofs.Rel.{Inv, rel-none}
-use Rattle.flattening.proofs.SimWords.{Keeps, sim-bitvec, sim-array, sim-input, sim-const, sim-one, sim-two, sim-mark, sim-output}
-use Rattle.flattening.proofs.SimStates.{sim-state, sim-give}
-use Rattle.flattening.proofs.SimArrays.{sim-ite, sim-cmp, sim-read, sim-write}
+use Rattle.flattening.proofs.SimWords.{Keeps, sim-bitvec, sim-array, sim-input, sim-const, sim-unary, sim-binary, sim-signal, sim-output}
+use Rattle.flattening.proofs.SimStates.{sim-state, sim-init-next}
+use Rattle.flattening.proofs.SimArrays.{sim-ite, sim-equality, sim-read, sim-write}
 
 no-state : (q : ℕ) → tyAt noCtx q .role ≡ 4 → ⊥
 no-state zero e = omega arith
 no-state (suc q) e = omega arith
 
 module _ (f : Bool) (σ ι : List ℕ) where
-  sim-val : {A B : Frame} {I : List Info} {b : ℕ} (s : ℕ) (x : Expr) → Inv A B I → b ≡ length (B .env) → Ok false (tyAt (A .lay .ctx)) (given (A .lay .ctx)) (value s x)
+  sim-value : {A B : Frame} {I : List Info} {b : ℕ} (s : ℕ) (x : Expr) → Inv A B I → b ≡ length (B .env) → Ok false (tyAt (A .lay .ctx)) (given (A .lay .ctx)) (value s x)
       → Keeps f σ ι A B I (value s x) (chunk I b (value s x))
-  sim-val s (const c) v e k = sim-const f σ ι s c v e k
-  sim-val s (unary h a x y) v e k = sim-one f σ ι s h a x y v e k
-  sim-val s (binary h x y) v e k = sim-two f σ ι s h x y v e k
-  sim-val s (equality t x y) v e k = sim-cmp f σ ι s t x y v e k
-  sim-val s (ite d x y) v e k = sim-ite f σ ι s d x y v e k
-  sim-val s (read a i) v e k = sim-read f σ ι s a i v e k
-  sim-val s (write a i x) v e k = sim-write f σ ι s a i x v e k
+  sim-value s (const c) v e k = sim-const f σ ι s c v e k
+  sim-value s (unary h a x y) v e k = sim-unary f σ ι s h a x y v e k
+  sim-value s (binary h x y) v e k = sim-binary f σ ι s h x y v e k
+  sim-value s (equality t x y) v e k = sim-equality f σ ι s t x y v e k
+  sim-value s (ite d x y) v e k = sim-ite f σ ι s d x y v e k
+  sim-value s (read a i) v e k = sim-read f σ ι s a i v e k
+  sim-value s (write a i x) v e k = sim-write f σ ι s a i x v e k
 
   -- any line
   pub sim-line : {A B : Frame} {I : List Info} {b : ℕ} (l : Line) → Inv A B I → b ≡ length (B .env) → Ok false (tyAt (A .lay .ctx)) (given (A .lay .ctx)) l
@@ -41,9 +41,9 @@ module _ (f : Bool) (σ ι : List ℕ) where
   sim-line (array i el) v e k h = sim-array f σ ι i el v e k
   sim-line (input s) v e k h = sim-input f σ ι s v e k
   sim-line (state s) v e k h = sim-state f σ ι s v e k h
-  sim-line (value s x) v e k h = sim-val s x v e k
-  sim-line (initOrNext m s q a) v e k h = sim-give f σ ι m s q a v e k
-  sim-line (signal m a) v e k h = sim-mark f σ ι m a v e k
+  sim-line (value s x) v e k h = sim-value s x v e k
+  sim-line (initOrNext m s q a) v e k h = sim-init-next f σ ι m s q a v e k
+  sim-line (signal m a) v e k h = sim-signal f σ ι m a v e k
   sim-line (output a) v e k h = sim-output f σ ι a v e k
   sim-line unknown v e k h = absurd k
 
@@ -149,7 +149,7 @@ steps-alike C a (suc k) σ I h =
     ∙ ap (λ (r : List (List Signal)). D .sigs ∷ r)
     (steps-alike C a k (D .sts) (drop n I) (subst⁻¹ (λ (m : ℕ). layout false C .counts .states ≤ m) (s .many) (le-refl (layout false C .counts .states))))
 
--- the signals of every step, with their classes, for all steps and inputs, and for start words of every state cell
+-- the signals of every step, with their marks, for all steps and inputs, and for start words of every state cell
 pub runs-alike : (C : List Line) → AllOk false noCtx C → (k : ℕ) (S I : List ℕ) → layout false C .counts .states ≤ length S → run false (flatten C) k S I ≡ run false C k S I
 unfolding run start
 runs-alike C a k S I h =

@@ -16,7 +16,7 @@ use Rattle.circuits.specs.Cells.{ifNonzero, eqOrNeq, sameCells, maskWords, part
 use Rattle.circuits.specs.Meaning.{Frame, stateWords}
 use Rattle.flattening.specs.Flat.{from}
 use Rattle.flattening.proofs.Walk.{Word, Holds, none, more, Small}
-use Rattle.flattening.proofs.Chains.{hit, writes, picks, chooses, cmpVals, joinVal, joinVals}
+use Rattle.flattening.proofs.Chains.{hit, writes, picks, chooses, equalityValues, joinValue, joinVals}
 
 -- ---- numbers in a row
 
@@ -97,7 +97,7 @@ picks-get i n cs h = go (decLt i (n - 1))
 
 -- ---- eq and neq
 
-join-bit : (e u q : Bool) → joinVal e (bit (eqOrNeq e u)) (bit (eqOrNeq e (q && true))) ≡ bit (eqOrNeq e (u && q))
+join-bit : (e u q : Bool) → joinValue e (bit (eqOrNeq e u)) (bit (eqOrNeq e (q && true))) ≡ bit (eqOrNeq e (u && q))
 join-bit true true true = refl
 join-bit true true false = refl
 join-bit true false true = refl
@@ -111,17 +111,17 @@ and-assoc : (a b c : Bool) → (a && b) && c ≡ a && (b && c)
 and-assoc true b c = refl
 and-assoc false b c = refl
 
-joins-from : (e u : Bool) (xs ys : List ℕ) → length xs ≡ length ys → joinVals e (bit (eqOrNeq e u)) (cmpVals e xs ys) ≡ bit (eqOrNeq e (u && sameCells xs ys))
+joins-from : (e u : Bool) (xs ys : List ℕ) → length xs ≡ length ys → joinVals e (bit (eqOrNeq e u)) (equalityValues e xs ys) ≡ bit (eqOrNeq e (u && sameCells xs ys))
 joins-from e true [] ys n = refl
 joins-from e false [] ys n = refl
 joins-from e u (x ∷ xs) [] n = absurd (omega arith)
 joins-from e u (x ∷ xs) (y ∷ ys) n =
-    ap (λ (v : ℕ). joinVals e v (cmpVals e xs ys)) (join-bit e u (eqb x y))
+    ap (λ (v : ℕ). joinVals e v (equalityValues e xs ys)) (join-bit e u (eqb x y))
     ∙ joins-from e (u && eqb x y) xs ys (omega arith)
     ∙ ap (λ (b : Bool). bit (eqOrNeq e b)) (and-assoc u (eqb x y) (sameCells xs ys))
 
 pub joins-agree : (e : Bool) (x y : ℕ) (xs ys : List ℕ) → length xs ≡ length ys
-    → joinVals e (bit (eqOrNeq e (sameCells (x ∷ []) (y ∷ [])))) (cmpVals e xs ys) ≡ bit (eqOrNeq e (sameCells (x ∷ xs) (y ∷ ys)))
+    → joinVals e (bit (eqOrNeq e (sameCells (x ∷ []) (y ∷ [])))) (equalityValues e xs ys) ≡ bit (eqOrNeq e (sameCells (x ∷ xs) (y ∷ ys)))
 joins-agree e x y xs ys n = joins-from e (eqb x y && true) xs ys n ∙ ap (λ (b : Bool). bit (eqOrNeq e b)) (and-assoc (eqb x y) true (sameCells xs ys))
 
 -- ---- ite

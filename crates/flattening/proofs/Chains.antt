@@ -43,17 +43,17 @@ abbrev pub picks : ℕ → (ks cs : List ℕ) → (v k : ℕ) → ℕ
 picks i ks cs v zero = v
 picks i ks cs v (suc k) = picks i ks cs (ifNonzero (hit i (getD ks k 0)) (getD cs k 0) v) k
 
-abbrev pub cmpVals : Bool → List ℕ → List ℕ → List ℕ
-cmpVals e [] ys = []
-cmpVals e (x ∷ xs) [] = []
-cmpVals e (x ∷ xs) (y ∷ ys) = bit (eqOrNeq e (sameCells (x ∷ []) (y ∷ []))) ∷ cmpVals e xs ys
+abbrev pub equalityValues : Bool → List ℕ → List ℕ → List ℕ
+equalityValues e [] ys = []
+equalityValues e (x ∷ xs) [] = []
+equalityValues e (x ∷ xs) (y ∷ ys) = bit (eqOrNeq e (sameCells (x ∷ []) (y ∷ []))) ∷ equalityValues e xs ys
 
-abbrev pub joinVal : Bool → ℕ → ℕ → ℕ
-joinVal e v x = circ (opOf (joinKind e)) 1 1 v x 0
+abbrev pub joinValue : Bool → ℕ → ℕ → ℕ
+joinValue e v x = circ (opOf (joinKind e)) 1 1 v x 0
 
 abbrev pub joinVals : Bool → ℕ → List ℕ → ℕ
 joinVals e v [] = v
-joinVals e v (x ∷ xs) = joinVals e (joinVal e v x) xs
+joinVals e v (x ∷ xs) = joinVals e (joinValue e v x) xs
 
 join-least : (t : Bool) → 23 ≤ joinKind t
 join-least true = omega arith
@@ -139,16 +139,16 @@ module _ (f : Bool) (σ ι : List ℕ) where
         sameB = record { iw = hq .flat ∙ sym (hs .flat); w = hq .wide ∙ sym (hs .wide) };
       }
 
-  cmp-word : {u : Bool} {A : Frame} {b s p q w x y : ℕ} (t : Bool) → Even A → b ≡ length (A .env) → SortAt A s 1 → Word A u p w x → Word A u q w y
+  equality-word : {u : Bool} {A : Frame} {b s p q w x y : ℕ} (t : Bool) → Even A → b ≡ length (A .env) → SortAt A s 1 → Word A u p w x → Word A u q w y
       → Word (ev1 f σ ι A (value s (equality t p q))) u b 1 (bit (eqOrNeq t (sameCells (x ∷ []) (y ∷ []))))
-  cmp-word {A = A} {s = s} {p} {q} t ev e hs hp hq =
+  equality-word {A = A} {s = s} {p} {q} t ev e hs hp hq =
       let xp = isFixed (typeAt (A .lay) p) in
       let xq = isFixed (typeAt (A .lay) q) in
       new-val f σ ι (xp && xq) ev (value s (equality t p q)) e hs refl (rw (hp .cells, hq .cells)) (λ z. join xp xq (hp .fixed z) (hq .fixed z))
 
-  cmp-ok : {u : Bool} {A : Frame} {s p q w x y : ℕ} (t : Bool) → SortAt A s 1 → Word A u p w x → Word A u q w y
+  equality-ok : {u : Bool} {A : Frame} {s p q w x y : ℕ} (t : Bool) → SortAt A s 1 → Word A u p w x → Word A u q w y
       → Ok false (tyAt (A .lay .ctx)) (given (A .lay .ctx)) (value s (equality t p q))
-  cmp-ok t hs hp hq =
+  equality-ok t hs hp hq =
       record {
         sort = sort-ok hs;
         bit = hs .wide;
@@ -158,7 +158,7 @@ module _ (f : Bool) (σ ι : List ℕ) where
       }
 
   join-word : {u : Bool} {A : Frame} {b s p q x y : ℕ} (t : Bool) → Even A → b ≡ length (A .env) → SortAt A s 1 → Word A u p 1 x → Word A u q 1 y
-      → Word (ev1 f σ ι A (value s (binary (joinKind t) p q))) u b 1 (joinVal t x y)
+      → Word (ev1 f σ ι A (value s (binary (joinKind t) p q))) u b 1 (joinValue t x y)
   join-word {A = A} {s = s} {p} {q} t ev e hs hp hq =
       let xp = isFixed (typeAt (A .lay) p) in
       let xq = isFixed (typeAt (A .lay) q) in
@@ -203,13 +203,13 @@ module _ (f : Bool) (σ ι : List ℕ) where
       (run-ites (ext-trans x y) (next-base l (x .even) e) hs hc ps qs (omega arith))
 
   pub run-cmps : {u : Bool} {O A : Frame} {b s w : ℕ} {ps qs xs ys : List ℕ} (t : Bool) → Ext O A → b ≡ length (A .env) → SortAt O s 1 → Holds O u w ps xs → Holds O u w qs ys
-      → length xs ≡ length ys → Run A (equalityLines t s ps qs) u 1 (from b (length ps)) (cmpVals t xs ys)
+      → length xs ≡ length ys → Run A (equalityLines t s ps qs) u 1 (from b (length ps)) (equalityValues t xs ys)
   run-cmps t x e hs none hq n = run-none (x .even)
   run-cmps t x e hs (more hp ps) none n = absurd (omega arith)
   run-cmps {s = s} t x e hs (more {p = p} hp ps) (more {p = q} hq qs) n =
       let l = value s (equality t p q) in
       let y = ext-line f σ ι (x .even) l in
-      run-cell l (x .even) tt (cmp-ok t (sort-ext x hs) (word-ext x hp) (word-ext x hq)) (cmp-word t (x .even) e (sort-ext x hs) (word-ext x hp) (word-ext x hq))
+      run-cell l (x .even) tt (equality-ok t (sort-ext x hs) (word-ext x hp) (word-ext x hq)) (equality-word t (x .even) e (sort-ext x hs) (word-ext x hp) (word-ext x hq))
       (run-cmps t (ext-trans x y) (next-base l (x .even) e) hs ps qs (omega arith))
 
   pub run-joins : {u : Bool} {O A : Frame} {b s r v : ℕ} {ps xs : List ℕ} (t : Bool) → Ext O A → b ≡ length (A .env) → SortAt O s 1 → Word A u r 1 v → Holds O u 1 ps xs
@@ -234,8 +234,8 @@ module _ (f : Bool) (σ ι : List ℕ) where
       let xy = ext-trans x y in
       let e′ = next-base l (x .even) e in
       let z = ext-line f σ ι (y .even) m in
-      let hb = cmp-word true (x .even) e (sort-ext x ho) (word-ext x hi) (word-ext x hk) in
-      run-skip l (x .even) tt (cmp-ok true (sort-ext x ho) (word-ext x hi) (word-ext x hk))
+      let hb = equality-word true (x .even) e (sort-ext x ho) (word-ext x hi) (word-ext x hk) in
+      run-skip l (x .even) tt (equality-ok true (sort-ext x ho) (word-ext x hi) (word-ext x hk))
       (run-cell m (y .even) tt (ite-ok (sort-ext xy hs) hb (word-ext xy hv) (word-ext xy hp)) (ite-word (y .even) e′ (sort-ext xy hs) hb (word-ext xy hv) (word-ext xy hp))
       (run-writes (ext-trans xy z) (next-base m (y .even) e′) ho hs hi hv ks ps (omega arith)))
 
@@ -253,11 +253,11 @@ module _ (f : Bool) (σ ι : List ℕ) where
       let xy = ext-trans x y in
       let e′ = next-base l (x .even) e in
       let z = ext-line f σ ι (y .even) j in
-      let hb = cmp-word true (x .even) e (sort-ext x ho) (word-ext x hi) (word-ext x wk) in
+      let hb = equality-word true (x .even) e (sort-ext x ho) (word-ext x hi) (word-ext x wk) in
       let hv = ite-word (y .even) e′ (sort-ext xy hs) hb (word-ext xy wp) (word-ext y hr) in
       let t = run-reads (ext-trans xy z) (next-base j (y .even) e′) ho hs hi hk hp hv k (omega arith) (omega arith) in
       record {
         grew = grew-trans (grew-line f σ ι (x .even) l tt) (grew-trans (grew-line f σ ι (y .even) j tt) (t .grew));
         word = word-as (last-two r b k) (t .word);
-        ok = (cmp-ok true (sort-ext x ho) (word-ext x hi) (word-ext x wk), (ite-ok (sort-ext xy hs) hb (word-ext xy wp) (word-ext y hr), t .ok));
+        ok = (equality-ok true (sort-ext x ho) (word-ext x hi) (word-ext x wk), (ite-ok (sort-ext xy hs) hb (word-ext xy wp) (word-ext y hr), t .ok));
       }

@@ -62,9 +62,9 @@ inits-tail : (m u : Bool) (lo v : ℕ) (vs : List ℕ) → Inits m u lo (v ∷ v
 inits-tail true u lo v vs h = (h .0, h .1 .1)
 inits-tail false u lo v vs h = tt
 
-give-value : {A : Frame} {u : Bool} {w c lo q v : ℕ} (m : Bool) (vs : List ℕ) → Inits m u lo (v ∷ vs) → Word A u v w c → lo ≤ q → OkValue m q v (typeAt (A .lay) v)
-give-value {A} {v = v} true vs i h l = record { word = word-ok h; below = le-trans (i .1 .0) l; fixed = eqb→eq (typeAt (A .lay) v .role) 2 (h .fixed (i .0)) }
-give-value false vs i h l = record { is = h .is }
+init-next-value : {A : Frame} {u : Bool} {w c lo q v : ℕ} (m : Bool) (vs : List ℕ) → Inits m u lo (v ∷ vs) → Word A u v w c → lo ≤ q → OkValue m q v (typeAt (A .lay) v)
+init-next-value {A} {v = v} true vs i h l = record { word = word-ok h; below = le-trans (i .1 .0) l; fixed = eqb→eq (typeAt (A .lay) v .role) 2 (h .fixed (i .0)) }
+init-next-value false vs i h l = record { is = h .is }
 
 value-index : (m : Bool) (t : Ty) → t .iw ≡ 0 → 0 ≡ valueIndex m t
 value-index true t e = refl
@@ -178,10 +178,10 @@ module _ (f : Bool) (σ ι : List ℕ) where
     pub left : Left A ls (A .lay .counts .states) ws
     pub gave : (n : Bool) → givenBy n (evs f σ ι A ls .lay .ctx) ≡ pick (alike n m) (givenBy n (A .lay .ctx) ++ qs) (givenBy n (A .lay .ctx))
 
-  pub gave-give : (A : Frame) (m : Bool) (s q v : ℕ) (n : Bool)
+  pub gave-init-next : (A : Frame) (m : Bool) (s q v : ℕ) (n : Bool)
       → givenBy n (ev1 f σ ι A (initOrNext m s q v) .lay .ctx) ≡ pick (alike n m) (givenBy n (A .lay .ctx) ++ (q ∷ [])) (givenBy n (A .lay .ctx))
-  gave-give A m s q v true = refl
-  gave-give A m s q v false = refl
+  gave-init-next A m s q v true = refl
+  gave-init-next A m s q v false = refl
 
   pub run-gives : {O A : Frame} {lo a s w : ℕ} {u : Bool} {qs vs cs : List ℕ} (m : Bool) → Ext O A → SortAt O s w → States O lo w a qs → Holds O u w vs cs → length qs ≡ length vs
       → Inits m u lo vs → Fresh (givenBy m (A .lay .ctx)) qs → a + length qs ≤ length (A .sts)
@@ -203,7 +203,7 @@ module _ (f : Bool) (σ ι : List ℕ) where
       let b = alike f m in
       let d = givenBy m (A .lay .ctx) in
       let new : ev1 f σ ι A l .sts ≡ pick b (put (A .sts) a (c ∷ [])) (A .sts) = rw (pA .at, pA .flat) (ap (λ (X : List ℕ). pick b (put (A .sts) a X) (A .sts)) (one-given m vA)) in
-      let added : givenBy m (ev1 f σ ι A l .lay .ctx) ≡ d ++ (q ∷ []) = gave-give A m s q v m ∙ ap (λ (k : Bool). pick k (d ++ (q ∷ [])) d) (alike-self m) in
+      let added : givenBy m (ev1 f σ ι A l .lay .ctx) ≡ d ++ (q ∷ []) = gave-init-next A m s q v m ∙ ap (λ (k : Bool). pick k (d ++ (q ∷ [])) d) (alike-self m) in
       let many : length (ev1 f σ ι A l .sts) ≡ length (A .sts) = ap length new ∙ length-stored b (A .sts) a (c ∷ []) (omega arith) in
       let z = run-gives {A = ev1 f σ ι A l} m (ext-trans x y) hs ps t (omega arith) (inits-tail m u lo v vs i)
       (subst⁻¹ (λ (X : List ℕ). Fresh X qs) added (fresh-more d p ps (omega arith) (g .1))) (omega arith) in
@@ -221,7 +221,7 @@ module _ (f : Bool) (σ ι : List ℕ) where
                   sort = record { is = hA .is };
                   state = pA .is;
                   same = record { iw = pA .flat ∙ sym (hA .flat); w = pA .wide ∙ sym (hA .wide) };
-                  value = give-value m vs i vA (pA .low);
+                  value = init-next-value m vs i vA (pA .low);
                   iw = vA .flat ∙ value-index m (typeAt (A .lay) s) (hA .flat);
                   w = vA .wide ∙ sym (hA .wide);
                   once = g .0;
@@ -229,5 +229,5 @@ module _ (f : Bool) (σ ι : List ℕ) where
                 z .left .ok,
               );
             };
-        gave = λ k. z .gave k ∙ ap (λ (X : List ℕ). pick (alike k m) (X ++ qs) X) (gave-give A m s q v k) ∙ gave-more (alike k m) (givenBy k (A .lay .ctx)) q qs;
+        gave = λ k. z .gave k ∙ ap (λ (X : List ℕ). pick (alike k m) (X ++ qs) X) (gave-init-next A m s q v k) ∙ gave-more (alike k m) (givenBy k (A .lay .ctx)) q qs;
       }

@@ -32,25 +32,25 @@ from-to f i n k g h l =
 -- ---- operators of two words
 
 -- the kinds whose operators are of a class
-abbrev two-class? : Class → ℕ → Bool
-two-class? turn k = false
-two-class? wrap k = leb 31 k && leb k 51
-two-class? meet k = leb 31 k && leb k 51
-two-class? merge k = leb 31 k && leb k 51
-two-class? test k = leb k 30
-two-class? plain k = leb 31 k && leb k 51
-two-class? copy k = false
-two-class? compare k = leb k 30
-two-class? low k = leb 31 k && leb k 51
-two-class? extend k = false
-two-class? cut k = false
-two-class? left k = leb 31 k && leb k 51
-two-class? join k = leb 52 k
-two-class? pickClass k = false
-two-class? clear k = false
+abbrev binary-class? : Class → ℕ → Bool
+binary-class? turn k = false
+binary-class? wrap k = leb 31 k && leb k 51
+binary-class? meet k = leb 31 k && leb k 51
+binary-class? merge k = leb 31 k && leb k 51
+binary-class? test k = leb k 30
+binary-class? plain k = leb 31 k && leb k 51
+binary-class? copy k = false
+binary-class? compare k = leb k 30
+binary-class? low k = leb 31 k && leb k 51
+binary-class? extend k = false
+binary-class? cut k = false
+binary-class? left k = leb 31 k && leb k 51
+binary-class? join k = leb 52 k
+binary-class? pickClass k = false
+binary-class? clear k = false
 
-two-class : (k : ℕ) → 23 ≤ k → k ≤ 52 → T (two-class? (classOf (opOf k)) k)
-two-class k h l = from-to (λ k. two-class? (classOf (opOf k)) k) 23 30 k (at-each (λ m. two-class? (classOf (opOf (m + 23))) (m + 23)) 30 tt) h (omega arith)
+binary-class : (k : ℕ) → 23 ≤ k → k ≤ 52 → T (binary-class? (classOf (opOf k)) k)
+binary-class k h l = from-to (λ k. binary-class? (classOf (opOf k)) k) 23 30 k (at-each (λ m. binary-class? (classOf (opOf (m + 23))) (m + 23)) 30 tt) h (omega arith)
 
 module _ (k w u v : ℕ) (e : fitsBinary k w u v ≡ true) where
   two-bit : k ≤ 30 → (w ≡ 1) × (v ≡ u)
@@ -72,51 +72,51 @@ module _ (k w u v : ℕ) (e : fitsBinary k w u v ≡ true) where
   two-like : T (leb 31 k && leb k 51) → (u ≡ v) × (u ≡ w)
   two-like t = let g = and-yes (leb 31 k) (leb k 51) t in let r = two-same (leb→le 31 k (g .0)) (leb→le k 51 (g .1)) in (r .0 ∙ sym (r .1), r .0)
 
-  two-fit : (q : Class) (b c : ℕ) → T (two-class? q k) → w ≤ 64 → Widths q u v b c × (widthOf q u v b c ≡ w)
-  two-fit turn b c t m = absurd t
-  two-fit wrap b c t m = two-like t
-  two-fit meet b c t m = two-like t
-  two-fit merge b c t m = two-like t
-  two-fit test b c t m = (tt, sym (two-bit (leb→le k 30 t) .0))
-  two-fit plain b c t m = (tt, two-like t .1)
-  two-fit copy b c t m = absurd t
-  two-fit compare b c t m = let r = two-bit (leb→le k 30 t) in (sym (r .1), sym (r .0))
-  two-fit low b c t m = two-like t
-  two-fit extend b c t m = absurd t
-  two-fit cut b c t m = absurd t
-  two-fit left b c t m = (tt, two-like t .1)
-  two-fit join b c t m = let r = two-sum (leb→le 52 k t) in (omega arith, sym r)
-  two-fit pickClass b c t m = absurd t
-  two-fit clear b c t m = absurd t
+  binary-fit : (q : Class) (b c : ℕ) → T (binary-class? q k) → w ≤ 64 → Widths q u v b c × (widthOf q u v b c ≡ w)
+  binary-fit turn b c t m = absurd t
+  binary-fit wrap b c t m = two-like t
+  binary-fit meet b c t m = two-like t
+  binary-fit merge b c t m = two-like t
+  binary-fit test b c t m = (tt, sym (two-bit (leb→le k 30 t) .0))
+  binary-fit plain b c t m = (tt, two-like t .1)
+  binary-fit copy b c t m = absurd t
+  binary-fit compare b c t m = let r = two-bit (leb→le k 30 t) in (sym (r .1), sym (r .0))
+  binary-fit low b c t m = two-like t
+  binary-fit extend b c t m = absurd t
+  binary-fit cut b c t m = absurd t
+  binary-fit left b c t m = (tt, two-like t .1)
+  binary-fit join b c t m = let r = two-sum (leb→le 52 k t) in (omega arith, sym r)
+  binary-fit pickClass b c t m = absurd t
+  binary-fit clear b c t m = absurd t
 
 -- the result of an operator of two words that keeps the rules
 pub two-lt : {t a b : Ty} (k x y : ℕ) → OkBinary t k a b → Width (t .w) → Width (a .w) → x < 2 ^ (a .w) → y < 2 ^ (b .w) → circ (opOf k) (a .w) (b .w) x y 0 < 2 ^ (t .w)
 two-lt {t} {a} {b} k x y o wt wa hx hy =
     let q = classOf (opOf k) in
-    let r = two-fit k (t .w) (a .w) (b .w) (o .rule) q y 0 (two-class k (o .least) (o .most)) (wt .most) in
+    let r = binary-fit k (t .w) (a .w) (b .w) (o .rule) q y 0 (binary-class k (o .least) (o .most)) (wt .most) in
     subst (λ (n : ℕ). circ (opOf k) (a .w) (b .w) x y 0 < 2 ^ n) (r .1) (circ-lt (a .w) (b .w) x y 0 wa hx hy (pow-pos (b .w)) (opOf k) (r .0))
 
 -- ---- operators of one word
 
-abbrev one-class? : Class → ℕ → Bool
-one-class? turn k = leb k 14
-one-class? wrap k = false
-one-class? meet k = false
-one-class? merge k = false
-one-class? test k = leb 15 k && leb k 17
-one-class? plain k = false
-one-class? copy k = leb 19 k && leb k 20
-one-class? compare k = false
-one-class? low k = false
-one-class? extend k = leb 19 k && leb k 20
-one-class? cut k = eqb k 18
-one-class? left k = false
-one-class? join k = false
-one-class? pickClass k = false
-one-class? clear k = false
+abbrev unary-class? : Class → ℕ → Bool
+unary-class? turn k = leb k 14
+unary-class? wrap k = false
+unary-class? meet k = false
+unary-class? merge k = false
+unary-class? test k = leb 15 k && leb k 17
+unary-class? plain k = false
+unary-class? copy k = leb 19 k && leb k 20
+unary-class? compare k = false
+unary-class? low k = false
+unary-class? extend k = leb 19 k && leb k 20
+unary-class? cut k = eqb k 18
+unary-class? left k = false
+unary-class? join k = false
+unary-class? pickClass k = false
+unary-class? clear k = false
 
-one-class : (k : ℕ) → 11 ≤ k → k ≤ 20 → T (one-class? (classOf (opOf k)) k)
-one-class k h l = from-to (λ k. one-class? (classOf (opOf k)) k) 11 10 k (at-each (λ m. one-class? (classOf (opOf (m + 11))) (m + 11)) 10 tt) h (omega arith)
+unary-class : (k : ℕ) → 11 ≤ k → k ≤ 20 → T (unary-class? (classOf (opOf k)) k)
+unary-class k h l = from-to (λ k. unary-class? (classOf (opOf k)) k) 11 10 k (at-each (λ m. unary-class? (classOf (opOf (m + 11))) (m + 11)) 10 tt) h (omega arith)
 
 module _ (k w u x y : ℕ) (l : k ≤ 20) (e : fitsUnary k w u x y ≡ true) where
   not-mask : eqb k 56 ≡ false
@@ -141,22 +141,22 @@ module _ (k w u x y : ℕ) (l : k ≤ 20) (e : fitsUnary k w u x y ≡ true) whe
   one-more : T (leb 19 k && leb k 20) → w ≤ 64 → (u + x ≤ 64) × (u + x ≡ w)
   one-more t m = let r = one-sum (leb→le 19 k (and-yes (leb 19 k) (leb k 20) t .0)) in (omega arith, sym r)
 
-  one-fit : (q : Class) → T (one-class? q k) → w ≤ 64 → Widths q u 64 x y × (widthOf q u 64 x y ≡ w)
-  one-fit turn t m = (tt, one-same (leb→le k 14 t))
-  one-fit wrap t m = absurd t
-  one-fit meet t m = absurd t
-  one-fit merge t m = absurd t
-  one-fit test t m = let g = and-yes (leb 15 k) (leb k 17) t in (tt, sym (one-bit (leb→le 15 k (g .0)) (leb→le k 17 (g .1))))
-  one-fit plain t m = absurd t
-  one-fit copy t m = one-more t m
-  one-fit compare t m = absurd t
-  one-fit low t m = absurd t
-  one-fit extend t m = one-more t m
-  one-fit cut t m = let r = one-cut (eqb→eq k 18 t) in ((r .0, r .1 .0), omega (arith, r .1 .1, r .0))
-  one-fit left t m = absurd t
-  one-fit join t m = absurd t
-  one-fit pickClass t m = absurd t
-  one-fit clear t m = absurd t
+  unary-fit : (q : Class) → T (unary-class? q k) → w ≤ 64 → Widths q u 64 x y × (widthOf q u 64 x y ≡ w)
+  unary-fit turn t m = (tt, one-same (leb→le k 14 t))
+  unary-fit wrap t m = absurd t
+  unary-fit meet t m = absurd t
+  unary-fit merge t m = absurd t
+  unary-fit test t m = let g = and-yes (leb 15 k) (leb k 17) t in (tt, sym (one-bit (leb→le 15 k (g .0)) (leb→le k 17 (g .1))))
+  unary-fit plain t m = absurd t
+  unary-fit copy t m = one-more t m
+  unary-fit compare t m = absurd t
+  unary-fit low t m = absurd t
+  unary-fit extend t m = one-more t m
+  unary-fit cut t m = let r = one-cut (eqb→eq k 18 t) in ((r .0, r .1 .0), omega (arith, r .1 .1, r .0))
+  unary-fit left t m = absurd t
+  unary-fit join t m = absurd t
+  unary-fit pickClass t m = absurd t
+  unary-fit clear t m = absurd t
 
 -- the plain numbers of an operator: those that its kind does not have are 0, and the others are small
 zero-at : (k x : ℕ) → unused k x ≡ true → T (eqb k 0) → x ≡ 0
@@ -217,5 +217,5 @@ module _ {t a : Ty} (k x y : ℕ) (o : OkUnary false t k a x y) (wt : Width (t .
   pub one-lt : (v : ℕ) → v < 2 ^ (a .w) → circ (opOf k) (a .w) 64 v x y < 2 ^ (t .w)
   one-lt v h =
       let q = classOf (opOf k) in
-      let r = one-fit k (t .w) (a .w) x y (o .kind .1) (o .rule) q (one-class k (o .kind .0) (o .kind .1)) (wt .most) in
+      let r = unary-fit k (t .w) (a .w) x y (o .kind .1) (o .rule) q (unary-class k (o .kind .0) (o .kind .1)) (wt .most) in
       subst (λ (n : ℕ). circ (opOf k) (a .w) 64 v x y < 2 ^ n) (r .1) (circ-lt (a .w) 64 v x y wa h second-lt third-lt (opOf k) (r .0))

@@ -12,7 +12,7 @@ use lib.Arith.{lt-of-le-ne}
 use Rattle.tables.specs.Lines.{Line, Expr, Shape, isBitvec, isArray, isConst, isInput, isState, isOutput, isUnary, isBinary, isIte, isRead, isWrite, isUnknown, isInitOrNext, isSignal, isEquality, shapeOf, build, fields, lineOf, kindIn, sortIn as sortOf, firstIn, secondIn, thirdIn}
 use Rattle.tables.specs.Tables.{known}
 use Rattle.tables.proofs.Laws.{past, within}
-use Rattle.tables.proofs.Shapes.{KindOf, kind-of, line-as, shape-one, shape-two, range}
+use Rattle.tables.proofs.Shapes.{KindOf, kind-of, line-as, shape-unary, shape-binary, range}
 use Rattle.flattening.specs.declared.Made.{Made}
 use Rattle.flattening.specs.Model.Cells.{Held, cellIn}
 use Rattle.flattening.specs.Model.Rows.{rowsFor, rowAt, stepping, still, joinRecords, readRecords, writeRecords}
@@ -88,12 +88,12 @@ laid-as {N} {p} {t} {u} {r} e h = subst⁻¹ (λ (x : Line). MadeFlat N p x t u 
 pub as-key : (r : List ℕ) (n : ℕ) → kindIn r ≡ n → lineOf r ≡ build (shapeOf n) (kindIn r) (sortOf r) (firstIn r) (secondIn r) (thirdIn r)
 as-key r n e = line-as r (shapeOf n) (ap shapeOf e)
 
-pub as-one : (r : List ℕ) → 10 < kindIn r → kindIn r ≤ 20 → lineOf r ≡ build isUnary (kindIn r) (sortOf r) (firstIn r) (secondIn r) (thirdIn r)
-as-one r h l = line-as r isUnary (shape-one (kindIn r) h l)
+pub as-unary : (r : List ℕ) → 10 < kindIn r → kindIn r ≤ 20 → lineOf r ≡ build isUnary (kindIn r) (sortOf r) (firstIn r) (secondIn r) (thirdIn r)
+as-unary r h l = line-as r isUnary (shape-unary (kindIn r) h l)
 
-pub as-two : (r : List ℕ) → 22 < kindIn r → known false (kindIn r) ≡ true → (kindIn r ≡ 53 → ⊥) → (kindIn r ≡ 54 → ⊥) → (kindIn r ≡ 55 → ⊥)
+pub as-binary : (r : List ℕ) → 22 < kindIn r → known false (kindIn r) ≡ true → (kindIn r ≡ 53 → ⊥) → (kindIn r ≡ 54 → ⊥) → (kindIn r ≡ 55 → ⊥)
     → lineOf r ≡ build isBinary (kindIn r) (sortOf r) (firstIn r) (secondIn r) (thirdIn r)
-as-two r h e c d f = line-as r isBinary (shape-two (kindIn r) h (fewer (fewer (fewer (range 1 55 (kindIn r) e .1) f) d) c))
+as-binary r h e c d f = line-as r isBinary (shape-binary (kindIn r) h (fewer (fewer (fewer (range 1 55 (kindIn r) e .1) f) d) c))
   where
     fewer : {k n : ℕ} → k ≤ suc n → (k ≡ suc n → ⊥) → k ≤ n
     fewer x y = within (lt-of-le-ne x y)
@@ -109,15 +109,15 @@ as-either r n F h l f g = go (eqb (kindIn r) n) refl
         top : suc n ≤ kindIn r → kindIn r ≤ suc n → kindIn r ≡ suc n
         top x y = omega arith
 
-pub as-cmp : (r : List ℕ) → 20 < kindIn r → kindIn r ≤ 22 → lineOf r ≡ Line.value (sortOf r) (Expr.equality (eqb (kindIn r) 21) (firstIn r) (secondIn r))
-as-cmp r h l = as-either r 21 (λ b. Line.value (sortOf r) (Expr.equality b (firstIn r) (secondIn r))) h l (as-key r 21) (as-key r 22)
+pub as-equality : (r : List ℕ) → 20 < kindIn r → kindIn r ≤ 22 → lineOf r ≡ Line.value (sortOf r) (Expr.equality (eqb (kindIn r) 21) (firstIn r) (secondIn r))
+as-equality r h l = as-either r 21 (λ b. Line.value (sortOf r) (Expr.equality b (firstIn r) (secondIn r))) h l (as-key r 21) (as-key r 22)
 
-pub as-mark : (r : List ℕ) → 7 < kindIn r → kindIn r ≤ 10 → (kindIn r ≡ 10 → ⊥) → lineOf r ≡ Line.signal (eqb (kindIn r) 8) (firstIn r)
-as-mark r h l d = as-either r 8 (λ b. Line.signal b (firstIn r)) h (within (lt-of-le-ne l d)) (as-key r 8) (as-key r 9)
+pub as-signal : (r : List ℕ) → 7 < kindIn r → kindIn r ≤ 10 → (kindIn r ≡ 10 → ⊥) → lineOf r ≡ Line.signal (eqb (kindIn r) 8) (firstIn r)
+as-signal r h l d = as-either r 8 (λ b. Line.signal b (firstIn r)) h (within (lt-of-le-ne l d)) (as-key r 8) (as-key r 9)
 
-pub as-give : (r : List ℕ) → known false (kindIn r) ≡ true → kindIn r ≤ 7 → (kindIn r ≡ 1 → ⊥) → (kindIn r ≡ 2 → ⊥) → (kindIn r ≡ 3 → ⊥) → (kindIn r ≡ 4 → ⊥) → (kindIn r ≡ 5 → ⊥)
+pub as-init-next : (r : List ℕ) → known false (kindIn r) ≡ true → kindIn r ≤ 7 → (kindIn r ≡ 1 → ⊥) → (kindIn r ≡ 2 → ⊥) → (kindIn r ≡ 3 → ⊥) → (kindIn r ≡ 4 → ⊥) → (kindIn r ≡ 5 → ⊥)
     → lineOf r ≡ Line.initOrNext (eqb (kindIn r) 6) (sortOf r) (firstIn r) (secondIn r)
-as-give r e l a₁ a₂ a₃ a₄ a₅ =
+as-init-next r e l a₁ a₂ a₃ a₄ a₅ =
     as-either r 6 (λ b. Line.initOrNext b (sortOf r) (firstIn r) (secondIn r)) (past (past (past (past (past (range 1 55 (kindIn r) e .0) a₁) a₂) a₃) a₄) a₅) l (as-key r 6) (as-key r 7)
 
 -- the kinds that leave one flat line

@@ -113,7 +113,7 @@ module _ (t : List ℕ) (n len m : ℕ) (e : flattened t n len ≡ Done m) where
   pub flat-counts : SameCounts (linesOf false t n) (linesOf false (flatLeft t n len) m)
   flat-counts = subst⁻¹ (λ (x : List Line). SameCounts (linesOf false t n) x) flat-lines (counts-alike (linesOf false t n) ok)
 
-  -- and the same run: signals with their classes, hence bytes and the first counted bad
+  -- and the same run: signals with their marks, hence bytes and the first counted bad
   pub flat-run : (k : ℕ) (S I : List ℕ) → layout false (linesOf false t n) .counts .states ≤ length S → run false (linesOf false (flatLeft t n len) m) k S I ≡ run false (linesOf false t n) k S I
   flat-run k S I h = ap (λ (C : List Line). run false C k S I) flat-lines ∙ runs-alike (linesOf false t n) ok k S I h
 

@@ -19,7 +19,7 @@ use Rattle.tables.specs.Types.{ty, noTy, isFixed, fixedExpr, givenBy, given}
 use Rattle.tables.proofs.Facts.{IsWord}
 use Rattle.circuits.specs.Layout.{typeAt, placeAt, size, lineTypeIn, placeOf}
 use Rattle.circuits.specs.Meaning.{Frame, cellsAt, wordAt, cellsOf}
-use Rattle.flattening.specs.Flat.{from, Info, noInfo, infoAt, linesAt, lineAt, valInfo}
+use Rattle.flattening.specs.Flat.{from, Info, noInfo, infoAt, linesAt, lineAt, valueInfo}
 use Rattle.flattening.proofs.Walk as W
 use Rattle.flattening.proofs.Walk.{Even, Ext, SortAt, Word, Holds, States, Small, Alike, alike-trans, alike-sym, sort-ext, holds-ext, word-weak, holds-weak, states-ext, ev1, ext-line, length-snoc, Grew, quiet, gives, quiet-gives, gave-same, grew-line, len1, new-type, new-place, new-cells, holds-at}
 use Rattle.flattening.proofs.CellLaws.{small-at}
@@ -80,8 +80,8 @@ pub rel-sort : {B : Frame} {i w at : ℕ} {cs : List ℕ} {f : Info} → SortRel
 rel-sort r = record { sort = λ s. r; value = λ s. absurd (omega arith) }
 
 -- a value's Info starts as its sort's
-pub sort-of-val : {B : Frame} {t : Ty} {f : Info} {c : ℕ} {ps : List ℕ} {k : Option ℕ} → SortRel B t f → SortRel B (ty c (t .iw) (t .w)) (valInfo f ps k)
-sort-of-val r =
+pub sort-of-value : {B : Frame} {t : Ty} {f : Info} {c : ℕ} {ps : List ℕ} {k : Option ℕ} → SortRel B t f → SortRel B (ty c (t .iw) (t .w)) (valueInfo f ps k)
+sort-of-value r =
     record { elem = r .elem; size = r .size; wide = r .wide; width = r .width; arr = λ h. record { bit = r .arr h .bit; index = r .arr h .index } }
 
 -- ---- a line that computes; x says whether its cone is fixed
@@ -99,16 +99,16 @@ fixed-back true t = tt
 fixed-back false t = absurd t
 
 pub val-rel : {B : Frame} {t : Ty} {f : Info} {at : ℕ} {cs ps : List ℕ} (x : Bool) (k : Option ℕ) → SortRel B t f → Holds B x (t .w) ps cs → length cs ≡ 2 ^ (t .iw) → Small (t .w) cs
-    → KnownRel k cs → Rel B (ty (pick x 2 3) (t .iw) (t .w)) at cs (valInfo f ps k)
+    → KnownRel k cs → Rel B (ty (pick x 2 3) (t .iw) (t .w)) at cs (valueInfo f ps k)
 val-rel x k r h n s c =
     record {
       sort = λ e. absurd (no-sort x e);
-      value = λ e. record { sort = sort-of-val r; held = holds-weak (fixed-back x) h; len = n; small = s; known = c; states = λ e. absurd (no-state x e) };
+      value = λ e. record { sort = sort-of-value r; held = holds-weak (fixed-back x) h; len = n; small = s; known = c; states = λ e. absurd (no-state x e) };
     }
 
 -- whose sort is a word's
 pub word-rel : {B : Frame} {t : Ty} {f : Info} {at p v : ℕ} (x : Bool) (k : Option ℕ) → SortRel B t f → t .iw ≡ 0 → Word B x p (t .w) v → v < 2 ^ (t .w) → KnownRel k (v ∷ [])
-    → Rel B (ty (pick x 2 3) (t .iw) (t .w)) at (v ∷ []) (valInfo f (p ∷ []) k)
+    → Rel B (ty (pick x 2 3) (t .iw) (t .w)) at (v ∷ []) (valueInfo f (p ∷ []) k)
 word-rel x k r e h s c = val-rel x k r (W.more h W.none) (rw e) (s, tt) c
 
 -- ---- all lines

@@ -18,7 +18,7 @@ use Rattle.tables.proofs.Facts.{IsWord, Ok}
 use Rattle.circuits.specs.Layout.{typeAt, lineTypeIn}
 use Rattle.circuits.specs.Meaning.{Frame, cellsAt}
 use Rattle.flattening.specs.declared.Made.{Made}
-use Rattle.flattening.specs.Flat.{from, Info, noInfo, infoAt, linesAt, lineAt, valInfo, chunk, chunkRead, chunkWrite, writeCells}
+use Rattle.flattening.specs.Flat.{from, Info, noInfo, infoAt, linesAt, lineAt, valueInfo, chunk, chunkRead, chunkWrite, writeCells}
 use Rattle.flattening.specs.Model.Cells.{cellIn}
 use Rattle.flattening.specs.Model.Lines.{deepIn, Notes, wordLine, bitIn, conIn, sizeIn, small, madeAs, flatCount, flatMade}
 use Rattle.flattening.specs.Model.Fits.{Neat}
@@ -57,7 +57,7 @@ module _ (N : Notes) (n : ℕ) (h : Holds N n) where
 
   -- a value of the sort f, whose cells are the flat lines ps
   val-note : (m : Made) (f : Info) (ps : List ℕ) (k : Option ℕ) (t : Ty) → t .role ≢ 1 → m .bit ≡ f .bit → f .index ≡ from (suc (f .bit)) (length (f .index)) → KnownNote k (m .con)
-      → ((j : ℕ) → j < length ps → cellIn (noted N n m .held) n j ≡ getD ps j 0) → NoteRel (noted N n m) t n (valInfo f ps k)
+      → ((j : ℕ) → j < length ps → cellIn (noted N n m .held) n j ≡ getD ps j 0) → NoteRel (noted N n m) t n (valueInfo f ps k)
   val-note m f ps k t d eb ei ek ec =
       record {
         elem = λ e. absurd (d e);
@@ -86,7 +86,7 @@ module _ {A B : Frame} {I : List Info} (v : Inv A B I) (N : Notes) (ne : Neat N)
 
   -- a word of the sort s, at the flat line x
   word-kept : (m : Made) (s x : ℕ) (k : Option ℕ) (t : Ty) → t .role ≢ 1 → m .old ≡ 0 → m .key ≡ 1 → m .at ≡ x → m .bit ≡ bitIn N s → KnownNote k (m .con) → m .con ≤ 256 → x ≤ 65536
-      → LineKept N n m t (valInfo (infoAt I s) (x ∷ []) k)
+      → LineKept N n m t (valueInfo (infoAt I s) (x ∷ []) k)
   word-kept m s x k t d eo ekey ea eb ek ec lx =
       record {
         falls = no-old eo;
@@ -98,7 +98,7 @@ module _ {A B : Frame} {I : List Info} (v : Inv A B I) (N : Notes) (ne : Neat N)
       }
 
   -- a run of flat lines
-  run-kept : (m : Made) (s c : ℕ) (t : Ty) → t .role ≢ 1 → m .old ≡ 0 → m .key ≡ 1 → m .at ≡ p + 1 → m .bit ≡ bitIn N s → m .con ≡ 0 → p ≤ 60000 → LineKept N n m t (valInfo (infoAt I s) (from (suc p) c) none)
+  run-kept : (m : Made) (s c : ℕ) (t : Ty) → t .role ≢ 1 → m .old ≡ 0 → m .key ≡ 1 → m .at ≡ p + 1 → m .bit ≡ bitIn N s → m .con ≡ 0 → p ≤ 60000 → LineKept N n m t (valueInfo (infoAt I s) (from (suc p) c) none)
   run-kept m s c t d eo ekey ea eb ek lp =
       record {
         falls = no-old eo;

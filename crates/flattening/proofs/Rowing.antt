@@ -35,22 +35,22 @@ pub state-records : (s n : ℕ) → map wordsOf (replicate n (Line.state s)) ≡
 state-records s zero = refl
 state-records s (suc n) = front n (λ j. fields 5 s 0 0 0 ∷ []) (fields 5 s 0 0 0 ∷ []) (map wordsOf (replicate n (Line.state s))) refl (state-records s n)
 
-pub give-records : (m : Bool) (s : ℕ) (qs vs : List ℕ) → length qs ≡ length vs → map wordsOf (initOrNextLines m s qs vs) ≡ rowsFor (length qs) (λ j. fields (initOrNextKind m) s (getD qs j 0) (getD vs j 0) 0 ∷ [])
-give-records m s [] vs n = refl
-give-records m s (q ∷ qs) [] n = absurd (omega arith)
-give-records m s (q ∷ qs) (v ∷ vs) n =
-    front (length qs) (λ j. fields (initOrNextKind m) s (getD (q ∷ qs) j 0) (getD (v ∷ vs) j 0) 0 ∷ []) (fields (initOrNextKind m) s q v 0 ∷ []) (map wordsOf (initOrNextLines m s qs vs)) refl (give-records m s qs vs (omega arith))
+pub init-next-records : (m : Bool) (s : ℕ) (qs vs : List ℕ) → length qs ≡ length vs → map wordsOf (initOrNextLines m s qs vs) ≡ rowsFor (length qs) (λ j. fields (initOrNextKind m) s (getD qs j 0) (getD vs j 0) 0 ∷ [])
+init-next-records m s [] vs n = refl
+init-next-records m s (q ∷ qs) [] n = absurd (omega arith)
+init-next-records m s (q ∷ qs) (v ∷ vs) n =
+    front (length qs) (λ j. fields (initOrNextKind m) s (getD (q ∷ qs) j 0) (getD (v ∷ vs) j 0) 0 ∷ []) (fields (initOrNextKind m) s q v 0 ∷ []) (map wordsOf (initOrNextLines m s qs vs)) refl (init-next-records m s qs vs (omega arith))
 
 pub ite-records : (s c : ℕ) (ps qs : List ℕ) → length ps ≡ length qs → map wordsOf (iteLines s c ps qs) ≡ rowsFor (length ps) (λ j. fields 53 s c (getD ps j 0) (getD qs j 0) ∷ [])
 ite-records s c [] qs n = refl
 ite-records s c (p ∷ ps) [] n = absurd (omega arith)
 ite-records s c (p ∷ ps) (q ∷ qs) n = front (length ps) (λ j. fields 53 s c (getD (p ∷ ps) j 0) (getD (q ∷ qs) j 0) ∷ []) (fields 53 s c p q ∷ []) (map wordsOf (iteLines s c ps qs)) refl (ite-records s c ps qs (omega arith))
 
-pub cmp-records : (e : Bool) (s : ℕ) (ps qs : List ℕ) → length ps ≡ length qs → map wordsOf (equalityLines e s ps qs) ≡ rowsFor (length ps) (λ j. fields (equalityKind e) s (getD ps j 0) (getD qs j 0) 0 ∷ [])
-cmp-records e s [] qs n = refl
-cmp-records e s (p ∷ ps) [] n = absurd (omega arith)
-cmp-records e s (p ∷ ps) (q ∷ qs) n =
-    front (length ps) (λ j. fields (equalityKind e) s (getD (p ∷ ps) j 0) (getD (q ∷ qs) j 0) 0 ∷ []) (fields (equalityKind e) s p q 0 ∷ []) (map wordsOf (equalityLines e s ps qs)) refl (cmp-records e s ps qs (omega arith))
+pub equality-records : (e : Bool) (s : ℕ) (ps qs : List ℕ) → length ps ≡ length qs → map wordsOf (equalityLines e s ps qs) ≡ rowsFor (length ps) (λ j. fields (equalityKind e) s (getD ps j 0) (getD qs j 0) 0 ∷ [])
+equality-records e s [] qs n = refl
+equality-records e s (p ∷ ps) [] n = absurd (omega arith)
+equality-records e s (p ∷ ps) (q ∷ qs) n =
+    front (length ps) (λ j. fields (equalityKind e) s (getD (p ∷ ps) j 0) (getD (q ∷ qs) j 0) 0 ∷ []) (fields (equalityKind e) s p q 0 ∷ []) (map wordsOf (equalityLines e s ps qs)) refl (equality-records e s ps qs (omega arith))
 
 -- joins, each of the one before it
 pub join-records : (e : Bool) (s c q n : ℕ) → map wordsOf (joinLines e s c (suc c) (from q n)) ≡ rowsFor n (λ j. fields (joinKind e) s (c + j) (q + j) 0 ∷ [])

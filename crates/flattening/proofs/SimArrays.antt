@@ -15,10 +15,10 @@ use Rattle.tables.proofs.Facts.{Ok}
 use Rattle.circuits.specs.Cells.{eqOrNeq, sameCells}
 use Rattle.circuits.specs.Layout.{typeAt, placeAt}
 use Rattle.circuits.specs.Meaning.{Frame, cellsAt, wordAt}
-use Rattle.flattening.specs.Flat.{from, Info, infoAt, linesAt, lineAt, valInfo, chunk, equalityLines, joinLines, readChain, writeCells, chunkRead, chunkWrite}
+use Rattle.flattening.specs.Flat.{from, Info, infoAt, linesAt, lineAt, valueInfo, chunk, equalityLines, joinLines, readChain, writeCells, chunkRead, chunkWrite}
 use Rattle.flattening.proofs.Walk as W
 use Rattle.flattening.proofs.Walk.{both, holds-weak, Even, SortAt, Word, Holds, Small, ext-refl, sort-ext, holds-head, holds-tail, holds-length, holds-at, ok-append, evs, evs-append, len-all, Grew, grew-refl, grew-trans}
-use Rattle.flattening.proofs.Chains.{Ends, writes, picks, cmpVals, lastLine, run-ites, run-cmps, run-joins, run-writes, run-reads}
+use Rattle.flattening.proofs.Chains.{Ends, writes, picks, equalityValues, lastLine, run-ites, run-cmps, run-joins, run-writes, run-reads}
 use Rattle.flattening.proofs.CellLaws.{length-from, chooses-choose, choose-has, writes-set, picks-get, joins-agree, small-at, small-set, small-bit, holds-set}
 use Rattle.flattening.proofs.Rel.{SortRel, KnownRel, ValRel, Inv, sortrel-ext, val-rel, word-rel, word-for, word-small, cells-for, extend-quiet}
 use Rattle.flattening.proofs.SimWords.{Keeps}
@@ -48,7 +48,7 @@ module _ (f : Bool) (σ ι : List ℕ) where
       let B′ = evs f σ ι B (chunk I b (value s (ite d x y)) .lines) in
       record {
         inv =
-            extend-quiet f σ ι (value s (ite d x y)) (valInfo (infoAt I s) ps none) tt v (r .grew)
+            extend-quiet f σ ι (value s (ite d x y)) (valueInfo (infoAt I s) ps none) tt v (r .grew)
             (val-rel u none (sortrel-ext (r .grew .ext) rs)
             (subst (λ (l : List ℕ). Holds B′ u (t .w) ps l) (chooses-choose c xs ys (nx ∙ sym ny)) (r .holds))
             (choose-has (λ (l : List ℕ). length l ≡ 2 ^ (t .iw)) c nx ny)
@@ -76,7 +76,7 @@ module _ (f : Bool) (σ ι : List ℕ) where
       let r = run-cmps f σ ι t (ext-refl ev) e hs (W.more hp hr) (W.more hq hu) n in
       let top : m ≡ length (evs f σ ι B L .env) = omega (arith, len-all f σ ι B L, len-cmps t s (p ∷ ps) (q ∷ qs) (omega (arith, holds-length hr, holds-length hu))) in
       let ek : length ps ≡ k = omega arith in
-      let tests = subst (λ (i : ℕ). Holds (evs f σ ι B L) u 1 (from (suc b) i) (cmpVals t xs ys)) ek (holds-tail (r .holds)) in
+      let tests = subst (λ (i : ℕ). Holds (evs f σ ι B L) u 1 (from (suc b) i) (equalityValues t xs ys)) ek (holds-tail (r .holds)) in
       let j = run-joins f σ ι t (ext-refl (r .grew .ext .even)) top (sort-ext (r .grew .ext) hs) (holds-head (r .holds)) tests in
       let E = evs-append f σ ι B L J in
       let v = bit (eqOrNeq t (sameCells (x ∷ xs) (y ∷ ys))) in
@@ -93,9 +93,9 @@ module _ (f : Bool) (σ ι : List ℕ) where
       last-join b m zero e = omega arith
       last-join b m (suc k) e = omega arith
 
-  pub sim-cmp : {A B : Frame} {I : List Info} {b : ℕ} (s : ℕ) (t : Bool) (x y : ℕ) → Inv A B I → b ≡ length (B .env) → Ok false (tyAt (A .lay .ctx)) (given (A .lay .ctx)) (value s (equality t x y))
+  pub sim-equality : {A B : Frame} {I : List Info} {b : ℕ} (s : ℕ) (t : Bool) (x y : ℕ) → Inv A B I → b ≡ length (B .env) → Ok false (tyAt (A .lay .ctx)) (given (A .lay .ctx)) (value s (equality t x y))
       → Keeps f σ ι A B I (value s (equality t x y)) (chunk I b (value s (equality t x y)))
-  sim-cmp {A} {B} {I} {b} s t x y v e k =
+  sim-equality {A} {B} {I} {b} s t x y v e k =
       let g = infoAt I s in
       let rs = v .rel s .sort (k .sort .is) in
       let rx = v .rel x .value (k .left .is) in
@@ -113,7 +113,7 @@ module _ (f : Bool) (σ ι : List ℕ) where
       let c = bit (eqOrNeq t (sameCells xs ys)) in
       record {
         inv =
-            extend-quiet f σ ι (value s (equality t x y)) (valInfo g (p ∷ []) none) tt v (r .grew)
+            extend-quiet f σ ι (value s (equality t x y)) (valueInfo g (p ∷ []) none) tt v (r .grew)
             (word-rel (fx && fy) none (sortrel-ext (r .grew .ext) rs) (k .sort .flat) (subst⁻¹ (λ (w : ℕ). Word B′ (fx && fy) p w c) (k .bit) (r .word))
             (subst⁻¹ (λ (w : ℕ). c < 2 ^ w) (k .bit) (small-bit (eqOrNeq t (sameCells xs ys)))) tt);
         ok = r .ok;
@@ -186,7 +186,7 @@ module _ (f : Bool) (σ ι : List ℕ) where
           let ej : iv ≡ j = ap (λ (l : List ℕ). getD l 0 0) z in
           record {
             inv =
-                extend-quiet f σ ι (value s (read a i)) (valInfo h (getD (g .cells) j 0 ∷ []) none) tt v (grew-refl (v .evenB))
+                extend-quiet f σ ι (value s (read a i)) (valueInfo h (getD (g .cells) j 0 ∷ []) none) tt v (grew-refl (v .evenB))
                 (word-rel (fa && fi) none rs (k .sort .flat) (subst (λ (m : ℕ). Word B (fa && fi) (getD (g .cells) m 0) (t .w) (getD cs iv 0)) ej (holds-at iv held inside)) fits tt);
             ok = tt;
           }
@@ -198,7 +198,7 @@ module _ (f : Bool) (σ ι : List ℕ) where
           (ap (λ (n : ℕ). n - 1) (holds-length held ∙ ra .len)) (omega (arith, holds-length held, ra .len)) in
           record {
             inv =
-                extend-quiet f σ ι (value s (read a i)) (valInfo h ((b + (2 * last - 1)) ∷ []) none) tt v (r .grew)
+                extend-quiet f σ ι (value s (read a i)) (valueInfo h ((b + (2 * last - 1)) ∷ []) none) tt v (r .grew)
                 (word-rel (fa && fi) none (sortrel-ext (r .grew .ext) rs) (k .sort .flat) (r .word) fits tt);
             ok = r .ok;
           }
@@ -263,7 +263,7 @@ module _ (f : Bool) (σ ι : List ℕ) where
           let ej : iv ≡ j = ap (λ (l : List ℕ). getD l 0 0) z in
           record {
             inv =
-                extend-quiet f σ ι (value s (write a i x)) (valInfo h (set ps j (lineAt I x)) none) tt v (grew-refl (v .evenB))
+                extend-quiet f σ ι (value s (write a i x)) (valueInfo h (set ps j (lineAt I x)) none) tt v (grew-refl (v .evenB))
                 (val-rel u none rs (subst (λ (m : ℕ). Holds B u (t .w) (set ps m (lineAt I x)) (set cs iv xv)) ej (holds-set iv held wx)) (length-set cs iv xv ∙ many) fits tt);
             ok = tt;
           }
@@ -273,7 +273,7 @@ module _ (f : Bool) (σ ι : List ℕ) where
           let B′ = evs f σ ι B (chunkWrite h ps none (lineAt I i) (lineAt I x) b .lines) in
           record {
             inv =
-                extend-quiet f σ ι (value s (write a i x)) (valInfo h (writeCells b (length ps)) none) tt v (r .grew)
+                extend-quiet f σ ι (value s (write a i x)) (valueInfo h (writeCells b (length ps)) none) tt v (r .grew)
                 (val-rel u none (sortrel-ext (r .grew .ext) rs)
                 (subst (λ (ds : List ℕ). Holds B′ u (t .w) (writeCells b (length ps)) ds) (ap (λ (n : ℕ). writes iv (from 0 n) xv cs) (sym many) ∙ writes-set iv xv cs) (r .holds))
                 (length-set cs iv xv ∙ many) fits tt);

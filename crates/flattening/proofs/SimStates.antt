@@ -22,12 +22,12 @@ use Rattle.tables.proofs.Facts.{Ok, OkValue}
 use Rattle.circuits.specs.Cells.{part, put}
 use Rattle.circuits.specs.Layout.{typeAt, placeAt, size}
 use Rattle.circuits.specs.Meaning.{Frame, cellsAt, wordAt, stateCells, givenWords}
-use Rattle.flattening.specs.Flat.{from, Info, noInfo, infoAt, linesAt, lineAt, valInfo, chunk, valueLines, initOrNextLines}
+use Rattle.flattening.specs.Flat.{from, Info, noInfo, infoAt, linesAt, lineAt, valueInfo, chunk, valueLines, initOrNextLines}
 use Rattle.flattening.proofs.Walk.{Holds, States, Small, none, more, ext-refl, holds-length, states-room, ev1, evs, holds-at}
 use Rattle.flattening.proofs.CellLaws.{from-at, length-from, taken, lows-taken, state-lows, length-taken, small-taken, holds-replicate}
 use Rattle.flattening.proofs.Stores.{length-stored}
-use Rattle.flattening.proofs.Effects.{Fresh, Under, Inits, Gives, among-append, run-states, run-gives, gave-give}
-use Rattle.flattening.proofs.Rel.{SortRel, ValRel, Inv, sortrel-ext, sort-of-val, rel-none, word-for, cells-for, extend, same-given}
+use Rattle.flattening.proofs.Effects.{Fresh, Under, Inits, Gives, among-append, run-states, run-gives, gave-init-next}
+use Rattle.flattening.proofs.Rel.{SortRel, ValRel, Inv, sortrel-ext, sort-of-value, rel-none, word-for, cells-for, extend, same-given}
 use Rattle.flattening.proofs.SimWords.{Keeps}
 
 -- ---- lists of lines, and lines in them
@@ -119,7 +119,7 @@ module _ (f : Bool) (σ ι : List ℕ) where
       let first : getD (from b (g .size)) 0 0 ≡ b = from-at b (g .size) 0 pos ∙ omega arith in
       record {
         inv =
-            extend f σ ι (state s) (valInfo g (from b (g .size)) nothing) v (r .left .ext)
+            extend f σ ι (state s) (valueInfo g (from b (g .size)) nothing) v (r .left .ext)
             (record {
               states = r .left .states ∙ ap₂ (λ (x y : ℕ). x + y) (v .alike .states) (rs .size);
               inputs = r .left .inputs ∙ v .alike .inputs;
@@ -133,7 +133,7 @@ module _ (f : Bool) (σ ι : List ℕ) where
               value =
                   λ z.
                   record {
-                    sort = sort-of-val (sortrel-ext (r .left .ext) rs);
+                    sort = sort-of-value (sortrel-ext (r .left .ext) rs);
                     held = subst (λ (cs : List ℕ). Holds B′ false (t .w) (from b (g .size)) cs) (et ∙ ec) (r .holds);
                     len = sym (ap length ec) ∙ length-taken σ a n (t .w);
                     small = subst (Small (t .w)) ec (small-taken σ a n (t .w));
@@ -156,9 +156,9 @@ module _ (f : Bool) (σ ι : List ℕ) where
         ok = r .left .ok;
       }
 
-  pub sim-give : {A B : Frame} {I : List Info} {b : ℕ} (m : Bool) (s q a : ℕ) → Inv A B I → b ≡ length (B .env) → Ok false (tyAt (A .lay .ctx)) (given (A .lay .ctx)) (initOrNext m s q a)
+  pub sim-init-next : {A B : Frame} {I : List Info} {b : ℕ} (m : Bool) (s q a : ℕ) → Inv A B I → b ≡ length (B .env) → Ok false (tyAt (A .lay .ctx)) (given (A .lay .ctx)) (initOrNext m s q a)
       → Keeps f σ ι A B I (initOrNext m s q a) (chunk I b (initOrNext m s q a))
-  sim-give {A} {B} {I} m s q a v e k =
+  sim-init-next {A} {B} {I} m s q a v e k =
       record {
         inv =
             extend f σ ι (initOrNext m s q a) noInfo v (r .left .ext)
@@ -252,13 +252,13 @@ module _ (f : Bool) (σ ι : List ℕ) where
           → given (B′ .lay .ctx) n (getD (linesAt I p) j 0) ≡ false
       free-by n p h j l true e g =
           let x = getD (linesAt I p) j 0 in
-          let g′ : among p (givenBy n (A .lay .ctx) ++ (q ∷ [])) ≡ false = sym (ap (λ (d : List ℕ). among p d) (gave-give f σ ι A m s q a n ∙ ap (λ (c : Bool). pick c (givenBy n (A .lay .ctx) ++ (q ∷ [])) (givenBy n (A .lay .ctx))) e)) ∙ g in
+          let g′ : among p (givenBy n (A .lay .ctx) ++ (q ∷ [])) ≡ false = sym (ap (λ (d : List ℕ). among p d) (gave-init-next f σ ι A m s q a n ∙ ap (λ (c : Bool). pick c (givenBy n (A .lay .ctx) ++ (q ∷ [])) (givenBy n (A .lay .ctx))) e)) ∙ g in
           let d : p ≢ q = eqb-false p q (or-left (eqb p q) false (among-back p (givenBy n (A .lay .ctx)) (q ∷ []) g′)) in
           ap (λ (d : List ℕ). among x d) (r .gave n ∙ ap (λ (c : Bool). pick c (givenBy n (B .lay .ctx) ++ qs) (givenBy n (B .lay .ctx))) e)
           ∙ among-append x (givenBy n (B .lay .ctx)) qs (v .free n p h (among-front p (givenBy n (A .lay .ctx)) (q ∷ []) g′) j l) (apart p h d j l)
       free-by n p h j l false e g =
           let x = getD (linesAt I p) j 0 in
-          let g′ : among p (givenBy n (A .lay .ctx)) ≡ false = sym (ap (λ (d : List ℕ). among p d) (gave-give f σ ι A m s q a n ∙ ap (λ (c : Bool). pick c (givenBy n (A .lay .ctx) ++ (q ∷ [])) (givenBy n (A .lay .ctx))) e)) ∙ g in
+          let g′ : among p (givenBy n (A .lay .ctx)) ≡ false = sym (ap (λ (d : List ℕ). among p d) (gave-init-next f σ ι A m s q a n ∙ ap (λ (c : Bool). pick c (givenBy n (A .lay .ctx) ++ (q ∷ [])) (givenBy n (A .lay .ctx))) e)) ∙ g in
           ap (λ (d : List ℕ). among x d) (r .gave n ∙ ap (λ (c : Bool). pick c (givenBy n (B .lay .ctx) ++ qs) (givenBy n (B .lay .ctx))) e) ∙ v .free n p h g′ j l
 
       bound-by : (n : Bool) (p : ℕ) → length (B′ .env) ≤ p → (c : Bool) → alike n m ≡ c → given (B′ .lay .ctx) n p ≡ false

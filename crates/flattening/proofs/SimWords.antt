@@ -17,7 +17,7 @@ use Rattle.tables.proofs.Facts.{Ok, AllOk}
 use Rattle.circuits.specs.Cells.{ifNonzero}
 use Rattle.circuits.specs.Layout.{typeAt}
 use Rattle.circuits.specs.Meaning.{Frame, Signal, signalByte, wordAt}
-use Rattle.flattening.specs.Flat.{from, Info, noInfo, Chunk, infoAt, lineAt, bitvecInfo, arrayInfo, valInfo, chunk, constLines}
+use Rattle.flattening.specs.Flat.{from, Info, noInfo, Chunk, infoAt, lineAt, bitvecInfo, arrayInfo, valueInfo, chunk, constLines}
 use Rattle.flattening.proofs.Walk.{both, join, Even, SortAt, ext-refl, ext-trans, sort-ext, word-val, sort-ok, word-ok, ev1, evs, ext-line, new-type, new-word, new-val, len1, gave-same, grew-trans, grew-line}
 use Rattle.flattening.proofs.Chains.{Run, run-consts}
 use Rattle.flattening.proofs.CellLaws.{length-from, small-from}
@@ -97,7 +97,7 @@ module _ (f : Bool) (σ ι : List ℕ) where
       let x = ext-line f σ ι (v .evenB) l in
       record {
         inv =
-            extend f σ ι (input s) (valInfo (infoAt I s) (b ∷ []) none) v x
+            extend f σ ι (input s) (valueInfo (infoAt I s) (b ∷ []) none) v x
             (record { states = v .alike .states; inputs = ap suc (v .alike .inputs); signals = v .alike .signals; sts = v .alike .sts; sigs = v .alike .sigs })
             (v .many)
             (word-rel false none (sortrel-ext x rs) (k .flat)
@@ -115,14 +115,14 @@ module _ (f : Bool) (σ ι : List ℕ) where
       let g = grew-line f σ ι (v .evenB) l tt in
       record {
         inv =
-            extend-quiet f σ ι (value s (const c)) (valInfo (infoAt I s) (b ∷ []) (some c)) tt v g
+            extend-quiet f σ ι (value s (const c)) (valueInfo (infoAt I s) (b ∷ []) (some c)) tt v g
             (word-rel true (some c) (sortrel-ext (g .ext) rs) (k .sort .flat) (new-val f σ ι true (v .evenB) l e (rs .elem) refl refl (λ z. tt)) (k .fits) refl);
         ok = (record { sort = sort-ok (rs .elem); fits = rw (rs .elem .wide) (k .fits) }, tt);
       }
 
-  pub sim-one : {A B : Frame} {I : List Info} {b : ℕ} (s h a x y : ℕ) → Inv A B I → b ≡ length (B .env) → Ok false (tyAt (A .lay .ctx)) (given (A .lay .ctx)) (value s (unary h a x y))
+  pub sim-unary : {A B : Frame} {I : List Info} {b : ℕ} (s h a x y : ℕ) → Inv A B I → b ≡ length (B .env) → Ok false (tyAt (A .lay .ctx)) (given (A .lay .ctx)) (value s (unary h a x y))
       → Keeps A B I (value s (unary h a x y)) (chunk I b (value s (unary h a x y)))
-  sim-one {A} {B} {I} {b} s h a x y v e k =
+  sim-unary {A} {B} {I} {b} s h a x y v e k =
       let rs = v .rel s .sort (k .sort .is) in
       let ra = v .rel a .value (k .arg .is) in
       let wa = word-of v a (k .arg) in
@@ -130,7 +130,7 @@ module _ (f : Bool) (σ ι : List ℕ) where
       let g = grew-line f σ ι (v .evenB) l tt in
       record {
         inv =
-            extend-quiet f σ ι (value s (unary h a x y)) (valInfo (infoAt I s) (b ∷ []) none) tt v g
+            extend-quiet f σ ι (value s (unary h a x y)) (valueInfo (infoAt I s) (b ∷ []) none) tt v g
             (word-rel (isFixed (typeAt (A .lay) a)) none (sortrel-ext (g .ext) rs) (k .sort .flat)
             (new-val f σ ι (isFixed (typeAt (B .lay) (lineAt I a))) (v .evenB) l e (rs .elem) refl
             (ap₂ (λ (u w : ℕ). circ (opOf h) u 64 w x y ∷ []) (wa .wide) (word-val wa)) (wa .fixed))
@@ -148,9 +148,9 @@ module _ (f : Bool) (σ ι : List ℕ) where
         );
       }
 
-  pub sim-two : {A B : Frame} {I : List Info} {b : ℕ} (s h x y : ℕ) → Inv A B I → b ≡ length (B .env) → Ok false (tyAt (A .lay .ctx)) (given (A .lay .ctx)) (value s (binary h x y))
+  pub sim-binary : {A B : Frame} {I : List Info} {b : ℕ} (s h x y : ℕ) → Inv A B I → b ≡ length (B .env) → Ok false (tyAt (A .lay .ctx)) (given (A .lay .ctx)) (value s (binary h x y))
       → Keeps A B I (value s (binary h x y)) (chunk I b (value s (binary h x y)))
-  sim-two {A} {B} {I} {b} s h x y v e k =
+  sim-binary {A} {B} {I} {b} s h x y v e k =
       let rs = v .rel s .sort (k .sort .is) in
       let wx = word-of v x (k .left) in
       let wy = word-of v y (k .right) in
@@ -162,7 +162,7 @@ module _ (f : Bool) (σ ι : List ℕ) where
       let g = grew-line f σ ι (v .evenB) l tt in
       record {
         inv =
-            extend-quiet f σ ι (value s (binary h x y)) (valInfo (infoAt I s) (b ∷ []) none) tt v g
+            extend-quiet f σ ι (value s (binary h x y)) (valueInfo (infoAt I s) (b ∷ []) none) tt v g
             (word-rel (fx && fy) none (sortrel-ext (g .ext) rs) (k .sort .flat)
             (new-val f σ ι (gx && gy) (v .evenB) l e (rs .elem) refl (rw (wx .wide, wy .wide, word-val wx, word-val wy))
             (λ z. let w = both fx fy z in join gx gy (wx .fixed (w .0)) (wy .fixed (w .1))))
@@ -180,9 +180,9 @@ module _ (f : Bool) (σ ι : List ℕ) where
         );
       }
 
-  pub sim-mark : {A B : Frame} {I : List Info} {b : ℕ} (m : Bool) (a : ℕ) → Inv A B I → b ≡ length (B .env) → Ok false (tyAt (A .lay .ctx)) (given (A .lay .ctx)) (signal m a)
+  pub sim-signal : {A B : Frame} {I : List Info} {b : ℕ} (m : Bool) (a : ℕ) → Inv A B I → b ≡ length (B .env) → Ok false (tyAt (A .lay .ctx)) (given (A .lay .ctx)) (signal m a)
       → Keeps A B I (signal m a) (chunk I b (signal m a))
-  sim-mark {A} {B} {I} {b} m a v e k =
+  sim-signal {A} {B} {I} {b} m a v e k =
       let h = word-of v a (k .word) in
       let l = signal m (lineAt I a) in
       let x = ext-line f σ ι (v .evenB) l in

@@ -104,40 +104,40 @@ arrayInfo i e b =
     record { width = e .width; size = 2 ^ (i .width); elem = e .elem; bit = b; index = from (suc b) (2 ^ (i .width)); cells = []; known = none }
 
 -- a value of the sort f whose cells are the flat lines ps
-abbrev pub valInfo : Info → List ℕ → Option ℕ → Info
-valInfo f ps k = record { width = f .width; size = f .size; elem = f .elem; bit = f .bit; index = f .index; cells = ps; known = k }
+abbrev pub valueInfo : Info → List ℕ → Option ℕ → Info
+valueInfo f ps k = record { width = f .width; size = f .size; elem = f .elem; bit = f .bit; index = f .index; cells = ps; known = k }
 
 -- "each line that stands for a cell takes the element sort of its line's array sort"; "both constant and new width-1 sort being those of the write's own array sort line";
 -- "an index line of kind 3 adds no lines: write swaps one cell"
 abbrev pub chunkWrite : Info → List ℕ → Option ℕ → (i v b : ℕ) → Chunk
-chunkWrite f ps (some k) i v b = record { lines = []; info = valInfo f (set ps k v) none }
+chunkWrite f ps (some k) i v b = record { lines = []; info = valueInfo f (set ps k v) none }
 chunkWrite f ps none i v b =
-    record { lines = writeLines (f .bit) (f .elem) i v b (f .index) ps; info = valInfo f (writeCells b (length ps)) none }
+    record { lines = writeLines (f .bit) (f .elem) i v b (f .index) ps; info = valueInfo f (writeCells b (length ps)) none }
 
 -- "read's ites take the read's own sort", f; "the array operand's sort line gives the eq its sort and constant", g; "read stands for the cell" where the index is constant.
 -- An array has two cells or more, so the last line is the value
 abbrev pub chunkRead : (f g : Info) → Option ℕ → (i b : ℕ) → Chunk
-chunkRead f g (some k) i b = record { lines = []; info = valInfo f (getD (g .cells) k 0 ∷ []) none }
+chunkRead f g (some k) i b = record { lines = []; info = valueInfo f (getD (g .cells) k 0 ∷ []) none }
 chunkRead f g none i b =
     let k = length (g .cells) - 1 in
     record {
       lines = readChain (g .bit) (f .elem) i (g .index) (g .cells) (getD (g .cells) k 0) b k;
-      info = valInfo f ((b + (2 * k - 1)) ∷ []) none;
+      info = valueInfo f ((b + (2 * k - 1)) ∷ []) none;
     }
 
 -- of eq and neq the tests are the n lines from b on; the result is the first of them, then the join with each of the others, so the last line is the value
 abbrev pub chunkExpr : List Info → ℕ → Info → Expr → Chunk
-chunkExpr I b f (Expr.const v) = record { lines = Line.value (f .elem) (Expr.const v) ∷ []; info = valInfo f (b ∷ []) (some v) }
-chunkExpr I b f (Expr.unary k a x y) = record { lines = Line.value (f .elem) (Expr.unary k (lineAt I a) x y) ∷ []; info = valInfo f (b ∷ []) none }
-chunkExpr I b f (Expr.binary k x y) = record { lines = Line.value (f .elem) (Expr.binary k (lineAt I x) (lineAt I y)) ∷ []; info = valInfo f (b ∷ []) none }
+chunkExpr I b f (Expr.const v) = record { lines = Line.value (f .elem) (Expr.const v) ∷ []; info = valueInfo f (b ∷ []) (some v) }
+chunkExpr I b f (Expr.unary k a x y) = record { lines = Line.value (f .elem) (Expr.unary k (lineAt I a) x y) ∷ []; info = valueInfo f (b ∷ []) none }
+chunkExpr I b f (Expr.binary k x y) = record { lines = Line.value (f .elem) (Expr.binary k (lineAt I x) (lineAt I y)) ∷ []; info = valueInfo f (b ∷ []) none }
 chunkExpr I b f (Expr.equality e x y) =
     let n = length (linesAt I x) in
     record {
       lines = equalityLines e (f .elem) (linesAt I x) (linesAt I y) ++ joinLines e (f .elem) b (b + n) (from (suc b) (n - 1));
-      info = valInfo f ((b + 2 * (n - 1)) ∷ []) none;
+      info = valueInfo f ((b + 2 * (n - 1)) ∷ []) none;
     }
 chunkExpr I b f (Expr.ite c x y) =
-    record { lines = iteLines (f .elem) (lineAt I c) (linesAt I x) (linesAt I y); info = valInfo f (from b (length (linesAt I x))) none }
+    record { lines = iteLines (f .elem) (lineAt I c) (linesAt I x) (linesAt I y); info = valueInfo f (from b (length (linesAt I x))) none }
 chunkExpr I b f (Expr.read a i) = chunkRead f (infoAt I a) (infoAt I i .known) (lineAt I i) b
 chunkExpr I b f (Expr.write a i v) = chunkWrite f (linesAt I a) (infoAt I i .known) (lineAt I i) (lineAt I v) b
 
@@ -154,9 +154,9 @@ chunk I b (Line.array i e) =
       lines = Line.bitvec 1 ∷ constLines (infoAt I i .elem) (from 0 (2 ^ (infoAt I i .width)));
       info = arrayInfo (infoAt I i) (infoAt I e) b;
     }
-chunk I b (Line.input s) = record { lines = Line.input (infoAt I s .elem) ∷ []; info = valInfo (infoAt I s) (b ∷ []) none }
+chunk I b (Line.input s) = record { lines = Line.input (infoAt I s .elem) ∷ []; info = valueInfo (infoAt I s) (b ∷ []) none }
 chunk I b (Line.state s) =
-    record { lines = replicate (infoAt I s .size) (Line.state (infoAt I s .elem)); info = valInfo (infoAt I s) (from b (infoAt I s .size)) none }
+    record { lines = replicate (infoAt I s .size) (Line.state (infoAt I s .elem)); info = valueInfo (infoAt I s) (from b (infoAt I s .size)) none }
 chunk I b (Line.value s e) = chunkExpr I b (infoAt I s) e
 chunk I b (Line.initOrNext m s q v) =
     record { lines = initOrNextLines m (infoAt I s .elem) (linesAt I q) (valueLines I m (length (linesAt I q)) v); info = noInfo }

@@ -52,7 +52,7 @@ pub record Settled (Y : Layout) (q at m w d : ℕ) : Type 0 where
   pub flat : (d ≡ 0 → ⊥) → typeAt Y d .iw ≡ 0
   pub same : (d ≡ 0 → ⊥) → typeAt Y d .w ≡ w
 
--- a line of a state's class is a state, whose words come after all others
+-- a line of a state's role is a state, whose words come after all others
 state-place : (p : Bool) (Y : Layout) (l : Line) → lineTypeIn p Y l .role ≡ 4 → placeOf Y l ≡ Y .counts .states
 state-place p Y (Line.bitvec w) e = absurd (omega arith)
 state-place p Y (Line.array i x) e = absurd (omega arith)

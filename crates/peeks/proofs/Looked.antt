@@ -227,7 +227,7 @@ module _ {t : List ℕ} {n : ℕ} {P : List (List ℕ)} {ini S R : List ℕ} (lk
   from-one zero q = absurd (omega (arith, no-line))
   from-one (suc a) q = omega arith
 
-  -- a line of some class has a number from 1 to the count
+  -- a line of some role has a number from 1 to the count
   pub number-of : (a : ℕ) → 1 ≤ typeAt Z a .role → (1 ≤ a) × (a ≤ n)
   number-of a q = (from-one a q, omega (arith, earlier (Z .ctx .tys) a q, lines-here false t n accepted))
 

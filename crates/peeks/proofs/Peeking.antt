@@ -175,8 +175,8 @@ module _ {t : List ℕ} {n : ℕ} {P : List (List ℕ)} {ini S R : List ℕ} (lk
         go (isEquality false) e k = absurd (omega arith)
 
     -- one of a kind from 6 to 20 is an operator of one word, and one past 22 that is no ite and no read of two
-    pub is-one : 5 ≤ kindIn r → kindIn r < 21 → (kindIn r ≡ 5 → ⊥) → shapeOf (kindIn r) ≡ isUnary
-    is-one h l n₅ = go (shapeOf (kindIn r)) refl (kind-of (kindIn r))
+    pub is-unary : 5 ≤ kindIn r → kindIn r < 21 → (kindIn r ≡ 5 → ⊥) → shapeOf (kindIn r) ≡ isUnary
+    is-unary h l n₅ = go (shapeOf (kindIn r)) refl (kind-of (kindIn r))
       where
         go : (X : Shape) → shapeOf (kindIn r) ≡ X → KindOf X (kindIn r) → shapeOf (kindIn r) ≡ isUnary
         go isBitvec e k = absurd (fact isBitvec e)
@@ -196,8 +196,8 @@ module _ {t : List ℕ} {n : ℕ} {P : List (List ℕ)} {ini S R : List ℕ} (lk
         go (isEquality true) e k = absurd (omega arith)
         go (isEquality false) e k = absurd (omega arith)
 
-    pub is-two : typeAt Z m .iw ≡ 0 → 23 ≤ kindIn r → (kindIn r ≡ 53 → ⊥) → (kindIn r ≡ 54 → ⊥) → shapeOf (kindIn r) ≡ isBinary
-    is-two flat h n₅₃ n₅₄ = go (shapeOf (kindIn r)) refl (kind-of (kindIn r))
+    pub is-binary : typeAt Z m .iw ≡ 0 → 23 ≤ kindIn r → (kindIn r ≡ 53 → ⊥) → (kindIn r ≡ 54 → ⊥) → shapeOf (kindIn r) ≡ isBinary
+    is-binary flat h n₅₃ n₅₄ = go (shapeOf (kindIn r)) refl (kind-of (kindIn r))
       where
         go : (X : Shape) → shapeOf (kindIn r) ≡ X → KindOf X (kindIn r) → shapeOf (kindIn r) ≡ isBinary
         go isBitvec e k = absurd (fact isBitvec e)

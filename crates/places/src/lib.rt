@@ -16,7 +16,7 @@ ghost use Rattle.tables.specs.Lines.{lineOf};
 ghost use Rattle.circuits.specs.Model.Work.{laidAs};
 ghost use Rattle.circuits.specs.Model.Places.{ShowsAll};
 ghost use Rattle.circuits.specs.Model.Passes.{countsOf, totalsOf, Small, spotBy, Noted};
-ghost use Rattle.circuits.specs.Model.Signals.{markOf, marks};
+ghost use Rattle.circuits.specs.Model.Signals.{badMark, marks};
 ghost use Rattle.tables.specs.Layout.{linesOf};
 ghost use Rattle.tables.specs.Tables.{checked};
 
@@ -146,7 +146,7 @@ pub fn lay_out(
 // A record's signal, if it has one, goes behind the g marks so far: 1 for a bad line, 0 for a constraint. Answers how many there are now.
 fn note_mark(rec: [u64; WORDS], g: usize, bad: &mut [u8]) -> usize
     requires { ⌜ g < length (now bad) ⌝ }
-    ensures { λ r. ⌜ (take r (now (bad .exit)) ≡ take g (now (bad .entry)) ++ markOf (lineOf rec)) × (r ≡ g + length (markOf (lineOf rec))) ⌝ }
+    ensures { λ r. ⌜ (take r (now (bad .exit)) ≡ take g (now (bad .entry)) ++ badMark (lineOf rec)) × (r ≡ g + length (badMark (lineOf rec))) ⌝ }
 {
     if rec[0] == 8 {
         bad[g] = 1;

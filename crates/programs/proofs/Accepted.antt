@@ -26,7 +26,7 @@ use Rattle.programs.specs.Translation.{Known, info, noneKnown, operandWi
 use Rattle.programs.proofs.Grew.{lines, grew-line, new-type}
 use Rattle.programs.proofs.Laid.{Laid, sort-of-width, Fresh, puts}
 use Rattle.programs.proofs.LaidLines.{and-never, typed, sorted, fresh-input, fresh-state, fresh-val, laid-line, lines-more, or-none, laid-start}
-use Rattle.programs.proofs.Once.{Once, once-start, once-quiet, once-give}
+use Rattle.programs.proofs.Once.{Once, once-start, once-quiet, once-init-next}
 
 -- ---- a value instruction with its mask
 
@@ -65,8 +65,8 @@ module _ {Y Z : Layout} {J : List Known} (v : Laid Y Z J) (o : Once Y Z J) where
   value-ok true q x c k = record { word = k .word; below = o .rising x q (k .word .is) (omega arith) (k .below); fixed = k .fixed }
   value-ok false q x c k = k
 
-  give-ok : (m : Bool) (s q x : ℕ) → Ok false (tyAt (Y .ctx)) (given (Y .ctx)) (initOrNext m s q x) → Ok true (tyAt (Z .ctx)) (given (Z .ctx)) (initOrNext m (operandWidth J s) (operandNumber J q) (operandNumber J x))
-  give-ok m s q x k =
+  init-next-ok : (m : Bool) (s q x : ℕ) → Ok false (tyAt (Y .ctx)) (given (Y .ctx)) (initOrNext m s q x) → Ok true (tyAt (Z .ctx)) (given (Z .ctx)) (initOrNext m (operandWidth J s) (operandNumber J q) (operandNumber J x))
+  init-next-ok m s q x k =
       rw (sorted v s (k .sort .is), typed v q (omega (arith, k .state)), typed v x (given-value m q x (typeAt Y x) (k .value)))
       (record { sort = k .sort; state = k .state; same = k .same; value = value-ok m q x (k .state) (k .value); iw = k .iw; w = k .w; once = o .same m q (k .state) ∙ k .once })
 
@@ -80,7 +80,7 @@ module _ {Y Z : Layout} {J : List Known} (v : Laid Y Z J) (o : Once Y Z J) where
       (rw (sorted v s (k .is)) k)
   line-ok N b (value s x) e k f =
       masked-ok (value (operandWidth J s) (renumbered (operandNumber J) x)) (value s x) b (operandWidth J s) (looseExpr (looseOf J) (operandWidth J s) x) (N (length J)) e (fresh-val v s x _ k) (val-ok s x k)
-  line-ok N b (initOrNext m s q x) e k f = (give-ok m s q x k, tt)
+  line-ok N b (initOrNext m s q x) e k f = (init-next-ok m s q x k, tt)
   line-ok N b (signal m a) e k f = (rw (typed v a (k .word .is)) k, tt)
   line-ok N b (output a) e k f = (rw (typed v a (k .is)) k, tt)
   line-ok N b unknown e k f = absurd k
@@ -121,7 +121,7 @@ module _ {Y Z : Layout} {J : List Known} (v : Laid Y Z J) (o : Once Y Z J) where
   once-line N b (value s x) e k f =
       once-masked (value s x) (value (operandWidth J s) (renumbered (operandNumber J) x)) b (operandWidth J s) (looseExpr (looseOf J) (operandWidth J s) x) (N (length J)) e (fresh-val v s x _ k)
       (unchanged false Y (value s x) refl refl) (unchanged true Z (value (operandWidth J s) (renumbered (operandNumber J) x)) refl refl)
-  once-line N b (initOrNext m s q x) e k f = once-give v o m s q x (operandWidth J s) (operandNumber J x) (k .state)
+  once-line N b (initOrNext m s q x) e k f = once-init-next v o m s q x (operandWidth J s) (operandNumber J x) (k .state)
   once-line N b (signal m a) e k f =
       once-quiet v o (signal m a) noneKnown (λ c. absurd (omega arith)) (unchanged false Y (signal m a) refl refl) (unchanged true Z (signal m (operandNumber J a)) refl refl)
       (grew-line true (v .evenZ) (signal m (operandNumber J a)) .longer)

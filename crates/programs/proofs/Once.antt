@@ -125,8 +125,8 @@ module _ {Y Z : Layout} {J : List Known} (v : Laid Y Z J) (o : Once Y Z J) (m : 
   none true = refl
   none false = refl
 
-  pub once-give : Once (lay false Y here) (lay true Z there) (J ++ (noneKnown ∷ []))
-  once-give =
+  pub once-init-next : Once (lay false Y here) (lay true Z there) (J ++ (noneKnown ∷ []))
+  once-init-next =
       record {
         rising = λ i j hi hj h. rises v o here noneKnown (λ z. absurd (omega arith)) i j hi hj h;
         doneY = λ k n h. ap (among n) (gave false Y k m s q a) ∙ done k n (givenBy k (Y .ctx)) q (o .doneY k n (omega (arith, line-more false (v .evenY) here))) (omega (arith, line-more false (v .evenY) here, early));

@@ -19,7 +19,7 @@ use Rattle.tables.proofs.Showing.{by-place, snoc-other}
 use Rattle.circuits.specs.Cells.{ifNonzero, part, put as putWords}
 use Rattle.circuits.specs.Layout.{Layout, typeAt, placeAt, lineTypeIn, size, lay, layAll}
 use Rattle.circuits.specs.Meaning.{Signal, signalByte, Frame, cellsAt, wordAt, stateWords, stateCells, givenWords, statesAfter, evalLine, evalAll}
-use Rattle.programs.specs.Uses.{looseLine, looseExpr, needs, needsTwo}
+use Rattle.programs.specs.Uses.{looseLine, looseExpr, needs, needsBinary}
 use Rattle.programs.specs.Translation.{Known, info, noneKnown, operandWidth, operandNumber, looseOf, instructionsOf, arraySortLine}
 use Rattle.programs.proofs.Grew.{lines, grew-none}
 use Rattle.programs.proofs.Laid.{Laid}
@@ -112,8 +112,8 @@ module _ (g : Bool) (σ ι : List ℕ) (W : ℕ → ℕ) (N : ℕ → Bool) (tam
         let h = holds g σ ι W (v .fullB) b e lo (N (length J)) (fresh-input (v .laid) s lo k) (new-input s k) (λ c. absurd (omega arith)) in
         alike-end g σ ι (input s) _ v (h .more) (laid-here (input s) k refl) (h .full) (h .sts ∙ v .sts) (h .sigs ∙ v .sigs) (v .count) (v .fit) (λ c. h .word)
 
-    line-val : (s : ℕ) (x : Expr) → Ok false (tyAt (A .lay .ctx)) (given (A .lay .ctx)) (value s x) → Met N (needs (value s x)) → Kept (value s x)
-    line-val s x k m =
+    line-value : (s : ℕ) (x : Expr) → Ok false (tyAt (A .lay .ctx)) (given (A .lay .ctx)) (value s x) → Met N (needs (value s x)) → Kept (value s x)
+    line-value s x k m =
         let lo = looseExpr (looseOf J) (operandWidth J s) x in
         let r = fresh-val (v .laid) s x lo k in
         let h = holds g σ ι W (v .fullB) b e lo (N (length J)) r (new-val g σ ι v s x k m) (λ c. absurd (omega (arith, val-class (A .lay) s x))) in
@@ -169,13 +169,13 @@ module _ (g : Bool) (σ ι : List ℕ) (W : ℕ → ℕ) (N : ℕ → Bool) (tam
     given-is true q x h = h .word .is
     given-is false q x h = h .is
 
-    needs-give : (m : Bool) (q x : ℕ) → Met N (needsTwo (initOrNextKind m) q x) → N x ≡ true
-    needs-give true q x h = h .1 .0
-    needs-give false q x h = h .1 .0
+    needs-init-next : (m : Bool) (q x : ℕ) → Met N (needsBinary (initOrNextKind m) q x) → N x ≡ true
+    needs-init-next true q x h = h .1 .0
+    needs-init-next false q x h = h .1 .0
 
-    needs-mark : (m : Bool) (a : ℕ) → Met N (needs (signal m a)) → N a ≡ true
-    needs-mark true a h = h .0
-    needs-mark false a h = h .0
+    needs-signal : (m : Bool) (a : ℕ) → Met N (needs (signal m a)) → N a ≡ true
+    needs-signal true a h = h .0
+    needs-signal false a h = h .0
 
     one-given : (C : Frame) (m : Bool) (n x : ℕ) → n ≡ 1 → cellsAt C x ≡ wordAt C x ∷ [] → givenWords C m n x ≡ wordAt C x ∷ []
     one-given C true n x z h = ap (λ (y : ℕ). replicate y (wordAt C x)) z
@@ -194,7 +194,7 @@ module _ (g : Bool) (σ ι : List ℕ) (W : ℕ → ℕ) (N : ℕ → Bool) (tam
         let zB : size (typeAt (B .lay) (operandNumber J q)) ≡ 1 = ap size (typed (v .laid) q hq) ∙ z in
         let gA : givenWords A m (size (typeAt (A .lay) q)) x ≡ wordAt A x ∷ [] = one-given A m _ x z (wx .single) in
         let gB : givenWords B m (size (typeAt (B .lay) (operandNumber J q))) (operandNumber J x) ≡ wordAt A x ∷ [] =
-        one-given B m _ (operandNumber J x) zB (wx .alone) ∙ ap (λ (y : ℕ). y ∷ []) (clean g σ ι v x hx (needs-give m q x n)) in
+        one-given B m _ (operandNumber J x) zB (wx .alone) ∙ ap (λ (y : ℕ). y ∷ []) (clean g σ ι v x hx (needs-init-next m q x n)) in
         let pA : statesAfter false g σ A (initOrNext m s q x) ≡ pick (alike g m) (set (A .sts) at (wordAt A x)) (A .sts) =
         ap (λ (y : List ℕ). pick (alike g m) y (A .sts)) (ap (putWords (A .sts) at) gA ∙ put-one (A .sts) at (wordAt A x) lt) in
         let pB : statesAfter true g σ B i ≡ pick (alike g m) (set (A .sts) at (wordAt A x)) (A .sts) =
@@ -216,7 +216,7 @@ module _ (g : Bool) (σ ι : List ℕ) (W : ℕ → ℕ) (N : ℕ → Bool) (tam
     line-signal m a k n =
         let i = signal m (operandNumber J a) in
         alike-end g σ ι (signal m a) noneKnown v (more-line g σ ι (v .fullB) i) (laid-here (signal m a) k refl) (full-line g σ ι (v .fullB) i true) (v .sts)
-        (ap₂ (λ (y : List Signal) (z : ℕ). y ++ (signalByte m (ifNonzero z 1 0) ∷ [])) (v .sigs) (clean g σ ι v a (k .word .is) (needs-mark m a n))) (v .count) (v .fit) (λ c. absurd (omega arith))
+        (ap₂ (λ (y : List Signal) (z : ℕ). y ++ (signalByte m (ifNonzero z 1 0) ∷ [])) (v .sigs) (clean g σ ι v a (k .word .is) (needs-signal m a n))) (v .count) (v .fit) (λ c. absurd (omega arith))
 
     pub alike-line : (l : Line) → Ok false (tyAt (A .lay .ctx)) (given (A .lay .ctx)) l → arraySortLine l ≡ false → Met N (needs l) → Reads W σ (A .lay) l → Kept l
     alike-line (bitvec w) k f m r =
@@ -224,7 +224,7 @@ module _ (g : Bool) (σ ι : List ℕ) (W : ℕ → ℕ) (N : ℕ → Bool) (tam
     alike-line (array i j) k f m r = absurd (no-yes (sym f))
     alike-line (input s) k f m r = line-input s k
     alike-line (state s) k f m r = line-state s k r
-    alike-line (value s x) k f m r = line-val s x k m
+    alike-line (value s x) k f m r = line-value s x k m
     alike-line (initOrNext t s q x) k f m r = line-init-or-next t s q x k m
     alike-line (signal t a) k f m r = line-signal t a k m
     alike-line (output a) k f m r =

@@ -25,7 +25,7 @@ use Rattle.circuits.specs.Layout.{typeAt}
 use Rattle.circuits.specs.Meaning.{Frame, cellsAt, wordAt, widthAt}
 use Rattle.programs.specs.Uses.{looseExpr, when, needsExpr}
 use Rattle.programs.specs.Translation.{Known, operandWidth, operandNumber, looseOf, renumbered}
-use Rattle.circuits.proofs.Fitting.{Suits, fit-one, fit-two, plain-one}
+use Rattle.circuits.proofs.Fitting.{Suits, fit-unary, fit-binary, plain-one}
 use Rattle.programs.proofs.LaidLines.{typed}
 use Rattle.programs.proofs.Operator.{at-use, exact-result, operator}
 use Rattle.programs.proofs.Held.{Alike, New}
@@ -66,12 +66,12 @@ module _ (g : Bool) (σ ι : List ℕ) {W : ℕ → ℕ} {N : ℕ → Bool} {A B
     abbrev here : Expr → Type 0
     here x = New g σ ι A B (value (operandWidth J s) (renumbered (operandNumber J) x)) (value s x) (operandWidth J s) (looseExpr (looseOf J) (operandWidth J s) x)
 
-    new-one : (k a x y : ℕ) → OkExpr false (tyAt (A .lay .ctx)) (typeAt (A .lay) s) (unary k a x y) → Met N (needsExpr (unary k a x y)) → here (unary k a x y)
-    new-one k a x y ok m =
+    new-unary : (k a x y : ℕ) → OkExpr false (tyAt (A .lay .ctx)) (typeAt (A .lay) s) (unary k a x y) → Met N (needsExpr (unary k a x y)) → here (unary k a x y)
+    new-unary k a x y ok m =
         let h : 2 ≤ typeAt (A .lay) a .role = ok .arg .is in
         let u = widthAt A a in
         let wu = a-width a (omega arith) in
-        let f = fit-one false (typeAt (A .lay) s) (typeAt (A .lay) a) k x y most-is ok in
+        let f = fit-unary false (typeAt (A .lay) s) (typeAt (A .lay) a) k x y most-is ok in
         let n = plain-one false (typeAt (A .lay) s) (typeAt (A .lay) a) k x y most-is (wu .most) ok in
         let c = classOf (opOf k) in
         record {
@@ -85,8 +85,8 @@ module _ (g : Bool) (σ ι : List ℕ) {W : ℕ → ℕ} {N : ℕ → Bool} {A B
               (used (need₁ c) a h (λ e. met-when N (needKind₁ k) a m (need-kind₁ k (ok .kind .0) (omega (arith, ok .kind .1)) ∙ e))) (itself (need₂ c) 64 x) (itself (need₃ c) 64 y);
         }
 
-    new-two : (k a b : ℕ) → OkExpr false (tyAt (A .lay .ctx)) (typeAt (A .lay) s) (binary k a b) → Met N (needsExpr (binary k a b)) → here (binary k a b)
-    new-two k a b ok m =
+    new-binary : (k a b : ℕ) → OkExpr false (tyAt (A .lay .ctx)) (typeAt (A .lay) s) (binary k a b) → Met N (needsExpr (binary k a b)) → here (binary k a b)
+    new-binary k a b ok m =
         let ha : 2 ≤ typeAt (A .lay) a .role = ok .left .is in
         let hb : 2 ≤ typeAt (A .lay) b .role = ok .right .is in
         let u = widthAt A a in
@@ -94,7 +94,7 @@ module _ (g : Bool) (σ ι : List ℕ) {W : ℕ → ℕ} {N : ℕ → Bool} {A B
         let c = classOf (opOf k) in
         let xa = wordAt B (operandNumber J a) in
         let xb = wordAt B (operandNumber J b) in
-        let f = fit-two (typeAt (A .lay) s) (typeAt (A .lay) a) (typeAt (A .lay) b) k (wordAt A b) 0 most-is ok in
+        let f = fit-binary (typeAt (A .lay) s) (typeAt (A .lay) a) (typeAt (A .lay) b) k (wordAt A b) 0 most-is ok in
         let n = met-append N (when (needKind₁ k) a) (when (needKind₂ k) b) m in
         record {
           x = prog (opOf k) u t xa xb 0;
@@ -103,15 +103,15 @@ module _ (g : Bool) (σ ι : List ℕ) {W : ℕ → ℕ} {N : ℕ → Bool} {A B
           cellsA = refl;
           result =
               operator k (operandWidth J s) u t (wordAt A a) (wordAt A b) 0 xa xb 0 (looseOf J a) (looseOf J b) false (omega (arith, ok .least)) (omega (arith, ok .most)) (a-width a (omega arith))
-              (subst (λ (z : ℕ). Suits c z u t (wordAt A b) 0) width-is f) (fit-two (typeAt (A .lay) s) (typeAt (A .lay) a) (typeAt (A .lay) b) k xb 0 most-is ok .widths)
+              (subst (λ (z : ℕ). Suits c z u t (wordAt A b) 0) width-is f) (fit-binary (typeAt (A .lay) s) (typeAt (A .lay) a) (typeAt (A .lay) b) k xb 0 most-is ok .widths)
               (v .word a ha .small) (v .word b hb .small) (pow-pos t) (v .word a ha .fits) (v .word b hb .fits) (pow-pos 64)
               (used (need₁ c) a ha (λ e. met-when N (needKind₁ k) a (n .0) (need-kind₁ k (omega (arith, ok .least)) (omega (arith, ok .most)) ∙ e)))
               (used (need₂ c) b hb (λ e. met-when N (needKind₂ k) b (n .1) (need-kind₂ k (omega (arith, ok .least)) (omega (arith, ok .most)) ∙ e))) (itself (need₃ c) t 0);
         }
 
     -- both operands are clean: the same words are compared
-    new-cmp : (e : Bool) (a b : ℕ) → OkExpr false (tyAt (A .lay .ctx)) (typeAt (A .lay) s) (equality e a b) → Met N (needsExpr (equality e a b)) → here (equality e a b)
-    new-cmp e a b ok m =
+    new-equality : (e : Bool) (a b : ℕ) → OkExpr false (tyAt (A .lay .ctx)) (typeAt (A .lay) s) (equality e a b) → Met N (needsExpr (equality e a b)) → here (equality e a b)
+    new-equality e a b ok m =
         let n = both e m in
         let r = bit (eqOrNeq e (sameCells (cellsAt A a) (cellsAt A b))) in
         record {
@@ -159,9 +159,9 @@ module _ (g : Bool) (σ ι : List ℕ) {W : ℕ → ℕ} {N : ℕ → Bool} {A B
   pub new-val : (s : ℕ) (x : Expr) → OkExpr false (tyAt (A .lay .ctx)) (typeAt (A .lay) s) x → Met N (needsExpr x)
       → New g σ ι A B (value (operandWidth J s) (renumbered (operandNumber J) x)) (value s x) (operandWidth J s) (looseExpr (looseOf J) (operandWidth J s) x)
   new-val s (const n) ok m = new-const s (ok .sort .is) n ok
-  new-val s (unary k a x y) ok m = new-one s (ok .sort .is) k a x y ok m
-  new-val s (binary k a b) ok m = new-two s (ok .sort .is) k a b ok m
-  new-val s (equality e a b) ok m = new-cmp s (ok .sort .is) e a b ok m
+  new-val s (unary k a x y) ok m = new-unary s (ok .sort .is) k a x y ok m
+  new-val s (binary k a b) ok m = new-binary s (ok .sort .is) k a b ok m
+  new-val s (equality e a b) ok m = new-equality s (ok .sort .is) e a b ok m
   new-val s (ite c a b) ok m = new-ite s (ok .sort .is) c a b ok m
   new-val s (read a i) ok m = absurd (omega (arith, v .laid .rel a .flat, ok .arr .deep))
   new-val s (write a i x) ok m = absurd (omega (arith, v .laid .rel a .flat, ok .arr .deep))

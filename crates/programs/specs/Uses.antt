@@ -31,19 +31,19 @@ when true a = a ∷ []
 when false a = []
 
 -- the operands that a line of the kind k needs clean: of one operand that is a line, a, and of two, a and b
-abbrev pub needsOne : (k a : ℕ) → List ℕ
-needsOne k a = when (needKind₁ k) a
+abbrev pub needsUnary : (k a : ℕ) → List ℕ
+needsUnary k a = when (needKind₁ k) a
 
-abbrev pub needsTwo : (k a b : ℕ) → List ℕ
-needsTwo k a b = when (needKind₁ k) a ++ when (needKind₂ k) b
+abbrev pub needsBinary : (k a b : ℕ) → List ℕ
+needsBinary k a b = when (needKind₁ k) a ++ when (needKind₂ k) b
 
 -- of a value line: slice bounds and extra bits are numbers, and no third operand has to be clean
 abbrev pub needsExpr : Expr → List ℕ
 needsExpr (const v) = []
-needsExpr (unary k a x y) = needsOne k a
-needsExpr (binary k a b) = needsTwo k a b
-needsExpr (equality e a b) = needsTwo (equalityKind e) a b
-needsExpr (ite c a b) = needsTwo 53 c a
+needsExpr (unary k a x y) = needsUnary k a
+needsExpr (binary k a b) = needsBinary k a b
+needsExpr (equality e a b) = needsBinary (equalityKind e) a b
+needsExpr (ite c a b) = needsBinary 53 c a
 needsExpr (read a i) = []
 needsExpr (write a i v) = []
 
@@ -54,9 +54,9 @@ needs (array i e) = []
 needs (input s) = []
 needs (state s) = []
 needs (value s e) = needsExpr e
-needs (initOrNext m s q v) = needsTwo (initOrNextKind m) q v
-needs (signal m a) = needsOne (signalKind m) a
-needs (output a) = needsOne 10 a
+needs (initOrNext m s q v) = needsBinary (initOrNextKind m) q v
+needs (signal m a) = needsUnary (signalKind m) a
+needs (output a) = needsUnary 10 a
 needs unknown = []
 
 -- the line i has a needing use: some line needs it clean

@@ -1,4 +1,4 @@
-// What a check keeps of each line, at the line's number: its class, its index width, its width, and two marks, of a state that has an init line and of one that has a
+// What a check keeps of each line, at the line's number: its role, its index width, its width, and two marks, of a state that has an init line and of one that has a
 // next line.
 use tables::Ty;
 use tables::WORDS;

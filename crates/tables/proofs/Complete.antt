@@ -1,12 +1,12 @@
 -- A line of which the named facts hold has a record that keeps the rules, and is read back from it. Assumes nothing.
 use Prim.Native.Nat.{ℕ, _+_, _^_, _≤_}
-use mathlib.Core.Path.{_≡_, refl, sym, ap, ap₂, _∙_, subst}
+use mathlib.Core.Path.{_≡_, refl, sym, ap, ap₂, subst}
 use mathlib.Core.Logic.{_⊎_, inl, inr}
 use mathlib.Core.Bool.{Bool, true, false, not, _&&_, _||_}
 use mathlib.Core.List.{List, [], _∷_, map}
 use native.Mathlib.Omega.{arith}
 use lib.Dec.{eqb}
-use lib.ListN.{length, length-append}
+use lib.ListN.{length}
 use borrow.Author.Tests.{eq-eqb, lt-ltb, le-leb, eqb-true}
 use Rattle.tables.specs.declared.Ty.{Ty}
 use Rattle.tables.specs.Pick.{all}
@@ -17,7 +17,7 @@ use Rattle.tables.specs.Types.{isSort, isValue, isWord, isArray, isWordS
 use Rattle.tables.specs.Rules.{suits, fits, sameSort}
 use Rattle.tables.specs.Tables.{known, unused, tidy, keeps, lawful}
 use Rattle.tables.proofs.Every.{at-each}
-use Rattle.tables.proofs.Shapes.{line-as, shape-one, shape-two, fits-as, once-as}
+use Rattle.tables.proofs.Shapes.{line-as, shape-unary, shape-binary, fits-as, once-as}
 use Rattle.tables.proofs.Answers.{Passed, all-passed}
 use Rattle.tables.proofs.Kept.{both, either}
 use Rattle.tables.proofs.Facts.{IsValue, IsWord, IsArray, IsSort, IsWordSort, IsArraySort, Same, OneKind, OkExpr, Ok, AllOk}
@@ -56,10 +56,10 @@ and₄ e f g h = rw (e, f, g, h)
 
 -- ---- the line read back
 
-one-shape : (p : Bool) (k : ℕ) → OneKind p k → shapeOf k ≡ isUnary
-one-shape false k h = shape-one k (h .0) (h .1)
-one-shape true k (inl h) = shape-one k (h .0) (h .1)
-one-shape true k (inr e) = ap shapeOf e
+unary-shape : (p : Bool) (k : ℕ) → OneKind p k → shapeOf k ≡ isUnary
+unary-shape false k h = shape-unary k (h .0) (h .1)
+unary-shape true k (inl h) = shape-unary k (h .0) (h .1)
+unary-shape true k (inr e) = ap shapeOf e
 
 pub again : (p : Bool) (L : ℕ → Ty) (G : Bool → ℕ → Bool) (l : Line) → Ok p L G l → lineOf (wordsOf l) ≡ l
 again p L G (Line.bitvec w) k = refl
@@ -67,8 +67,8 @@ again p L G (Line.array i e) k = refl
 again p L G (Line.input s) k = refl
 again p L G (Line.state s) k = refl
 again p L G (Line.value s (Expr.const v)) k = refl
-again p L G (Line.value s (Expr.unary n a x y)) k = line-as (fields n s a x y) isUnary (one-shape p n (k .kind))
-again p L G (Line.value s (Expr.binary n a b)) k = line-as (fields n s a b 0) isBinary (shape-two n (k .least) (k .most))
+again p L G (Line.value s (Expr.unary n a x y)) k = line-as (fields n s a x y) isUnary (unary-shape p n (k .kind))
+again p L G (Line.value s (Expr.binary n a b)) k = line-as (fields n s a b 0) isBinary (shape-binary n (k .least) (k .most))
 again p L G (Line.value s (Expr.equality true a b)) k = refl
 again p L G (Line.value s (Expr.equality false a b)) k = refl
 again p L G (Line.value s (Expr.ite c a b)) k = refl
@@ -146,8 +146,8 @@ module _ (p : Bool) (L : ℕ → Ty) (G : Bool → ℕ → Bool) where
       (record {
         class = and₄ (subst (λ (m : ℕ). suits m (sortAt p L s) ≡ true) (sym (eqb-true (sortClass (rowOf n)) 5 (h .0))) (of-word-sort (k .sort)))
             (subst (λ (m : ℕ). suits m (L a) ≡ true) (sym (eqb-true (firstClass (rowOf n)) 1 (h .1))) (of-word (k .arg))) (number-suits (secondClass (rowOf n)) (L x) (one-second n (kind-any p n (k .kind)))) (number-suits (thirdClass (rowOf n)) (L y) (one-third n (kind-any p n (k .kind))));
-        width = sym (fits-as (fields n s a x y) isUnary (one-shape p n (k .kind)) (sortAt p L s) (L a) (L x) (L y) (sym (and₂ (k .rule) refl)));
-        once = sym (once-as (fields n s a x y) isUnary (one-shape p n (k .kind)) G (L x) refl);
+        width = sym (fits-as (fields n s a x y) isUnary (unary-shape p n (k .kind)) (sortAt p L s) (L a) (L x) (L y) (sym (and₂ (k .rule) refl)));
+        once = sym (once-as (fields n s a x y) isUnary (unary-shape p n (k .kind)) G (L x) refl);
       })
   val-kept s (Expr.binary n a b) k =
       let h = both (eqb (sortClass (rowOf n)) 5) _ (two-row n (k .least) (k .most)) in
@@ -160,8 +160,8 @@ module _ (p : Bool) (L : ℕ → Ty) (G : Bool → ℕ → Bool) where
       (record {
         class = and₄ (subst (λ (m : ℕ). suits m (sortAt p L s) ≡ true) (sym e₀) (of-word-sort (k .sort))) (subst (λ (m : ℕ). suits m (L a) ≡ true) (sym e₁) (of-word (k .left)))
             (subst (λ (m : ℕ). suits m (L b) ≡ true) (sym e₂) (of-word (k .right))) (number-suits (thirdClass (rowOf n)) (L 0) (two-third n (k .least) (k .most)));
-        width = sym (fits-as (fields n s a b 0) isBinary (shape-two n (k .least) (k .most)) (sortAt p L s) (L a) (L b) (L 0) (sym (and₂ (k .rule) refl)));
-        once = sym (once-as (fields n s a b 0) isBinary (shape-two n (k .least) (k .most)) G (L b) refl);
+        width = sym (fits-as (fields n s a b 0) isBinary (shape-binary n (k .least) (k .most)) (sortAt p L s) (L a) (L b) (L 0) (sym (and₂ (k .rule) refl)));
+        once = sym (once-as (fields n s a b 0) isBinary (shape-binary n (k .least) (k .most)) G (L b) refl);
       })
   val-kept s (Expr.equality true a b) k =
       kept p L G (fields 21 s a b 0) (shared p 21 refl refl) refl

@@ -1,4 +1,4 @@
--- A value's class says that its cone holds no input and no state exactly where that is so. Assumes nothing.
+-- A value's role says that its cone holds no input and no state exactly where that is so. Assumes nothing.
 use Prim.Native.Nat.{ℕ, zero, suc, _+_, _-_, _≤_, _<_}
 use mathlib.Core.Path.{_≡_, refl, sym, ap, _∙_, subst}
 use mathlib.Core.Bool.{Bool, true, false, _&&_, _||_}
@@ -96,7 +96,7 @@ module _ (p : Bool) (C : List Line) (ok : AllOk p noCtx C) where
       one i = omega arith
   at zero h l = absurd (omega arith)
 
-  -- what the class 2 says of one line
+  -- what the role of a fixed value says of one line
   record Step (v : ℕ) : Type 0 where
     free : isFree (lineNumbered C v) ≡ true
     below : (a : ℕ) → among a (uses (lineNumbered C v)) ≡ true → tyAt (growAll p noCtx C) a .role ≡ 2
@@ -132,12 +132,12 @@ module _ (p : Bool) (C : List Line) (ok : AllOk p noCtx C) where
   number zero h = absurd (omega (arith, first-type))
   number (suc v) h = (omega arith, omega (arith, earlier (growAll p noCtx C .tys) (suc v) h, length-all p noCtx C))
 
-  -- class 2: no line of the cone is an input or a state
+  -- a fixed value: no line of the cone is an input or a state
   pub fixed-cone : (v : ℕ) → tyAt (growAll p noCtx C) v .role ≡ 2 → (w : ℕ) → Cone C v w → isFree (lineNumbered C w) ≡ true
   fixed-cone v e w itself = let n = number v (omega arith) in step v (n .0) (n .1) e .free
   fixed-cone v e w (under a m k) = let n = number v (omega arith) in fixed-cone a (step v (n .0) (n .1) e .below a m) w k
 
-  -- every line of the cone is neither an input nor a state: class 2. By the number of the line, which falls from a line to its operands.
+  -- every line of the cone is neither an input nor a state: a fixed value. By the number of the line, which falls from a line to its operands.
   cone-within : (n v : ℕ) → v < n → 2 ≤ tyAt (growAll p noCtx C) v .role → ((w : ℕ) → Cone C v w → isFree (lineNumbered C w) ≡ true) → tyAt (growAll p noCtx C) v .role ≡ 2
   cone-within zero v h t f = absurd (omega arith)
   cone-within (suc n) v h t f = let m = number v (omega arith) in go (lineNumbered C v) refl (at v (m .0) (m .1)) (λ a. cone-within n a)

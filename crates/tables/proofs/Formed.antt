@@ -13,7 +13,7 @@ use Rattle.tables.specs.Lines.{Shape, isBitvec, isArray, isConst, isInpu
 use Rattle.tables.specs.Layout.{recordWords}
 use Rattle.tables.specs.Tables.{known, unused, tidy, formed}
 use Rattle.tables.proofs.Every.{at-each}
-use Rattle.tables.proofs.Shapes.{KindOf, kind-of, line-as, no-junk}
+use Rattle.tables.proofs.Shapes.{KindOf, kind-of, line-as, no-unknown}
 use Rattle.tables.proofs.Kept.{both, known-range}
 use Rattle.tables.proofs.Places.{fields-of, fields-eq}
 
@@ -72,7 +72,7 @@ module _ (p : Bool) (k s a b c : ℕ) (h : formed p (fields k s a b c) ≡ true)
   back isIte e q = fields-eq (sym q) refl refl refl refl
   back isRead e q = let z = row-at 54 q in fields-eq (sym q) refl refl refl (sym (z .third refl))
   back isWrite e q = fields-eq (sym q) refl refl refl refl
-  back isUnknown e q = let g = known-range p k (both (known p k) _ h .0) in absurd (no-junk k (g .0) (g .1) e)
+  back isUnknown e q = let g = known-range p k (both (known p k) _ h .0) in absurd (no-unknown k (g .0) (g .1) e)
   back (isInitOrNext true) e q = let z = row-at 6 q in fields-eq (sym q) refl refl refl (sym (z .third refl))
   back (isInitOrNext false) e q = let z = row-at 7 q in fields-eq (sym q) refl refl refl (sym (z .third refl))
   back (isSignal true) e q = let z = row-at 8 q in fields-eq (sym q) (sym (z .sort refl)) refl (sym (z .second refl)) (sym (z .third refl))

@@ -1,11 +1,11 @@
 -- Records in the layout in use: the laws that other files cite. Assumes nothing.
 use Prim.Native.Nat.{ℕ, zero, suc, _+_, _<_, _≤_}
-use mathlib.Core.Path.{_≡_, refl, sym, ap, _∙_}
+use mathlib.Core.Path.{_≡_, refl, ap, _∙_}
 use mathlib.Core.Bool.{Bool}
 use mathlib.Core.List.{List, [], _∷_, _++_, map}
 use native.Mathlib.Omega.{arith}
 use lib.ListN.{length, getD, take, replicate, length-replicate}
-use Rattle.tables.specs.Lines.{Line, lineOf, wordsOf, fields, kindIn, sortIn, firstIn, secondIn, thirdIn}
+use Rattle.tables.specs.Lines.{lineOf, fields, kindIn, sortIn, firstIn, secondIn, thirdIn}
 use Rattle.tables.specs.Layout.{recordWords, held, placing, rowsFrom, filledBy, recordAt, recordsOf, linesOf, recorded, putAll, filled}
 use Rattle.tables.proofs.Layouts.{placed, words-in}
 use Rattle.tables.proofs.Spread.{length-from}

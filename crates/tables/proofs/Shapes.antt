@@ -19,14 +19,14 @@ use Rattle.tables.specs.Rules.{fits, onceRules}
 pub line-as : (r : List ℕ) (S : Shape) → shapeOf (kindIn r) ≡ S → lineOf r ≡ build S (kindIn r) (sortIn r) (firstIn r) (secondIn r) (thirdIn r)
 line-as r S e = ap (λ (s : Shape). build s (kindIn r) (sortIn r) (firstIn r) (secondIn r) (thirdIn r)) e
 
-pub shape-one : (k : ℕ) → 11 ≤ k → k ≤ 20 → shapeOf k ≡ isUnary
-shape-one k h l = rw (le-leb 11 k h, le-leb k 20 l)
+pub shape-unary : (k : ℕ) → 11 ≤ k → k ≤ 20 → shapeOf k ≡ isUnary
+shape-unary k h l = rw (le-leb 11 k h, le-leb k 20 l)
 
-pub shape-two : (k : ℕ) → 23 ≤ k → k ≤ 52 → shapeOf k ≡ isBinary
-shape-two k h l = rw (le-leb 11 k (omega arith), lt-leb k 20 (omega arith), le-leb 23 k h, le-leb k 52 l)
+pub shape-binary : (k : ℕ) → 23 ≤ k → k ≤ 52 → shapeOf k ≡ isBinary
+shape-binary k h l = rw (le-leb 11 k (omega arith), lt-leb k 20 (omega arith), le-leb 23 k h, le-leb k 52 l)
 
-pub shape-cmp : {k : ℕ} → 21 ≤ k → k < 23 → shapeOf k ≡ isEquality (eqb k 21)
-shape-cmp {k} h l = go (eqb k 21) refl
+pub shape-equality : {k : ℕ} → 21 ≤ k → k < 23 → shapeOf k ≡ isEquality (eqb k 21)
+shape-equality {k} h l = go (eqb k 21) refl
   where
     go : (b : Bool) → eqb k 21 ≡ b → shapeOf k ≡ isEquality (eqb k 21)
     go true e = let q : k ≡ 21 = eqb-true k 21 e in ap shapeOf q ∙ ap isEquality (sym e)
@@ -141,8 +141,8 @@ isUnknown? (isInitOrNext m) = false
 isUnknown? (isSignal m) = false
 isUnknown? (isEquality e) = false
 
-pub no-junk : (k : ℕ) → 1 ≤ k → k ≤ 56 → shapeOf k ≡ isUnknown → ⊥
-no-junk k h l e =
+pub no-unknown : (k : ℕ) → 1 ≤ k → k ≤ 56 → shapeOf k ≡ isUnknown → ⊥
+no-unknown k h l e =
     let n : ℕ = k - 1 in
     let q : suc n ≡ k = omega arith in
     T-not (isUnknown? isUnknown) (subst (λ (S : Shape). T (not (isUnknown? S))) (ap shapeOf q ∙ e) (at-each (λ m. not (isUnknown? (shapeOf (suc m)))) 56 tt n (omega arith))) tt
@@ -194,7 +194,7 @@ module _ (r : List ℕ) (t a b c : Ty) where
       go isIte e k = absurd (n₁ k)
       go isRead e k = type-as isRead e refl
       go isWrite e k = absurd (n₂ k)
-      go isUnknown e k = absurd (no-junk (kindIn r) (omega arith) l e)
+      go isUnknown e k = absurd (no-unknown (kindIn r) (omega arith) l e)
       go (isInitOrNext true) e k = absurd (omega arith)
       go (isInitOrNext false) e k = absurd (omega arith)
       go (isSignal true) e k = absurd (omega arith)

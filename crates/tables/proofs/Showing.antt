@@ -19,7 +19,7 @@ use Rattle.tables.specs.Rules.{suits, classes, fault}
 use Rattle.tables.specs.Tables.{formed, keeps}
 use Rattle.tables.specs.Model.Notes.{blank, noteAt, lookIn, markIn, givenIn, Shows, typed, withMark, markedBy, noted}
 use Rattle.tables.proofs.Laws.{or-true, or-false}
-use Rattle.tables.proofs.Shapes.{KindOf, kind-of, line-as, no-junk}
+use Rattle.tables.proofs.Shapes.{KindOf, kind-of, line-as, no-unknown}
 use Rattle.tables.proofs.Answers.{passed}
 use Rattle.tables.proofs.Kept.{both}
 use Rattle.tables.proofs.Formed.{words-back}
@@ -64,8 +64,8 @@ given-as m c r = go (shapeOf (kindIn r)) refl (kind-of (kindIn r))
     far false h = ne-eqb (kindIn r) 7 (λ e. omega arith)
 
     junk : (m : Bool) → shapeOf (kindIn r) ≡ isUnknown → eqb (kindIn r) (initOrNextKind m) ≡ false
-    junk true e = ne-eqb (kindIn r) 6 (λ q. no-junk (kindIn r) (omega arith) (omega arith) e)
-    junk false e = ne-eqb (kindIn r) 7 (λ q. no-junk (kindIn r) (omega arith) (omega arith) e)
+    junk true e = ne-eqb (kindIn r) 6 (λ q. no-unknown (kindIn r) (omega arith) (omega arith) e)
+    junk false e = ne-eqb (kindIn r) 7 (λ q. no-unknown (kindIn r) (omega arith) (omega arith) e)
 
     other : (m : Bool) (n : ℕ) → (n ≡ 6 → ⊥) → (n ≡ 7 → ⊥) → eqb n (initOrNextKind m) ≡ false
     other true n f g = ne-eqb n 6 f
@@ -139,7 +139,7 @@ named p m L G r e k = at m (subst (λ (n : ℕ). all (classes (rowOf n) t (L (fi
     at true h = state-first 6 t (L (firstIn r)) (L (secondIn r)) (L (thirdIn r)) six-state h
     at false h = state-first 7 t (L (firstIn r)) (L (secondIn r)) (L (thirdIn r)) seven-state h
 
--- a line of some class is an earlier line
+-- a line of some role is an earlier line
 pub earlier : (ts : List Ty) (a : ℕ) → 1 ≤ getD ts a noTy .role → a < length ts
 earlier ts a h = by-length (leb (length ts) a) refl
   where

@@ -117,10 +117,10 @@ module _ (p : Bool) (L : ℕ → Ty) (G : Bool → ℕ → Bool) (k s x y z : �
       let h₄ = both (unused (thirdClass (rowOf k)) z) _ (h₃ .1) in
       (h₃ .0, h₄ .0)
 
-  give-ok : (m : Bool) → k ≡ initOrNextKind m → all (fits (Line.initOrNext m s x y) (sortAt p L s) (L x) (L y) (L z)) ≡ true → all (onceRules (Line.initOrNext m s x y) G (L y)) ≡ true
+  init-next-ok : (m : Bool) → k ≡ initOrNextKind m → all (fits (Line.initOrNext m s x y) (sortAt p L s) (L x) (L y) (L z)) ≡ true → all (onceRules (Line.initOrNext m s x y) G (L y)) ≡ true
       → Ok p L G (Line.initOrNext m s x y)
   unfolding rowOf suits
-  give-ok true q f o =
+  init-next-ok true q f o =
       let c = row-at 6 q in
       let f₁ = both (sameSort (L x) t) _ f in
       let f₂ = both (eqb (L y .w) (t .w)) _ (f₁ .1) in
@@ -137,7 +137,7 @@ module _ (p : Bool) (L : ℕ → Ty) (G : Bool → ℕ → Bool) (k s x y z : �
         w = eqb-true (L y .w) (t .w) (f₂ .0);
         once = not-true (G true x) (o₁ .0);
       }
-  give-ok false q f o =
+  init-next-ok false q f o =
       let c = row-at 7 q in
       let f₁ = both (sameSort (L x) t) _ f in
       let f₂ = both (eqb (L y .w) (t .w)) _ (f₁ .1) in
@@ -153,13 +153,13 @@ module _ (p : Bool) (L : ℕ → Ty) (G : Bool → ℕ → Bool) (k s x y z : �
         once = not-true (G false x) (o₁ .0);
       }
 
-  mark-ok : (n : ℕ) → k ≡ n → firstClass (rowOf n) ≡ 1 → all (eqb (L x .w) 1 ∷ []) ≡ true → OkSignal (L x)
+  signal-ok : (n : ℕ) → k ≡ n → firstClass (rowOf n) ≡ 1 → all (eqb (L x .w) 1 ∷ []) ≡ true → OkSignal (L x)
   unfolding suits
-  mark-ok n q e f = record { word = word-of (L x) (subst (λ (m : ℕ). suits m (L x) ≡ true) e (row-at n q .first)); bit = eqb-true (L x .w) 1 (both (eqb (L x .w) 1) _ f .0) }
+  signal-ok n q e f = record { word = word-of (L x) (subst (λ (m : ℕ). suits m (L x) ≡ true) e (row-at n q .first)); bit = eqb-true (L x .w) 1 (both (eqb (L x .w) 1) _ f .0) }
 
-  cmp-ok : (n : ℕ) → k ≡ n → sortClass (rowOf n) ≡ 5 → firstClass (rowOf n) ≡ 3 → secondClass (rowOf n) ≡ 3 → all (eqb (t .w) 1 ∷ sameSort (L y) (L x) ∷ []) ≡ true → OkEquality t (L x) (L y)
+  equality-ok : (n : ℕ) → k ≡ n → sortClass (rowOf n) ≡ 5 → firstClass (rowOf n) ≡ 3 → secondClass (rowOf n) ≡ 3 → all (eqb (t .w) 1 ∷ sameSort (L y) (L x) ∷ []) ≡ true → OkEquality t (L x) (L y)
   unfolding suits
-  cmp-ok n q e₀ e₁ e₂ f =
+  equality-ok n q e₀ e₁ e₂ f =
       let c = row-at n q in
       let f₁ = both (eqb (t .w) 1) _ f in
       record {
@@ -250,11 +250,11 @@ module _ (p : Bool) (L : ℕ → Ty) (G : Bool → ℕ → Bool) (k s x y z : �
         vw = eqb-true (L z .w) (t .w) (both (eqb (L z .w) (t .w)) _ (f₂ .1) .0);
       }
   shape-ok isUnknown e q f o = no-yes f
-  shape-ok (isInitOrNext m) e q f o = give-ok m q f o
-  shape-ok (isSignal true) e q f o = mark-ok 8 q refl f
-  shape-ok (isSignal false) e q f o = mark-ok 9 q refl f
-  shape-ok (isEquality true) e q f o = cmp-ok 21 q refl refl refl f
-  shape-ok (isEquality false) e q f o = cmp-ok 22 q refl refl refl f
+  shape-ok (isInitOrNext m) e q f o = init-next-ok m q f o
+  shape-ok (isSignal true) e q f o = signal-ok 8 q refl f
+  shape-ok (isSignal false) e q f o = signal-ok 9 q refl f
+  shape-ok (isEquality true) e q f o = equality-ok 21 q refl refl refl f
+  shape-ok (isEquality false) e q f o = equality-ok 22 q refl refl refl f
 
 -- a record that keeps the rules
 pub sound : (p : Bool) (L : ℕ → Ty) (G : Bool → ℕ → Bool) (r : List ℕ) → keeps p L G r ≡ true → Ok p L G (lineOf r)

@@ -1,4 +1,4 @@
--- The type of a value line: its sort's widths, and a class of values. Assumes nothing.
+-- The type of a value line: its sort's widths, and a value's role. Assumes nothing.
 use Prim.Native.Nat.{ℕ, _≤_}
 use mathlib.Core.Path.{_≡_, refl}
 use mathlib.Core.Bool.{Bool, true, false}

@@ -33,14 +33,14 @@ sort-wide true L s h e = go (inside 1 64 s) refl e
     go false q z = absurd (omega arith)
 
 module _ (p : Bool) (L : ℕ → Ty) (G : Bool → ℕ → Bool) (h : AllWide L) where
-  sort-of-val : (s : ℕ) (e : Expr) → OkExpr p L (sortAt p L s) e → sortAt p L s .role ≡ 1
-  sort-of-val s (Expr.const v) k = k .sort .is
-  sort-of-val s (Expr.unary n a x y) k = k .sort .is
-  sort-of-val s (Expr.binary n a b) k = k .sort .is
-  sort-of-val s (Expr.equality e a b) k = k .sort .is
-  sort-of-val s (Expr.ite c a b) k = k .sort .is
-  sort-of-val s (Expr.read a i) k = k .sort .is
-  sort-of-val s (Expr.write a i v) k = k .sort .is
+  sort-of-value : (s : ℕ) (e : Expr) → OkExpr p L (sortAt p L s) e → sortAt p L s .role ≡ 1
+  sort-of-value s (Expr.const v) k = k .sort .is
+  sort-of-value s (Expr.unary n a x y) k = k .sort .is
+  sort-of-value s (Expr.binary n a b) k = k .sort .is
+  sort-of-value s (Expr.equality e a b) k = k .sort .is
+  sort-of-value s (Expr.ite c a b) k = k .sort .is
+  sort-of-value s (Expr.read a i) k = k .sort .is
+  sort-of-value s (Expr.write a i v) k = k .sort .is
 
   like : (t : Ty) (c : ℕ) → Wide t → Wide (ty c (t .iw) (t .w))
   like t c k = record { least = k .least; most = k .most; deep = k .deep }
@@ -54,7 +54,7 @@ module _ (p : Bool) (L : ℕ → Ty) (G : Bool → ℕ → Bool) (h : AllWide L)
   line-wide (Line.input s) k q = like (sortAt p L s) 3 (sort-wide p L s h (k .is))
   line-wide (Line.state s) k q = like (sortAt p L s) 4 (sort-wide p L s h (k .is))
   line-wide (Line.value s e) k q =
-      let m = sort-wide p L s h (sort-of-val s e k) in
+      let m = sort-wide p L s h (sort-of-value s e k) in
       let i = val-iw p L s e in
       let w = val-w p L s e in
       record { least = omega (arith, m .least); most = omega (arith, m .most); deep = omega (arith, m .deep) }

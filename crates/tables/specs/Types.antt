@@ -10,10 +10,9 @@ use Rattle.tables.specs.declared.Ty.{Ty}
 use Rattle.tables.specs.Pick.{pick, inside, among, alike}
 use Rattle.tables.specs.Lines.{Line, Expr, wordsOf, sortIn, firstIn, secondIn, thirdIn}
 
--- A type is the line's class, an index width and a width. A word's index width is 0, so that a value of any sort has 2 ^ iw cells of w bits. (The classes in
--- the table of kinds are those of places, and have their own numbers.)
+-- A type is the line's role, an index width and a width. A word's index width is 0, so that a value of any sort has 2 ^ iw cells of w bits.
 abbrev pub ty : ℕ → ℕ → ℕ → Ty
-ty c i w = record { role = c; iw = i; w = w }
+ty r i w = record { role = r; iw = i; w = w }
 
 -- no sort and no value
 abbrev pub noRole : ℕ

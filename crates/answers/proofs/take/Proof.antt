@@ -6,9 +6,6 @@ use Rattle.answers.proofs.Told.{zeros-length}
 use borrow.Author.Needs.{needs}
 use Rattle.answers.proofs.take.Statement.{statement}
 use Rattle.answers.proofs.take.Tie as tie
-use Rattle.answers.proofs.take.Reads as reads
-use Rattle.answers.proofs.take.Lts as lts
-use Rattle.records.proofs.clear.Reads as clear-reads
 
 clear-requires : tie.Need-clear-requires
 clear-requires c κs = search needs

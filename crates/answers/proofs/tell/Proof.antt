@@ -3,8 +3,6 @@ use Rattle.answers.proofs.Told.{stored}
 use borrow.Author.Needs.{needs}
 use Rattle.answers.proofs.tell.Statement.{statement}
 use Rattle.answers.proofs.tell.Tie as tie
-use Rattle.answers.proofs.tell.Reads as reads
-use Rattle.answers.proofs.tell.Lts as lts
 
 slice-write-answer : tie.Need-slice-write-answer
 slice-write-answer c = search needs

@@ -3,9 +3,6 @@ use Rattle.tables.proofs.Checking.{fresh}
 use borrow.Author.Needs.{needs}
 use Rattle.checks.proofs.accept_many.Statement.{statement}
 use Rattle.checks.proofs.accept_many.Tie as tie
-use Rattle.checks.proofs.accept_many.Reads as reads
-use Rattle.checks.proofs.accept_many.Lts as lts
-use Rattle.checks.proofs.check.Reads as check-reads
 
 slice-aggregate-check : tie.Need-slice-aggregate-check
 slice-aggregate-check c = search needs

@@ -6,13 +6,6 @@ use Rattle.tables.proofs.Checking.{no-table, too-many, unlawful, is-lawful, not
 use borrow.Author.Needs.{needs}
 use Rattle.checks.proofs.check.Statement.{statement}
 use Rattle.checks.proofs.check.Tie as tie
-use Rattle.checks.proofs.check.Reads as reads
-use Rattle.checks.proofs.check.Lts as lts
-use Rattle.checks.proofs.lines.Reads as lines-reads
-use Rattle.checks.proofs.refused.Reads as refused-reads
-use Rattle.records.proofs.kinds.all.Reads as all-reads
-use Rattle.records.proofs.is_table.Reads as is-table-reads
-use Rattle.records.proofs.room_of.Reads as room-of-reads
 
 is-table-requires : tie.Need-is-table-requires
 is-table-requires c κs = tt

@@ -6,12 +6,6 @@ use Rattle.tables.proofs.Kept.{known-range, breaks-kind, breaks-place, by-fault
 use borrow.Author.Needs.{needs}
 use Rattle.checks.proofs.keeps_rules.Statement.{statement}
 use Rattle.checks.proofs.keeps_rules.Tie as tie
-use Rattle.checks.proofs.keeps_rules.Reads as reads
-use Rattle.checks.proofs.keeps_rules.Lts as lts
-use Rattle.checks.proofs.known.Reads as known-reads
-use Rattle.checks.proofs.tidy.Reads as tidy-reads
-use Rattle.records.proofs.kinds.row_of.Reads as row-of-reads
-use Rattle.rules.proofs.fault.Reads as fault-reads
 
 array-read-k : tie.Need-array-read-k
 array-read-k c = search needs

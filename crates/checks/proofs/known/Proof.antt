@@ -2,8 +2,6 @@ use borrow.Author.Tests.{lt-leb, le-leb, eq-eqb, ne-eqb, not-true, not-false}
 use Rattle.tables.proofs.Laws.{or-true, or-false}
 use Rattle.checks.proofs.known.Statement.{statement}
 use Rattle.checks.proofs.known.Tie as tie
-use Rattle.checks.proofs.known.Reads as reads
-use Rattle.checks.proofs.known.Lts as lts
 
 returns : tie.Need-returns
 returns c = rw (not-true (c .before .before .args .program) (c .before .if1 .taken), lt-leb 1 (c .before .before .args .k) (c .if2 .taken))

@@ -7,10 +7,6 @@ use borrow.Author.Tests.{not-true, not-false}
 use Rattle.tables.proofs.Sofar.{Sofar, begun, stopped, further, all-lawful, all-shown}
 use Rattle.checks.proofs.lines.Statement.{statement}
 use Rattle.checks.proofs.lines.Tie as tie
-use Rattle.checks.proofs.lines.Reads as reads
-use Rattle.checks.proofs.lines.Lts as lts
-use Rattle.checks.proofs.take_record.Reads as take-record-reads
-use Rattle.records.proofs.record.Reads as record-reads
 
 abbrev Inv-loop : tie.InvT-loop
 Inv-loop program kinds table count notes₀ h i₀ notes i = Sofar program table count i notes × (length notes ≡ length notes₀)

@@ -6,11 +6,6 @@ use Rattle.tables.specs.Model.Notes.{noteAt, typed, markedBy, noted}
 use borrow.Author.Needs.{needs}
 use Rattle.checks.proofs.note.Statement.{statement}
 use Rattle.checks.proofs.note.Tie as tie
-use Rattle.checks.proofs.note.Reads as reads
-use Rattle.checks.proofs.note.Lts as lts
-use Rattle.checks.proofs.type_in.Reads as type-in-reads
-use Rattle.records.proofs.notes.mark.Reads as mark-reads
-use Rattle.records.proofs.notes.put_type.Reads as put-type-reads
 
 type-in-requires : tie.Need-type-in-requires
 type-in-requires c κs = search needs

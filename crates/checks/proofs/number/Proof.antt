@@ -4,8 +4,6 @@ use borrow.Author.Needs.{needs}
 use Rattle.tables.specs.Refusals.{numberOf}
 use Rattle.checks.proofs.number.Statement.{statement}
 use Rattle.checks.proofs.number.Tie as tie
-use Rattle.checks.proofs.number.Reads as reads
-use Rattle.checks.proofs.number.Lts as lts
 
 enum-told : tie.Need-enum-told
 enum-told c = search needs

@@ -1,7 +1,5 @@
 use Rattle.checks.proofs.refused.Statement.{statement}
 use Rattle.checks.proofs.refused.Tie as tie
-use Rattle.checks.proofs.refused.Reads as reads
-use Rattle.checks.proofs.refused.Lts as lts
 
 returns : tie.Need-returns
 returns c = rw (c .if1 .taken)

@@ -5,10 +5,6 @@ use Rattle.tables.proofs.Answers.{sort-width}
 use Rattle.tables.proofs.Kept.{no-yes, kept-fault}
 use Rattle.checks.proofs.take_record.Statement.{statement}
 use Rattle.checks.proofs.take_record.Tie as tie
-use Rattle.checks.proofs.take_record.Reads as reads
-use Rattle.checks.proofs.take_record.Lts as lts
-use Rattle.checks.proofs.keeps_rules.Reads as keeps-rules-reads
-use Rattle.checks.proofs.note.Reads as note-reads
 
 keeps-rules-requires : tie.Need-keeps-rules-requires
 keeps-rules-requires c κs = c .before .pre

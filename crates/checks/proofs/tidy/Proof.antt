@@ -4,9 +4,6 @@ use Rattle.tables.proofs.Laws.{and-true}
 use borrow.Author.Needs.{needs}
 use Rattle.checks.proofs.tidy.Statement.{statement}
 use Rattle.checks.proofs.tidy.Tie as tie
-use Rattle.checks.proofs.tidy.Reads as reads
-use Rattle.checks.proofs.tidy.Lts as lts
-use Rattle.checks.proofs.unused.Reads as unused-reads
 
 array-read-unused : tie.Need-array-read-unused
 array-read-unused c = search needs

@@ -3,11 +3,6 @@ use Rattle.tables.proofs.Answers.{typed}
 use borrow.Author.Needs.{needs}
 use Rattle.checks.proofs.type_in.Statement.{statement}
 use Rattle.checks.proofs.type_in.Tie as tie
-use Rattle.checks.proofs.type_in.Reads as reads
-use Rattle.checks.proofs.type_in.Lts as lts
-use Rattle.records.proofs.notes.look.Reads as look-reads
-use Rattle.types.proofs.sort_at.Reads as sort-at-reads
-use Rattle.types.proofs.type_of.Reads as type-of-reads
 
 array-read-sort-at : tie.Need-array-read-sort-at
 array-read-sort-at c = search needs

@@ -1,8 +1,6 @@
 use borrow.Author.Tests.{eq-eqb, ne-eqb}
 use Rattle.checks.proofs.unused.Statement.{statement}
 use Rattle.checks.proofs.unused.Tie as tie
-use Rattle.checks.proofs.unused.Reads as reads
-use Rattle.checks.proofs.unused.Lts as lts
 
 returns : tie.Need-returns
 returns c = rw (ne-eqb (c .before .args .k) 0 (c .if1 .taken))

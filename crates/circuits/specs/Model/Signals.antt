@@ -8,20 +8,20 @@ use Rattle.tables.specs.Lines.{Line}
 use Rattle.circuits.specs.Meaning.{Signal, signalByte}
 
 -- a mark for each signal: 1 for a bad line, 0 for a constraint
-abbrev pub markOf : Line → List ℕ
-markOf (Line.bitvec w) = []
-markOf (Line.array i e) = []
-markOf (Line.input s) = []
-markOf (Line.state s) = []
-markOf (Line.value s e) = []
-markOf (Line.initOrNext m s q v) = []
-markOf (Line.signal m a) = bit m ∷ []
-markOf (Line.output a) = []
-markOf Line.unknown = []
+abbrev pub badMark : Line → List ℕ
+badMark (Line.bitvec w) = []
+badMark (Line.array i e) = []
+badMark (Line.input s) = []
+badMark (Line.state s) = []
+badMark (Line.value s e) = []
+badMark (Line.initOrNext m s q v) = []
+badMark (Line.signal m a) = bit m ∷ []
+badMark (Line.output a) = []
+badMark Line.unknown = []
 
 abbrev pub marks : List Line → List ℕ
 marks [] = []
-marks (l ∷ C) = markOf l ++ marks C
+marks (l ∷ C) = badMark l ++ marks C
 
 -- ---- the signals of all steps, from their bytes and marks
 

@@ -7,7 +7,7 @@ use lib.ListN.{length}
 use Rattle.tables.specs.Lines.{Line}
 use Rattle.tables.specs.Layout.{held}
 use Rattle.flattening.specs.Placed.{putFlat}
-use Rattle.flattening.specs.Model.Rows.{Tame, rowsFor, rowAt, stepping, still, of}
+use Rattle.flattening.specs.Model.Rows.{Tame, rowsFor, rowAt, still, of}
 use Rattle.flattening.specs.Model.Lines.{notes, madeAs, lineRecords}
 use Rattle.flattening.proofs.Holding.{cell-bound}
 use Rattle.flattening.proofs.Holding.{tame-run, tame-of}

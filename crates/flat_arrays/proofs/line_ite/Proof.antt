@@ -6,7 +6,7 @@ use native.Mathlib.Omega.{arith}
 use lib.ListN.{length}
 use Rattle.tables.specs.Layout.{held}
 use Rattle.flattening.specs.Placed.{putFlat}
-use Rattle.flattening.specs.Model.Rows.{Tame, rowsFor, rowAt, stepping, still, of}
+use Rattle.flattening.specs.Model.Rows.{Tame, rowsFor, rowAt, still, of}
 use Rattle.flattening.specs.Model.Lines.{madeAs}
 use Rattle.flattening.proofs.Holding.{cell-bound}
 use Rattle.flattening.proofs.Holding.{tame-run, tame-of}

@@ -6,7 +6,7 @@ use native.Mathlib.Omega.{arith}
 use lib.ListN.{length}
 use Rattle.tables.specs.Layout.{held}
 use Rattle.flattening.specs.Placed.{putFlat}
-use Rattle.flattening.specs.Model.Rows.{Tame, rowsFor, rowAt, stepping}
+use Rattle.flattening.specs.Model.Rows.{Tame, rowsFor, rowAt}
 use Rattle.flattening.specs.Model.Lines.{madeAs}
 use Rattle.flattening.proofs.Holding.{tame-run}
 use Rattle.flattening.proofs.Laying.{size-le}

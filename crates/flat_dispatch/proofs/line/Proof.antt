@@ -1,5 +1,5 @@
 -- Each kind's line. Assumes nothing.
-use Rattle.flattening.proofs.Laying.{fit-as, laid-as, as-key, as-mark, as-give}
+use Rattle.flattening.proofs.Laying.{fit-as, laid-as, as-key, as-signal, as-init-next}
 use borrow.Author.Needs.{needs}
 use Rattle.flat_dispatch.proofs.line.Statement.{statement}
 use Rattle.flat_dispatch.proofs.line.Tie as tie
@@ -35,13 +35,13 @@ returns-2 : tie.Need-returns-2
 returns-2 c = laid-as (as-key (c .before .before .before .before .before .before .before .before .args .t1) 10 (c .before .before .before .before .if3 .taken)) (c .before .before .line-output .ensures)
 
 line-signal-requires : tie.Need-line-signal-requires
-line-signal-requires c κs = fit-as (as-mark (c .before .before .before .before .before .args .t1) (c .before .before .if2 .taken) (c .before .before .before .if1 .left) (c .before .if3 .left)) (c .before .before .before .before .before .pre .1)
+line-signal-requires c κs = fit-as (as-signal (c .before .before .before .before .before .args .t1) (c .before .before .if2 .taken) (c .before .before .before .if1 .left) (c .before .if3 .left)) (c .before .before .before .before .before .pre .1)
 
 same-length-3 : tie.Need-same-length-3
 same-length-3 c = c .before .before .line-signal .kept .1 .1 .1 .1 .1 .0
 
 returns-3 : tie.Need-returns-3
-returns-3 c = laid-as (as-mark (c .before .before .before .before .before .before .before .before .args .t1) (c .before .before .before .before .before .if2 .taken) (c .before .before .before .before .before .before .if1 .left) (c .before .before .before .before .if3 .left)) (c .before .before .line-signal .ensures)
+returns-3 c = laid-as (as-signal (c .before .before .before .before .before .before .before .before .args .t1) (c .before .before .before .before .before .if2 .taken) (c .before .before .before .before .before .before .if1 .left) (c .before .before .before .before .if3 .left)) (c .before .before .line-signal .ensures)
 
 line-bitvec-requires : tie.Need-line-bitvec-requires
 line-bitvec-requires c κs = fit-as (as-key (c .before .before .before .before .before .args .t1) 1 (c .before .match .keys1)) (c .before .before .before .before .before .pre .1)
@@ -59,7 +59,7 @@ line-state-requires : tie.Need-line-state-requires
 line-state-requires c κs = fit-as (as-key (c .before .before .before .before .before .args .t1) 5 (c .before .match .keys5)) (c .before .before .before .before .before .pre .1)
 
 line-init-or-next-requires : tie.Need-line-init-or-next-requires
-line-init-or-next-requires c κs = fit-as (as-give (c .before .before .before .before .before .args .t1) (c .before .before .before .before .before .pre .0) (c .before .before .if2 .left) (c .before .match .rest .0 .0 .0 .0 .1) (c .before .match .rest .0 .0 .0 .1) (c .before .match .rest .0 .0 .1) (c .before .match .rest .0 .1) (c .before .match .rest .1)) (c .before .before .before .before .before .pre .1)
+line-init-or-next-requires c κs = fit-as (as-init-next (c .before .before .before .before .before .args .t1) (c .before .before .before .before .before .pre .0) (c .before .before .if2 .left) (c .before .match .rest .0 .0 .0 .0 .1) (c .before .match .rest .0 .0 .0 .1) (c .before .match .rest .0 .0 .1) (c .before .match .rest .0 .1) (c .before .match .rest .1)) (c .before .before .before .before .before .pre .1)
 
 same-length-4 : tie.Need-same-length-4
 same-length-4 c = c .before .before .line-bitvec .kept .1 .1 .1 .1 .0
@@ -95,7 +95,7 @@ same-length-9 : tie.Need-same-length-9
 same-length-9 c = c .before .before .line-init-or-next .kept .1 .1 .1 .1 .1 .1 .1 .0
 
 returns-9 : tie.Need-returns-9
-returns-9 c = laid-as (as-give (c .before .before .before .before .before .before .before .before .args .t1) (c .before .before .before .before .before .before .before .before .pre .0) (c .before .before .before .before .before .if2 .left) (c .before .before .before .before .match .rest .0 .0 .0 .0 .1) (c .before .before .before .before .match .rest .0 .0 .0 .1) (c .before .before .before .before .match .rest .0 .0 .1) (c .before .before .before .before .match .rest .0 .1) (c .before .before .before .before .match .rest .1)) (c .before .before .line-init-or-next .ensures)
+returns-9 c = laid-as (as-init-next (c .before .before .before .before .before .before .before .before .args .t1) (c .before .before .before .before .before .before .before .before .pre .0) (c .before .before .before .before .before .if2 .left) (c .before .before .before .before .match .rest .0 .0 .0 .0 .1) (c .before .before .before .before .match .rest .0 .0 .0 .1) (c .before .before .before .before .match .rest .0 .0 .1) (c .before .before .before .before .match .rest .0 .1) (c .before .before .before .before .match .rest .1)) (c .before .before .line-init-or-next .ensures)
 
 pub line-spec : {M : Type 1} → statement M
 line-spec = tie.close (tie.spec

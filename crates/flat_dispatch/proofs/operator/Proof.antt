@@ -1,5 +1,5 @@
 -- Each kind's line. Assumes nothing.
-use Rattle.flattening.proofs.Laying.{fit-as, laid-as, as-key, as-one, as-cmp, as-two}
+use Rattle.flattening.proofs.Laying.{fit-as, laid-as, as-key, as-unary, as-equality, as-binary}
 use borrow.Author.Needs.{needs}
 use Rattle.flat_dispatch.proofs.operator.Statement.{statement}
 use Rattle.flat_dispatch.proofs.operator.Tie as tie
@@ -20,22 +20,22 @@ array-read-c : tie.Need-array-read-c
 array-read-c c = search needs
 
 line-unary-requires : tie.Need-line-unary-requires
-line-unary-requires c κs = fit-as (as-one (c .before .before .before .args .t1) (c .before .before .before .pre .1 .0) (c .before .if1 .taken)) (c .before .before .before .pre .1 .1)
+line-unary-requires c κs = fit-as (as-unary (c .before .before .before .args .t1) (c .before .before .before .pre .1 .0) (c .before .if1 .taken)) (c .before .before .before .pre .1 .1)
 
 same-length : tie.Need-same-length
 same-length c = c .before .before .line-unary .kept .1 .1 .1 .1 .1 .1 .1 .1 .0
 
 returns : tie.Need-returns
-returns c = laid-as (as-one (c .before .before .before .before .before .before .args .t1) (c .before .before .before .before .before .before .pre .1 .0) (c .before .before .before .before .if1 .taken)) (c .before .before .line-unary .ensures)
+returns c = laid-as (as-unary (c .before .before .before .before .before .before .args .t1) (c .before .before .before .before .before .before .pre .1 .0) (c .before .before .before .before .if1 .taken)) (c .before .before .line-unary .ensures)
 
 line-equality-requires : tie.Need-line-equality-requires
-line-equality-requires c κs = fit-as (as-cmp (c .before .before .before .before .args .t1) (c .before .before .if1 .left) (c .before .if2 .taken)) (c .before .before .before .before .pre .1 .1)
+line-equality-requires c κs = fit-as (as-equality (c .before .before .before .before .args .t1) (c .before .before .if1 .left) (c .before .if2 .taken)) (c .before .before .before .before .pre .1 .1)
 
 same-length-2 : tie.Need-same-length-2
 same-length-2 c = c .before .before .line-equality .kept .1 .1 .1 .1 .1 .1 .1 .0
 
 returns-2 : tie.Need-returns-2
-returns-2 c = laid-as (as-cmp (c .before .before .before .before .before .before .before .args .t1) (c .before .before .before .before .before .if1 .left) (c .before .before .before .before .if2 .taken)) (c .before .before .line-equality .ensures)
+returns-2 c = laid-as (as-equality (c .before .before .before .before .before .before .before .args .t1) (c .before .before .before .before .before .if1 .left) (c .before .before .before .before .if2 .taken)) (c .before .before .line-equality .ensures)
 
 line-ite-requires : tie.Need-line-ite-requires
 line-ite-requires c κs = fit-as (as-key (c .before .before .before .before .before .args .t1) 53 (c .before .match .keys1)) (c .before .before .before .before .before .pre .1 .1)
@@ -47,7 +47,7 @@ line-write-requires : tie.Need-line-write-requires
 line-write-requires c κs = fit-as (as-key (c .before .before .before .before .before .args .t1) 55 (c .before .match .keys3)) (c .before .before .before .before .before .pre .1 .1)
 
 line-binary-requires : tie.Need-line-binary-requires
-line-binary-requires c κs = fit-as (as-two (c .before .before .before .before .before .args .t1) (c .before .before .if2 .left) (c .before .before .before .before .before .pre .0) (c .before .match .rest .0 .0 .1) (c .before .match .rest .0 .1) (c .before .match .rest .1)) (c .before .before .before .before .before .pre .1 .1)
+line-binary-requires c κs = fit-as (as-binary (c .before .before .before .before .before .args .t1) (c .before .before .if2 .left) (c .before .before .before .before .before .pre .0) (c .before .match .rest .0 .0 .1) (c .before .match .rest .0 .1) (c .before .match .rest .1)) (c .before .before .before .before .before .pre .1 .1)
 
 same-length-3 : tie.Need-same-length-3
 same-length-3 c = c .before .before .line-ite .kept .1 .1 .1 .1 .1 .1 .1 .0
@@ -71,7 +71,7 @@ same-length-6 : tie.Need-same-length-6
 same-length-6 c = c .before .before .line-binary .kept .1 .1 .1 .1 .1 .1 .1 .0
 
 returns-6 : tie.Need-returns-6
-returns-6 c = laid-as (as-two (c .before .before .before .before .before .before .before .before .args .t1) (c .before .before .before .before .before .if2 .left) (c .before .before .before .before .before .before .before .before .pre .0) (c .before .before .before .before .match .rest .0 .0 .1) (c .before .before .before .before .match .rest .0 .1) (c .before .before .before .before .match .rest .1)) (c .before .before .line-binary .ensures)
+returns-6 c = laid-as (as-binary (c .before .before .before .before .before .before .before .before .args .t1) (c .before .before .before .before .before .if2 .left) (c .before .before .before .before .before .before .before .before .pre .0) (c .before .before .before .before .match .rest .0 .0 .1) (c .before .before .before .before .match .rest .0 .1) (c .before .before .before .before .match .rest .1)) (c .before .before .line-binary .ensures)
 
 pub operator-spec : {M : Type 1} → statement M
 operator-spec = tie.close (tie.spec

@@ -14,8 +14,8 @@ use Rattle.circuits.specs.Meaning.{cellsAt}
 use Rattle.tables.specs.Layout.{linesOf}
 use Rattle.circuits.proofs.Fitting.{fit-as, op-as}
 use Rattle.peeks.specs.Peek.{stepZero}
-use Rattle.tables.proofs.Shapes.{shape-cmp}
-use Rattle.peeks.proofs.Peeking.{kept, number, word-arg, word-same, cell-same, cell-read, pair, fact, state-fact, chosen, given-asks, given-is, is-write, is-one, is-two, first-cell, Alike, left-word, right-word, left-cell, right-cell, same-words, alike-none, alike-more, alike-not, alike-all}
+use Rattle.tables.proofs.Shapes.{shape-equality}
+use Rattle.peeks.proofs.Peeking.{kept, number, word-arg, word-same, cell-same, cell-read, pair, fact, state-fact, chosen, given-asks, given-is, is-write, is-unary, is-binary, first-cell, Alike, left-word, right-word, left-cell, right-cell, same-words, alike-none, alike-more, alike-not, alike-all}
 use borrow.Author.Needs.{needs}
 use borrow.Fn.Kinds.{In}
 use borrow.Fn.PlainCycle.{Measures, is, falls, and}
@@ -317,25 +317,25 @@ value-given-requires : (t : ℕ) → value-lts.Need-given-requires (value-uses t
 value-given-requires t c κs = let a = c .before .before .before .before .before .before .before .before .before .args in let p = c .before .before .before .before .before .before .before .before .before .pre in let lk = p .1 .0 in let ln = p .1 .1 .0 in given-asks lk (a .n) 0 (ln .value) (first-cell lk (a .n)) (c .before .before .«record» .ensures) (c .if1 .taken)
 
 value-word-requires-4 : (t : ℕ) → value-lts.Need-word-requires-4 (value-uses t) (value-at t) value.Post
-value-word-requires-4 t c κs = let a = c .before .before .before .before .before .before .before .before .before .before .before .before .args in let p = c .before .before .before .before .before .before .before .before .before .before .before .before .pre in let lk = p .1 .0 in let ln = p .1 .1 .0 in let F = fact lk (a .n) 0 (ln .value) (first-cell lk (a .n)) (c .before .before .before .before .before .«record» .ensures) isUnary (is-one lk (a .n) 0 (ln .value) (first-cell lk (a .n)) (c .before .before .before .before .before .«record» .ensures) (c .before .before .before .if1 .left) (c .before .before .if2 .taken) (c .before .before .before .before .match .rest .0 .0 .1)) in (omega (arith, p .0, F .arg .below), (lk, (word-arg lk (F .arg), p .1 .1 .1)))
+value-word-requires-4 t c κs = let a = c .before .before .before .before .before .before .before .before .before .before .before .before .args in let p = c .before .before .before .before .before .before .before .before .before .before .before .before .pre in let lk = p .1 .0 in let ln = p .1 .1 .0 in let F = fact lk (a .n) 0 (ln .value) (first-cell lk (a .n)) (c .before .before .before .before .before .«record» .ensures) isUnary (is-unary lk (a .n) 0 (ln .value) (first-cell lk (a .n)) (c .before .before .before .before .before .«record» .ensures) (c .before .before .before .if1 .left) (c .before .before .if2 .taken) (c .before .before .before .before .match .rest .0 .0 .1)) in (omega (arith, p .0, F .arg .below), (lk, (word-arg lk (F .arg), p .1 .1 .1)))
 
 value-one-requires : (t : ℕ) → value-lts.Need-unary-requires (value-uses t) (value-at t) value.Post
-value-one-requires t c κs = let a = c .before .before .before .before .before .before .before .before .before .before .before .before .before .before .before .before .before .args in let p = c .before .before .before .before .before .before .before .before .before .before .before .before .before .before .before .before .before .pre in let lk = p .1 .0 in let ln = p .1 .1 .0 in let F = fact lk (a .n) 0 (ln .value) (first-cell lk (a .n)) (c .before .before .before .before .before .before .before .before .before .before .«record» .ensures) isUnary (is-one lk (a .n) 0 (ln .value) (first-cell lk (a .n)) (c .before .before .before .before .before .before .before .before .before .before .«record» .ensures) (c .before .before .before .before .before .before .before .before .if1 .left) (c .before .before .before .before .before .before .before .if2 .taken) (c .before .before .before .before .before .before .before .before .before .match .rest .0 .0 .1)) in let m = number lk (a .n) (ln .value) .most in (omega arith, (omega (arith, F .arg .below), fit-as refl refl refl (c .before .before .before .before .word4 .ensures .0) refl (F .op)))
+value-one-requires t c κs = let a = c .before .before .before .before .before .before .before .before .before .before .before .before .before .before .before .before .before .args in let p = c .before .before .before .before .before .before .before .before .before .before .before .before .before .before .before .before .before .pre in let lk = p .1 .0 in let ln = p .1 .1 .0 in let F = fact lk (a .n) 0 (ln .value) (first-cell lk (a .n)) (c .before .before .before .before .before .before .before .before .before .before .«record» .ensures) isUnary (is-unary lk (a .n) 0 (ln .value) (first-cell lk (a .n)) (c .before .before .before .before .before .before .before .before .before .before .«record» .ensures) (c .before .before .before .before .before .before .before .before .if1 .left) (c .before .before .before .before .before .before .before .if2 .taken) (c .before .before .before .before .before .before .before .before .before .match .rest .0 .0 .1)) in let m = number lk (a .n) (ln .value) .most in (omega arith, (omega (arith, F .arg .below), fit-as refl refl refl (c .before .before .before .before .word4 .ensures .0) refl (F .op)))
 
 value-alike-requires : (t : ℕ) → value-lts.Need-alike-requires (value-uses t) (value-at t) value.Post
-value-alike-requires t c κs = let a = c .before .before .before .before .before .before .before .before .before .before .before .before .before .args in let p = c .before .before .before .before .before .before .before .before .before .before .before .before .before .pre in let lk = p .1 .0 in let ln = p .1 .1 .0 in let F = fact lk (a .n) 0 (ln .value) (first-cell lk (a .n)) (c .before .before .before .before .before .before .«record» .ensures) (isEquality (eqb (kindIn (c .before .before .before .before .before .before .«record» .result)) 21)) (shape-cmp (c .before .before .before .if2 .left) (c .before .before .if3 .taken)) in (omega (arith, p .0, F .left .below, F .right .below), (lk, (pair lk F, p .1 .1 .1)))
+value-alike-requires t c κs = let a = c .before .before .before .before .before .before .before .before .before .before .before .before .before .args in let p = c .before .before .before .before .before .before .before .before .before .before .before .before .before .pre in let lk = p .1 .0 in let ln = p .1 .1 .0 in let F = fact lk (a .n) 0 (ln .value) (first-cell lk (a .n)) (c .before .before .before .before .before .before .«record» .ensures) (isEquality (eqb (kindIn (c .before .before .before .before .before .before .«record» .result)) 21)) (shape-equality (c .before .before .before .if2 .left) (c .before .before .if3 .taken)) in (omega (arith, p .0, F .left .below, F .right .below), (lk, (pair lk F, p .1 .1 .1)))
 
 value-says-requires : (t : ℕ) → value-lts.Need-says-requires (value-uses t) (value-at t) value.Post
 value-says-requires t c κs = tt
 
 value-word-requires-5 : (t : ℕ) → value-lts.Need-word-requires-5 (value-uses t) (value-at t) value.Post
-value-word-requires-5 t c κs = let a = c .before .before .before .before .before .before .before .before .before .before .before .before .before .args in let p = c .before .before .before .before .before .before .before .before .before .before .before .before .before .pre in let lk = p .1 .0 in let ln = p .1 .1 .0 in let F = fact lk (a .n) 0 (ln .value) (first-cell lk (a .n)) (c .before .before .before .before .before .before .«record» .ensures) isBinary (is-two lk (a .n) 0 (ln .value) (first-cell lk (a .n)) (c .before .before .before .before .before .before .«record» .ensures) (ln .flat) (c .before .before .if3 .left) (c .before .before .before .before .before .match .rest .0 .1) (c .before .before .before .before .before .match .rest .1)) in (omega (arith, p .0, F .left .below), (lk, (word-arg lk (F .left), p .1 .1 .1)))
+value-word-requires-5 t c κs = let a = c .before .before .before .before .before .before .before .before .before .before .before .before .before .args in let p = c .before .before .before .before .before .before .before .before .before .before .before .before .before .pre in let lk = p .1 .0 in let ln = p .1 .1 .0 in let F = fact lk (a .n) 0 (ln .value) (first-cell lk (a .n)) (c .before .before .before .before .before .before .«record» .ensures) isBinary (is-binary lk (a .n) 0 (ln .value) (first-cell lk (a .n)) (c .before .before .before .before .before .before .«record» .ensures) (ln .flat) (c .before .before .if3 .left) (c .before .before .before .before .before .match .rest .0 .1) (c .before .before .before .before .before .match .rest .1)) in (omega (arith, p .0, F .left .below), (lk, (word-arg lk (F .left), p .1 .1 .1)))
 
 value-word-requires-6 : (t : ℕ) → value-lts.Need-word-requires-6 (value-uses t) (value-at t) value.Post
-value-word-requires-6 t c κs = let a = c .before .before .before .before .before .before .before .before .before .before .before .before .before .before .before .before .before .before .before .before .args in let p = c .before .before .before .before .before .before .before .before .before .before .before .before .before .before .before .before .before .before .before .before .pre in let lk = p .1 .0 in let ln = p .1 .1 .0 in let F = fact lk (a .n) 0 (ln .value) (first-cell lk (a .n)) (c .before .before .before .before .before .before .before .before .before .before .before .before .before .«record» .ensures) isBinary (is-two lk (a .n) 0 (ln .value) (first-cell lk (a .n)) (c .before .before .before .before .before .before .before .before .before .before .before .before .before .«record» .ensures) (ln .flat) (c .before .before .before .before .before .before .before .before .before .if3 .left) (c .before .before .before .before .before .before .before .before .before .before .before .before .match .rest .0 .1) (c .before .before .before .before .before .before .before .before .before .before .before .before .match .rest .1)) in (omega (arith, p .0, F .right .below), (lk, (word-arg lk (F .right), c .before .before .before .before .before .before .word5 .ensures .1)))
+value-word-requires-6 t c κs = let a = c .before .before .before .before .before .before .before .before .before .before .before .before .before .before .before .before .before .before .before .before .args in let p = c .before .before .before .before .before .before .before .before .before .before .before .before .before .before .before .before .before .before .before .before .pre in let lk = p .1 .0 in let ln = p .1 .1 .0 in let F = fact lk (a .n) 0 (ln .value) (first-cell lk (a .n)) (c .before .before .before .before .before .before .before .before .before .before .before .before .before .«record» .ensures) isBinary (is-binary lk (a .n) 0 (ln .value) (first-cell lk (a .n)) (c .before .before .before .before .before .before .before .before .before .before .before .before .before .«record» .ensures) (ln .flat) (c .before .before .before .before .before .before .before .before .before .if3 .left) (c .before .before .before .before .before .before .before .before .before .before .before .before .match .rest .0 .1) (c .before .before .before .before .before .before .before .before .before .before .before .before .match .rest .1)) in (omega (arith, p .0, F .right .below), (lk, (word-arg lk (F .right), c .before .before .before .before .before .before .word5 .ensures .1)))
 
 value-two-requires : (t : ℕ) → value-lts.Need-binary-requires (value-uses t) (value-at t) value.Post
-value-two-requires t c κs = let a = c .before .before .before .before .before .before .before .before .before .before .before .before .before .before .before .before .before .before .before .before .before .before .before .before .before .args in let p = c .before .before .before .before .before .before .before .before .before .before .before .before .before .before .before .before .before .before .before .before .before .before .before .before .before .pre in let lk = p .1 .0 in let ln = p .1 .1 .0 in let F = fact lk (a .n) 0 (ln .value) (first-cell lk (a .n)) (c .before .before .before .before .before .before .before .before .before .before .before .before .before .before .before .before .before .before .«record» .ensures) isBinary (is-two lk (a .n) 0 (ln .value) (first-cell lk (a .n)) (c .before .before .before .before .before .before .before .before .before .before .before .before .before .before .before .before .before .before .«record» .ensures) (ln .flat) (c .before .before .before .before .before .before .before .before .before .before .before .before .before .before .if3 .left) (c .before .before .before .before .before .before .before .before .before .before .before .before .before .before .before .before .before .match .rest .0 .1) (c .before .before .before .before .before .before .before .before .before .before .before .before .before .before .before .before .before .match .rest .1)) in let m = number lk (a .n) (ln .value) .most in (omega arith, (omega (arith, F .left .below), (omega (arith, F .right .below), fit-as refl refl refl (c .before .before .before .before .before .before .before .before .before .before .before .word5 .ensures .0) (c .before .before .before .before .word6 .ensures .0) (F .op))))
+value-two-requires t c κs = let a = c .before .before .before .before .before .before .before .before .before .before .before .before .before .before .before .before .before .before .before .before .before .before .before .before .before .args in let p = c .before .before .before .before .before .before .before .before .before .before .before .before .before .before .before .before .before .before .before .before .before .before .before .before .before .pre in let lk = p .1 .0 in let ln = p .1 .1 .0 in let F = fact lk (a .n) 0 (ln .value) (first-cell lk (a .n)) (c .before .before .before .before .before .before .before .before .before .before .before .before .before .before .before .before .before .before .«record» .ensures) isBinary (is-binary lk (a .n) 0 (ln .value) (first-cell lk (a .n)) (c .before .before .before .before .before .before .before .before .before .before .before .before .before .before .before .before .before .before .«record» .ensures) (ln .flat) (c .before .before .before .before .before .before .before .before .before .before .before .before .before .before .if3 .left) (c .before .before .before .before .before .before .before .before .before .before .before .before .before .before .before .before .before .match .rest .0 .1) (c .before .before .before .before .before .before .before .before .before .before .before .before .before .before .before .before .before .match .rest .1)) in let m = number lk (a .n) (ln .value) .most in (omega arith, (omega (arith, F .left .below), (omega (arith, F .right .below), fit-as refl refl refl (c .before .before .before .before .before .before .before .before .before .before .before .word5 .ensures .0) (c .before .before .before .before .word6 .ensures .0) (F .op))))
 
 value-same-length : (t : ℕ) → value-lts.Need-same-length (value-uses t) (value-at t) value.Post
 value-same-length t c = c .before .before .before .before .state .ensures .1 .long ∙ sym (c .before .before .before .before .before .before .before .before .before .before .before .before .before .before .before .pre .1 .1 .1 .long)
@@ -374,7 +374,7 @@ value-same-length-8 : (t : ℕ) → value-lts.Need-same-length-8 (value-uses t) 
 value-same-length-8 t c = c .before .before .before .before .before .word4 .ensures .1 .marks ∙ sym (c .before .before .before .before .before .before .before .before .before .before .before .before .before .before .before .before .before .before .pre .1 .1 .1 .marks)
 
 value-returns-5 : (t : ℕ) → value-lts.Need-returns-5 (value-uses t) (value-at t) value.Post
-value-returns-5 t c = let a = c .before .before .before .before .before .before .before .before .before .before .before .before .before .before .before .before .before .before .args in let p = c .before .before .before .before .before .before .before .before .before .before .before .before .before .before .before .before .before .before .pre in let lk = p .1 .0 in let ln = p .1 .1 .0 in let F = fact lk (a .n) 0 (ln .value) (first-cell lk (a .n)) (c .before .before .before .before .before .before .before .before .before .before .before .«record» .ensures) isUnary (is-one lk (a .n) 0 (ln .value) (first-cell lk (a .n)) (c .before .before .before .before .before .before .before .before .before .before .before .«record» .ensures) (c .before .before .before .before .before .before .before .before .before .if1 .left) (c .before .before .before .before .before .before .before .before .if2 .taken) (c .before .before .before .before .before .before .before .before .before .before .match .rest .0 .0 .1)) in (op-as false (kindIn (c .before .before .before .before .before .before .before .before .before .before .before .«record» .result)) (thirdIn (c .before .before .before .before .before .before .before .before .before .before .before .«record» .result)) (c .unary .ensures) refl refl (c .before .before .before .before .before .word4 .ensures .0) refl ∙ F .is, c .before .before .before .before .before .word4 .ensures .1)
+value-returns-5 t c = let a = c .before .before .before .before .before .before .before .before .before .before .before .before .before .before .before .before .before .before .args in let p = c .before .before .before .before .before .before .before .before .before .before .before .before .before .before .before .before .before .before .pre in let lk = p .1 .0 in let ln = p .1 .1 .0 in let F = fact lk (a .n) 0 (ln .value) (first-cell lk (a .n)) (c .before .before .before .before .before .before .before .before .before .before .before .«record» .ensures) isUnary (is-unary lk (a .n) 0 (ln .value) (first-cell lk (a .n)) (c .before .before .before .before .before .before .before .before .before .before .before .«record» .ensures) (c .before .before .before .before .before .before .before .before .before .if1 .left) (c .before .before .before .before .before .before .before .before .if2 .taken) (c .before .before .before .before .before .before .before .before .before .before .match .rest .0 .0 .1)) in (op-as false (kindIn (c .before .before .before .before .before .before .before .before .before .before .before .«record» .result)) (thirdIn (c .before .before .before .before .before .before .before .before .before .before .before .«record» .result)) (c .unary .ensures) refl refl (c .before .before .before .before .before .word4 .ensures .0) refl ∙ F .is, c .before .before .before .before .before .word4 .ensures .1)
 
 value-same-length-9 : (t : ℕ) → value-lts.Need-same-length-9 (value-uses t) (value-at t) value.Post
 value-same-length-9 t c = c .before .before .before .before .before .alike .ensures .1 .long ∙ sym (c .before .before .before .before .before .before .before .before .before .before .before .before .before .before .before .before .before .before .before .pre .1 .1 .1 .long)
@@ -383,7 +383,7 @@ value-same-length-10 : (t : ℕ) → value-lts.Need-same-length-10 (value-uses t
 value-same-length-10 t c = c .before .before .before .before .before .alike .ensures .1 .marks ∙ sym (c .before .before .before .before .before .before .before .before .before .before .before .before .before .before .before .before .before .before .before .pre .1 .1 .1 .marks)
 
 value-returns-6 : (t : ℕ) → value-lts.Need-returns-6 (value-uses t) (value-at t) value.Post
-value-returns-6 t c = let a = c .before .before .before .before .before .before .before .before .before .before .before .before .before .before .before .before .before .before .before .args in let p = c .before .before .before .before .before .before .before .before .before .before .before .before .before .before .before .before .before .before .before .pre in let lk = p .1 .0 in let ln = p .1 .1 .0 in let F = fact lk (a .n) 0 (ln .value) (first-cell lk (a .n)) (c .before .before .before .before .before .before .before .before .before .before .before .before .«record» .ensures) (isEquality (eqb (kindIn (c .before .before .before .before .before .before .before .before .before .before .before .before .«record» .result)) 21)) (shape-cmp (c .before .before .before .before .before .before .before .before .before .if2 .left) (c .before .before .before .before .before .before .before .before .if3 .taken)) in (c .says .ensures ∙ ap (λ (s : Bool). bit (eqOrNeq (eqb (kindIn (c .before .before .before .before .before .before .before .before .before .before .before .before .«record» .result)) 21) s)) (c .before .before .before .before .before .alike .ensures .0) ∙ F .is, c .before .before .before .before .before .alike .ensures .1)
+value-returns-6 t c = let a = c .before .before .before .before .before .before .before .before .before .before .before .before .before .before .before .before .before .before .before .args in let p = c .before .before .before .before .before .before .before .before .before .before .before .before .before .before .before .before .before .before .before .pre in let lk = p .1 .0 in let ln = p .1 .1 .0 in let F = fact lk (a .n) 0 (ln .value) (first-cell lk (a .n)) (c .before .before .before .before .before .before .before .before .before .before .before .before .«record» .ensures) (isEquality (eqb (kindIn (c .before .before .before .before .before .before .before .before .before .before .before .before .«record» .result)) 21)) (shape-equality (c .before .before .before .before .before .before .before .before .before .if2 .left) (c .before .before .before .before .before .before .before .before .if3 .taken)) in (c .says .ensures ∙ ap (λ (s : Bool). bit (eqOrNeq (eqb (kindIn (c .before .before .before .before .before .before .before .before .before .before .before .before .«record» .result)) 21) s)) (c .before .before .before .before .before .alike .ensures .0) ∙ F .is, c .before .before .before .before .before .alike .ensures .1)
 
 value-same-length-11 : (t : ℕ) → value-lts.Need-same-length-11 (value-uses t) (value-at t) value.Post
 value-same-length-11 t c = c .before .before .before .before .before .word6 .ensures .1 .long ∙ sym (c .before .before .before .before .before .before .before .before .before .before .before .before .before .before .before .before .before .before .before .before .before .before .before .before .before .before .pre .1 .1 .1 .long)
@@ -392,7 +392,7 @@ value-same-length-12 : (t : ℕ) → value-lts.Need-same-length-12 (value-uses t
 value-same-length-12 t c = c .before .before .before .before .before .word6 .ensures .1 .marks ∙ sym (c .before .before .before .before .before .before .before .before .before .before .before .before .before .before .before .before .before .before .before .before .before .before .before .before .before .before .pre .1 .1 .1 .marks)
 
 value-returns-7 : (t : ℕ) → value-lts.Need-returns-7 (value-uses t) (value-at t) value.Post
-value-returns-7 t c = let a = c .before .before .before .before .before .before .before .before .before .before .before .before .before .before .before .before .before .before .before .before .before .before .before .before .before .before .args in let p = c .before .before .before .before .before .before .before .before .before .before .before .before .before .before .before .before .before .before .before .before .before .before .before .before .before .before .pre in let lk = p .1 .0 in let ln = p .1 .1 .0 in let F = fact lk (a .n) 0 (ln .value) (first-cell lk (a .n)) (c .before .before .before .before .before .before .before .before .before .before .before .before .before .before .before .before .before .before .before .«record» .ensures) isBinary (is-two lk (a .n) 0 (ln .value) (first-cell lk (a .n)) (c .before .before .before .before .before .before .before .before .before .before .before .before .before .before .before .before .before .before .before .«record» .ensures) (ln .flat) (c .before .before .before .before .before .before .before .before .before .before .before .before .before .before .before .if3 .left) (c .before .before .before .before .before .before .before .before .before .before .before .before .before .before .before .before .before .before .match .rest .0 .1) (c .before .before .before .before .before .before .before .before .before .before .before .before .before .before .before .before .before .before .match .rest .1)) in (op-as false (kindIn (c .before .before .before .before .before .before .before .before .before .before .before .before .before .before .before .before .before .before .before .«record» .result)) 0 (c .binary .ensures) refl refl (c .before .before .before .before .before .before .before .before .before .before .before .before .word5 .ensures .0) (c .before .before .before .before .before .word6 .ensures .0) ∙ F .is, c .before .before .before .before .before .word6 .ensures .1)
+value-returns-7 t c = let a = c .before .before .before .before .before .before .before .before .before .before .before .before .before .before .before .before .before .before .before .before .before .before .before .before .before .before .args in let p = c .before .before .before .before .before .before .before .before .before .before .before .before .before .before .before .before .before .before .before .before .before .before .before .before .before .before .pre in let lk = p .1 .0 in let ln = p .1 .1 .0 in let F = fact lk (a .n) 0 (ln .value) (first-cell lk (a .n)) (c .before .before .before .before .before .before .before .before .before .before .before .before .before .before .before .before .before .before .before .«record» .ensures) isBinary (is-binary lk (a .n) 0 (ln .value) (first-cell lk (a .n)) (c .before .before .before .before .before .before .before .before .before .before .before .before .before .before .before .before .before .before .before .«record» .ensures) (ln .flat) (c .before .before .before .before .before .before .before .before .before .before .before .before .before .before .before .if3 .left) (c .before .before .before .before .before .before .before .before .before .before .before .before .before .before .before .before .before .before .match .rest .0 .1) (c .before .before .before .before .before .before .before .before .before .before .before .before .before .before .before .before .before .before .match .rest .1)) in (op-as false (kindIn (c .before .before .before .before .before .before .before .before .before .before .before .before .before .before .before .before .before .before .before .«record» .result)) 0 (c .binary .ensures) refl refl (c .before .before .before .before .before .before .before .before .before .before .before .before .word5 .ensures .0) (c .before .before .before .before .before .word6 .ensures .0) ∙ F .is, c .before .before .before .before .before .word6 .ensures .1)
 
 word-slice-read-if1 : (t : ℕ) → word-lts.Need-slice-read-if1 (word-uses t) (word-at t) word.Post
 word-slice-read-if1 t c = let a = c .before .before .before .before .before .before .before .args in let p = c .before .before .before .before .before .before .before .pre in let lk = p .1 .0 in let ln = p .1 .1 .0 in omega (arith, number lk (a .n) (ln .value) .most, p .1 .1 .1 .marks)

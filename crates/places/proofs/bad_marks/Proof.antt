@@ -1,4 +1,4 @@
--- `places::classes` meets its contract. Assumes nothing.
+-- `places::bad_marks` meets its contract. Assumes nothing.
 use Prim.Native.Nat.{_-_}
 use mathlib.Core.Path.{refl, sym, _∙_}
 use native.Mathlib.Omega.{arith}

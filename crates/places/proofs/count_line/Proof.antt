@@ -2,7 +2,7 @@
 use mathlib.Core.Path.{_∙_, ap}
 use native.Mathlib.Omega.{arith}
 use Rattle.circuits.specs.Model.Passes.{countsOf, totalsOf}
-use Rattle.circuits.proofs.Placing.{way-input, way-state, way-const, way-mark, way-val, way-none}
+use Rattle.circuits.proofs.Placing.{way-input, way-state, way-const, way-signal, way-value, way-none}
 use borrow.Author.Needs.{needs}
 use Rattle.places.proofs.count_line.Statement.{statement}
 use Rattle.places.proofs.count_line.Tie as tie
@@ -41,10 +41,10 @@ returns-3 : tie.Need-returns-3
 returns-3 c = (λ i. record { cells = c .more-cells .ensures .0 i; states = c .more-cells .ensures .1 .0 i; inputs = c .more-cells .ensures .1 .1 .0 i; signals = c .more-cells .ensures .1 .1 .1 i }) ∙ ap totalsOf (way-const (c .before .before .args .t1) (countsOf (c .before .before .args .t)) (c .before .before .args .m) (c .before .match .keys3) .count)
 
 returns-4 : tie.Need-returns-4
-returns-4 c = ap totalsOf (way-mark (c .before .before .before .before .args .t1) (countsOf (c .before .before .before .before .args .t)) (c .before .before .before .before .args .m) (c .before .before .if1 .left) (c .before .if2 .taken) .count)
+returns-4 c = ap totalsOf (way-signal (c .before .before .before .before .args .t1) (countsOf (c .before .before .before .before .args .t)) (c .before .before .before .before .args .m) (c .before .before .if1 .left) (c .before .if2 .taken) .count)
 
 returns-5 : tie.Need-returns-5
-returns-5 c = (λ i. record { cells = c .more-cells2 .ensures .0 i; states = c .more-cells2 .ensures .1 .0 i; inputs = c .more-cells2 .ensures .1 .1 .0 i; signals = c .more-cells2 .ensures .1 .1 .1 i }) ∙ ap totalsOf (way-val (c .before .before .before .before .before .before .args .t1) (countsOf (c .before .before .before .before .before .before .args .t)) (c .before .before .before .before .before .before .args .m) (c .before .before .if3 .left) (c .before .if4 .taken) .count)
+returns-5 c = (λ i. record { cells = c .more-cells2 .ensures .0 i; states = c .more-cells2 .ensures .1 .0 i; inputs = c .more-cells2 .ensures .1 .1 .0 i; signals = c .more-cells2 .ensures .1 .1 .1 i }) ∙ ap totalsOf (way-value (c .before .before .before .before .before .before .args .t1) (countsOf (c .before .before .before .before .before .before .args .t)) (c .before .before .before .before .before .before .args .m) (c .before .before .if3 .left) (c .before .if4 .taken) .count)
 
 returns-6 : tie.Need-returns-6
 returns-6 c = ap totalsOf (way-none (c .before .before .args .t1) (countsOf (c .before .before .args .t)) (c .before .before .args .m) (c .before .match .rest .1) (c .before .match .rest .0 .0 .1) (c .before .match .rest .0 .1) (λ h l. omega (arith, c .if1 .taken)) (λ h l. omega (arith, c .if1 .taken)) .count)

@@ -1,7 +1,7 @@
 -- `places::find_spot` meets its contract, kind by kind. Assumes nothing.
 use native.Mathlib.Omega.{arith}
 use Rattle.circuits.specs.Model.Passes.{countsOf}
-use Rattle.circuits.proofs.Placing.{way-input, way-state, way-const, way-mark, way-val, way-none}
+use Rattle.circuits.proofs.Placing.{way-input, way-state, way-const, way-signal, way-value, way-none}
 use borrow.Author.Needs.{needs}
 use Rattle.places.proofs.find_spot.Statement.{statement}
 use Rattle.places.proofs.find_spot.Tie as tie
@@ -19,10 +19,10 @@ returns-3 : tie.Need-returns-3
 returns-3 c = way-const (c .before .args .t1) (countsOf (c .before .args .t)) 0 (c .match .keys3) .spot
 
 returns-4 : tie.Need-returns-4
-returns-4 c = way-mark (c .before .before .before .args .t1) (countsOf (c .before .before .before .args .t)) 0 (c .before .if1 .left) (c .if2 .taken) .spot
+returns-4 c = way-signal (c .before .before .before .args .t1) (countsOf (c .before .before .before .args .t)) 0 (c .before .if1 .left) (c .if2 .taken) .spot
 
 returns-5 : tie.Need-returns-5
-returns-5 c = way-val (c .before .before .before .before .before .args .t1) (countsOf (c .before .before .before .before .before .args .t)) 0 (c .before .if3 .left) (c .if4 .taken) .spot
+returns-5 c = way-value (c .before .before .before .before .before .args .t1) (countsOf (c .before .before .before .before .before .args .t)) 0 (c .before .if3 .left) (c .if4 .taken) .spot
 
 returns-6 : tie.Need-returns-6
 returns-6 c = way-none (c .before .before .args .t1) (countsOf (c .before .before .args .t)) 0 (c .before .match .rest .1) (c .before .match .rest .0 .0 .1) (c .before .match .rest .0 .1) (λ h l. omega (arith, c .if1 .taken)) (λ h l. omega (arith, c .if1 .taken)) .spot

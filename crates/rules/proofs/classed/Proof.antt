@@ -4,9 +4,6 @@ use Rattle.tables.proofs.Laws.{and-true}
 use borrow.Author.Needs.{needs}
 use Rattle.rules.proofs.classed.Statement.{statement}
 use Rattle.rules.proofs.classed.Tie as tie
-use Rattle.rules.proofs.classed.Reads as reads
-use Rattle.rules.proofs.classed.Lts as lts
-use Rattle.rules.proofs.suits.Reads as suits-reads
 
 array-read-suits : tie.Need-array-read-suits
 array-read-suits c = search needs

@@ -5,13 +5,6 @@ use Rattle.tables.proofs.Answers.{is-eight, is-nine, is-ten, is-none}
 use borrow.Author.Needs.{needs}
 use Rattle.rules.proofs.fault.Statement.{statement}
 use Rattle.rules.proofs.fault.Tie as tie
-use Rattle.rules.proofs.fault.Reads as reads
-use Rattle.rules.proofs.fault.Lts as lts
-use Rattle.records.proofs.notes.look.Reads as look-reads
-use Rattle.rules.proofs.classed.Reads as classed-reads
-use Rattle.widths.proofs.fits.Reads as fits-reads
-use Rattle.rules.proofs.once.Reads as once-reads
-use Rattle.types.proofs.sort_at.Reads as sort-at-reads
 
 array-read-sort-at : tie.Need-array-read-sort-at
 array-read-sort-at c = search needs

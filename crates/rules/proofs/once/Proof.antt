@@ -12,9 +12,6 @@ use Rattle.tables.proofs.Laws.{and-true}
 use borrow.Author.Needs.{needs}
 use Rattle.rules.proofs.once.Statement.{statement}
 use Rattle.rules.proofs.once.Tie as tie
-use Rattle.rules.proofs.once.Reads as reads
-use Rattle.rules.proofs.once.Lts as lts
-use Rattle.records.proofs.notes.at.Reads as at-reads
 
 array-read-k : tie.Need-array-read-k
 array-read-k c = search needs

@@ -4,12 +4,6 @@ use Rattle.tables.specs.Rules.{suits}
 use borrow.Author.Needs.{needs}
 use Rattle.rules.proofs.suits.Statement.{statement}
 use Rattle.rules.proofs.suits.Tie as tie
-use Rattle.rules.proofs.suits.Reads as reads
-use Rattle.rules.proofs.suits.Lts as lts
-use Rattle.types.proofs.is_array.Reads as is-array-reads
-use Rattle.types.proofs.is_array_sort.Reads as is-array-sort-reads
-use Rattle.types.proofs.is_word.Reads as is-word-reads
-use Rattle.types.proofs.is_word_sort.Reads as is-word-sort-reads
 
 is-word-requires : tie.Need-is-word-requires
 is-word-requires c κs = search needs

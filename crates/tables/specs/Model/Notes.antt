@@ -1,4 +1,4 @@
--- What a check keeps of each line, at the line's number: its class, its index width, its width, and two marks, of a state that has an init line and of one that
+-- What a check keeps of each line, at the line's number: its role, its index width, its width, and two marks, of a state that has an init line and of one that
 -- has a next line. Assumes nothing.
 use Prim.Native.Nat.{ℕ, _≤_, _<_}
 use mathlib.Core.Path.{_≡_}

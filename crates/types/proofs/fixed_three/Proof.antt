@@ -1,9 +1,6 @@
 use borrow.Author.Tests.{eq-eqb, ne-eqb}
 use Rattle.types.proofs.fixed_three.Statement.{statement}
 use Rattle.types.proofs.fixed_three.Tie as tie
-use Rattle.types.proofs.fixed_three.Reads as reads
-use Rattle.types.proofs.fixed_three.Lts as lts
-use Rattle.types.proofs.fixed_two.Reads as fixed-two-reads
 
 returns : tie.Need-returns
 returns c = simp (ne-eqb _ _ (c .if1 .taken))

@@ -1,8 +1,6 @@
 use borrow.Author.Tests.{eq-eqb, ne-eqb}
 use Rattle.types.proofs.fixed_two.Statement.{statement}
 use Rattle.types.proofs.fixed_two.Tie as tie
-use Rattle.types.proofs.fixed_two.Reads as reads
-use Rattle.types.proofs.fixed_two.Lts as lts
 
 returns : tie.Need-returns
 returns c = simp (ne-eqb _ _ (c .if1 .taken))

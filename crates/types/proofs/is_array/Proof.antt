@@ -1,8 +1,6 @@
 use borrow.Author.Tests.{lt-leb, le-leb}
 use Rattle.types.proofs.is_array.Statement.{statement}
 use Rattle.types.proofs.is_array.Tie as tie
-use Rattle.types.proofs.is_array.Reads as reads
-use Rattle.types.proofs.is_array.Lts as lts
 
 returns : tie.Need-returns
 returns c = simp (lt-leb _ _ (c .if1 .taken))

@@ -1,8 +1,6 @@
 use borrow.Author.Tests.{eq-eqb, ne-eqb}
 use Rattle.types.proofs.is_word_sort.Statement.{statement}
 use Rattle.types.proofs.is_word_sort.Tie as tie
-use Rattle.types.proofs.is_word_sort.Reads as reads
-use Rattle.types.proofs.is_word_sort.Lts as lts
 
 returns : tie.Need-returns
 returns c = simp (ne-eqb _ _ (c .if1 .taken))

@@ -2,9 +2,6 @@ use borrow.Author.Tests.{lt-leb, le-leb, not-true, not-false}
 use borrow.Author.Needs.{needs}
 use Rattle.types.proofs.sort_at.Statement.{statement}
 use Rattle.types.proofs.sort_at.Tie as tie
-use Rattle.types.proofs.sort_at.Reads as reads
-use Rattle.types.proofs.sort_at.Lts as lts
-use Rattle.records.proofs.notes.look.Reads as look-reads
 
 look-requires : tie.Need-look-requires
 look-requires c κs = tt

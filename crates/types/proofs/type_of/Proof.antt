@@ -6,10 +6,6 @@ use Rattle.tables.proofs.Shapes.{shape-zero, type-as, no-type}
 use borrow.Author.Needs.{needs}
 use Rattle.types.proofs.type_of.Statement.{statement}
 use Rattle.types.proofs.type_of.Tie as tie
-use Rattle.types.proofs.type_of.Reads as reads
-use Rattle.types.proofs.type_of.Lts as lts
-use Rattle.types.proofs.type_of_value.Reads as type-of-value-reads
-use Rattle.types.proofs.value.Reads as value-reads
 
 array-read-k : tie.Need-array-read-k
 array-read-k c = search needs

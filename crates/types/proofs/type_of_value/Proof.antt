@@ -3,15 +3,10 @@ use mathlib.Core.Bool.{Bool}
 use Rattle.tables.specs.Pick.{pick}
 use Rattle.tables.specs.Types.{ty}
 use Rattle.tables.specs.Lines.{isUnary, isIte, isWrite, isUnknown, shapeOf, kindIn}
-use Rattle.tables.proofs.Shapes.{shape-one, shape-past, type-as, two-type}
+use Rattle.tables.proofs.Shapes.{shape-unary, shape-past, type-as, two-type}
 use borrow.Author.Needs.{needs}
 use Rattle.types.proofs.type_of_value.Statement.{statement}
 use Rattle.types.proofs.type_of_value.Tie as tie
-use Rattle.types.proofs.type_of_value.Reads as reads
-use Rattle.types.proofs.type_of_value.Lts as lts
-use Rattle.types.proofs.fixed_three.Reads as fixed-three-reads
-use Rattle.types.proofs.fixed_two.Reads as fixed-two-reads
-use Rattle.types.proofs.value.Reads as value-reads
 
 array-read-k : tie.Need-array-read-k
 array-read-k c = search needs
@@ -20,7 +15,7 @@ value-requires : tie.Need-value-requires
 value-requires c κs = search needs
 
 returns : tie.Need-returns
-returns c = let s = c .before .before .before .args in type-as (s .t1) (s .t) (s .a) (s .b) (s .c) isUnary (shape-one (kindIn (s .t1)) (c .before .before .before .pre) (c .before .before .if1 .taken)) (c .value .ensures)
+returns c = let s = c .before .before .before .args in type-as (s .t1) (s .t) (s .a) (s .b) (s .c) isUnary (shape-unary (kindIn (s .t1)) (c .before .before .before .pre) (c .before .before .if1 .taken)) (c .value .ensures)
 
 returns-2 : tie.Need-returns-2
 returns-2 c = let s = c .before .before .args in type-as (s .t1) (s .t) (s .a) (s .b) (s .c) isUnknown (shape-past (kindIn (s .t1)) (c .if2 .taken)) refl

@@ -1,7 +1,5 @@
 use Rattle.types.proofs.value.Statement.{statement}
 use Rattle.types.proofs.value.Tie as tie
-use Rattle.types.proofs.value.Reads as reads
-use Rattle.types.proofs.value.Lts as lts
 
 returns : tie.Need-returns
 returns c = rw (c .if1 .taken)

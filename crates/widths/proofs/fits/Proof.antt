@@ -1,23 +1,12 @@
-use Rattle.tables.proofs.Shapes.{shape-one, shape-two, shape-zero, shape-past, fits-as}
+use Rattle.tables.proofs.Shapes.{shape-unary, shape-binary, shape-zero, shape-past, fits-as}
 use mathlib.Core.Bool.{true, false}
 use mathlib.Core.Path.{refl, sym, ap, _∙_}
 use Rattle.tables.specs.Lines.{isBitvec, isArray, isConst, isInput, isState, isOutput, isUnary, isBinary, isIte, isRead, isWrite, isUnknown, isInitOrNext, isSignal, isEquality, shapeOf, kindIn}
 use Rattle.tables.proofs.Laws.{and-true, past, within}
-use Rattle.tables.proofs.Shapes.{shape-one, shape-two, fits-as}
+use Rattle.tables.proofs.Shapes.{shape-unary, shape-binary, fits-as}
 use borrow.Author.Needs.{needs}
 use Rattle.widths.proofs.fits.Statement.{statement}
 use Rattle.widths.proofs.fits.Tie as tie
-use Rattle.widths.proofs.fits.Reads as reads
-use Rattle.widths.proofs.fits.Lts as lts
-use Rattle.widths.proofs.fits_equality.Reads as fits-equality-reads
-use Rattle.widths.proofs.fits_const.Reads as fits-const-reads
-use Rattle.widths.proofs.fits_init_or_next.Reads as fits-init-or-next-reads
-use Rattle.widths.proofs.fits_ite.Reads as fits-ite-reads
-use Rattle.widths.proofs.fits_unary.Reads as fits-unary-reads
-use Rattle.widths.proofs.fits_read.Reads as fits-read-reads
-use Rattle.widths.proofs.fits_binary.Reads as fits-binary-reads
-use Rattle.widths.proofs.fits_write.Reads as fits-write-reads
-use Rattle.widths.proofs.is_width.Reads as is-width-reads
 
 array-read-k : tie.Need-array-read-k
 array-read-k c = search needs
@@ -125,12 +114,12 @@ returns-17 : tie.Need-returns-17
 returns-17 c = let s = c .before .before .before .before .args in
     let h = past (past (past (past (past (c .before .before .if1 .left) (c .before .before .before .match .rest .0 .0 .0 .0 .0 .0 .0 .0 .0 .0 .0 .0 .0 .0 .0 .1)) (c .before .before .before .match .rest .0 .0 .0 .0 .0 .0 .0 .0 .0 .0 .0 .0 .0 .0 .1)) (c .before .before .before .match .rest .0 .0 .0 .0 .0 .0 .0 .0 .0 .0 .0 .0 .0 .1)) (c .before .before .before .match .rest .0 .0 .1)) (c .before .before .before .match .rest .0 .1) in
     let g = past (past (past (past (past h (c .before .before .before .match .rest .0 .0 .0 .0 .0 .0 .0 .0 .0 .0 .0 .0 .1)) (c .before .before .before .match .rest .0 .0 .0 .0 .0 .0 .0 .0 .0 .0 .0 .1)) (c .before .before .before .match .rest .0 .0 .0 .0 .0 .0 .0 .0 .0 .0 .1)) (c .before .before .before .match .rest .0 .0 .0 .0 .0 .0 .0 .0 .0 .1)) (c .before .before .before .match .rest .1) in
-    fits-as (s .t1) isUnary (shape-one (kindIn (s .t1)) g (within (c .before .if2 .taken))) (s .t) (s .a) (s .b) (s .c) (c .fits-unary2 .ensures ∙ sym (and-true _))
+    fits-as (s .t1) isUnary (shape-unary (kindIn (s .t1)) g (within (c .before .if2 .taken))) (s .t) (s .a) (s .b) (s .c) (c .fits-unary2 .ensures ∙ sym (and-true _))
 
 returns-18 : tie.Need-returns-18
 returns-18 c = let s = c .before .before .before .before .before .args in
     let h = past (past (c .before .before .if2 .left) (c .before .before .before .before .match .rest .0 .0 .0 .0 .0 .0 .0 .0 .1)) (c .before .before .before .before .match .rest .0 .0 .0 .0 .0 .0 .0 .1) in
-    fits-as (s .t1) isBinary (shape-two (kindIn (s .t1)) h (within (c .before .if3 .taken))) (s .t) (s .a) (s .b) (s .c) (c .fits-binary .ensures ∙ sym (and-true _))
+    fits-as (s .t1) isBinary (shape-binary (kindIn (s .t1)) h (within (c .before .if3 .taken))) (s .t) (s .a) (s .b) (s .c) (c .fits-binary .ensures ∙ sym (and-true _))
 
 returns-19 : tie.Need-returns-19
 returns-19 c = let s = c .before .before .args in fits-as (s .t1) isUnknown (shape-zero (kindIn (s .t1)) (c .if1 .taken)) (s .t) (s .a) (s .b) (s .c) refl

@@ -2,8 +2,6 @@ use borrow.Author.Tests.{eq-eqb, ne-eqb, le-leb, lt-leb}
 use borrow.Author.Needs.{needs}
 use Rattle.widths.proofs.fits_binary.Statement.{statement}
 use Rattle.widths.proofs.fits_binary.Tie as tie
-use Rattle.widths.proofs.fits_binary.Reads as reads
-use Rattle.widths.proofs.fits_binary.Lts as lts
 
 returns : tie.Need-returns
 returns c = simp (le-leb _ _ (c .before .if1 .taken), ne-eqb _ _ (c .if2 .taken))

@@ -7,8 +7,6 @@ use borrow.Author.Tests.{lt-ltb}
 use borrow.Author.Needs.{needs}
 use Rattle.widths.proofs.fits_const.Statement.{statement}
 use Rattle.widths.proofs.fits_const.Tie as tie
-use Rattle.widths.proofs.fits_const.Reads as reads
-use Rattle.widths.proofs.fits_const.Lts as lts
 
 returns : tie.Need-returns
 returns c = sym (lt-ltb (c .before .args .v) _ (lt-of-lt-of-le (c .before .fits .v .fits) (pow-mono (c .if1 .taken))))

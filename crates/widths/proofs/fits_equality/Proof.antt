@@ -2,9 +2,6 @@ use Rattle.tables.proofs.Laws.{and-true}
 use borrow.Author.Tests.{eq-eqb, ne-eqb}
 use Rattle.widths.proofs.fits_equality.Statement.{statement}
 use Rattle.widths.proofs.fits_equality.Tie as tie
-use Rattle.widths.proofs.fits_equality.Reads as reads
-use Rattle.widths.proofs.fits_equality.Lts as lts
-use Rattle.widths.proofs.same.Reads as same-reads
 
 returns : tie.Need-returns
 returns c = simp (ne-eqb _ _ (c .if1 .taken))

@@ -3,9 +3,6 @@ use borrow.Author.Tests.{eq-eqb, ne-eqb, not-true, not-false}
 use Rattle.tables.proofs.Laws.{and-true}
 use Rattle.widths.proofs.fits_ite.Statement.{statement}
 use Rattle.widths.proofs.fits_ite.Tie as tie
-use Rattle.widths.proofs.fits_ite.Reads as reads
-use Rattle.widths.proofs.fits_ite.Lts as lts
-use Rattle.widths.proofs.same.Reads as same-reads
 
 returns : tie.Need-returns
 returns c = simp (ne-eqb _ _ (c .if1 .taken))

@@ -2,8 +2,6 @@ use borrow.Author.Tests.{eq-eqb, ne-eqb}
 use Rattle.tables.proofs.Laws.{and-true}
 use Rattle.widths.proofs.fits_read.Statement.{statement}
 use Rattle.widths.proofs.fits_read.Tie as tie
-use Rattle.widths.proofs.fits_read.Reads as reads
-use Rattle.widths.proofs.fits_read.Lts as lts
 
 returns : tie.Need-returns
 returns c = simp (ne-eqb _ _ (c .if1 .taken))

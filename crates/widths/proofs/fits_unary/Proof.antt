@@ -6,8 +6,6 @@ use borrow.Author.Tests.{eq-eqb, ne-eqb, le-leb, lt-leb}
 use borrow.Author.Needs.{needs}
 use Rattle.widths.proofs.fits_unary.Statement.{statement}
 use Rattle.widths.proofs.fits_unary.Tie as tie
-use Rattle.widths.proofs.fits_unary.Reads as reads
-use Rattle.widths.proofs.fits_unary.Lts as lts
 
 returns : tie.Need-returns
 returns c = simp (le-leb _ _ (c .if1 .taken))

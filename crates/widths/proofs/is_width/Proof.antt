@@ -1,8 +1,6 @@
 use borrow.Author.Tests.{lt-leb, le-leb}
 use Rattle.widths.proofs.is_width.Statement.{statement}
 use Rattle.widths.proofs.is_width.Tie as tie
-use Rattle.widths.proofs.is_width.Reads as reads
-use Rattle.widths.proofs.is_width.Lts as lts
 
 returns : tie.Need-returns
 returns c = simp (lt-leb _ _ (c .if1 .taken))

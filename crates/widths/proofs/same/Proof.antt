@@ -1,8 +1,6 @@
 use borrow.Author.Tests.{eq-eqb, ne-eqb}
 use Rattle.widths.proofs.same.Statement.{statement}
 use Rattle.widths.proofs.same.Tie as tie
-use Rattle.widths.proofs.same.Reads as reads
-use Rattle.widths.proofs.same.Lts as lts
 
 returns : tie.Need-returns
 returns c = simp (ne-eqb _ _ (c .if1 .taken))

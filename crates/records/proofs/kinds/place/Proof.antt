@@ -3,8 +3,6 @@ use borrow.Author.Tests.{eq-eqb, ne-eqb}
 use borrow.Author.Needs.{needs}
 use Rattle.records.proofs.kinds.place.Statement.{statement}
 use Rattle.records.proofs.kinds.place.Tie as tie
-use Rattle.records.proofs.kinds.place.Reads as reads
-use Rattle.records.proofs.kinds.place.Lts as lts
 
 returns : tie.Need-returns
 returns c = (rw (eq-eqb (c .before .args .k) 56 (c .if1 .taken)), omega arith)

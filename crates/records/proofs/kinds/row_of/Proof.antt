@@ -6,9 +6,6 @@ use Rattle.tables.specs.Kinds.{rowOf}
 use borrow.Author.Needs.{needs}
 use Rattle.records.proofs.kinds.row_of.Statement.{statement}
 use Rattle.records.proofs.kinds.row_of.Tie as tie
-use Rattle.records.proofs.kinds.row_of.Reads as reads
-use Rattle.records.proofs.kinds.row_of.Lts as lts
-use Rattle.records.proofs.kinds.place.Reads as place-reads
 
 place-requires : tie.Need-place-requires
 place-requires c κs = search needs

@@ -6,8 +6,6 @@ use Rattle.tables.proofs.Laws.{getD-in}
 use borrow.Author.Needs.{needs}
 use Rattle.records.proofs.notes.at.Statement.{statement}
 use Rattle.records.proofs.notes.at.Tie as tie
-use Rattle.records.proofs.notes.at.Reads as reads
-use Rattle.records.proofs.notes.at.Lts as lts
 
 mul-result : tie.Need-mul-result
 mul-result c = search needs

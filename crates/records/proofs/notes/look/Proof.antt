@@ -6,9 +6,6 @@ use Rattle.tables.specs.Types.{ty}
 use borrow.Author.Needs.{needs}
 use Rattle.records.proofs.notes.look.Statement.{statement}
 use Rattle.records.proofs.notes.look.Tie as tie
-use Rattle.records.proofs.notes.look.Reads as reads
-use Rattle.records.proofs.notes.look.Lts as lts
-use Rattle.records.proofs.notes.at.Reads as at-reads
 
 at-requires : tie.Need-at-requires
 at-requires c κs = search needs

@@ -6,11 +6,6 @@ use Rattle.tables.specs.Lines.{kindIn, firstIn, initOrNextKind}
 use borrow.Author.Needs.{needs}
 use Rattle.records.proofs.notes.mark.Statement.{statement}
 use Rattle.records.proofs.notes.mark.Tie as tie
-use Rattle.records.proofs.notes.mark.Reads as reads
-use Rattle.records.proofs.notes.mark.Lts as lts
-use Rattle.records.proofs.notes.at.Reads as at-reads
-use Rattle.records.proofs.notes.marked.Reads as marked-reads
-use Rattle.records.proofs.notes.put.Reads as put-reads
 
 array-read-if1 : tie.Need-array-read-if1
 array-read-if1 c = search needs

@@ -1,8 +1,6 @@
 use borrow.Author.Needs.{needs}
 use Rattle.records.proofs.notes.marked.Statement.{statement}
 use Rattle.records.proofs.notes.marked.Tie as tie
-use Rattle.records.proofs.notes.marked.Reads as reads
-use Rattle.records.proofs.notes.marked.Lts as lts
 
 array-read-t7 : tie.Need-array-read-t7
 array-read-t7 c = search needs

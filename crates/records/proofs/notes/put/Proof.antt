@@ -3,8 +3,6 @@ use lib.Seq.{set-out}
 use borrow.Author.Needs.{needs}
 use Rattle.records.proofs.notes.put.Statement.{statement}
 use Rattle.records.proofs.notes.put.Tie as tie
-use Rattle.records.proofs.notes.put.Reads as reads
-use Rattle.records.proofs.notes.put.Lts as lts
 
 mul-r : tie.Need-mul-r
 mul-r c = search needs

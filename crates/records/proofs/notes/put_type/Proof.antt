@@ -6,10 +6,6 @@ use Rattle.tables.specs.Model.Notes.{typed}
 use borrow.Author.Needs.{needs}
 use Rattle.records.proofs.notes.put_type.Statement.{statement}
 use Rattle.records.proofs.notes.put_type.Tie as tie
-use Rattle.records.proofs.notes.put_type.Reads as reads
-use Rattle.records.proofs.notes.put_type.Lts as lts
-use Rattle.records.proofs.notes.at.Reads as at-reads
-use Rattle.records.proofs.notes.put.Reads as put-reads
 
 at-requires : tie.Need-at-requires
 at-requires c κs = search needs
