@@ -24,10 +24,10 @@ use Rattle.circuits.specs.Layout.{Counts, Layout, noLayout, lay, layAll,
 use Rattle.circuits.specs.Meaning.{Signal, signalByte, Frame, noFrame, evalLine, evalAll, signalsAfter, step}
 use Rattle.circuits.specs.Run.{rowLength, start, steps, run, bytesOf, bytes, firstBad}
 use Rattle.tables.specs.Layout.{linesOf}
-use Rattle.circuits.specs.Answers.{lent, ready, ran, signalsLeft, toldRun, started, runs}
+use Rattle.circuits.specs.Answers.{lent, ready, ran, signalsLeft, toldRun, runs}
 use Rattle.circuits.specs.Model.Passes.{countsOf, totalsOf}
 use Rattle.circuits.specs.Model.Signals.{badMark, marks, zipSig, sigRows}
-use Rattle.circuits.specs.Model.Answers.{lentRuns}
+use Rattle.circuits.specs.Model.Answers.{started, lentRuns}
 
 -- ---- 13 to 17
 
@@ -76,46 +76,46 @@ times-small k n h l = let e : n * k ≤ n * 4096 = mul-le-mul-left n h in omega 
 
 -- ---- the signals' marks
 
-classesOf : List Signal → List ℕ
-classesOf [] = []
-classesOf (signalByte m v ∷ g) = bit m ∷ classesOf g
+marksOf : List Signal → List ℕ
+marksOf [] = []
+marksOf (signalByte m v ∷ g) = bit m ∷ marksOf g
 
-classes-snoc : (g : List Signal) (m : Bool) (v : ℕ) → classesOf (g ++ (signalByte m v ∷ [])) ≡ classesOf g ++ (bit m ∷ [])
-unfolding classesOf
-classes-snoc [] m v = refl
-classes-snoc (signalByte b x ∷ g) m v = ap (λ (l : List ℕ). bit b ∷ l) (classes-snoc g m v)
+marks-snoc : (g : List Signal) (m : Bool) (v : ℕ) → marksOf (g ++ (signalByte m v ∷ [])) ≡ marksOf g ++ (bit m ∷ [])
+unfolding marksOf
+marks-snoc [] m v = refl
+marks-snoc (signalByte b x ∷ g) m v = ap (λ (l : List ℕ). bit b ∷ l) (marks-snoc g m v)
 
-class-line : (A : Frame) (l : Line) → classesOf (signalsAfter A l) ≡ classesOf (A .sigs) ++ badMark l
-class-line A (Line.bitvec w) = sym (append-nil (classesOf (A .sigs)))
-class-line A (Line.array i e) = sym (append-nil (classesOf (A .sigs)))
-class-line A (Line.input s) = sym (append-nil (classesOf (A .sigs)))
-class-line A (Line.state s) = sym (append-nil (classesOf (A .sigs)))
-class-line A (Line.value s e) = sym (append-nil (classesOf (A .sigs)))
-class-line A (Line.initOrNext m s q v) = sym (append-nil (classesOf (A .sigs)))
-class-line A (Line.signal m a) = classes-snoc (A .sigs) m _
-class-line A (Line.output a) = sym (append-nil (classesOf (A .sigs)))
-class-line A Line.unknown = sym (append-nil (classesOf (A .sigs)))
+marks-line : (A : Frame) (l : Line) → marksOf (signalsAfter A l) ≡ marksOf (A .sigs) ++ badMark l
+marks-line A (Line.bitvec w) = sym (append-nil (marksOf (A .sigs)))
+marks-line A (Line.array i e) = sym (append-nil (marksOf (A .sigs)))
+marks-line A (Line.input s) = sym (append-nil (marksOf (A .sigs)))
+marks-line A (Line.state s) = sym (append-nil (marksOf (A .sigs)))
+marks-line A (Line.value s e) = sym (append-nil (marksOf (A .sigs)))
+marks-line A (Line.initOrNext m s q v) = sym (append-nil (marksOf (A .sigs)))
+marks-line A (Line.signal m a) = marks-snoc (A .sigs) m _
+marks-line A (Line.output a) = sym (append-nil (marksOf (A .sigs)))
+marks-line A Line.unknown = sym (append-nil (marksOf (A .sigs)))
 
-class-all : (p f : Bool) (σ ι : List ℕ) (A : Frame) (C : List Line) → classesOf (evalAll p f σ ι A C .sigs) ≡ classesOf (A .sigs) ++ marks C
-class-all p f σ ι A [] = sym (append-nil (classesOf (A .sigs)))
-class-all p f σ ι A (l ∷ C) =
-    class-all p f σ ι (evalLine p f σ ι A l) C ∙ ap (λ (x : List ℕ). x ++ marks C) (class-line A l) ∙ append-assoc (classesOf (A .sigs)) (badMark l) (marks C)
+marks-all : (p f : Bool) (σ ι : List ℕ) (A : Frame) (C : List Line) → marksOf (evalAll p f σ ι A C .sigs) ≡ marksOf (A .sigs) ++ marks C
+marks-all p f σ ι A [] = sym (append-nil (marksOf (A .sigs)))
+marks-all p f σ ι A (l ∷ C) =
+    marks-all p f σ ι (evalLine p f σ ι A l) C ∙ ap (λ (x : List ℕ). x ++ marks C) (marks-line A l) ∙ append-assoc (marksOf (A .sigs)) (badMark l) (marks C)
 
-step-classes : (p f : Bool) (C : List Line) (σ ι : List ℕ) → classesOf (step p f C σ ι .sigs) ≡ marks C
-unfolding step classesOf
-step-classes p f C σ ι = class-all p f σ ι noFrame C
+step-marks : (p f : Bool) (C : List Line) (σ ι : List ℕ) → marksOf (step p f C σ ι .sigs) ≡ marks C
+unfolding step marksOf
+step-marks p f C σ ι = marks-all p f σ ι noFrame C
 
 bit-back : (m : Bool) → eqb (bit m) 1 ≡ m
 bit-back true = refl
 bit-back false = refl
 
-zip-back : (g : List Signal) (rest : List ℕ) → zipSig (classesOf g) (bytesOf g ++ rest) ≡ g
-unfolding classesOf
+zip-back : (g : List Signal) (rest : List ℕ) → zipSig (marksOf g) (bytesOf g ++ rest) ≡ g
+unfolding marksOf
 zip-back [] rest = refl
 zip-back (signalByte m v ∷ g) rest = ap₂ (λ (b : Bool) (x : List Signal). signalByte b v ∷ x) (bit-back m) (zip-back g rest)
 
-rest-back : (g : List Signal) (rest : List ℕ) → drop (length (classesOf g)) (bytesOf g ++ rest) ≡ rest
-unfolding classesOf
+rest-back : (g : List Signal) (rest : List ℕ) → drop (length (marksOf g)) (bytesOf g ++ rest) ≡ rest
+unfolding marksOf
 rest-back [] rest = refl
 rest-back (signalByte m v ∷ g) rest = rest-back g rest
 
@@ -125,7 +125,7 @@ rows-back p C zero σ I = refl
 rows-back p C (suc k) σ I =
     let A = step p false C σ (take (rowLength p C) I) in
     let r = bytes (steps p C k (A .sts) (drop (rowLength p C) I)) in
-    let e : marks C ≡ classesOf (A .sigs) = sym (step-classes p false C σ (take (rowLength p C) I)) in
+    let e : marks C ≡ marksOf (A .sigs) = sym (step-marks p false C σ (take (rowLength p C) I)) in
     ap₂ (λ (x : List Signal) (y : List (List Signal)). x ∷ y) (ap (λ (m : List ℕ). zipSig m (bytesOf (A .sigs) ++ r)) e ∙ zip-back (A .sigs) r)
     (ap (sigRows (marks C) k) (ap (λ (m : List ℕ). drop (length m) (bytesOf (A .sigs) ++ r)) e ∙ rest-back (A .sigs) r) ∙ rows-back p C k (A .sts) (drop (rowLength p C) I))
 

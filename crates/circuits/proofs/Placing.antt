@@ -329,17 +329,17 @@ marks-few : (C : List Line) → length (marks C) ≤ length C
 marks-few [] = omega arith
 marks-few (l ∷ C) = omega (arith, length-append (badMark l) (marks C), one-mark l, marks-few C)
 
-pub record Classed (C : List Line) (n i g : ℕ) (bad : List ℕ) : Type 0 where
+pub record MarksSoFar (C : List Line) (n i g : ℕ) (bad : List ℕ) : Type 0 where
   pub most : i ≤ n
   pub few : g ≤ i
   pub long : length bad ≡ 16385
   pub count : g ≡ length (marks (take i C))
-  pub classes : take g bad ≡ marks (take i C)
+  pub holds : take g bad ≡ marks (take i C)
 
 module _ (p : Bool) (t : List ℕ) (n : ℕ) (acc : checked p t n ≡ Accepted) where
-  pub class-more : {r : List ℕ} (i g g′ : ℕ) (bad bad′ : List ℕ) → i < n → Classed (linesOf p t n) n i g bad → r ≡ recordAt p t i → length bad′ ≡ length bad
-      → take g′ bad′ ≡ take g bad ++ badMark (lineOf r) → g′ ≡ g + length (badMark (lineOf r)) → Classed (linesOf p t n) n (i + 1) g′ bad′
-  class-more {r} i g g′ bad bad′ h s er lb e₁ e₂ =
+  pub marks-more : {r : List ℕ} (i g g′ : ℕ) (bad bad′ : List ℕ) → i < n → MarksSoFar (linesOf p t n) n i g bad → r ≡ recordAt p t i → length bad′ ≡ length bad
+      → take g′ bad′ ≡ take g bad ++ badMark (lineOf r) → g′ ≡ g + length (badMark (lineOf r)) → MarksSoFar (linesOf p t n) n (i + 1) g′ bad′
+  marks-more {r} i g g′ bad bad′ h s er lb e₁ e₂ =
       let l = getD (linesOf p t n) i Line.unknown in
       let el : lineOf r ≡ l = ap lineOf er ∙ sym (line-here p t n acc i h) in
       let q : i < length (linesOf p t n) = omega (arith, lines-many p t n acc) in
@@ -350,14 +350,14 @@ module _ (p : Bool) (t : List ℕ) (n : ℕ) (acc : checked p t n ≡ Accepted) 
         few = omega (arith, s .few, e₂, one-mark (lineOf r));
         long = lb ∙ s .long;
         count = e₂ ∙ ap₂ (λ (x : ℕ) (y : Line). x + length (badMark y)) (s .count) el ∙ sym (length-append (marks (take i (linesOf p t n))) (badMark l)) ∙ ap length (sym em);
-        classes = e₁ ∙ ap₂ (λ (x : List ℕ) (y : Line). x ++ badMark y) (s .classes) el ∙ sym em;
+        holds = e₁ ∙ ap₂ (λ (x : List ℕ) (y : Line). x ++ badMark y) (s .holds) el ∙ sym em;
       }
 
-  pub class-ends : (i g : ℕ) (bad : List ℕ) → n ≤ i → Classed (linesOf p t n) n i g bad → take (length (marks (linesOf p t n))) bad ≡ marks (linesOf p t n)
-  class-ends i g bad h s =
+  pub marks-end : (i g : ℕ) (bad : List ℕ) → n ≤ i → MarksSoFar (linesOf p t n) n i g bad → take (length (marks (linesOf p t n))) bad ≡ marks (linesOf p t n)
+  marks-end i g bad h s =
       let e : i ≡ length (linesOf p t n) = omega (arith, s .most, lines-many p t n acc) in
       let q : take i (linesOf p t n) ≡ linesOf p t n = ap (λ (j : ℕ). take j (linesOf p t n)) e ∙ take-length (linesOf p t n) in
-      ap (λ (x : ℕ). take x bad) (sym (s .count ∙ ap (λ (C : List Line). length (marks C)) q)) ∙ s .classes ∙ ap marks q
+      ap (λ (x : ℕ). take x bad) (sym (s .count ∙ ap (λ (C : List Line). length (marks C)) q)) ∙ s .holds ∙ ap marks q
 
 -- ---- the counts of an accepted table are small
 

@@ -10,7 +10,6 @@ use Rattle.tables.specs.declared.Refusal.the-variants.{TooManySteps, StartWords
 use Rattle.tables.specs.declared.Checked.{Checked}
 use Rattle.tables.specs.declared.Checked.the-variants.{Accepted, Refused}
 use Rattle.tables.specs.Pick.{pick}
-use Rattle.tables.specs.Lines.{Line}
 use Rattle.tables.specs.Layout.{linesOf}
 use Rattle.tables.specs.Tables.{checked}
 use Rattle.tables.specs.Refusals.{numberOf}
@@ -58,10 +57,6 @@ abbrev pub toldRun : Ran → (left : List (List ℕ)) → Outcome
 toldRun Nothing left = outcome 0 0 0 0 left
 toldRun (Bad k p) left = outcome 0 1 k p left
 toldRun (RefusedRun r) left = outcome (numberOf r) 0 0 0 left
-
--- of a run that may start: the first counted bad and the signal bytes of all steps; the work area, of w words, is zero
-abbrev pub started : (program : Bool) (C : List Line) (k : ℕ) (S I : List ℕ) (w : ℕ) → Outcome
-started program C k S I w = toldRun (firstBad 0 (run program C k S I)) (bytes (run program C k S I) ∷ replicate w 0 ∷ [])
 
 -- the outcome of a run
 unfoldable pub runs : (program : Bool) (t : List ℕ) (n k : ℕ) (S I : List ℕ) (g w : ℕ) → Outcome

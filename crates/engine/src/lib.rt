@@ -10,10 +10,10 @@ ghost use mathlib.Core.List.{[], _∷_};
 ghost use Prim.Native.Nat.{_+_, _<_};
 ghost use lib.ListN.{length, replicate};
 ghost use Rattle.tables.specs.Layout.{linesOf};
-ghost use Rattle.circuits.specs.Answers.{lent as lentOf, toldRun, started};
+ghost use Rattle.circuits.specs.Answers.{lent as lentOf, toldRun};
 ghost use Rattle.circuits.specs.Model.Places.{Ready};
 ghost use Rattle.circuits.specs.Model.Passes.{countsOf, Noted};
-ghost use Rattle.circuits.specs.Model.Answers.{lentRuns};
+ghost use Rattle.circuits.specs.Model.Answers.{started, lentRuns};
 
 // 13 to 17: s start words, i input words, g signal bytes and w words of work area are lent for k steps.
 fn lent(t: Totals, k: usize, s: usize, i: usize, g: usize, w: usize) -> Checked

@@ -91,7 +91,8 @@ pub fn line_signal(
     sig: &mut [u8],
 )
     requires { ⌜ FitSignal (now laid) (length (now work)) (length (now sig)) n a ⌝ }
-    ensures { λ _. ⌜ now (sig .exit) ≡ pick first (now (sig .entry)) (set (now (sig .entry)) (posIn (now (laid .entry)) n) (ifNonzero (wordKept (now (laid .entry)) (now (work .entry)) a) 1 0)) ⌝ }
+    ensures { λ _. ⌜ now (sig .exit)
+        ≡ pick first (now (sig .entry)) (set (now (sig .entry)) (posIn (now (laid .entry)) n) (ifNonzero (wordKept (now (laid .entry)) (now (work .entry)) a) 1 0)) ⌝ }
 {
     if first {
         return;

@@ -1,8 +1,9 @@
--- The answers of a run of an accepted table. Assumes nothing.
+-- What a run of an accepted table answers and leaves. Assumes nothing.
 use Prim.Native.Nat.{ℕ}
 use mathlib.Core.Bool.{Bool}
 use mathlib.Core.List.{List, [], _∷_}
 use lib.ListN.{length, replicate}
+use Rattle.tables.specs.Lines.{Line}
 use Rattle.tables.specs.Layout.{linesOf}
 use Rattle.tables.specs.Answers.{Outcome}
 use Rattle.circuits.specs.declared.Ran.{Ran}
@@ -10,6 +11,11 @@ use Rattle.circuits.specs.Layout.{layout}
 use Rattle.circuits.specs.Run.{run, bytes, firstBad}
 use Rattle.circuits.specs.Answers.{lent, answerOf, leftOf, toldRun}
 
+-- where what is lent lets it start: the first counted bad and the signal bytes of all steps; the work area, of w words, is zero
+abbrev pub started : (program : Bool) (C : List Line) (k : ℕ) (S I : List ℕ) (w : ℕ) → Outcome
+started p C k S I w = toldRun (firstBad 0 (run p C k S I)) (bytes (run p C k S I) ∷ replicate w 0 ∷ [])
+
+-- where what is lent decides
 abbrev pub lentAnswer : (program : Bool) (t : List ℕ) (n k : ℕ) (S I : List ℕ) (g w : ℕ) → Ran
 lentAnswer p t n k S I g w = answerOf (lent (layout p (linesOf p t n) .counts) k (length S) (length I) g w) (firstBad 0 (run p (linesOf p t n) k S I))
 
