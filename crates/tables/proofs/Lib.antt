@@ -10,7 +10,7 @@ pub mod Putting
 pub mod Places
 pub mod Formed
 pub mod Showing
-pub mod Counted
+pub mod Contexts
 pub mod Sofar
 pub mod Checking
 pub mod Facts

@@ -13,7 +13,7 @@ use Rattle.tables.specs.Types.{Ctx, tyAt, given, grow, growAll, noCtx, c
 use Rattle.tables.specs.Tables.{keeps, lawful}
 use Rattle.tables.specs.Model.Notes.{lookIn, givenIn, Shows, noted}
 use Rattle.tables.proofs.Places.{length-records, record-at, length-record}
-use Rattle.tables.proofs.Counted.{after, after-suc, lawful-step}
+use Rattle.tables.proofs.Contexts.{after, after-suc, lawful-step}
 use Rattle.tables.proofs.Showing.{length-noted, shows-more, length-more}
 
 pub record Sofar (p : Bool) (t : List ℕ) (n i : ℕ) (notes : List (List ℕ)) : Type 0 where
