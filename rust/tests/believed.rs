@@ -1,5 +1,6 @@
 //! What has to be believed: the files of definitions that the promises of the public operations and demand 3 rest on.
 //! They are found by the `use` lines, from the contracts on; docs/PROOFS.md lists them with their lines, and this test holds it to that.
+//! `cargo test --test believed -- --nocapture` prints them.
 use std::collections::{BTreeMap, BTreeSet};
 use std::path::{Path, PathBuf};
 
@@ -100,8 +101,8 @@ fn listed() -> BTreeMap<String, usize> {
 fn the_list_in_the_documents_is_what_the_promises_rest_on() {
     let (believed, listed) = (believed(), listed());
     let lines: usize = believed.values().sum();
-    println!("{} files, {lines} lines", believed.len());
     let rows: Vec<String> = believed.iter().map(|(file, lines)| format!("| `{file}` | {lines} |")).collect();
+    println!("{}\n{} files, {lines} lines", rows.join("\n"), believed.len());
     assert!(believed == listed, "docs/PROOFS.md should list\n{}", rows.join("\n"));
     let total = format!("{} files of {lines} lines", believed.len());
     assert!(read("docs/PROOFS.md").contains(&total), "docs/PROOFS.md should say: {total}");
