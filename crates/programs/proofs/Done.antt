@@ -2,7 +2,7 @@
 use Prim.Native.Nat.{ℕ, _≤_}
 use mathlib.Core.Path.{_≡_, refl, ap, _∙_, subst⁻¹}
 use mathlib.Core.Bool.{Bool, true, false, _&&_}
-use mathlib.Core.List.{List, [], _∷_, map}
+use mathlib.Core.List.{List, map}
 use native.Mathlib.Omega.{arith}
 use lib.Dec.{leb}
 use lib.ListN.{length}
@@ -17,20 +17,15 @@ use Rattle.tables.specs.Lines.{wordsOf}
 use Rattle.tables.specs.Layout.{whole, held, room, linesOf, filled}
 use Rattle.tables.specs.Types.{noCtx}
 use Rattle.tables.specs.Tables.{checked}
-use Rattle.tables.specs.Answers.{told, fitting, ifAccepted, leftBy}
+use Rattle.tables.specs.Answers.{fitting, ifAccepted, leftBy}
 use Rattle.tables.proofs.Kept.{both}
 use Rattle.tables.proofs.Checking.{roomy}
 use Rattle.tables.proofs.Facts.{AllOk}
 use Rattle.tables.proofs.Sound.{accepted-ok}
 use Rattle.tables.proofs.Encoding.{lines-back}
 use Rattle.programs.specs.Translation.{hasArray}
-use Rattle.programs.specs.Answers.{programOf, flatOnly, translated, programLeft, translates}
+use Rattle.programs.specs.Answers.{programOf, flatOnly, translated, programLeft}
 use Rattle.programs.proofs.Accepted.{translated-ok, program-accepted}
-
--- the outcome, for a caller
-pub translates-told : (t : List ℕ) (n len : ℕ) → translates t n len ≡ told (translated t n len) (programLeft t n len ∷ [])
-unfolding translates
-translates-told t n len = refl
 
 -- what is known where m records are answered
 pub record IsDone (t : List ℕ) (n len m : ℕ) : Type 0 where

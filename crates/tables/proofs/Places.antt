@@ -8,7 +8,7 @@ use lib.ListN.{length, getD, take, replicate, length-replicate}
 use Rattle.tables.specs.Lines.{lineOf, fields, kindIn, sortIn, firstIn, secondIn, thirdIn}
 use Rattle.tables.specs.Layout.{recordWords, held, placing, rowsFrom, filledBy, recordAt, recordsOf, linesOf, recorded, putAll, filled}
 use Rattle.tables.proofs.Layouts.{placed, words-in}
-use Rattle.tables.proofs.Spread.{length-from}
+use Rattle.tables.proofs.Spread.{length-words-from}
 use Rattle.tables.proofs.Putting as laws
 use Rattle.tables.proofs.Putting.{SizedBy}
 
@@ -37,7 +37,7 @@ sized-append (r ∷ rs) ss a b = (a .0, sized-append rs ss (a .1) b)
 -- ---- the records of a list, by their places
 
 pub length-record : (p : Bool) (t : List ℕ) (i : ℕ) → length (recordAt p t i) ≡ recordWords
-length-record p t i = length-from (placing p (length t) i) t 0 recordWords
+length-record p t i = length-words-from (placing p (length t) i) t 0 recordWords
 
 pub length-records : (p : Bool) (t : List ℕ) (n : ℕ) → length (recordsOf p t n) ≡ n
 length-records p t n = laws.length-rows (placing p) recordWords t 0 n

@@ -8,12 +8,12 @@ use lib.ListN.{length, getD, take, replicate, length-replicate}
 use lib.Seq.{take-all}
 use Rattle.tables.specs.Layout.{Placing, recordSize, held, wordsFrom, rowBy, rowsFrom, rowSet, putRows, filledBy}
 use Rattle.tables.proofs.Layouts.{Sound}
-use Rattle.tables.proofs.Spread.{Spread, length-words, words-other, words-same}
+use Rattle.tables.proofs.Spread.{Spread, length-set-words, words-other, words-same}
 
 -- ---- lengths, and rows one after the other: no fact is needed
 
 pub length-row : (f : Placing) (t : List ℕ) (i : ℕ) (x : List ℕ) → length (rowSet f t i x) ≡ length t
-length-row f t i x = length-words (f (length t) i) t 0 x
+length-row f t i x = length-set-words (f (length t) i) t 0 x
 
 pub length-put : (f : Placing) (t : List ℕ) (i : ℕ) (xs : List (List ℕ)) → length (putRows f t i xs) ≡ length t
 length-put f t i [] = refl

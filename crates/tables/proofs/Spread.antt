@@ -7,9 +7,9 @@ use lib.ListN.{length, getD, set, take, length-set}
 use lib.Seq.{getD-set-same, getD-set-other}
 use Rattle.tables.specs.Layout.{wordsFrom, setWords}
 
-pub length-words : (at : ℕ → ℕ) (t : List ℕ) (j : ℕ) (xs : List ℕ) → length (setWords at t j xs) ≡ length t
-length-words at t j [] = refl
-length-words at t j (x ∷ xs) = length-words at (set t (at j) x) (suc j) xs ∙ length-set t (at j) x
+pub length-set-words : (at : ℕ → ℕ) (t : List ℕ) (j : ℕ) (xs : List ℕ) → length (setWords at t j xs) ≡ length t
+length-set-words at t j [] = refl
+length-set-words at t j (x ∷ xs) = length-set-words at (set t (at j) x) (suc j) xs ∙ length-set t (at j) x
 
 -- a place that none of them is
 pub word-other : (at : ℕ → ℕ) (t : List ℕ) (j : ℕ) (xs : List ℕ) (q : ℕ) → ((k : ℕ) → j ≤ k → k < j + length xs → q ≡ at k → ⊥) → getD (setWords at t j xs) q 0 ≡ getD t q 0
@@ -49,6 +49,6 @@ set-more at t j (y ∷ xs) x =
     let q : j + suc (length xs) ≡ suc j + length xs = omega arith in
     ap (λ (k : ℕ). set (setWords at (set t (at j) y) (suc j) xs) (at k) x) q ∙ set-more at (set t (at j) y) (suc j) xs x
 
-pub length-from : (by : ℕ → ℕ) (u : List ℕ) (j m : ℕ) → length (wordsFrom by u j m) ≡ m
-length-from by u j zero = refl
-length-from by u j (suc m) = ap suc (length-from by u (suc j) m)
+pub length-words-from : (by : ℕ → ℕ) (u : List ℕ) (j m : ℕ) → length (wordsFrom by u j m) ≡ m
+length-words-from by u j zero = refl
+length-words-from by u j (suc m) = ap suc (length-words-from by u (suc j) m)

@@ -1,5 +1,5 @@
--- How records lie in a list of words: nothing outside this file and the laws of `proofs/Layouts` knows it. The flag p says that the list is a program's, else it is a
--- circuit's. A record that is handed about is its five words: kind, sort line (in a program the width) and three operands. Records and words are counted from 0 here.
+-- How records lie in a list of words: nothing outside this file, the laws of `proofs/Layouts` and the code of `records` knows it. The flag p says that the list is a
+-- program's, else it is a circuit's. A record that is handed about is its five words: kind, sort line (in a program the width) and three operands. Records and words are counted from 0 here.
 -- Assumes nothing.
 use Prim.Native.Nat.{ℕ, zero, suc, _+_, _*_, _/_, _%_, min}
 use mathlib.Core.Bool.{Bool, true, false}

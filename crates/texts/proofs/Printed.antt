@@ -22,7 +22,7 @@ use Rattle.tables.specs.Layout.{room, recordAt, recordsOf}
 use Rattle.tables.specs.Types.{Ctx, noCtx, tyAt, given, grow}
 use Rattle.tables.specs.Tables.{known, formed, keeps, lawful, checked}
 use Rattle.tables.specs.Answers.{told}
-use Rattle.tables.proofs.Outcomes.{told-as, told-answer, told-left}
+use Rattle.tables.proofs.Outcomes.{told-as}
 use Rattle.tables.proofs.Kept.{both}
 use Rattle.tables.proofs.Shapes.{range}
 use Rattle.tables.proofs.Places.{length-records, record-at}
@@ -345,12 +345,3 @@ module _ (t : List ℕ) (n len : ℕ) where
   out-written m a b q h e =
       let k : length (writeText (recordsOf false t n)) ≤ len = omega arith in
       out-as (wrote (writeText (recordsOf false t n))) (rw (sym a ∙ b, le-leb (length (writeText (recordsOf false t n))) len k, fitted) refl) (ap Done q) (e ∙ sets-zeros (writeText (recordsOf false t n)) len k)
-
-  -- what was told of a writing, taken apart
-  pub write-told : (r : Answer) (x : List ℕ) → told r (x ∷ []) ≡ writes t n len → (r ≡ writeAnswer (writeTable t n len)) × (x ≡ bufferOf len (writeTable t n len))
-  unfolding writes
-  write-told r x e =
-      let o : Out = writeTable t n len in (
-        told-answer r (writeAnswer o) (x ∷ []) (bufferOf len o ∷ []) e,
-        ap (λ (y : List (List ℕ)). getD y 0 []) {x = x ∷ []} {y = bufferOf len o ∷ []} (told-left r (writeAnswer o) (x ∷ []) (bufferOf len o ∷ []) e),
-      )

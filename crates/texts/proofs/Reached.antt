@@ -12,7 +12,6 @@ use borrow.Author.Tests.{eqb-true, ltb-true, ltb-false, le-leb, lt-leb}
 use Rattle.tables.specs.declared.Ty.{Ty}
 use Rattle.tables.specs.declared.Refusal.{Refusal}
 use Rattle.tables.specs.declared.Refusal.the-variants.{NotATable, TextTooLong}
-use Rattle.tables.specs.declared.Answer.{Answer}
 use Rattle.tables.specs.declared.Answer.the-variants.{Done, Refused}
 use Rattle.tables.specs.Pick.{inside, all}
 use Rattle.tables.specs.Lines.{Line, exprWords, lineOf, kindIn, sortIn, firstIn, secondIn, thirdIn}
@@ -25,12 +24,11 @@ use Rattle.tables.specs.Answers.{Outcome, told}
 use Rattle.tables.proofs.Kept.{both}
 use Rattle.tables.proofs.Places.{filled-none, length-filled, record-filled}
 use Rattle.tables.proofs.Answers.{passed, sort-width}
-use Rattle.tables.proofs.Outcomes.{told-answer, told-left}
 use Rattle.tables.proofs.Shapes.{range}
 use Rattle.tables.proofs.Showing.{length-noted, shows-more, length-more}
 use Rattle.texts.specs.declared.Readout.{Readout}
 use Rattle.texts.specs.Split.{split, upTo, tokens}
-use Rattle.texts.specs.Reading.{Reply, skip, no, got, lineTokens, readLine, Text, done, refused, readLines, linesRead, readText, textAnswer, tableOf, outcomeOf, reads}
+use Rattle.texts.specs.Reading.{Reply, skip, no, got, lineTokens, readLine, Text, done, refused, readLines, linesRead, readText, outcomeOf, reads}
 use Rattle.texts.specs.Model.Stages.{stagedLine}
 use Rattle.texts.specs.Model.Structs.{asRead}
 use Rattle.texts.proofs.Places.{tail, line-first}
@@ -281,12 +279,3 @@ out-text len s h = h
 
 pub out-lines : (len k : ℕ) (s : List ℕ) {o : Outcome} → k ≡ len → whole false k ≡ true → length s ≤ 65536 → o ≡ outcomeOf k (linesRead k s) → o ≡ reads len s
 out-lines len k s {o} q w h e = subst (λ (m : ℕ). o ≡ reads m s) q (out-text k s (e ∙ ap (outcomeOf k) (sym (text-lines k s w h))))
-
--- what was told of a reading, taken apart
-pub read-told : (len : ℕ) (s : List ℕ) (r : Answer) (t : List ℕ) → told r (t ∷ []) ≡ reads len s → (r ≡ textAnswer (readText len s)) × (t ≡ tableOf len (readText len s))
-unfolding reads
-read-told len s r t e =
-    let x : Text = readText len s in (
-      told-answer r (textAnswer x) (t ∷ []) (tableOf len x ∷ []) e,
-      ap (λ (y : List (List ℕ)). getD y 0 []) {x = t ∷ []} {y = tableOf len x ∷ []} (told-left r (textAnswer x) (t ∷ []) (tableOf len x ∷ []) e),
-    )
