@@ -34,11 +34,19 @@
  *   21  text buffer too short
  *
  * Further values go to `answer`, a list of three words; words that are not used
- * are 0. After a refusal, and past the end of a result, everything lent for
- * writing is zero; a work area is zero after any call. What such a list held
- * before makes no difference. Nothing is asked of the caller but that each
- * pointer comes with its length, and that lists lent for writing share no words
- * with other lists; a pointer may be anything but NULL where the length is 0.
+ * are 0. Past the end of a result everything lent for writing is zero, and so it
+ * is after a refusal, but for answer[0] of gofeshan_read, which is then the text
+ * line (0 with 1 and 2); a work area is zero after any call.
+ *
+ * What the caller sees to:
+ *  - each pointer comes with the length of its list, in elements; where the
+ *    length is 0 the pointer may be anything, NULL too;
+ *  - lists of uint64_t are aligned to 8 bytes;
+ *  - a list lent for writing shares no words with another list.
+ * A list lent for writing may be uninitialised. The proof takes it to hold some
+ * words, and says that it makes no difference which; that the compiled code
+ * writes each word before it reads it was seen under valgrind, on the examples.
+ * Nothing else is asked: every call ends with an answer of this page.
  *
  * The functions keep their notes on the stack, less than 1 MB: call them with 2 MB of it.
  */

@@ -2,7 +2,7 @@
 //!
 //! Reading, writing, flattening and translating are compared with the independent implementation of rust/tests, runs
 //! with the two interpreters of this crate. Each is measured at three sizes, the sides taking turns.
-//! `bash bench/run -- write` measures one operation alone. `bench profile write` calls the proved one at its largest size
+//! `bash bench/run -- write` measures one operation alone, `-- edges` the inputs that could take long. `bench profile write` calls the proved one at its largest size
 //! and measures nothing; `bench/profile` runs that under callgrind.
 #![allow(dead_code, unused_imports)]
 
@@ -334,7 +334,18 @@ fn program_rows() {
     }
 }
 
-/// Inputs that could take long: each has to end within 10 ms.
+/// Writes by one constant index, each to the array before it; then reads of another cell of the last of them, or ites between it and itself: each such
+/// cell is looked up along all the writes. An array has 256 cells, as many as it may have.
+fn chain(writes: u64, reads: u64, ites: u64) -> Vec<u64> {
+    let mut table = vec![1, 0, 8, 0, 0, 2, 0, 1, 1, 0, 3, 1, 0, 0, 0, 3, 1, 1, 0, 0, 5, 2, 0, 0, 0];
+    table.extend([1, 0, 1, 0, 0, 4, 6, 0, 0, 0]);
+    (7..7 + writes).for_each(|n| table.extend([55, 2, if n == 7 { 5 } else { n }, 3, 4]));
+    (0..reads).for_each(|_| table.extend([54, 1, 7 + writes, 4, 0]));
+    (0..ites).for_each(|_| table.extend([53, 2, 7, 7 + writes, 7 + writes]));
+    table
+}
+
+/// Inputs that could take long.
 fn edges() {
     #[cfg(feature = "read")]
     {
@@ -359,6 +370,17 @@ fn edges() {
             let number = proved::read(&text, &mut table, &mut [0; 3]);
             println!("{name:<40} {:>8.3} ms, answer {number}", began.elapsed().as_secs_f64() * 1e3);
         }
+    }
+    #[cfg(feature = "flatten")]
+    for (writes, reads, ites) in
+        [(8_188, 8_188, 0), (16_310, 0, 61), (500, 500, 0), (1_000, 1_000, 0), (2_000, 2_000, 0)]
+    {
+        let table = chain(writes, reads, ites);
+        let (count, mut target) = (table.len() / 5, vec![1; 5 * independent::MOST_RECORDS]);
+        let began = clock::thread();
+        let number = proved::flatten(&table, count, &mut target, &mut [0; 3]);
+        let name = format!("flattening {writes} writes, {reads} reads, {ites} ites");
+        println!("{name:<40} {:>8.3} ms, answer {number}", (clock::thread() - began) * 1e3);
     }
     #[cfg(feature = "peek")]
     {
@@ -400,7 +422,10 @@ fn main() {
             rows();
         }
     }
-    if only.is_some() {
+    if let Some(word) = only {
+        if word == "edges" {
+            edges();
+        }
         return;
     }
     println!();
