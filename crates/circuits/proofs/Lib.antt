@@ -11,3 +11,4 @@ pub mod Placing
 pub mod Rows
 pub mod Answering
 pub mod Earlier
+pub mod WordCells
