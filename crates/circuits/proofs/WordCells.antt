@@ -59,6 +59,6 @@ one-word (x ∷ []) h = refl
 one-word (x ∷ (y ∷ xs)) h = absurd (omega arith)
 
 -- of the line of a walk, as a run starts or at a step
-pub line-cells : (program starting : Bool) (states row : List ℕ) (A : Frame) (s : ℕ) {e : Expr} → AnySort e → ((a : ℕ) → among a (usesExpr e) ≡ true → length (cellsAt A a) ≡ 1)
+pub frame-word : (program starting : Bool) (states row : List ℕ) (A : Frame) (s : ℕ) {e : Expr} → AnySort e → ((a : ℕ) → among a (usesExpr e) ≡ true → length (cellsAt A a) ≡ 1)
     → cellsOf program starting states row A (Line.value s e) ≡ operatorWord program (widthAt A) (wordAt A) (wordsOf (Line.value s e)) ∷ []
-line-cells program starting states row A s k h = word-cells program (widthAt A) (wordAt A) (cellsAt A) s k (λ a u. one-word (cellsAt A a) (h a u))
+frame-word program starting states row A s k h = word-cells program (widthAt A) (wordAt A) (cellsAt A) s k (λ a u. one-word (cellsAt A a) (h a u))

@@ -97,6 +97,9 @@ operands p L t (Expr.ite c a b) k = (k .cond .is, (k .left .is, (k .right .is, t
 operands p L t (Expr.read a i) k = (k .arr .is, (k .index .is, tt))
 operands p L t (Expr.write a i v) k = (k .arr .is, (k .index .is, (k .value .is, tt)))
 
+pub operand-value : (p : Bool) (L : ℕ → Ty) (t : Ty) (e : Expr) → OkExpr p L t e → (a : ℕ) → among a (usesExpr e) ≡ true → 2 ≤ L a .role
+operand-value p L t e k a m = value-at L (usesExpr e) (operands p L t e k) a m
+
 module _ (p : Bool) (C : List Line) (ok : AllOk p noCtx C) where
   abbrev c : Ctx
   c = growAll p noCtx C
@@ -170,7 +173,7 @@ module _ (p : Bool) (C : List Line) (ok : AllOk p noCtx C) where
               absurd (no-yes (sym f ∙ eq-eqb (tyAt (growAll p noCtx C) v .role) 2 (ap (λ (y : Ty). y .role) (E .is) ∙ operands-fixed p (tyAt (E .before)) s x k)))
           among-operands (inr k) =
               let a = k .operand in
-              let t = value-at (tyAt (E .before)) (usesExpr x) (operands p (tyAt (E .before)) (sortAt p (tyAt (E .before)) s) x (E .ok)) a (k .used) in
+              let t = operand-value p (tyAt (E .before)) (sortAt p (tyAt (E .before)) s) x (E .ok) a (k .used) in
               let z = earlier (E .before .tys) a (omega arith) in
               let o = E .old a (omega (arith, E .count)) in
               let F = ih a (omega (arith, E .count)) (subst (λ (y : Ty). 2 ≤ y .role) (sym o) t) (ap isFixed o ∙ k .isnt) in
