@@ -69,12 +69,11 @@ module _ (p f : Bool) (C : List Line) (σ ι : List ℕ) (ok : AllOk p noCtx C) 
   word-before : (a : ℕ) → a ≤ i → wordAt B a ≡ wordAt A a
   word-before a l = sym (ap (λ (x : List ℕ). getD x 0 0) (cells-before a l))
 
-  -- its operands are earlier lines
+  -- the line at the place i, whose number is i + 1, is an eq, neq or ite line, and its operands are words
   pub step-word : (s : ℕ) {e : Expr} → AnySort e → getD C i Line.unknown ≡ Line.value s e → ((a : ℕ) → among a (usesExpr e) ≡ true → typeAt (layout p C) a .iw ≡ 0)
       → cellsAt A (suc i) ≡ operatorWord p (widthAt A) (wordAt A) (wordsOf (Line.value s e)) ∷ []
   step-word s {e} k is flat =
-      cells-here p f C σ ι i h ∙ ap (cellsOf p f σ ι B) is ∙ frame-word p f σ ι B s k one
-      ∙ ap (λ (x : ℕ). x ∷ []) (whole k below)
+      cells-here p f C σ ι i h ∙ ap (cellsOf p f σ ι B) is ∙ frame-word p f σ ι B s k one ∙ ap (λ (x : ℕ). x ∷ []) (whole k below)
     where
       kept : OkExpr p (tyAt (Y .ctx)) (sortAt p (tyAt (Y .ctx)) s) e
       kept = subst (λ (l : Line). Ok p (tyAt (Y .ctx)) (given (Y .ctx)) l) is (ok-at p noLayout C i ok h)
@@ -95,12 +94,14 @@ module _ (p f : Bool) (C : List Line) (σ ι : List ℕ) (ok : AllOk p noCtx C) 
       whole (anyEquality q a b) m =
           let la = m a (rw (eq-eqb a a refl)) in
           let lb = m b (rw (eq-eqb b b refl, or-true)) in
-          operator-as p (widthAt B) (widthAt A) (wordAt B) (wordAt A) (wordsOf (Line.value s (Expr.equality q a b))) (width-before a la) (width-before b lb) (word-before a la) (word-before b lb) (word-before 0 (omega arith))
+          operator-as p (widthAt B) (widthAt A) (wordAt B) (wordAt A) (wordsOf (Line.value s (Expr.equality q a b)))
+          (width-before a la) (width-before b lb) (word-before a la) (word-before b lb) (word-before 0 (omega arith))
       whole (anyIte c a b) m =
           let lc = m c (rw (eq-eqb c c refl)) in
           let la = m a (rw (eq-eqb a a refl, or-true)) in
           let lb = m b (rw (eq-eqb b b refl, or-true, or-true)) in
-          operator-as p (widthAt B) (widthAt A) (wordAt B) (wordAt A) (wordsOf (Line.value s (Expr.ite c a b))) (width-before c lc) (width-before a la) (word-before c lc) (word-before a la) (word-before b lb)
+          operator-as p (widthAt B) (widthAt A) (wordAt B) (wordAt A) (wordsOf (Line.value s (Expr.ite c a b)))
+          (width-before c lc) (width-before a la) (word-before c lc) (word-before a la) (word-before b lb)
 
 -- ---- examples that meet the premises
 
