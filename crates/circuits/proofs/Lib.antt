@@ -11,3 +11,6 @@ pub mod Placing
 pub mod Rows
 pub mod Answering
 pub mod Earlier
+pub mod CellCounts
+pub mod WordCells
+pub mod WordLines

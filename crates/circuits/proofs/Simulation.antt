@@ -47,7 +47,7 @@ set-small (x ∷ xs) zero v b z f h (suc j) = f (suc j)
 set-small (x ∷ xs) (suc i) v b z f h zero = f zero
 set-small (x ∷ xs) (suc i) v b z f h (suc j) = set-small xs i v b z (λ k. f (suc k)) h j
 
-choose-has : (P : List ℕ → Type 0) (c : ℕ) (x y : List ℕ) → P x → P y → P (ifNonzero c x y)
+pub choose-has : (P : List ℕ → Type 0) (c : ℕ) (x y : List ℕ) → P x → P y → P (ifNonzero c x y)
 choose-has P zero x y p q = q
 choose-has P (suc c) x y p q = p
 
@@ -75,7 +75,7 @@ state-small false true d xs e j = lows-small d xs j
 state-small false false d xs e j = lows-small d xs j
 state-small true f d xs e j = absurd (no-yes (sym e))
 
-state-length : (p f : Bool) (d : ℕ) (xs : List ℕ) → length (stateWords p f d xs) ≡ length xs
+pub state-length : (p f : Bool) (d : ℕ) (xs : List ℕ) → length (stateWords p f d xs) ≡ length xs
 state-length false true d xs = laws.length-lows d xs
 state-length false false d xs = laws.length-lows d xs
 state-length true true d xs = laws.length-lows d xs

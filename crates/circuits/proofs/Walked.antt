@@ -45,7 +45,7 @@ acc-suc p f σ ι C i h = ap (evalAll p f σ ι noFrame) (take-suc C i Line.unkn
 lay-suc : (p : Bool) (C : List Line) (i : ℕ) → i < length C → layAll p noLayout (take (suc i) C) ≡ lay p (layAll p noLayout (take i C)) (getD C i Line.unknown)
 lay-suc p C i h = ap (layAll p noLayout) (take-suc C i Line.unknown h) ∙ lay-append p noLayout (take i C) (getD C i Line.unknown ∷ [])
 
-lay-rest : (p : Bool) (C : List Line) (i : ℕ) → layout p C ≡ layAll p (layAll p noLayout (take i C)) (drop i C)
+pub lay-rest : (p : Bool) (C : List Line) (i : ℕ) → layout p C ≡ layAll p (layAll p noLayout (take i C)) (drop i C)
 unfolding layout
 lay-rest p C i = ap (layAll p noLayout) (sym (take-append-drop i C)) ∙ lay-append p noLayout (take i C) (drop i C)
 

@@ -1,6 +1,7 @@
 -- A value's role says that its cone holds no input and no state exactly where that is so. Assumes nothing.
-use Prim.Native.Nat.{ℕ, zero, suc, _+_, _-_, _≤_, _<_}
+use Prim.Native.Nat.{ℕ, zero, suc, _+_, _≤_, _<_}
 use mathlib.Core.Path.{_≡_, refl, sym, ap, _∙_, subst}
+use mathlib.Core.Logic.{_⊎_, inl, inr}
 use mathlib.Core.Bool.{Bool, true, false, _&&_, _||_}
 use mathlib.Core.List.{List, [], _∷_}
 use native.Mathlib.Omega.{arith}
@@ -11,7 +12,7 @@ use Rattle.tables.specs.declared.Ty.{Ty}
 use Rattle.tables.specs.Pick.{pick, among}
 use Rattle.tables.specs.Lines.{Line, Expr}
 use Rattle.tables.specs.Types.{isFixed, sortAt, lineType, Ctx, tyAt, noCtx, growAll}
-use Rattle.tables.specs.Cone.{lineNumbered, usesExpr, uses, Cone, itself, under, isFree}
+use Rattle.tables.specs.Cone.{lineNumbered, usesExpr, uses, Cone, itself, under, isFree, SourceInCone}
 use Rattle.tables.proofs.Kept.{both, either, no-yes}
 use Rattle.tables.proofs.Showing.{earlier}
 use Rattle.tables.proofs.Facts.{OkExpr, AllOk}
@@ -26,13 +27,24 @@ each-at : (L : ℕ → Ty) (r : List ℕ) → Each L r → (a : ℕ) → among a
 each-at L [] k a e = absurd (no-yes e)
 each-at L (x ∷ r) k a e = either (eqb a x) (among a r) e (λ q. subst (λ (n : ℕ). isFixed (L n) ≡ true) (sym (eqb-true a x q)) (k .0)) (λ q. each-at L r (k .1) a q)
 
-every-operand : (L : ℕ → Ty) (r : List ℕ) → ((a : ℕ) → among a r ≡ true → isFixed (L a) ≡ true) → Each L r
-every-operand L [] f = tt
-every-operand L (x ∷ r) f = (f x (rw (eq-eqb x x refl)), every-operand L r (λ a e. f a (after (eqb a x) (among a r) e)))
+-- an operand is not
+record Unfixed (L : ℕ → Ty) (r : List ℕ) : Type 0 where
+  operand : ℕ
+  used : among operand r ≡ true
+  isnt : isFixed (L operand) ≡ false
+
+each-or : (L : ℕ → Ty) (r : List ℕ) → Each L r ⊎ Unfixed L r
+each-or L [] = inl tt
+each-or L (x ∷ r) = go (isFixed (L x)) refl (each-or L r)
   where
     after : (b d : Bool) → d ≡ true → (b || d) ≡ true
     after true d e = refl
     after false d e = e
+
+    go : (b : Bool) → isFixed (L x) ≡ b → Each L r ⊎ Unfixed L r → Each L (x ∷ r) ⊎ Unfixed L (x ∷ r)
+    go false e k = inr (record { operand = x; used = rw (eq-eqb x x refl); isnt = e })
+    go true e (inl k) = inl (e, k)
+    go true e (inr k) = inr (record { operand = k .operand; used = after (eqb (k .operand) x) (among (k .operand) r) (k .used); isnt = k .isnt })
 
 two-of : (b : Bool) → pick {A = ℕ} b 2 3 ≡ 2 → b ≡ true
 two-of true e = refl
@@ -84,6 +96,9 @@ operands p L t (Expr.equality e a b) k = (k .left .is, (k .right .is, tt))
 operands p L t (Expr.ite c a b) k = (k .cond .is, (k .left .is, (k .right .is, tt)))
 operands p L t (Expr.read a i) k = (k .arr .is, (k .index .is, tt))
 operands p L t (Expr.write a i v) k = (k .arr .is, (k .index .is, (k .value .is, tt)))
+
+pub operand-value : (p : Bool) (L : ℕ → Ty) (t : Ty) (e : Expr) → OkExpr p L t e → (a : ℕ) → among a (usesExpr e) ≡ true → 2 ≤ L a .role
+operand-value p L t e k a m = value-at L (usesExpr e) (operands p L t e k) a m
 
 module _ (p : Bool) (C : List Line) (ok : AllOk p noCtx C) where
   abbrev c : Ctx
@@ -137,31 +152,44 @@ module _ (p : Bool) (C : List Line) (ok : AllOk p noCtx C) where
   fixed-cone v e w itself = let n = number v (omega arith) in step v (n .0) (n .1) e .free
   fixed-cone v e w (under a m k) = let n = number v (omega arith) in fixed-cone a (step v (n .0) (n .1) e .below a m) w k
 
-  -- every line of the cone is neither an input nor a state: a fixed value. By the number of the line, which falls from a line to its operands.
-  cone-within : (n v : ℕ) → v < n → 2 ≤ tyAt (growAll p noCtx C) v .role → ((w : ℕ) → Cone C v w → isFree (lineNumbered C w) ≡ true) → tyAt (growAll p noCtx C) v .role ≡ 2
-  cone-within zero v h t f = absurd (omega arith)
-  cone-within (suc n) v h t f = let m = number v (omega arith) in go (lineNumbered C v) refl (at v (m .0) (m .1)) (λ a. cone-within n a)
+  -- a value that is not fixed: a line of its cone is an input or a state. By the number of the line, which falls from a line to its operands.
+  source-within : (n v : ℕ) → v < n → 2 ≤ tyAt (growAll p noCtx C) v .role → isFixed (tyAt (growAll p noCtx C) v) ≡ false → SourceInCone C v
+  source-within zero v h t f = absurd (omega arith)
+  source-within (suc n) v h t f = let m = number v (omega arith) in go (lineNumbered C v) refl (at v (m .0) (m .1)) (λ a. source-within n a)
     where
+      here : isFree (lineNumbered C v) ≡ false → SourceInCone C v
+      here e = record { line = v; inCone = itself; is = e }
+
       go : (x : Line) → lineNumbered C v ≡ x → Entry p (growAll p noCtx C) v x
-          → ((a : ℕ) → a < n → 2 ≤ tyAt (growAll p noCtx C) a .role → ((w : ℕ) → Cone C a w → isFree (lineNumbered C w) ≡ true) → tyAt (growAll p noCtx C) a .role ≡ 2) → tyAt (growAll p noCtx C) v .role ≡ 2
+          → ((a : ℕ) → a < n → 2 ≤ tyAt (growAll p noCtx C) a .role → isFixed (tyAt (growAll p noCtx C) a) ≡ false → SourceInCone C a) → SourceInCone C v
       go (Line.bitvec w) q E ih = absurd (omega (arith, ap (λ (y : Ty). y .role) (E .is)))
       go (Line.array i el) q E ih = absurd (omega (arith, ap (λ (y : Ty). y .role) (E .is)))
-      go (Line.input s) q E ih = absurd (no-yes (sym (ap isFree q) ∙ f v itself))
-      go (Line.state s) q E ih = absurd (no-yes (sym (ap isFree q) ∙ f v itself))
-      go (Line.value s x) q E ih =
-          let L = tyAt (E .before) in
-          let vs = operands p L (sortAt p L s) x (E .ok) in
-          ap (λ (y : Ty). y .role) (E .is)
-          ∙ operands-fixed p L s x
-          (every-operand L (usesExpr x) (λ a e.
-          let z = earlier (E .before .tys) a (omega (arith, value-at L (usesExpr x) vs a e)) in
-          let o = ap (λ (y : Ty). y .role) (E .old a (omega (arith, E .count))) in
-          let m : among a (uses (lineNumbered C v)) ≡ true = subst (λ (y : Line). among a (uses y) ≡ true) (sym q) e in
-          eq-eqb (L a .role) 2 (sym o ∙ ih a (omega (arith, E .count)) (omega (arith, value-at L (usesExpr x) vs a e)) (λ w k. f w (under a m k)))))
+      go (Line.input s) q E ih = here (ap isFree q)
+      go (Line.state s) q E ih = here (ap isFree q)
+      go (Line.value s x) q E ih = among-operands (each-or (tyAt (E .before)) (usesExpr x))
+        where
+          among-operands : Each (tyAt (E .before)) (usesExpr x) ⊎ Unfixed (tyAt (E .before)) (usesExpr x) → SourceInCone C v
+          among-operands (inl k) =
+              absurd (no-yes (sym f ∙ eq-eqb (tyAt (growAll p noCtx C) v .role) 2 (ap (λ (y : Ty). y .role) (E .is) ∙ operands-fixed p (tyAt (E .before)) s x k)))
+          among-operands (inr k) =
+              let a = k .operand in
+              let t = operand-value p (tyAt (E .before)) (sortAt p (tyAt (E .before)) s) x (E .ok) a (k .used) in
+              let z = earlier (E .before .tys) a (omega arith) in
+              let o = E .old a (omega (arith, E .count)) in
+              let F = ih a (omega (arith, E .count)) (subst (λ (y : Ty). 2 ≤ y .role) (sym o) t) (ap isFixed o ∙ k .isnt) in
+              record { line = F .line; inCone = under a (subst (λ (y : Line). among a (uses y) ≡ true) (sym q) (k .used)) (F .inCone); is = F .is }
       go (Line.initOrNext m s x y) q E ih = absurd (omega (arith, ap (λ (y : Ty). y .role) (E .is)))
       go (Line.signal m a) q E ih = absurd (omega (arith, ap (λ (y : Ty). y .role) (E .is)))
       go (Line.output a) q E ih = absurd (omega (arith, ap (λ (y : Ty). y .role) (E .is)))
       go Line.unknown q E ih = absurd (E .ok)
 
+  pub source-in-cone : (v : ℕ) → 2 ≤ tyAt (growAll p noCtx C) v .role → isFixed (tyAt (growAll p noCtx C) v) ≡ false → SourceInCone C v
+  source-in-cone v t f = source-within (suc v) v (omega arith) t f
+
+  -- every line of the cone is neither an input nor a state: a fixed value
   pub cone-fixed : (v : ℕ) → 2 ≤ tyAt (growAll p noCtx C) v .role → ((w : ℕ) → Cone C v w → isFree (lineNumbered C w) ≡ true) → tyAt (growAll p noCtx C) v .role ≡ 2
-  cone-fixed v t f = cone-within (suc v) v (omega arith) t f
+  cone-fixed v t f = go (isFixed (tyAt (growAll p noCtx C) v)) refl
+    where
+      go : (b : Bool) → isFixed (tyAt (growAll p noCtx C) v) ≡ b → tyAt (growAll p noCtx C) v .role ≡ 2
+      go true e = eqb-true (tyAt (growAll p noCtx C) v .role) 2 e
+      go false e = let F = source-in-cone v t e in absurd (no-yes (sym (F .is) ∙ f (F .line) (F .inCone)))

@@ -21,3 +21,5 @@ pub mod Values
 pub mod Wide
 pub mod Entries
 pub mod Cones
+pub mod GivenLines
+pub mod InitRule

@@ -1,5 +1,5 @@
--- The cone of a line: itself and the lines it depends on. Assumes nothing.
-use Prim.Native.Nat.{ℕ}
+-- The cone of a line: itself and the lines it depends on; and rule 10 in the request's words, of which `proofs/InitRule.antt` shows that it is the answer's. Assumes nothing.
+use Prim.Native.Nat.{ℕ, _≤_}
 use mathlib.Core.Path.{_≡_}
 use mathlib.Core.Bool.{Bool, true, false}
 use mathlib.Core.List.{List, [], _∷_}
@@ -48,3 +48,27 @@ isFree (Line.initOrNext m s q v) = true
 isFree (Line.signal m a) = true
 isFree (Line.output a) = true
 isFree Line.unknown = true
+
+-- a line of the cone of v is an input or a state
+pub record SourceInCone (C : List Line) (v : ℕ) : Type 0 where
+  pub line : ℕ
+  pub inCone : Cone C v line
+  pub is : isFree (lineNumbered C line) ≡ false
+
+-- the state q has an init (true) or a next (false) line
+pub record HasInitOrNext (C : List Line) (m : Bool) (q : ℕ) : Type 0 where
+  pub line : ℕ
+  pub sort : ℕ
+  pub value : ℕ
+  pub is : lineNumbered C line ≡ Line.initOrNext m sort q value
+
+-- "second init [..] of a state, or the init rule": "An init value's line number is below its state's, and its cone, itself and the lines it depends on, holds no input and no state."
+pub data BarsInit (C : List Line) (q v : ℕ) : Type 0 where
+  secondInit : HasInitOrNext C true q → BarsInit C q v
+  notBelow : q ≤ v → BarsInit C q v
+  sourceInCone : SourceInCone C v → BarsInit C q v
+
+-- what bars an init (true) or a next (false) of the state q by the value v, after the lines C
+abbrev pub RuleTen : Bool → List Line → (q v : ℕ) → Type 0
+RuleTen true C q v = BarsInit C q v
+RuleTen false C q v = HasInitOrNext C false q

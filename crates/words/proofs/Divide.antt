@@ -17,7 +17,7 @@ use Rattle.words.proofs.Whole.{neg-narrows}
 
 -- ---- what fits
 
-mag-neg : (r : ℕ) {a : ℕ} → r ≤ suc a → mag (negℤ (pos r)) ≤ a
+pub mag-neg : (r : ℕ) {a : ℕ} → r ≤ suc a → mag (negℤ (pos r)) ≤ a
 mag-neg zero h = zero-le
 mag-neg (suc r) h = le-of-suc-le-suc h
 
@@ -255,7 +255,7 @@ mag-signed w a k h = go (ltb a (2 ^ (w - 1)))
     go false = omega (arith, pow-pos w)
 
 -- past all the digits
-shr-all : (z : ℤ) (t : Bool) (m : ℕ) → mag z < m → leZ (pos 0) z ≡ t → shrZ z m ≡ cond t (pos 0) (negsuc 0)
+pub shr-all : (z : ℤ) (t : Bool) (m : ℕ) → mag z < m → leZ (pos 0) z ≡ t → shrZ z m ≡ cond t (pos 0) (negsuc 0)
 shr-all (pos n) true m h e = ap pos (div-eq-of-lt h)
 shr-all (pos n) false m h e = absurd (true≢false (sym (le-leb 0 n zero-le) ∙ e))
 shr-all (negsuc n) true m h e = absurd (false≢true e)
