@@ -1,3 +1,4 @@
 pub mod Ready
 pub mod Demand3
+pub mod Refusals
 pub mod Sample
