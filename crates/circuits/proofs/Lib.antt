@@ -11,3 +11,10 @@ pub mod Placing
 pub mod Rows
 pub mod Answering
 pub mod Earlier
+pub mod Sizes
+pub mod StateWords
+pub mod States
+pub mod NextLines
+pub mod Pending
+pub mod Starts
+pub mod StateSamples

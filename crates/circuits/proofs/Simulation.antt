@@ -70,12 +70,12 @@ input-small : (p : Bool) (w x : ℕ) → p ≡ false → inputWord p w x < 2 ^ w
 input-small false w x e = mod-lt x (pow-pos w)
 input-small true w x e = absurd (no-yes (sym e))
 
-state-small : (p f : Bool) (d : ℕ) (xs : List ℕ) → p ≡ false → (j : ℕ) → getD (stateWords p f d xs) j 0 < 2 ^ d
+pub state-small : (p f : Bool) (d : ℕ) (xs : List ℕ) → p ≡ false → (j : ℕ) → getD (stateWords p f d xs) j 0 < 2 ^ d
 state-small false true d xs e j = lows-small d xs j
 state-small false false d xs e j = lows-small d xs j
 state-small true f d xs e j = absurd (no-yes (sym e))
 
-state-length : (p f : Bool) (d : ℕ) (xs : List ℕ) → length (stateWords p f d xs) ≡ length xs
+pub state-length : (p f : Bool) (d : ℕ) (xs : List ℕ) → length (stateWords p f d xs) ≡ length xs
 state-length false true d xs = laws.length-lows d xs
 state-length false false d xs = laws.length-lows d xs
 state-length true true d xs = laws.length-lows d xs
