@@ -12,6 +12,7 @@ pub mod Rows
 pub mod Answering
 pub mod Earlier
 pub mod Sizes
+pub mod GivenStates
 pub mod StateWords
 pub mod States
 pub mod NextLines
