@@ -109,11 +109,11 @@ val-fixed p Y s (Expr.read a i) q = fixed-two _ q
 val-fixed p Y s (Expr.write a i v) q = fixed-two _ q
 
 -- two walks over the same lines
-record Alike (A B : Frame) : Type 0 where
-  lay : A .lay ≡ B .lay
-  longA : length (A .env) ≡ length (A .lay .ctx .tys)
-  longB : length (B .env) ≡ length (B .lay .ctx .tys)
-  cells : (a : ℕ) → typeAt (A .lay) a .role ≡ 2 → cellsAt A a ≡ cellsAt B a
+pub record Alike (A B : Frame) : Type 0 where
+  pub lay : A .lay ≡ B .lay
+  pub longA : length (A .env) ≡ length (A .lay .ctx .tys)
+  pub longB : length (B .env) ≡ length (B .lay .ctx .tys)
+  pub cells : (a : ℕ) → typeAt (A .lay) a .role ≡ 2 → cellsAt A a ≡ cellsAt B a
 
 module _ (p f f′ : Bool) (σ σ′ ι ι′ : List ℕ) where
   cells-alike : (A B : Frame) → Alike A B → (l : Line) → lineTypeIn p (A .lay) l .role ≡ 2 → cellsOf p f σ ι A l ≡ cellsOf p f′ σ′ ι′ B l
@@ -129,7 +129,7 @@ module _ (p f f′ : Bool) (σ σ′ ι ι′ : List ℕ) where
   cells-alike A B k (Line.output a) q = refl
   cells-alike A B k Line.unknown q = refl
 
-  line-alike : (A B : Frame) (l : Line) → Alike A B → Alike (evalLine p f σ ι A l) (evalLine p f′ σ′ ι′ B l)
+  pub line-alike : (A B : Frame) (l : Line) → Alike A B → Alike (evalLine p f σ ι A l) (evalLine p f′ σ′ ι′ B l)
   line-alike A B l k =
       let n = length (A .lay .ctx .tys) in
       let new : typeAt (lay p (A .lay) l) n ≡ lineTypeIn p (A .lay) l = getD-at (A .lay .ctx .tys) (lineTypeIn p (A .lay) l) [] noTy n refl in

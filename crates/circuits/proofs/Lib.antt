@@ -11,6 +11,13 @@ pub mod Placing
 pub mod Rows
 pub mod Answering
 pub mod Earlier
-pub mod CellCounts
+pub mod Sizes
 pub mod WordCells
 pub mod WordLines
+pub mod GivenStates
+pub mod StateWords
+pub mod States
+pub mod NextLines
+pub mod Pending
+pub mod Starts
+pub mod StateSamples

@@ -70,7 +70,7 @@ input-small : (p : Bool) (w x : ℕ) → p ≡ false → inputWord p w x < 2 ^ w
 input-small false w x e = mod-lt x (pow-pos w)
 input-small true w x e = absurd (no-yes (sym e))
 
-state-small : (p f : Bool) (d : ℕ) (xs : List ℕ) → p ≡ false → (j : ℕ) → getD (stateWords p f d xs) j 0 < 2 ^ d
+pub state-small : (p f : Bool) (d : ℕ) (xs : List ℕ) → p ≡ false → (j : ℕ) → getD (stateWords p f d xs) j 0 < 2 ^ d
 state-small false true d xs e j = lows-small d xs j
 state-small false false d xs e j = lows-small d xs j
 state-small true f d xs e j = absurd (no-yes (sym e))

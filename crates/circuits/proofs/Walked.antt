@@ -159,7 +159,7 @@ no-type : (a : ℕ) → typeAt noLayout a .role ≡ 0
 no-type zero = refl
 no-type (suc a) = refl
 
-seen-nothing : (p : Bool) (w : List ℕ) → Holds p w noLayout (noFrame .env)
+pub seen-nothing : (p : Bool) (w : List ℕ) → Holds p w noLayout (noFrame .env)
 seen-nothing p w = record { lines = refl; cells = cells; small = λ e a q. absurd (omega (arith, no-type a)) }
   where
     cells : (a : ℕ) → getD (noFrame .env) a [] ≡ seen w (typeAt noLayout a) (offAt noLayout a)

@@ -29,14 +29,14 @@ use Rattle.circuits.specs.Meaning.{opWord, Frame, cellsAt, wordAt, width
 use Rattle.circuits.proofs.Laid.{sound-none, first-laid, ok-at, later, length-laid}
 use Rattle.circuits.proofs.Walked.{accAt, acc-lay, lay-rest}
 use Rattle.circuits.proofs.Earlier.{cells-first, cells-here}
-use Rattle.circuits.proofs.CellCounts.{cells-count}
+use Rattle.circuits.proofs.Sizes.{cells-count}
 use Rattle.circuits.proofs.WordCells.{AnySort, anyEquality, anyIte, operatorWord, frame-word}
 
 operator-as : (p : Bool) (u v x y : ℕ → ℕ) (r : List ℕ) → u (firstIn r) ≡ v (firstIn r) → u (secondIn r) ≡ v (secondIn r)
     → x (firstIn r) ≡ y (firstIn r) → x (secondIn r) ≡ y (secondIn r) → x (thirdIn r) ≡ y (thirdIn r) → operatorWord p u x r ≡ operatorWord p v y r
 operator-as p u v x y r e₁ e₂ e₃ e₄ e₅ = λ i. opWord p (kindIn r) (e₁ i) (e₂ i) (e₃ i) (e₄ i) (e₅ i)
 
-module _ (p f : Bool) (C : List Line) (σ ι : List ℕ) (ok : AllOk p noCtx C) (room : layout p C .counts .states ≤ length σ) (i : ℕ) (h : i < length C) where
+module _ (p f : Bool) (C : List Line) (σ ι : List ℕ) (ok : AllOk p noCtx C) (few : length C ≤ 16384) (room : layout p C .counts .states ≤ length σ) (i : ℕ) (h : i < length C) where
   -- all lines, and those before the line at the place i
   abbrev A : Frame
   A = step p f C σ ι
@@ -87,7 +87,7 @@ module _ (p f : Bool) (C : List Line) (σ ι : List ℕ) (ok : AllOk p noCtx C) 
       one : (a : ℕ) → among a (usesExpr e) ≡ true → length (cellsAt B a) ≡ 1
       one a m =
           ap length (sym (cells-before a (below a m)))
-          ∙ cells-count p f σ ι C ok room a (subst (λ (t : Ty). 2 ≤ t .role) (sym (type-before a (below a m))) (value a m)) ∙ ap (λ (n : ℕ). 2 ^ n) (flat a m)
+          ∙ cells-count p f σ ι C ok few room a (subst (λ (t : Ty). 2 ≤ t .role) (sym (type-before a (below a m))) (value a m)) ∙ ap (λ (n : ℕ). 2 ^ n) (flat a m)
 
       whole : {e : Expr} → AnySort e → ((a : ℕ) → among a (usesExpr e) ≡ true → a ≤ i)
           → operatorWord p (widthAt B) (wordAt B) (wordsOf (Line.value s e)) ≡ operatorWord p (widthAt A) (wordAt A) (wordsOf (Line.value s e))
@@ -122,7 +122,7 @@ circuit-words (suc (suc (suc (suc (suc (suc a)))))) = refl
 sample-eq : cellsAt (step false false (map lineOf circuit) [] (9 ∷ 1 ∷ [])) 5 ≡ circ eq 3 3 1 1 0 ∷ []
 unfolding step layout fault suits rowOf
 sample-eq =
-    step-word false false (map lineOf circuit) [] (9 ∷ 1 ∷ []) (all-sound false noCtx circuit refl) (omega arith) 4 (omega arith) 1 (anyEquality true 3 4) refl (λ a m. circuit-words a)
+    step-word false false (map lineOf circuit) [] (9 ∷ 1 ∷ []) (all-sound false noCtx circuit refl) (omega arith) (omega arith) 4 (omega arith) 1 (anyEquality true 3 4) refl (λ a m. circuit-words a)
 
 -- a program: 1 input of width 1, 2 and 3 inputs of width 3, 4 ite 1 2 3. Inputs stand as they are, and a condition of 2 is not 0
 abbrev program : List (List ℕ)
@@ -140,4 +140,4 @@ program-words (suc (suc (suc (suc (suc a))))) = refl
 sample-ite : cellsAt (step true false (map lineOf program) [] (2 ∷ 9 ∷ 4 ∷ [])) 4 ≡ prog ite 1 3 2 9 4 ∷ []
 unfolding step layout fault suits rowOf
 sample-ite =
-    step-word true false (map lineOf program) [] (2 ∷ 9 ∷ 4 ∷ []) (all-sound true noCtx program refl) (omega arith) 3 (omega arith) 3 (anyIte 1 2 3) refl (λ a m. program-words a)
+    step-word true false (map lineOf program) [] (2 ∷ 9 ∷ 4 ∷ []) (all-sound true noCtx program refl) (omega arith) (omega arith) 3 (omega arith) 3 (anyIte 1 2 3) refl (λ a m. program-words a)

@@ -5,3 +5,4 @@ pub mod Run
 pub mod Answers
 pub mod Model
 pub mod Examples
+pub mod StateExamples
