@@ -14,7 +14,6 @@ pub mod Earlier
 pub mod Sizes
 pub mod WordCells
 pub mod WordLines
-pub mod GivenStates
 pub mod StateWords
 pub mod States
 pub mod NextLines

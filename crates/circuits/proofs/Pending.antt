@@ -16,7 +16,7 @@ use Rattle.tables.proofs.Showing.{earlier}
 use Rattle.tables.proofs.Facts.{Ok, AllOk}
 use Rattle.circuits.specs.Layout.{Layout, typeAt, placeAt, size, lay, layAll}
 use Rattle.circuits.proofs.Laid.{Sound, sound-more, later}
-use Rattle.circuits.proofs.GivenStates.{givesTo, given-more}
+use Rattle.tables.proofs.GivenStates.{givesTo, given-more}
 
 -- the word j is one of a state that has an init
 pub record Initialised (Y : Layout) (j : ℕ) : Type 0 where

@@ -25,7 +25,7 @@ use Rattle.circuits.proofs.Walked.{lines-many, lines-ok}
 use Rattle.circuits.proofs.Earlier.{Alike, line-alike}
 use Rattle.circuits.proofs.Placing.{few-here}
 use Rattle.circuits.proofs.Sizes.{Walking, walk-none, walk-line, states-many}
-use Rattle.circuits.proofs.GivenStates.{givesTo}
+use Rattle.tables.proofs.GivenStates.{givesTo}
 use Rattle.circuits.proofs.Pending.{Initialised, Pending, only-one, comes}
 
 -- ---- puts into two lists that are alike at the place j

@@ -25,7 +25,7 @@ use Rattle.circuits.proofs.Laid.{not-four, type-new, place-new, type-ol
 use Rattle.circuits.proofs.Simulation.{state-length}
 use Rattle.circuits.proofs.Walked.{acc-lay}
 use Rattle.circuits.proofs.Earlier.{cells-kept}
-use Rattle.circuits.proofs.GivenStates.{givesTo, given-more, neither, gives-none, same-flag, given-once}
+use Rattle.tables.proofs.GivenStates.{givesTo, given-more, neither, gives-none, same-flag, given-once}
 use Rattle.circuits.proofs.Sizes.{Walking, walk-line, states-many, cells-size}
 
 -- the words of the state on the line q, among the state words

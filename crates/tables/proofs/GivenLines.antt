@@ -3,83 +3,53 @@ use Prim.Native.Nat.{ℕ, zero, suc}
 use mathlib.Core.Path.{_≡_, refl, sym, ap, _∙_, subst}
 use mathlib.Core.Logic.{_↔_, _⊎_, inl, inr}
 use mathlib.Core.Bool.{Bool, true, false, false≢true}
-use mathlib.Core.List.{List, [], _∷_, _++_}
+use mathlib.Core.List.{List, [], _∷_}
 use native.Mathlib.Omega.{arith}
 use lib.Dec.{eqb}
-use borrow.Author.Tests.{eqb-true, eq-eqb}
+use borrow.Author.Tests.{eqb-true}
 use Rattle.tables.specs.Pick.{among}
 use Rattle.tables.specs.Lines.{Line}
-use Rattle.tables.specs.Types.{Ctx, givenBy, given, givenAfter, grow, growAll, noCtx}
+use Rattle.tables.specs.Types.{Ctx, givenBy, given, grow, growAll, noCtx}
 use Rattle.tables.specs.Cone.{lineNumbered, HasInitOrNext}
-use Rattle.tables.proofs.Laws.{or-true}
+use Rattle.tables.proofs.Laws.{or-true, or-false}
 use Rattle.tables.proofs.Kept.{either}
-use Rattle.tables.proofs.Showing.{among-snoc}
+use Rattle.tables.proofs.GivenStates.{givesTo, given-more, given-once}
 
 module _ (p m : Bool) (q : ℕ) where
-  noted : (c : Ctx) (l : Line) → given (grow p c l) m q ≡ among q (givenAfter m c l)
-  noted c l = go m
+  gives-line : (l : Line) → among q (givesTo m l) ≡ true → HasInitOrNext (l ∷ []) m q
+  gives-line l h = go m l h
     where
-      go : (n : Bool) → among q (givenBy n (grow p c l)) ≡ among q (givenAfter n c l)
-      go true = refl
-      go false = refl
+      is-next : (n : Bool) (s x v : ℕ) → among q (x ∷ []) ≡ true → HasInitOrNext (Line.initOrNext n s x v ∷ []) n q
+      is-next n s x v h = record { line = 1; sort = s; value = v; is = ap (λ (y : ℕ). Line.initOrNext n s y v) (sym (eqb-true q x (sym (or-false (eqb q x)) ∙ h))) }
+
+      go : (n : Bool) (l : Line) → among q (givesTo n l) ≡ true → HasInitOrNext (l ∷ []) n q
+      go n (Line.bitvec w) h = absurd (false≢true h)
+      go n (Line.array i el) h = absurd (false≢true h)
+      go n (Line.input s) h = absurd (false≢true h)
+      go n (Line.state s) h = absurd (false≢true h)
+      go n (Line.value s x) h = absurd (false≢true h)
+      go true (Line.initOrNext true s x v) h = is-next true s x v h
+      go true (Line.initOrNext false s x v) h = absurd (false≢true h)
+      go false (Line.initOrNext true s x v) h = absurd (false≢true h)
+      go false (Line.initOrNext false s x v) h = is-next false s x v h
+      go n (Line.signal k a) h = absurd (false≢true h)
+      go n (Line.output a) h = absurd (false≢true h)
+      go n Line.unknown h = absurd (false≢true h)
 
   -- it was so before, or by this line
   by-line : (c : Ctx) (l : Line) → given (grow p c l) m q ≡ true → (given c m q ≡ true) ⊎ HasInitOrNext (l ∷ []) m q
-  by-line c l e = go m l (sym (noted c l) ∙ e)
-    where
-      added : (n : Bool) (xs : List ℕ) (s x v : ℕ) → among q (xs ++ (x ∷ [])) ≡ true → (among q xs ≡ true) ⊎ HasInitOrNext (Line.initOrNext n s x v ∷ []) n q
-      added n xs s x v h =
-          either (among q xs) (eqb q x) (sym (among-snoc q xs x) ∙ h) inl
-          (λ k. inr (record { line = 1; sort = s; value = v; is = ap (λ (y : ℕ). Line.initOrNext n s y v) (sym (eqb-true q x k)) }))
-
-      go : (n : Bool) (l : Line) → among q (givenAfter n c l) ≡ true → (among q (givenBy n c) ≡ true) ⊎ HasInitOrNext (l ∷ []) n q
-      go n (Line.bitvec w) h = inl h
-      go n (Line.array i el) h = inl h
-      go n (Line.input s) h = inl h
-      go n (Line.state s) h = inl h
-      go n (Line.value s x) h = inl h
-      go true (Line.initOrNext true s x v) h = added true (c .inits) s x v h
-      go true (Line.initOrNext false s x v) h = inl h
-      go false (Line.initOrNext true s x v) h = inl h
-      go false (Line.initOrNext false s x v) h = added false (c .nexts) s x v h
-      go n (Line.signal k a) h = inl h
-      go n (Line.output a) h = inl h
-      go n Line.unknown h = inl h
+  by-line c l e = either (given c m q) (among q (givesTo m l)) (sym (given-more p m c l q) ∙ e) inl (λ k. inr (gives-line l k))
 
   -- and is so after it
   kept : (c : Ctx) (l : Line) → given c m q ≡ true → given (grow p c l) m q ≡ true
-  kept c l e = noted c l ∙ go m l e
-    where
-      added : (xs : List ℕ) (x : ℕ) → among q xs ≡ true → among q (xs ++ (x ∷ [])) ≡ true
-      added xs x h = among-snoc q xs x ∙ rw h
-
-      go : (n : Bool) (l : Line) → among q (givenBy n c) ≡ true → among q (givenAfter n c l) ≡ true
-      go n (Line.bitvec w) h = h
-      go n (Line.array i el) h = h
-      go n (Line.input s) h = h
-      go n (Line.state s) h = h
-      go n (Line.value s x) h = h
-      go true (Line.initOrNext true s x v) h = added (c .inits) x h
-      go true (Line.initOrNext false s x v) h = h
-      go false (Line.initOrNext true s x v) h = h
-      go false (Line.initOrNext false s x v) h = added (c .nexts) x h
-      go n (Line.signal k a) h = h
-      go n (Line.output a) h = h
-      go n Line.unknown h = h
+  kept c l e = given-more p m c l q ∙ rw e
 
   all-kept : (c : Ctx) (ls : List Line) → given c m q ≡ true → given (growAll p c ls) m q ≡ true
   all-kept c [] e = e
   all-kept c (l ∷ ls) e = all-kept (grow p c l) ls (kept c l e)
 
   own : (c : Ctx) (s v : ℕ) → given (grow p c (Line.initOrNext m s q v)) m q ≡ true
-  own c s v = noted c (Line.initOrNext m s q v) ∙ go m
-    where
-      added : (xs : List ℕ) → among q (xs ++ (q ∷ [])) ≡ true
-      added xs = among-snoc q xs q ∙ rw (eq-eqb q q refl, or-true)
-
-      go : (n : Bool) → among q (givenAfter n c (Line.initOrNext n s q v)) ≡ true
-      go true = added (c .inits)
-      go false = added (c .nexts)
+  own c s v = given-more p m c (Line.initOrNext m s q v) q ∙ rw (given-once m q _ refl, or-true)
 
   -- line 0 is none
   no-line : {s x v : ℕ} {n : Bool} → Line.unknown ≡ Line.initOrNext n s x v → ⊥

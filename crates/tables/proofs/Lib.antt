@@ -21,5 +21,6 @@ pub mod Values
 pub mod Wide
 pub mod Entries
 pub mod Cones
+pub mod GivenStates
 pub mod GivenLines
 pub mod InitRule
