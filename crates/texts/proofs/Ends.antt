@@ -1,6 +1,6 @@
 -- A part of a line that is its name and ends where the last token does starts at the name's place. Assumes nothing.
 use Prim.Native.Nat.{ℕ, zero, suc, _+_, _-_, _≤_, _<_}
-use mathlib.Core.Path.{_≡_, refl, sym, ap, ap₂, _∙_, subst}
+use mathlib.Core.Path.{_≡_, refl, sym, ap, _∙_}
 use mathlib.Core.Bool.{Bool, true, false}
 use mathlib.Core.List.{List, [], _∷_}
 use native.Mathlib.Omega.{arith}
@@ -14,7 +14,7 @@ use Rattle.texts.specs.Model.Ends.{endOf, tokensEnd}
 use Rattle.texts.proofs.Places.{tail, split-first, tail-tokens, take-upTo, next-token}
 use Rattle.texts.proofs.Scan.{upTo-miss}
 use Rattle.texts.proofs.Named.{name-found}
-use Rattle.texts.proofs.Located.{located-parts, name-content}
+use Rattle.texts.proofs.Located.{name-content}
 
 -- ---- from any place of a line on, its last token ends at the same place
 

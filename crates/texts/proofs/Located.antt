@@ -1,16 +1,16 @@
 -- Where a name starts: the text at that place is the name. Assumes nothing.
-use Prim.Native.Nat.{ℕ, zero, suc, _+_, _-_, _≤_, _<_}
-use mathlib.Core.Path.{_≡_, refl, sym, ap, ap₂, _∙_, subst}
+use Prim.Native.Nat.{ℕ, zero, suc, _+_, _≤_, _<_}
+use mathlib.Core.Path.{_≡_, refl, sym, ap, _∙_, subst}
 use mathlib.Core.Bool.{Bool, true, false}
 use mathlib.Core.List.{List, [], _∷_, map}
 use native.Mathlib.Omega.{arith}
 use lib.Dec.{eqb}
-use lib.ListN.{length, take, drop, getD, length-take, length-drop, length-map}
+use lib.ListN.{length, take, drop, length-take}
 use lib.Seq.{drop-drop, take-take, take-length}
 use Rattle.texts.specs.Split.{glue, split, upTo, nonEmpty, tokens, sameBytes}
 use Rattle.texts.specs.Forms.{formRow, numbersOf, sortWord}
-use Rattle.texts.specs.Reading.{Word, wordIn, formWord, sortWords, findIn, lastOf, lineTokens}
-use Rattle.texts.specs.Naming.{Located, located, leads, lineFrom, lineWith, only, extraIn, lineName, nameOf, locatedFrom, locatedTokens, lastPlace, namePlace}
+use Rattle.texts.specs.Reading.{wordIn, formWord, sortWords, findIn, lastOf, lineTokens}
+use Rattle.texts.specs.Naming.{Located, located, leads, lineFrom, lineWith, only, extraIn, lineName, nameOf, locatedFrom, locatedTokens, namePlace}
 use Rattle.texts.proofs.Places.{take-upTo}
 
 -- ---- the located tokens are the tokens
@@ -18,7 +18,7 @@ use Rattle.texts.proofs.Places.{take-upTo}
 abbrev pub contents : List Located → List (List ℕ)
 contents ts = map (λ (t : Located). t .content) ts
 
-pub located-parts : (i : ℕ) (ls : List (List ℕ)) → contents (locatedFrom i ls) ≡ nonEmpty ls
+located-parts : (i : ℕ) (ls : List (List ℕ)) → contents (locatedFrom i ls) ≡ nonEmpty ls
 located-parts i [] = refl
 located-parts i ([] ∷ ls) = located-parts (i + 1) ls
 located-parts i ((c ∷ l) ∷ ls) = ap (λ (x : List (List ℕ)). (c ∷ l) ∷ x) (located-parts (i + length (c ∷ l) + 1) ls)

@@ -25,7 +25,7 @@ skip-requires-2 : tie.Need-skip-requires-2
 skip-requires-2 c κs = c .find-byte .ensures .1 .0
 
 returns-2 : tie.Need-returns-2
-returns-2 c = (c .before .before .find-byte .ensures .0, (c .before .before .find-byte .ensures .1 .0, (sym (ap only ((sym (c .before .before .before .before .skip .ensures .1 .1 .0) ∙ next-token (c .before .before .before .before .before .before .args .l .now) (c .before .before .before .before .skip .result) (c .before .before .find-byte .result) (omega arith) (c .before .before .before .before .skip .ensures .1 .1 .1 (omega arith)) (c .before .before .find-byte .ensures .1 .1)) ∙ ap (λ (ts : List (List ℕ)). take (c .before .before .find-byte .result - c .before .before .before .before .skip .result) (drop (c .before .before .before .before .skip .result) (c .before .before .before .before .before .before .args .l .now)) ∷ ts) (sym (c .before .skip2 .ensures .1 .1 .0) ∙ no-token (c .before .before .before .before .before .before .args .l .now) (c .before .skip2 .result) (omega arith)))), λ h. token-end (c .before .before .before .before .before .before .args .l .now) (c .before .before .before .before .skip .result) (c .before .before .find-byte .result) (omega arith) (c .before .before .before .before .skip .ensures .1 .1 .1 (omega arith)) (c .before .before .find-byte .ensures .1 .1) (sym (c .before .skip2 .ensures .1 .1 .0) ∙ no-token (c .before .before .before .before .before .before .args .l .now) (c .before .skip2 .result) (omega arith)))))
+returns-2 c = (search needs, (search needs, (sym (ap only ((sym (c .before .before .before .before .skip .ensures .1 .1 .0) ∙ next-token (c .before .before .before .before .before .before .args .l .now) (c .before .before .before .before .skip .result) (c .before .before .find-byte .result) (omega arith) (c .before .before .before .before .skip .ensures .1 .1 .1 (omega arith)) (c .before .before .find-byte .ensures .1 .1)) ∙ ap (λ (ts : List (List ℕ)). take (c .before .before .find-byte .result - c .before .before .before .before .skip .result) (drop (c .before .before .before .before .skip .result) (c .before .before .before .before .before .before .args .l .now)) ∷ ts) (sym (c .before .skip2 .ensures .1 .1 .0) ∙ no-token (c .before .before .before .before .before .before .args .l .now) (c .before .skip2 .result) (omega arith)))), λ h. token-end (c .before .before .before .before .before .before .args .l .now) (c .before .before .before .before .skip .result) (c .before .before .find-byte .result) (omega arith) (c .before .before .before .before .skip .ensures .1 .1 .1 (omega arith)) (c .before .before .find-byte .ensures .1 .1) (sym (c .before .skip2 .ensures .1 .1 .0) ∙ no-token (c .before .before .before .before .before .before .args .l .now) (c .before .skip2 .result) (omega arith)))))
 
 returns-3 : tie.Need-returns-3
 returns-3 c = (search needs, (search needs, (sym (ap only ((sym (c .before .before .before .before .skip .ensures .1 .1 .0) ∙ next-token (c .before .before .before .before .before .before .args .l .now) (c .before .before .before .before .skip .result) (c .before .before .find-byte .result) (omega arith) (c .before .before .before .before .skip .ensures .1 .1 .1 (omega arith)) (c .before .before .find-byte .ensures .1 .1)) ∙ ap (λ (ts : List (List ℕ)). take (c .before .before .find-byte .result - c .before .before .before .before .skip .result) (drop (c .before .before .before .before .skip .result) (c .before .before .before .before .before .before .args .l .now)) ∷ ts) (sym (c .before .skip2 .ensures .1 .1 .0))) ∙ only-more (c .before .before .before .before .before .before .args .l .now) (c .before .skip2 .result) (take (c .before .before .find-byte .result - c .before .before .before .before .skip .result) (drop (c .before .before .before .before .skip .result) (c .before .before .before .before .before .before .args .l .now))) (omega arith) (c .before .skip2 .ensures .1 .1 .1 (omega arith))), λ h. absurd (omega arith))))
