@@ -5,8 +5,9 @@ use Prim.Native.String.{String, [] as end, _∷_ as _then_}
 use mathlib.Core.Path.{_≡_, refl}
 use mathlib.Core.Bool.{false}
 use mathlib.Core.List.{List, [], _∷_, map}
+use native.Mathlib.Omega.{arith}
 use lib.Dec.{T, leb, leb→le}
-use lib.ListN.{length}
+use lib.ListN.{length, take, drop}
 use Rattle.tables.specs.declared.Refusal.the-variants.{WrongId, NoRecordLeft, UnknownWord, BadOperand, NumberTooLarge, WrongClass, Misfit, InitOrNext}
 use Rattle.tables.specs.declared.Checked.the-variants.{Accepted}
 use Rattle.tables.specs.Kinds.{rowOf}
@@ -95,3 +96,12 @@ pub places : map (λ s. namePlace (bytes s) 1) (
     ≡ 16 ∷ 41 ∷ 24 ∷ 16 ∷ []
 unfolding bytes namePlace lineFrom wordIn findIn formRow rowOf split upTo tokens decimal scanned valued allIn valueFrom digit
 places = refl
+
+-- the first of these texts begins with its id, which has the bytes of the name and another place
+pub id-same-bytes : take 1 (drop 0 (bytes "1 sort bitvec 1 1")) ≡ nameOf (bytes "1 sort bitvec 1 1") 1
+unfolding bytes nameOf lineFrom wordIn findIn formRow rowOf split upTo tokens decimal scanned valued allIn valueFrom digit
+id-same-bytes = refl
+
+pub id-other-place : 0 ≡ namePlace (bytes "1 sort bitvec 1 1") 1 → ⊥
+unfolding bytes namePlace lineFrom wordIn findIn formRow rowOf split upTo tokens decimal scanned valued allIn valueFrom digit
+id-other-place h = let e : namePlace (bytes "1 sort bitvec 1 1") 1 ≡ 16 = refl in omega arith
