@@ -1,6 +1,6 @@
 -- Laws of answer lists. Assumes nothing.
 use Prim.{tt}
-use Prim.Native.Nat.{ℕ, _-_, _≤_}
+use Prim.Native.Nat.{ℕ, _-_, _≤_, _<_}
 use native.Mathlib.Omega.{arith}
 use mathlib.Core.Path.{_≡_, refl, sym, ap, ap₂, _∙_, subst}
 use mathlib.Core.Bool.{Bool, true, false}
@@ -8,7 +8,7 @@ use mathlib.Core.List.{List, [], _∷_}
 use lib.Dec.{T}
 use lib.ListN.{length, set, take, drop, length-replicate}
 use borrow.Author.Tests.{eqb-true}
-use Rattle.texts.specs.Naming.{nameOf}
+use Rattle.texts.specs.Naming.{nameOf, namePlace}
 use Rattle.tables.specs.Pick.{pick}
 use Rattle.answers.specs.Answers.{three, zeros, tells, Named}
 
@@ -48,5 +48,6 @@ pub not-both : {A : Type 0} {b : Bool} → b ≡ true → b ≡ false → A
 not-both t f = absurd (subst T (sym t ∙ f) tt)
 
 -- a part of the text that is the name, as a start and a length
-pub named : (text : List ℕ) (id from to : ℕ) (answer : List ℕ) → from ≤ to → to ≤ length text → take (to - from) (drop from text) ≡ nameOf text id → answer ≡ from ∷ (to - from) ∷ 0 ∷ [] → Named text id answer
-named text id from to answer l m n e = subst (Named text id) (sym e) (record { three-words = refl; inside = omega arith; name = n; unused = refl })
+pub named : (text : List ℕ) (id from to : ℕ) (answer : List ℕ) → from ≤ to → to ≤ length text → take (to - from) (drop from text) ≡ nameOf text id
+    → (0 < length (nameOf text id) → from ≡ namePlace text id) → answer ≡ from ∷ (to - from) ∷ 0 ∷ [] → Named text id answer
+named text id from to answer l m n p e = subst (Named text id) (sym e) (record { three-words = refl; inside = omega arith; name = n; place = p; unused = refl })

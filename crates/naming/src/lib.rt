@@ -2,10 +2,11 @@
 use forms::heads;
 use texts::Part;
 ghost use mathlib.Core.Path.{_≡_};
-ghost use Prim.Native.Nat.{_≤_, _-_};
-ghost use lib.ListN.{drop, take};
+ghost use Prim.Native.Nat.{_≤_, _<_, _-_};
+ghost use lib.ListN.{length, drop, take};
 ghost use Rattle.texts.specs.Split.{tokens as tokensIn};
-ghost use Rattle.texts.specs.Naming.{only as onlyOf, lineName, leads as leadsBy, nameOf};
+ghost use Rattle.texts.specs.Naming.{only as onlyOf, lineName, leads as leadsBy, nameOf, namePlace};
+ghost use Rattle.texts.specs.Model.Ends.{tokensEnd};
 
 // The place behind m tokens from the place i on, or the line's end where there are fewer.
 fn pass(l: &[u8], i: usize, m: usize) -> usize
@@ -25,12 +26,13 @@ fn pass(l: &[u8], i: usize, m: usize) -> usize
     at
 }
 
-// The token that stands alone from the place i on, or an empty part.
+// The token that stands alone from the place i on, or an empty part. It is the line's last.
 fn only(l: &[u8], i: usize) -> Part
     requires { do ⌜ i ≤ (← ⟦l.len()⟧) ⌝ }
     ensures { λ r. do
       ⌜ (r .from ≤ r .to) × ((r .to ≤ (← ⟦l.len()⟧ .entry))
-          × (take (r .to - r .from) (drop (r .from) (now (l .entry))) ≡ onlyOf (tokensIn (drop i (now (l .entry)))))) ⌝ }
+          × ((take (r .to - r .from) (drop (r .from) (now (l .entry))) ≡ onlyOf (tokensIn (drop i (now (l .entry)))))
+          × (r .from < r .to → r .to ≡ tokensEnd (now (l .entry))))) ⌝ }
 {
     let a = tokens::skip(l, i);
     if a == l.len() {
@@ -44,11 +46,12 @@ fn only(l: &[u8], i: usize) -> Part
     Part { from: 0, to: 0 }
 }
 
-// The name in a line.
+// The name in a line, which is its last token.
 fn part(l: &[u8]) -> Part
     ensures { λ r. do
       ⌜ (r .from ≤ r .to) × ((r .to ≤ (← ⟦l.len()⟧ .entry))
-          × (take (r .to - r .from) (drop (r .from) (now (l .entry))) ≡ lineName (tokensIn (now (l .entry))))) ⌝ }
+          × ((take (r .to - r .from) (drop (r .from) (now (l .entry))) ≡ lineName (tokensIn (now (l .entry))))
+          × (r .from < r .to → r .to ≡ tokensEnd (now (l .entry))))) ⌝ }
 {
     let i = pass(l, 0, 1);
     let w = heads::word(l, i);
@@ -74,11 +77,12 @@ fn leads(l: &[u8], n: u64) -> bool
     heads::is_id(&l[a..z], n)
 }
 
-// The name of the first line whose id is n.
+// The name of the first line whose id is n, and where it starts in the text.
 pub fn find(text: &[u8], n: u64) -> Part
     ensures { λ r. do
       ⌜ (r .from ≤ r .to) × ((r .to ≤ (← ⟦text.len()⟧ .entry))
-          × (take (r .to - r .from) (drop (r .from) (now (text .entry))) ≡ nameOf (now (text .entry)) n)) ⌝ }
+          × ((take (r .to - r .from) (drop (r .from) (now (text .entry))) ≡ nameOf (now (text .entry)) n)
+          × (0 < length (nameOf (now (text .entry)) n) → r .from ≡ namePlace (now (text .entry)) n))) ⌝ }
 {
     let mut i: usize = 0;
     while i < text.len() {

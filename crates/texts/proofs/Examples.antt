@@ -5,8 +5,9 @@ use Prim.Native.String.{String, [] as end, _∷_ as _then_}
 use mathlib.Core.Path.{_≡_, refl}
 use mathlib.Core.Bool.{false}
 use mathlib.Core.List.{List, [], _∷_, map}
+use native.Mathlib.Omega.{arith}
 use lib.Dec.{T, leb, leb→le}
-use lib.ListN.{length}
+use lib.ListN.{length, take, drop}
 use Rattle.tables.specs.declared.Refusal.the-variants.{WrongId, NoRecordLeft, UnknownWord, BadOperand, NumberTooLarge, WrongClass, Misfit, InitOrNext}
 use Rattle.tables.specs.declared.Checked.the-variants.{Accepted}
 use Rattle.tables.specs.Kinds.{rowOf}
@@ -19,7 +20,7 @@ use Rattle.texts.specs.Split.{split, upTo, tokens}
 use Rattle.texts.specs.Decimal.{digit, allIn, valueFrom, valued, scanned, decimal, digitsIn, digits, digitsF}
 use Rattle.texts.specs.Reading.{findIn, wordIn, settled, lowest, readLine, readLines, readText, Text, done, refused}
 use Rattle.texts.specs.Writing.{writeFrom, writeText}
-use Rattle.texts.specs.Naming.{nameIn, nameOf}
+use Rattle.texts.specs.Naming.{lineFrom, nameOf, namePlace}
 use Rattle.texts.proofs.Round.{round-trip}
 
 pub bytes : String → List ℕ
@@ -82,5 +83,25 @@ refusals = refl
 
 pub names : map (λ n. nameOf (bytes "1 sort bitvec 1 bit\n 2  input 1 a;b ; c\n2 input 1 later\n3 add x y z sum\n4 foo 1\n5 input 1 a b\n") n) (1 ∷ 2 ∷ 3 ∷ 4 ∷ 5 ∷ 6 ∷ [])
     ≡ bytes "bit" ∷ bytes "a" ∷ bytes "sum" ∷ [] ∷ [] ∷ [] ∷ []
-unfolding bytes nameOf nameIn wordIn findIn formRow rowOf split upTo tokens decimal scanned valued allIn valueFrom digit
+unfolding bytes nameOf lineFrom wordIn findIn formRow rowOf split upTo tokens decimal scanned valued allIn valueFrom digit
 names = refl
+
+-- where a name starts: one whose byte is also the id; one behind blank lines and a comment; one behind several spaces; one whose bytes stand earlier in the line
+pub places : map (λ s. namePlace (bytes s) 1) (
+    "1 sort bitvec 1 1"
+    ∷ "\n  \n; 1 sort bitvec 1 a\n\n1 sort bitvec 1 a ; a\n"
+    ∷ "  1  sort bitvec   1    a  \n"
+    ∷ "1 sort bitvec 1 bitvec\n"
+    ∷ [])
+    ≡ 16 ∷ 41 ∷ 24 ∷ 16 ∷ []
+unfolding bytes namePlace lineFrom wordIn findIn formRow rowOf split upTo tokens decimal scanned valued allIn valueFrom digit
+places = refl
+
+-- the first of these texts begins with its id, which has the bytes of the name and another place
+pub id-same-bytes : take 1 (drop 0 (bytes "1 sort bitvec 1 1")) ≡ nameOf (bytes "1 sort bitvec 1 1") 1
+unfolding bytes nameOf lineFrom wordIn findIn formRow rowOf split upTo tokens decimal scanned valued allIn valueFrom digit
+id-same-bytes = refl
+
+pub id-other-place : 0 ≡ namePlace (bytes "1 sort bitvec 1 1") 1 → ⊥
+unfolding bytes namePlace lineFrom wordIn findIn formRow rowOf split upTo tokens decimal scanned valued allIn valueFrom digit
+id-other-place h = let e : namePlace (bytes "1 sort bitvec 1 1") 1 ≡ 16 = refl in omega arith

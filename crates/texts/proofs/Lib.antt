@@ -13,4 +13,6 @@ pub mod Round
 pub mod Examples
 pub mod Printed
 pub mod Named
+pub mod Located
+pub mod Ends
 pub mod Accepted

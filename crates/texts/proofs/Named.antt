@@ -1,6 +1,6 @@
 -- The name of a line, from the places of the text. Assumes nothing.
 use Prim.Native.Nat.{ℕ, zero, suc, _+_, _-_, _≤_, _<_, min}
-use mathlib.Core.Path.{_≡_, refl, sym, ap, _∙_}
+use mathlib.Core.Path.{_≡_, refl, sym, ap, ap₂, _∙_}
 use mathlib.Core.Bool.{Bool, true, false}
 use mathlib.Core.List.{List, [], _∷_}
 use native.Mathlib.Omega.{arith}
@@ -12,7 +12,7 @@ use Rattle.texts.specs.declared.Form.{Form}
 use Rattle.texts.specs.Forms.{formRow, numbersOf}
 use Rattle.texts.specs.Split.{split, upTo, tokens}
 use Rattle.texts.specs.Reading.{wordIn, lineTokens}
-use Rattle.texts.specs.Naming.{leads, only, extraIn, lineName, nameIn, nameOf}
+use Rattle.texts.specs.Naming.{Located, located, leads, lineFrom, lineWith, only, extraIn, lineName, nameOf}
 use Rattle.texts.specs.Model.Structs.{wordWith, asWord}
 use Rattle.texts.proofs.Places.{tail, line-first, next-token}
 
@@ -59,53 +59,62 @@ part-of s i z a b h l k =
 
 -- ---- the lines
 
-module _ (n : ℕ) (x : List ℕ) (xs : List (List ℕ)) where
-  name-here : leads n (lineTokens x) ≡ true → nameIn n (x ∷ xs) ≡ lineName (lineTokens x)
-  unfolding nameIn
-  name-here h = rw (h, nameIn) refl
+module _ (n i : ℕ) (x : List ℕ) (xs : List (List ℕ)) where
+  line-here : leads n (lineTokens x) ≡ true → lineFrom n i (x ∷ xs) ≡ located i x
+  unfolding lineFrom
+  line-here h = rw (h, lineFrom) refl
 
-  name-later : leads n (lineTokens x) ≡ false → nameIn n (x ∷ xs) ≡ nameIn n xs
-  unfolding nameIn
-  name-later h = rw (h, nameIn) refl
+  line-later : leads n (lineTokens x) ≡ false → lineFrom n i (x ∷ xs) ≡ lineFrom n (i + length x + 1) xs
+  unfolding lineFrom
+  line-later h = rw (h, lineFrom) refl
 
-name-end : (n : ℕ) → nameIn n (split 10 []) ≡ []
-unfolding nameIn split upTo tokens
-name-end n = refl
+line-end : (n i : ℕ) → lineFrom n i (split 10 []) ≡ located 0 []
+unfolding lineFrom split upTo tokens
+line-end n i = refl
 
-name-none : (n : ℕ) → nameIn n [] ≡ []
-unfolding nameIn
-name-none n = refl
+line-none : (n i : ℕ) → lineFrom n i [] ≡ located 0 []
+unfolding lineFrom
+line-none n i = refl
 
-tail-names : (n : ℕ) (s : List ℕ) (z i : ℕ) → z ≤ length s → i ≡ min (z + 1) (length s) → nameIn n (tail 10 (drop z s)) ≡ nameIn n (split 10 (drop i s))
-tail-names n s z i h q = go (ltb z (length s)) refl
+-- no line starts at the text's end
+pub line-past : (n : ℕ) (s : List ℕ) (i : ℕ) → length s ≤ i → lineFrom n i (split 10 (drop i s)) ≡ located 0 []
+line-past n s i h = ap (λ (y : List ℕ). lineFrom n i (split 10 y)) (drop-of-length-le s h) ∙ line-end n i
+
+tail-lines : (n : ℕ) (s : List ℕ) (z i : ℕ) → z ≤ length s → i ≡ min (z + 1) (length s) → lineFrom n (z + 1) (tail 10 (drop z s)) ≡ lineFrom n i (split 10 (drop i s))
+tail-lines n s z i h q = go (ltb z (length s)) refl
   where
-    go : (p : Bool) → ltb z (length s) ≡ p → nameIn n (tail 10 (drop z s)) ≡ nameIn n (split 10 (drop i s))
+    go : (p : Bool) → ltb z (length s) ≡ p → lineFrom n (z + 1) (tail 10 (drop z s)) ≡ lineFrom n i (split 10 (drop i s))
     go true x =
         let k : z < length s = ltb-true z (length s) x in
-        let j : i ≡ suc z = omega arith in
-        ap (λ (y : List ℕ). nameIn n (tail 10 y)) (drop-cons s z 0 k) ∙ ap (λ (y : ℕ). nameIn n (split 10 (drop y s))) (sym j)
+        let j : suc z ≡ i = omega arith in
+        let m : z + 1 ≡ suc z = omega arith in
+        ap₂ (λ (a : ℕ) (y : List ℕ). lineFrom n a (tail 10 y)) m (drop-cons s z 0 k) ∙ ap (λ (y : ℕ). lineFrom n y (split 10 (drop y s))) j
     go false x =
         let k : length s ≤ z = ltb-false z (length s) x in
         let j : length s ≤ i = omega arith in
-        ap (λ (y : List ℕ). nameIn n (tail 10 y)) (drop-of-length-le s k)
-        ∙ (name-none n ∙ (sym (name-end n) ∙ ap (λ (y : List ℕ). nameIn n (split 10 y)) (sym (drop-of-length-le s j))))
-
-pub name-start : (s : List ℕ) (n : ℕ) → nameOf s n ≡ nameIn n (split 10 s)
-unfolding nameOf
-name-start s n = refl
-
-pub name-past : (n : ℕ) (s : List ℕ) (i : ℕ) → length s ≤ i → nameIn n (split 10 (drop i s)) ≡ []
-name-past n s i h = ap (λ (y : List ℕ). nameIn n (split 10 y)) (drop-of-length-le s h) ∙ name-end n
+        ap (λ (y : List ℕ). lineFrom n (z + 1) (tail 10 y)) (drop-of-length-le s k) ∙ (line-none n (z + 1) ∙ sym (line-past n s i j))
 
 -- the line from i to f, without its comment from i to z
 module _ (n : ℕ) (s : List ℕ) (i f z : ℕ) (hf : f ≡ i + length (upTo 10 (drop i s))) (hz : take (z - i) (drop i s) ≡ upTo 59 (take (f - i) (drop i s))) where
-  pub name-found : leads n (tokens (take (z - i) (drop i s))) ≡ true → nameIn n (split 10 (drop i s)) ≡ lineName (tokens (take (z - i) (drop i s)))
-  name-found h =
-      ap (nameIn n) (line-first s i f hf)
-      ∙ (name-here n (take (f - i) (drop i s)) (tail 10 (drop f s)) (ap (λ (x : List ℕ). leads n (tokens x)) (sym hz) ∙ h) ∙ ap (λ (x : List ℕ). lineName (tokens x)) (sym hz))
+  pub line-found : leads n (tokens (take (z - i) (drop i s))) ≡ true → lineFrom n i (split 10 (drop i s)) ≡ located i (take (f - i) (drop i s))
+  line-found h =
+      ap (lineFrom n i) (line-first s i f hf)
+      ∙ line-here n i (take (f - i) (drop i s)) (tail 10 (drop f s)) (ap (λ (x : List ℕ). leads n (tokens x)) (sym hz) ∙ h)
 
-  pub name-next : (i′ : ℕ) → f ≤ length s → i′ ≡ min (f + 1) (length s) → leads n (tokens (take (z - i) (drop i s))) ≡ false
-      → nameIn n (split 10 (drop i s)) ≡ nameIn n (split 10 (drop i′ s))
-  name-next i′ l q h =
-      ap (nameIn n) (line-first s i f hf)
-      ∙ (name-later n (take (f - i) (drop i s)) (tail 10 (drop f s)) (ap (λ (x : List ℕ). leads n (tokens x)) (sym hz) ∙ h) ∙ tail-names n s f i′ l q)
+  pub line-next : (i′ : ℕ) → f ≤ length s → i′ ≡ min (f + 1) (length s) → leads n (tokens (take (z - i) (drop i s))) ≡ false
+      → lineFrom n i (split 10 (drop i s)) ≡ lineFrom n i′ (split 10 (drop i′ s))
+  line-next i′ l q h =
+      let e : i + length (take (f - i) (drop i s)) + 1 ≡ f + 1 = omega (arith, length-take (f - i) (drop i s), length-drop i s) in
+      ap (lineFrom n i) (line-first s i f hf)
+      ∙ (line-later n i (take (f - i) (drop i s)) (tail 10 (drop f s)) (ap (λ (x : List ℕ). leads n (tokens x)) (sym hz) ∙ h)
+      ∙ (ap (λ (k : ℕ). lineFrom n k (tail 10 (drop f s))) e ∙ tail-lines n s f i′ l q))
+
+-- ---- the name of the line found
+
+pub name-missing : (s : List ℕ) (n : ℕ) → lineWith s n ≡ located 0 [] → nameOf s n ≡ []
+unfolding nameOf wordIn tokens split upTo
+name-missing s n h = ap (λ (l : Located). lineName (lineTokens (l .content))) h
+
+pub name-found : (s : List ℕ) (n i : ℕ) (x y : List ℕ) → lineWith s n ≡ located i x → y ≡ upTo 59 x → nameOf s n ≡ lineName (tokens y)
+unfolding nameOf
+name-found s n i x y h e = ap (λ (l : Located). lineName (lineTokens (l .content))) h ∙ ap (λ (u : List ℕ). lineName (tokens u)) (sym e)

@@ -28,7 +28,7 @@ split-first b (c ∷ t) = go (eqb c b) refl (split-first b t)
     go true e h = rw (e, split, upTo) refl
     go false e h = rw (e, split, upTo) (rw h refl)
 
-tail-tokens : (x : List ℕ) → nonEmpty (tail 32 (drop (length (upTo 32 x)) x)) ≡ tokens (drop (length (upTo 32 x)) x)
+pub tail-tokens : (x : List ℕ) → nonEmpty (tail 32 (drop (length (upTo 32 x)) x)) ≡ tokens (drop (length (upTo 32 x)) x)
 unfolding split upTo tokens
 tail-tokens [] = refl
 tail-tokens (c ∷ t) = go (eqb c 32) refl (tail-tokens t)
@@ -78,7 +78,7 @@ several-more l b t h n = ap (λ (x : List (List ℕ)). several (t ∷ x)) (next-
 
 -- ---- where a comment starts
 
-take-upTo : (b : ℕ) (y : List ℕ) → take (length (upTo b y)) y ≡ upTo b y
+pub take-upTo : (b : ℕ) (y : List ℕ) → take (length (upTo b y)) y ≡ upTo b y
 unfolding upTo
 take-upTo b [] = refl
 take-upTo b (c ∷ t) = go (eqb c b) refl (take-upTo b t)

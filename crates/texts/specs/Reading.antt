@@ -93,7 +93,7 @@ placed j (Big ∷ ns) rec = placed (suc j) ns rec
 placed j (Is v ∷ ns) rec = placed (suc j) ns (set rec j v)
 
 -- the last of some tokens, or t where there is none
-abbrev pub lastOf : List ℕ → List (List ℕ) → List ℕ
+abbrev pub lastOf : {A : Type 0} → A → List A → A
 lastOf t [] = t
 lastOf t (u ∷ ts) = lastOf u ts
 

@@ -29,7 +29,7 @@ same-length-2 c = search needs
 
 returns-2 : tie.Need-returns-2
 returns-2 c = let h = sym (c .before .before .before .before .before .before .before .before .take .ensures .0) ∙ not-false _ (c .before .before .before .before .before .if1 .left) in let e = c .before .before .before .before .find .ensures in
-    (is-told _ _ h, ((λ t. named (c .before .before .before .before .before .before .before .before .before .before .before .before .args .text .now) (c .before .before .before .before .before .before .before .before .before .before .before .before .args .id) _ _ _ (e .0) (e .1 .0) (e .1 .1) (c .before .before .tell .ensures)), λ f. not-both h f))
+    (is-told _ _ h, ((λ t. named (c .before .before .before .before .before .before .before .before .before .before .before .before .args .text .now) (c .before .before .before .before .before .before .before .before .before .before .before .before .args .id) _ _ _ (e .0) (e .1 .0) (e .1 .1 .0) (e .1 .1 .1) (c .before .before .tell .ensures)), λ f. not-both h f))
 
 pub gofeshan-name-spec : {M : Type 1} → statement M
 gofeshan-name-spec =

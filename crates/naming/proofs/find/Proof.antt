@@ -3,22 +3,23 @@ use native.Mathlib.Nat.{le-trans}
 use borrow.Author.Needs.{needs}
 use Prim.Native.Nat.{_-_, _≤_}
 use native.Mathlib.Omega.{arith}
-use mathlib.Core.Path.{_≡_, sym, _∙_}
-use lib.ListN.{length, drop, length-take, length-drop}
+use mathlib.Core.Path.{_≡_, refl, sym, ap, _∙_}
+use lib.ListN.{length, take, drop, length-take, length-drop}
 use Rattle.texts.specs.Split.{split}
-use Rattle.texts.specs.Naming.{nameIn, nameOf}
-use Rattle.texts.proofs.Named.{part-of, name-start, name-past, name-found, name-next}
+use Rattle.texts.specs.Naming.{lineFrom, lineWith}
+use Rattle.texts.proofs.Named.{part-of, line-past, line-found, line-next, name-missing, name-found}
+use Rattle.texts.proofs.Ends.{place-found}
 use Rattle.naming.proofs.find.Statement.{statement}
 use Rattle.naming.proofs.find.Tie as tie
 
 abbrev Inv-loop : tie.InvT-loop
-Inv-loop text n i₀ i = (i ≤ length text) × (nameOf text n ≡ nameIn n (split 10 (drop i text)))
+Inv-loop text n i₀ i = (i ≤ length text) × (lineWith text n ≡ lineFrom n i (split 10 (drop i text)))
 
 abbrev μ-loop : tie.MeasureT-loop
 μ-loop text n i₀ i = length text - i
 
 loop-holds : tie.Need-loop-holds Inv-loop μ-loop
-loop-holds c = (search needs, name-start (c .before .args .text .now) (c .before .args .n))
+loop-holds c = (search needs, refl)
 
 find-byte-requires : tie.Need-find-byte-requires Inv-loop μ-loop
 find-byte-requires c κs = c .before .loop .inv .0
@@ -57,7 +58,15 @@ add-t17 : tie.Need-add-t17 Inv-loop μ-loop
 add-t17 c = omega (arith, c .before .before .part .ensures .0, c .before .before .part .ensures .1 .0, length-take (c .before .before .before .before .before .before .before .cut .result - c .before .before .before .before .before .before .before .before .before .before .loop .i) (drop (c .before .before .before .before .before .before .before .before .before .before .loop .i) (c .before .before .before .before .before .before .before .before .before .before .before .before .args .text .now)), length-drop (c .before .before .before .before .before .before .before .before .before .before .loop .i) (c .before .before .before .before .before .before .before .before .before .before .before .before .args .text .now))
 
 returns : tie.Need-returns Inv-loop μ-loop
-returns c = (omega (arith, c .before .before .part .ensures .0), (omega (arith, c .before .before .part .ensures .0, c .before .before .part .ensures .1 .0, length-take (c .before .before .before .before .before .before .before .cut .result - c .before .before .before .before .before .before .before .before .before .before .loop .i) (drop (c .before .before .before .before .before .before .before .before .before .before .loop .i) (c .before .before .before .before .before .before .before .before .before .before .before .before .args .text .now)), length-drop (c .before .before .before .before .before .before .before .before .before .before .loop .i) (c .before .before .before .before .before .before .before .before .before .before .before .before .args .text .now), c .before .before .before .before .before .before .before .cut .ensures .0, c .before .before .before .before .before .before .before .cut .ensures .1 .0, c .before .before .before .before .before .before .before .before .find-byte .ensures .1 .0), part-of (c .before .before .before .before .before .before .before .before .before .before .before .before .args .text .now) (c .before .before .before .before .before .before .before .before .before .before .loop .i) (c .before .before .before .before .before .before .before .cut .result) (c .before .before .part .result .from) (c .before .before .part .result .to) (c .before .before .before .before .before .before .before .cut .ensures .0) (omega (arith, c .before .before .before .before .before .before .before .cut .ensures .1 .0, c .before .before .before .before .before .before .before .before .find-byte .ensures .1 .0)) (c .before .before .part .ensures .1 .0) ∙ (c .before .before .part .ensures .1 .1 ∙ sym (c .before .before .before .before .before .before .before .before .before .before .loop .inv .1 ∙ name-found (c .before .before .before .before .before .before .before .before .before .before .before .before .args .n) (c .before .before .before .before .before .before .before .before .before .before .before .before .args .text .now) (c .before .before .before .before .before .before .before .before .before .before .loop .i) (c .before .before .before .before .before .before .before .before .find-byte .result) (c .before .before .before .before .before .before .before .cut .result) (c .before .before .before .before .before .before .before .before .find-byte .ensures .1 .1) (c .before .before .before .before .before .before .before .cut .ensures .1 .1) (sym (c .before .before .before .before .before .leads .ensures) ∙ c .before .before .before .before .if1 .taken)))))
+returns c =
+    let s = c .before .before .before .before .before .before .before .before .before .before .before .before .args .text .now in
+    let i = c .before .before .before .before .before .before .before .before .before .before .loop .i in
+    let e = c .before .before .before .before .before .before .before .before .find-byte .result in
+    let z = c .before .before .before .before .before .before .before .cut .result in
+    let p = c .before .before .part .result in
+    let h = c .before .before .part .ensures in
+    let line = c .before .before .before .before .before .before .before .before .before .before .loop .inv .1 ∙ line-found (c .before .before .before .before .before .before .before .before .before .before .before .before .args .n) s i e z (c .before .before .before .before .before .before .before .before .find-byte .ensures .1 .1) (c .before .before .before .before .before .before .before .cut .ensures .1 .1) (sym (c .before .before .before .before .before .leads .ensures) ∙ c .before .before .before .before .if1 .taken) in
+    (omega (arith, h .0), (omega (arith, h .0, h .1 .0, length-take (z - i) (drop i s), length-drop i s, c .before .before .before .before .before .before .before .cut .ensures .0, c .before .before .before .before .before .before .before .cut .ensures .1 .0, c .before .before .before .before .before .before .before .before .find-byte .ensures .1 .0), (part-of s i z (p .from) (p .to) (c .before .before .before .before .before .before .before .cut .ensures .0) (omega (arith, c .before .before .before .before .before .before .before .cut .ensures .1 .0, c .before .before .before .before .before .before .before .before .find-byte .ensures .1 .0)) (h .1 .0) ∙ (h .1 .1 .0 ∙ sym (name-found s (c .before .before .before .before .before .before .before .before .before .before .before .before .args .n) i (take (e - i) (drop i s)) (take (z - i) (drop i s)) line (c .before .before .before .before .before .before .before .cut .ensures .1 .1))), place-found s (c .before .before .before .before .before .before .before .before .before .before .before .before .args .n) i (take (e - i) (drop i s)) (take (z - i) (drop i s)) (p .from) (p .to) line (c .before .before .before .before .before .before .before .cut .ensures .1 .1) (h .1 .0) (h .1 .1 .0) (h .1 .1 .1))))
 
 after-requires : tie.Need-after-requires Inv-loop μ-loop
 after-requires c κs = tt
@@ -66,10 +75,12 @@ loop-less : tie.Need-loop-less Inv-loop μ-loop
 loop-less c = omega (arith, c .after .ensures, c .before .before .before .before .before .find-byte .ensures .0, c .before .before .before .before .before .before .loop-test .taken)
 
 loop-again : tie.Need-loop-again Inv-loop μ-loop
-loop-again c = (omega (arith, c .after .ensures), c .before .before .before .before .before .before .before .loop .inv .1 ∙ name-next (c .before .before .before .before .before .before .before .before .before .args .n) (c .before .before .before .before .before .before .before .before .before .args .text .now) (c .before .before .before .before .before .before .before .loop .i) (c .before .before .before .before .before .find-byte .result) (c .before .before .before .before .cut .result) (c .before .before .before .before .before .find-byte .ensures .1 .1) (c .before .before .before .before .cut .ensures .1 .1) (c .after .result) (c .before .before .before .before .before .find-byte .ensures .1 .0) (c .after .ensures) (sym (c .before .before .leads .ensures) ∙ c .before .if1 .left))
+loop-again c = (omega (arith, c .after .ensures), c .before .before .before .before .before .before .before .loop .inv .1 ∙ line-next (c .before .before .before .before .before .before .before .before .before .args .n) (c .before .before .before .before .before .before .before .before .before .args .text .now) (c .before .before .before .before .before .before .before .loop .i) (c .before .before .before .before .before .find-byte .result) (c .before .before .before .before .cut .result) (c .before .before .before .before .before .find-byte .ensures .1 .1) (c .before .before .before .before .cut .ensures .1 .1) (c .after .result) (c .before .before .before .before .before .find-byte .ensures .1 .0) (c .after .ensures) (sym (c .before .before .leads .ensures) ∙ c .before .if1 .left))
 
 returns-2 : tie.Need-returns-2 Inv-loop μ-loop
-returns-2 c = (search needs, (search needs, sym (c .before .loop .inv .1 ∙ name-past (c .before .before .before .args .n) (c .before .before .before .args .text .now) (c .before .loop .i) (c .loop-test .left))))
+returns-2 c =
+    let e = name-missing (c .before .before .before .args .text .now) (c .before .before .before .args .n) (c .before .loop .inv .1 ∙ line-past (c .before .before .before .args .n) (c .before .before .before .args .text .now) (c .before .loop .i) (c .loop-test .left)) in
+    (search needs, (search needs, (sym e, λ h. absurd (omega (arith, ap length e)))))
 
 pub find-spec : {M : Type 1} → statement M
 find-spec =
