@@ -319,7 +319,7 @@ drop-zeros (suc k) zero = let q : 0 ≡ 0 - suc k = omega arith in ap (λ (j : �
 drop-zeros (suc k) (suc z) = let q : z - k ≡ suc z - suc k = omega arith in drop-zeros k z ∙ ap (λ (j : ℕ). replicate {A = ℕ} j 0) q
 
 -- bytes that are stored in zeros
-sets-zeros : (s : List ℕ) (len : ℕ) → length s ≤ len → sets (replicate len 0) 0 s ≡ s ++ replicate (len - length s) 0
+pub sets-zeros : (s : List ℕ) (len : ℕ) → length s ≤ len → sets (replicate len 0) 0 s ≡ s ++ replicate (len - length s) 0
 sets-zeros s len h =
     let z : 0 + length s ≤ length (replicate {A = ℕ} len 0) = omega (arith, length-replicate {A = ℕ} len 0) in
     let j : 0 + length s ≡ length s = omega arith in
