@@ -19,7 +19,7 @@ use Rattle.texts.specs.Decimal.{digits}
 use Rattle.texts.specs.Reading.{readText, textAnswer, tableOf, reads}
 use Rattle.texts.specs.Writing.{Out, wrote, refuse, writeTable, writeAnswer, bufferOf, writes}
 use Rattle.texts.proofs.Printed.{digits-most, and-then, sets-zeros}
-use Rattle.flattening.specs.Answers.{flattened, flatLeft, flattens}
+use Rattle.flattening.specs.Answers.{flattens}
 use Rattle.flattening.proofs.Outcomes.{flattens-answer, flattens-left}
 use Rattle.flat_text.specs.Printing.{refusalLine, refusalIn, afterWriting, afterFlattening, afterReading, targetAfter, printed, prints}
 use Rattle.flat_text.specs.Model.Output.{Printout}

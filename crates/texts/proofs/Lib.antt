@@ -14,3 +14,5 @@ pub mod Examples
 pub mod Printed
 pub mod Named
 pub mod Accepted
+pub mod Lengths
+pub mod Refused
