@@ -10,7 +10,8 @@ ghost use lib.Seq.{sets};
 ghost use Rattle.tables.specs.Refusals.{numberOf};
 ghost use Rattle.tables.specs.Answers.{told};
 ghost use Rattle.texts.specs.Writing.{writeTable};
-ghost use Rattle.flat_text.specs.Printing.{refusalLine, refusalIn, afterWriting, prints};
+ghost use Rattle.flattening.specs.Answers.{flatLeft};
+ghost use Rattle.flat_text.specs.Printing.{refusalLine, refusalIn, afterWriting, afterReading, prints};
 ghost use Rattle.flat_text.specs.Model.Output.{Printout};
 
 // The word `refused`, as the rows of kinds have theirs.
@@ -49,6 +50,17 @@ fn print(flat: &[u64], count: usize, out: &mut [u8]) -> usize
     }
 }
 
+// The flat circuit of a table with its count goes to the target, and its text to the output list, or why not.
+fn print_flat(table: &[u64], count: usize, target: &mut [u64], out: &mut [u8]) -> usize
+    ensures { λ n. ⌜ (now (target .exit) ≡ flatLeft (now (table .entry)) count (length (now (target .entry))))
+        × Printout (length (now (out .entry))) (afterReading (length (now (target .entry))) (length (now (out .entry))) (Answer.Done count) (now (table .entry))) n (now (out .exit)) ⌝ }
+{
+    match flatten::flatten(table, count, target) {
+        Answer::Refused(r, line) => refuse(r, line, out),
+        Answer::Done(m) => print(target, m, out),
+    }
+}
+
 // Reads the text into the table, flattens that into the target, and leaves the flat text in the output list, or `refused N L` and LF; answers how many bytes.
 pub fn flat(text: &[u8], table: &mut [u64], target: &mut [u64], out: &mut [u8]) -> usize
     ensures { λ n. ⌜ told (Answer.Done n) (now (table .exit) ∷ now (target .exit) ∷ now (out .exit) ∷ [])
@@ -59,9 +71,6 @@ pub fn flat(text: &[u8], table: &mut [u64], target: &mut [u64], out: &mut [u8]) 
             records::clear(target);
             refuse(r, line, out)
         }
-        Answer::Done(count) => match flatten::flatten(table, count, target) {
-            Answer::Refused(r, line) => refuse(r, line, out),
-            Answer::Done(m) => print(target, m, out),
-        },
+        Answer::Done(count) => print_flat(table, count, target, out),
     }
 }

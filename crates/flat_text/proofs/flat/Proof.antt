@@ -1,7 +1,7 @@
--- By what reading answers, and then flattening. Assumes nothing.
+-- By what reading answers. Assumes nothing.
 use mathlib.Core.Path.{refl}
 use lib.ListN.{length}
-use Rattle.flat_text.proofs.Outputs.{flat-by, prints-by}
+use Rattle.flat_text.proofs.Outputs.{prints-by}
 use borrow.Author.Needs.{needs}
 use Rattle.flat_text.proofs.flat.Statement.{statement}
 use Rattle.flat_text.proofs.flat.Tie as tie
@@ -21,20 +21,8 @@ refuse-requires c κs = search needs
 enum-known-count : tie.Need-enum-known-count
 enum-known-count c = search needs
 
-flatten-requires : tie.Need-flatten-requires
-flatten-requires c κs = search needs
-
-enum-known-r-2 : tie.Need-enum-known-r-2
-enum-known-r-2 c = search needs
-
-refuse-requires-2 : tie.Need-refuse-requires-2
-refuse-requires-2 c κs = search needs
-
-enum-known-m : tie.Need-enum-known-m
-enum-known-m c = search needs
-
-print-requires : tie.Need-print-requires
-print-requires c κs = search needs
+print-flat-requires : tie.Need-print-flat-requires
+print-flat-requires c κs = search needs
 
 same-length : tie.Need-same-length
 same-length c = search needs
@@ -62,28 +50,10 @@ same-length-6 c = search needs
 
 returns-2 : tie.Need-returns-2
 returns-2 c =
-    let s = c .before .before .before .before .before .before .before .before .before .before .before .before .before .before .before .before .before .before .before .before .before .before .before .args in
-    let t = c .before .before .before .before .before .before .before .before .before .before .before .before .before .before .before .before .before .read in
-    let f = c .before .before .before .before .before .before .before .before .before .flatten in
-    let x = flat-by (t .last .1 .0) (c .before .before .before .before .before .before .before .before .before .before .before .before .before .count .given .0 .0) (length (s .target .now)) (length (s .out .now)) (f .result) (f .last .1 .1 .0) (f .ensures) (c .before .before .before .before .before .r2 .given .1) in
-    prints-by (length (s .table .now)) (length (s .target .now)) (length (s .out .now)) (s .text .now) (t .result) (t .last .1 .0) (t .ensures) (c .before .before .before .before .before .before .before .before .before .before .before .before .before .count .given .1) (x .0) (x .1) (c .before .before .refuse2 .ensures)
-
-same-length-7 : tie.Need-same-length-7
-same-length-7 c = search needs
-
-same-length-8 : tie.Need-same-length-8
-same-length-8 c = search needs
-
-same-length-9 : tie.Need-same-length-9
-same-length-9 c = search needs
-
-returns-3 : tie.Need-returns-3
-returns-3 c =
-    let s = c .before .before .before .before .before .before .before .before .before .before .before .before .before .before .before .before .before .before .before .before .before .before .before .before .args in
-    let t = c .before .before .before .before .before .before .before .before .before .before .before .before .before .before .before .before .before .before .read in
-    let f = c .before .before .before .before .before .before .before .before .before .before .flatten in
-    let x = flat-by (t .last .1 .0) (c .before .before .before .before .before .before .before .before .before .before .before .before .before .before .count .given .0 .0) (length (s .target .now)) (length (s .out .now)) (f .result) (f .last .1 .1 .0) (f .ensures) (c .before .before .before .before .before .before .m .given .1) in
-    prints-by (length (s .table .now)) (length (s .target .now)) (length (s .out .now)) (s .text .now) (t .result) (t .last .1 .0) (t .ensures) (c .before .before .before .before .before .before .before .before .before .before .before .before .before .before .count .given .1) (x .0) (x .1) (c .before .before .print .ensures)
+    let s = c .before .before .before .before .before .before .before .before .before .before .before .before .before .before .before .before .before .before .before .args in
+    let t = c .before .before .before .before .before .before .before .before .before .before .before .before .before .read in
+    let x = c .before .before .before .before .print-flat .ensures in
+    prints-by (length (s .table .now)) (length (s .target .now)) (length (s .out .now)) (s .text .now) (t .result) (t .last .1 .0) (t .ensures) (c .before .before .before .before .before .before .before .before .before .count .given .1) refl (x .0) (x .1)
 
 pub flat-spec : {M : Type 1} → statement M
 flat-spec =
@@ -94,11 +64,7 @@ flat-spec =
     clear-requires
     refuse-requires
     enum-known-count
-    flatten-requires
-    enum-known-r-2
-    refuse-requires-2
-    enum-known-m
-    print-requires
+    print-flat-requires
     same-length
     same-length-2
     same-length-3
@@ -106,8 +72,4 @@ flat-spec =
     same-length-4
     same-length-5
     same-length-6
-    returns-2
-    same-length-7
-    same-length-8
-    same-length-9
-    returns-3)
+    returns-2)
