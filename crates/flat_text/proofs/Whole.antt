@@ -162,3 +162,9 @@ flat-program = all-printed 8000 8000 65536 (lit< tt) (lit≤ tt) (lit≤ tt)
 
 pub flat-program-room : (s : List ℕ) (k : ℕ) → printed 8000 8000 65536 s ≡ refusalLine 21 k → ⊥
 flat-program-room = never-short 8000 8000 65536 (lit< tt) (lit≤ tt) (lit≤ tt)
+
+-- where reading and flattening are done, what is printed is the whole flat text
+pub flat-text-whole : (s : List ℕ) (rs : List (List ℕ)) (m : ℕ) → readText 8000 s ≡ done rs → flattened (tableOf 8000 (done rs)) (length rs) 8000 ≡ Done m
+    → printed 8000 8000 65536 s ≡ writeText (flatRecords (tableOf 8000 (done rs)) (length rs))
+unfolding asked
+flat-text-whole s rs m e f = flat-program s ∙ (ap (textOr 8000 8000) e ∙ ap (λ (a : Answer). flatOr a (tableOf 8000 (done rs)) (length rs)) f)
