@@ -19,7 +19,7 @@ use Rattle.texts.specs.Decimal.{digits}
 use Rattle.texts.specs.Reading.{readText, textAnswer, tableOf, reads}
 use Rattle.texts.specs.Writing.{Out, wrote, refuse, writeTable, writeAnswer, bufferOf, writes}
 use Rattle.texts.proofs.Printed.{digits-most, and-then, sets-zeros}
-use Rattle.flattening.specs.Answers.{flatLeft, flattens}
+use Rattle.flattening.specs.Answers.{flattens}
 use Rattle.flattening.proofs.Outcomes.{flattens-answer, flattens-left}
 use Rattle.flat_text.specs.Printing.{refusalLine, refusalIn, afterWriting, afterFlattening, afterReading, targetAfter, printed, prints}
 use Rattle.flat_text.specs.Model.Output.{Printout}
@@ -93,12 +93,11 @@ module _ (F : List ℕ) (m outLen : ℕ) (a : Answer) (x : List ℕ) (e : told a
 -- ---- the whole, from the parts' outcomes
 
 -- after flattening the table T with its count n, which leaves the target F
-pub flat-by : (T : List ℕ) (n flatLen outLen : ℕ) (r : Answer) (F : List ℕ) → told r (F ∷ []) ≡ flattens T n flatLen → {a : Answer} → r ≡ a → {k : ℕ} {x : List ℕ}
-    → Printout outLen (afterFlattening outLen a F) k x → (F ≡ flatLeft T n flatLen) × Printout outLen (afterReading flatLen outLen (Done n) T) k x
-flat-by T n flatLen outLen r F e q {k} {x} p =
-    let f = flattens-left T n flatLen r F e in
-    let b = ap₂ (afterFlattening outLen) (sym q ∙ flattens-answer T n flatLen r F e) f in
-    (f, subst (λ (y : List ℕ). Printout outLen y k x) b p)
+pub flat-by : (T : List ℕ) (n flatLen outLen : ℕ) (a : Answer) (F : List ℕ) → told a (F ∷ []) ≡ flattens T n flatLen
+    → (afterFlattening outLen a F ≡ afterReading flatLen outLen (Done n) T) × (F ≡ targetAfter flatLen (Done n) T)
+flat-by T n flatLen outLen a F e =
+    let f = flattens-left T n flatLen a F e in
+    (ap₂ (afterFlattening outLen) (flattens-answer T n flatLen a F e) f, f)
 
 -- after reading the text s, which leaves the table T
 module _ (len flatLen outLen : ℕ) (s : List ℕ) (r : Answer) (T : List ℕ) (e : told r (T ∷ []) ≡ reads len s) where

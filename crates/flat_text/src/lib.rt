@@ -10,8 +10,7 @@ ghost use lib.Seq.{sets};
 ghost use Rattle.tables.specs.Refusals.{numberOf};
 ghost use Rattle.tables.specs.Answers.{told};
 ghost use Rattle.texts.specs.Writing.{writeTable};
-ghost use Rattle.flattening.specs.Answers.{flatLeft};
-ghost use Rattle.flat_text.specs.Printing.{refusalLine, refusalIn, afterWriting, afterReading, prints};
+ghost use Rattle.flat_text.specs.Printing.{refusalLine, refusalIn, afterWriting, afterFlattening, prints};
 ghost use Rattle.flat_text.specs.Model.Output.{Printout};
 
 // The word `refused`, as the rows of kinds have theirs.
@@ -50,14 +49,13 @@ fn print(flat: &[u64], count: usize, out: &mut [u8]) -> usize
     }
 }
 
-// The flat circuit of a table with its count goes to the target, and its text to the output list, or why not.
-fn print_flat(table: &[u64], count: usize, target: &mut [u64], out: &mut [u8]) -> usize
-    ensures { λ n. ⌜ (now (target .exit) ≡ flatLeft (now (table .entry)) count (length (now (target .entry))))
-        × Printout (length (now (out .entry))) (afterReading (length (now (target .entry))) (length (now (out .entry))) (Answer.Done count) (now (table .entry))) n (now (out .exit)) ⌝ }
+// What is printed after flattening, by its answer and the target that it left.
+fn print_flat(a: Answer, flat: &[u64], out: &mut [u8]) -> usize
+    ensures { λ n. ⌜ Printout (length (now (out .entry))) (afterFlattening (length (now (out .entry))) a (now (flat .entry))) n (now (out .exit)) ⌝ }
 {
-    match flatten::flatten(table, count, target) {
+    match a {
         Answer::Refused(r, line) => refuse(r, line, out),
-        Answer::Done(m) => print(target, m, out),
+        Answer::Done(m) => print(flat, m, out),
     }
 }
 
@@ -71,6 +69,9 @@ pub fn flat(text: &[u8], table: &mut [u64], target: &mut [u64], out: &mut [u8]) 
             records::clear(target);
             refuse(r, line, out)
         }
-        Answer::Done(count) => print_flat(table, count, target, out),
+        Answer::Done(count) => {
+            let a = flatten::flatten(table, count, target);
+            print_flat(a, target, out)
+        }
     }
 }

@@ -1,7 +1,7 @@
--- By what reading answers. Assumes nothing.
+-- By what reading answers, and then flattening. Assumes nothing.
 use mathlib.Core.Path.{refl}
 use lib.ListN.{length}
-use Rattle.flat_text.proofs.Outputs.{prints-by}
+use Rattle.flat_text.proofs.Outputs.{flat-by, prints-by}
 use borrow.Author.Needs.{needs}
 use Rattle.flat_text.proofs.flat.Statement.{statement}
 use Rattle.flat_text.proofs.flat.Tie as tie
@@ -20,6 +20,9 @@ refuse-requires c κs = search needs
 
 enum-known-count : tie.Need-enum-known-count
 enum-known-count c = search needs
+
+flatten-requires : tie.Need-flatten-requires
+flatten-requires c κs = search needs
 
 print-flat-requires : tie.Need-print-flat-requires
 print-flat-requires c κs = search needs
@@ -50,10 +53,11 @@ same-length-6 c = search needs
 
 returns-2 : tie.Need-returns-2
 returns-2 c =
-    let s = c .before .before .before .before .before .before .before .before .before .before .before .before .before .before .before .before .before .before .before .args in
-    let t = c .before .before .before .before .before .before .before .before .before .before .before .before .before .read in
-    let x = c .before .before .before .before .print-flat .ensures in
-    prints-by (length (s .table .now)) (length (s .target .now)) (length (s .out .now)) (s .text .now) (t .result) (t .last .1 .0) (t .ensures) (c .before .before .before .before .before .before .before .before .before .count .given .1) refl (x .0) (x .1)
+    let s = c .before .before .before .before .before .before .before .before .before .before .before .before .before .before .before .before .before .before .before .before .before .args in
+    let t = c .before .before .before .before .before .before .before .before .before .before .before .before .before .before .before .read in
+    let f = c .before .before .before .before .before .before .before .flatten in
+    let x = flat-by (t .last .1 .0) (c .before .before .before .before .before .before .before .before .before .before .before .count .given .0 .0) (length (s .target .now)) (length (s .out .now)) (f .result) (f .last .1 .1 .0) (f .ensures) in
+    prints-by (length (s .table .now)) (length (s .target .now)) (length (s .out .now)) (s .text .now) (t .result) (t .last .1 .0) (t .ensures) (c .before .before .before .before .before .before .before .before .before .before .before .count .given .1) (x .0) (x .1) (c .before .before .print-flat .ensures)
 
 pub flat-spec : {M : Type 1} → statement M
 flat-spec =
@@ -64,6 +68,7 @@ flat-spec =
     clear-requires
     refuse-requires
     enum-known-count
+    flatten-requires
     print-flat-requires
     same-length
     same-length-2
