@@ -16,3 +16,5 @@ pub mod Named
 pub mod Located
 pub mod Ends
 pub mod Accepted
+pub mod Lengths
+pub mod Refused

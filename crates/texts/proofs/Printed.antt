@@ -5,9 +5,9 @@ use mathlib.Core.List.{List, [], _∷_, _++_, append-assoc, append-nil}
 use Prim.Native.Nat.{ℕ, zero, suc, _+_, _-_, _*_, _/_, _%_, _^_, _≤_, _<_, zero-le}
 use native.Mathlib.Omega.{arith}
 use native.Mathlib.Numerals.{add-one}
-use native.Mathlib.Nat.{div-lt-iff-lt-mul, pow-succ', mul-comm, le-trans}
-use lib.Dec.{leb, ltb, lit<, lit≤}
-use lib.ListN.{length, take, drop, getD, set, drop-of-length-le, length-append, length-drop, length-take, length-replicate, replicate}
+use native.Mathlib.Nat.{div-lt-iff-lt-mul, pow-succ', mul-comm, le-trans, suc-mul, mul-suc, mul-le-mul-right}
+use lib.Dec.{T, leb, ltb, leb→le, lit<, lit≤}
+use lib.ListN.{length, drop, getD, set, drop-of-length-le, length-append, length-drop, length-replicate, replicate}
 use lib.Seq.{drop-cons, sets, sets-eq, length-sets}
 use borrow.Author.Tests.{lt-ltb, le-ltb, ltb-false, le-leb, lt-leb, leb-true, leb-false}
 use Rattle.tables.specs.declared.Refusal.{Refusal}
@@ -23,6 +23,7 @@ use Rattle.tables.specs.Types.{Ctx, noCtx, tyAt, given, grow}
 use Rattle.tables.specs.Tables.{known, formed, keeps, lawful, checked}
 use Rattle.tables.specs.Answers.{told}
 use Rattle.tables.proofs.Outcomes.{told-as}
+use Rattle.tables.proofs.Every.{every, at-each}
 use Rattle.tables.proofs.Kept.{both}
 use Rattle.tables.proofs.Shapes.{range}
 use Rattle.tables.proofs.Places.{length-records, record-at}
@@ -162,7 +163,8 @@ module _ (id : ℕ) (rec r : List ℕ) (s : ℕ) (er : r ≡ rowOf (kindIn rec))
 ten-more : (v j : ℕ) → v < 10 ^ suc j → v / 10 < 10 ^ j
 ten-more v j h = div-lt-iff-lt-mul (lit< tt) .1 (subst (λ (x : ℕ). v < x) (pow-succ' 10 j ∙ mul-comm 10 (10 ^ j)) h)
 
-digits-length : (j v : ℕ) → v < 10 ^ suc j → length (digits v) ≤ suc j
+-- a number below ten to the j + 1 has at most j + 1 digits
+pub digits-length : (j v : ℕ) → v < 10 ^ suc j → length (digits v) ≤ suc j
 digits-length zero v h = omega (arith, ap length (digits-small v (omega arith)))
 digits-length (suc j) v h = go (leb v 9) refl (λ l. digits-length j (v / 10) (ten-more v (suc j) h))
   where
@@ -173,41 +175,56 @@ digits-length (suc j) v h = go (leb v 9) refl (λ l. digits-length j (v / 10) (t
 pub digits-most : (v : ℕ) → v < 2 ^ 64 → length (digits v) ≤ 20
 digits-most v h = digits-length 19 v (le-trans h (lit≤ tt))
 
-numbers-most : (m j : ℕ) (rec : List ℕ) → ((i : ℕ) → getD rec i 0 < 2 ^ 64) → length (spaced (numbers m j rec)) ≤ 21 * m
-numbers-most zero j rec h = zero-le
-numbers-most (suc m) j rec h =
-    let d = digits-most (getD rec j 0) (h j) in
-    let r = numbers-most m (suc j) rec h in
-    omega (arith, d, r, length-append (digits (getD rec j 0)) (spaced (numbers m (suc j) rec)))
+-- numbers of at most d digits, with a space before each
+pub numbers-most : (d m j : ℕ) (rec : List ℕ) → ((i : ℕ) → length (digits (getD rec i 0)) ≤ d) → length (spaced (numbers m j rec)) ≤ m * suc d
+numbers-most d zero j rec h = zero-le
+numbers-most d (suc m) j rec h =
+    let r = numbers-most d m (suc j) rec h in
+    omega (arith, h j, r, suc-mul m (suc d), length-append (digits (getD rec j 0)) (spaced (numbers m (suc j) rec)))
 
-kind-most : (f : ℕ) → 1 ≤ f → f ≤ 55 → length (wordOf (rowOf f)) ≤ 10 → length (spaced (kindTokens f)) ≤ 16
-kind-most f a b w = go (leb f 2) refl
-  where
-    go : (q : Bool) → leb f 2 ≡ q → length (spaced (kindTokens f)) ≤ 16
-    go true e = omega (arith, ap length (kind-sort f (leb-true f 2 e)))
-    go false e = omega (arith, ap length (kind-word f (leb-false f 2 e)))
+-- the words of a kind are at most 12 bytes, by one computed test
+kind-short : ℕ → Bool
+kind-short i = leb (length (spaced (kindTokens (suc i)))) 12
 
-word-most : (r : List ℕ) → getD r 0 0 ≤ 10 → length (wordOf r) ≤ 10
-word-most r h = le-trans (take-most (getD r 0 0) (drop 1 r)) h
-  where
-    take-most : (i : ℕ) (l : List ℕ) → length (take i l) ≤ i
-    take-most i l = omega (arith, length-take i l)
+kinds-short : T (every kind-short 55)
+unfolding kind-short rowOf
+kinds-short = tt
+
+pub kind-most : (k : ℕ) → 1 ≤ k → k ≤ 55 → length (spaced (kindTokens k)) ≤ 12
+unfolding kind-short
+kind-most zero a b = absurd (omega arith)
+kind-most (suc i) a b = leb→le (length (spaced (kindTokens (suc i)))) 12 (at-each kind-short 55 kinds-short i (omega arith))
+
+-- a line whose numbers have at most d digits
+pub line-within : (d id : ℕ) (rec : List ℕ) → 1 ≤ kindIn rec → kindIn rec ≤ 55 → ((i : ℕ) → length (digits (getD rec i 0)) ≤ d)
+    → length (join (tokensOf id rec) ++ (10 ∷ [])) ≤ length (digits id) + 12 + 4 * suc d + 1
+line-within d id rec a b h =
+    let m : ℕ = numbersOf (rowOf (kindIn rec)) in
+    let l : m ≤ 4 = omega (arith, sorted-most (rowOf (kindIn rec)), row-fit (kindIn rec) a b .1) in
+    omega (
+      arith,
+      line-length id rec (rowOf (kindIn rec)) (sorted (rowOf (kindIn rec))) refl refl,
+      kind-most (kindIn rec) a b,
+      numbers-most d m (firstOf (rowOf (kindIn rec))) rec h,
+      mul-le-mul-right (suc d) l,
+    )
 
 -- a line is at most 128 bytes long
 pub line-most : (id : ℕ) (rec : List ℕ) → id < 2 ^ 64 → 1 ≤ kindIn rec → kindIn rec ≤ 55 → ((i : ℕ) → getD rec i 0 < 2 ^ 64)
     → length (join (tokensOf id rec) ++ (10 ∷ [])) ≤ 128
-line-most id rec n a b h =
-    let f : ℕ = kindIn rec in
-    let g = row-fit (kindIn rec) a b in
-    omega (
-      arith,
-      line-length id rec (rowOf (kindIn rec)) (sorted (rowOf (kindIn rec))) refl refl,
-      digits-most id n,
-      kind-most (kindIn rec) a b (word-most (rowOf (kindIn rec)) (g .0)),
-      numbers-most (numbersOf (rowOf (kindIn rec))) (firstOf (rowOf (kindIn rec))) rec h,
-      sorted-most (rowOf (kindIn rec)),
-      g .1,
-    )
+line-most id rec n a b h = omega (arith, line-within 20 id rec a b (λ i. digits-most (getD rec i 0) (h i)), digits-most id n)
+
+-- a text is at most so many bytes a record long as each of its lines
+pub text-none : (n w : ℕ) → length (writeFrom n []) ≤ w * length {A = List ℕ} []
+unfolding writeFrom
+text-none n w = zero-le
+
+pub text-more : (n : ℕ) (r : List ℕ) (rs : List (List ℕ)) (w : ℕ) → length (join (tokensOf n r) ++ (10 ∷ [])) ≤ w → length (writeFrom (suc n) rs) ≤ w * length rs
+    → length (writeFrom n (r ∷ rs)) ≤ w * length (r ∷ rs)
+unfolding writeFrom
+text-more n r rs w h k =
+    let q : join (tokensOf n r) ++ 10 ∷ writeFrom (suc n) rs ≡ (join (tokensOf n r) ++ (10 ∷ [])) ++ writeFrom (suc n) rs = sym (append-assoc (join (tokensOf n r)) (10 ∷ []) (writeFrom (suc n) rs)) in
+    omega (arith, ap length q, length-append (join (tokensOf n r) ++ (10 ∷ [])) (writeFrom (suc n) rs), h, k, mul-suc w (length rs))
 
 -- the kind of a record that keeps the rules
 pub kept-kind : (c : Ctx) (r : List ℕ) → keeps false (tyAt c) (given c) r ≡ true → (1 ≤ kindIn r) × (kindIn r ≤ 55)
@@ -220,13 +237,11 @@ lawful-kind c (r ∷ rs) (suc i) e h = lawful-kind (grow false c (lineOf r)) rs 
 
 -- a text is at most 128 bytes a record long
 pub text-most : (c : Ctx) (rs : List (List ℕ)) (n : ℕ) → Good rs → lawful false c rs ≡ true → n + length rs ≤ 16385 → length (writeFrom n rs) ≤ 128 * length rs
-unfolding writeFrom
-text-most c [] n g e h = zero-le
+text-most c [] n g e h = text-none n 128
 text-most c (r ∷ rs) n g e h =
     let k = both (keeps false (tyAt c) (given c) r) _ e in
     let a = kept-kind c r (k .0) in
-    let q : join (tokensOf n r) ++ 10 ∷ writeFrom (suc n) rs ≡ (join (tokensOf n r) ++ (10 ∷ [])) ++ writeFrom (suc n) rs = sym (append-assoc (join (tokensOf n r)) (10 ∷ []) (writeFrom (suc n) rs)) in
-    omega (arith, ap length q, length-append (join (tokensOf n r) ++ (10 ∷ [])) (writeFrom (suc n) rs), line-most n r (omega arith) (a .0) (a .1) (g .0 .1), text-most (grow false c (lineOf r)) rs (suc n) (g .1) (k .1) (omega arith))
+    text-more n r rs 128 (line-most n r (omega arith) (a .0) (a .1) (g .0 .1)) (text-most (grow false c (lineOf r)) rs (suc n) (g .1) (k .1) (omega arith))
 
 -- ---- the records from a place on
 
@@ -319,7 +334,7 @@ drop-zeros (suc k) zero = let q : 0 ≡ 0 - suc k = omega arith in ap (λ (j : �
 drop-zeros (suc k) (suc z) = let q : z - k ≡ suc z - suc k = omega arith in drop-zeros k z ∙ ap (λ (j : ℕ). replicate {A = ℕ} j 0) q
 
 -- bytes that are stored in zeros
-sets-zeros : (s : List ℕ) (len : ℕ) → length s ≤ len → sets (replicate len 0) 0 s ≡ s ++ replicate (len - length s) 0
+pub sets-zeros : (s : List ℕ) (len : ℕ) → length s ≤ len → sets (replicate len 0) 0 s ≡ s ++ replicate (len - length s) 0
 sets-zeros s len h =
     let z : 0 + length s ≤ length (replicate {A = ℕ} len 0) = omega (arith, length-replicate {A = ℕ} len 0) in
     let j : 0 + length s ≡ length s = omega arith in

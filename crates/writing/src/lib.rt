@@ -22,7 +22,7 @@ ghost use Rattle.tables.specs.Tables.{lawful};
 ghost use Rattle.tables.specs.Answers.{told};
 
 // One byte at a place of the text, where there is room.
-fn put(out: &mut [u8], at: usize, b: u8) -> usize
+pub fn put(out: &mut [u8], at: usize, b: u8) -> usize
     requires { ⌜ at < 2 ^ 63 ⌝ }
     ensures { λ r. ⌜ (r ≡ at + 1) × (now (out .exit) ≡ set (now (out .entry)) at b) ⌝ }
 {
@@ -46,7 +46,7 @@ fn put_number(out: &mut [u8], at: usize, v: u64) -> usize
 }
 
 // The word of a row.
-fn put_word(out: &mut [u8], at: usize, r: [u8; 16]) -> usize
+pub fn put_word(out: &mut [u8], at: usize, r: [u8; 16]) -> usize
     requires { ⌜ (getD r 0 0 ≤ 10) × (at + length (wordOf r) < 2 ^ 63) ⌝ }
     ensures { λ x. ⌜ (x ≡ at + length (wordOf r)) × (now (out .exit) ≡ sets (now (out .entry)) at (wordOf r)) ⌝ }
 {
@@ -81,7 +81,7 @@ fn put_kind(out: &mut [u8], at: usize, k: u64, r: [u8; 16]) -> usize
 }
 
 // m numbers of a record from the place j on, with a space before each.
-fn put_numbers(out: &mut [u8], at: usize, m: usize, j: usize, rec: [u64; WORDS]) -> usize
+pub fn put_numbers(out: &mut [u8], at: usize, m: usize, j: usize, rec: [u64; WORDS]) -> usize
     requires { ⌜ (j + m ≤ recordWords) × (at + length (spaced (numbers m j rec)) < 2 ^ 63) ⌝ }
     ensures { λ x. ⌜ (x ≡ at + length (spaced (numbers m j rec))) × (now (out .exit) ≡ sets (now (out .entry)) at (spaced (numbers m j rec))) ⌝ }
 {

@@ -1,0 +1,38 @@
+-- The request's example: for its text of 11 lines the flat program prints its 19 lines. Assumes nothing.
+use Prim.Native.String.{String}
+use mathlib.Core.Path.{_≡_, refl, _∙_}
+use Rattle.tables.specs.Kinds.{letters, rowOf}
+use Rattle.tables.specs.Layout.{filledBy}
+use Rattle.tables.specs.Rules.{suits, fault}
+use Rattle.tables.specs.Tables.{checked}
+use Rattle.texts.specs.Forms.{formRow}
+use Rattle.texts.specs.Split.{split, upTo, tokens}
+use Rattle.texts.specs.Decimal.{digit, allIn, valueFrom, valued, scanned, decimal, digitsIn, digits, digitsF}
+use Rattle.texts.specs.Reading.{findIn, wordIn, settled, lowest, readLine, readLines, readText}
+use Rattle.texts.specs.Writing.{writeFrom, writeText}
+use Rattle.flattening.specs.Flat.{flatten, flatRecords}
+use Rattle.flattening.specs.Answers.{flattened}
+use Rattle.flat_text.specs.Printing.{printed}
+use Rattle.flat_text.proofs.Whole.{asked, flat-program}
+
+abbrev circuit : String
+circuit = "1 sort bitvec 1\n2 sort bitvec 3\n3 sort array 1 2\n4 state 3\n5 input 1\n6 constd 2 5\n7 write 3 4 5 6\n8 next 3 4 7\n9 read 2 4 5\n10 eq 1 9 6\n11 bad 10\n"
+
+abbrev flat : String
+flat = "1 sort bitvec 1\n2 sort bitvec 3\n3 sort bitvec 1\n4 constd 1 0\n5 constd 1 1\n6 state 2\n7 state 2\n8 input 1\n9 constd 2 5\n10 eq 3 8 4\n11 ite 2 10 9 6\n12 eq 3 8 5\n13 ite 2 12 9 7\n14 next 2 6 11\n15 next 2 7 13\n16 eq 3 8 4\n17 ite 2 16 6 7\n18 eq 1 17 9\n19 bad 18\n"
+
+sample-asked : asked 8000 8000 (letters circuit) ≡ letters flat
+unfolding asked readText readLines readLine lowest settled wordIn findIn formRow rowOf fault suits split upTo tokens decimal scanned valued digitsIn allIn valueFrom digit
+    flattened checked flatten flatRecords filledBy writeText writeFrom digits digitsF
+sample-asked = refl
+
+pub sample-printed : printed 8000 8000 65536 (letters circuit) ≡ letters flat
+sample-printed = flat-program (letters circuit) ∙ sample-asked
+
+-- an unknown word in the second line of a text
+refused-asked : asked 8000 8000 (letters "; no record stands here\n1 sort float 8\n") ≡ letters "refused 5 2\n"
+unfolding asked readText readLines readLine lowest wordIn findIn formRow rowOf split upTo tokens decimal scanned valued allIn valueFrom digit digits digitsF
+refused-asked = refl
+
+pub refused-printed : printed 8000 8000 65536 (letters "; no record stands here\n1 sort float 8\n") ≡ letters "refused 5 2\n"
+refused-printed = flat-program (letters "; no record stands here\n1 sort float 8\n") ∙ refused-asked
