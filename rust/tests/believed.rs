@@ -5,7 +5,8 @@ use std::collections::{BTreeMap, BTreeSet};
 use std::path::{Path, PathBuf};
 
 /// The crates whose public functions without a `requires` are the operations; each keeps them in `src/lib.rt`.
-const OPERATIONS: [&str; 8] = ["reading", "writing", "naming", "flatten", "translating", "runs", "peeking", "exports"];
+const OPERATIONS: [&str; 9] =
+    ["reading", "writing", "naming", "flatten", "translating", "runs", "peeking", "exports", "flat_text"];
 
 /// Demand 3 is stated there.
 const DEMAND_3: &str = "crates/agreement/specs/Comparison.antt";
