@@ -2,7 +2,8 @@
 use area::LAID;
 ghost use Rattle.peeks.specs.Model.Looks.{WordAsked, WordFound, CellAsked, CellFound};
 
-// The word of the line n, from the start words `from` and the row; `ini` has the lines of the states' init values. Line 0, which is none, has the word 0.
+// The word of the line n, from the start words `from` and the row. `ini` has the lines of the states' init values, `kept` the word of each line, with 1 where it was
+// found. A line looks at one or two earlier lines; where the first has more than one cell, two arrays are compared. Line 0, which is none, has the word 0.
 pub fn word(
     table: &[u64],
     count: usize,
@@ -44,7 +45,7 @@ pub fn word(
     peek_values::keep(kept, n, v)
 }
 
-// The cell k of the array on the line n: a state's, an ite's, or else a write's.
+// The cell k of the array on the line n: a state's, an ite's, or else a write's. A line that looks at no other is a state without an init.
 pub fn cell(
     table: &[u64],
     count: usize,

@@ -15,14 +15,14 @@ use Rattle.circuits.specs.Meaning.{Frame, cellsAt, wordAt}
 use Rattle.circuits.specs.Model.Work.{numIn}
 use Rattle.tables.specs.Layout.{linesOf}
 use Rattle.peeks.specs.Peek.{stepZero}
-use Rattle.peeks.specs.Model.Looks.{Looks, Kept, CellLine}
+use Rattle.peeks.specs.Model.Looks.{Looks, KeptWords, CellLine}
 use Rattle.peeks.proofs.Looked.{FactEquality, more-cells, shown, number-of, cells-of}
 use Rattle.circuits.proofs.Puts as laws
 
 -- the lines a and b of m cells each, of which the cells before c are the same if `same` says so, and the words found so far
 pub record Alike (A : Frame) (a b : ℕ) (K : List (List ℕ)) (m c : ℕ) (same : Bool) : Type 0 where
   pub most : c ≤ m
-  pub kept : Kept A K
+  pub kept : KeptWords A K
   pub rest : sameCells (cellsAt A a) (cellsAt A b) ≡ (same && sameCells (drop c (cellsAt A a)) (drop c (cellsAt A b)))
 
 module _ {t : List ℕ} {n : ℕ} {P : List (List ℕ)} {ini S R : List ℕ} (lk : Looks t n P ini S R) where
@@ -57,7 +57,7 @@ module _ {t : List ℕ} {n : ℕ} {P : List (List ℕ)} {ini S R : List ℕ} (lk
           inside = subst (λ (x : ℕ). c < 2 ^ x) (sym (k .sorts)) (l .inside);
         }
 
-    pub alike-none : {K : List (List ℕ)} → Kept A K → Alike A a b K m 0 true
+    pub alike-none : {K : List (List ℕ)} → KeptWords A K → Alike A a b K m 0 true
     alike-none f = record { most = omega arith; kept = f; rest = refl }
 
     next : {c : ℕ} → c < m → sameCells (drop c (cellsAt A a)) (drop c (cellsAt A b))
@@ -68,7 +68,7 @@ module _ {t : List ℕ} {n : ℕ} {P : List (List ℕ)} {ini S R : List ℕ} (lk
         go true e = laws.same-more (cellsAt A a) (cellsAt A b) c (omega (arith, many, long-left)) (omega (arith, many, long-right)) (eqb-true (getD (cellsAt A a) c 0) (getD (cellsAt A b) c 0) e)
         go false e = laws.same-not (cellsAt A a) (cellsAt A b) c (omega (arith, many, long-left)) (omega (arith, many, long-right)) (eqb-false (getD (cellsAt A a) c 0) (getD (cellsAt A b) c 0) e)
 
-    pub alike-more : {K K′ : List (List ℕ)} {c x y : ℕ} {same : Bool} → same ≡ true → c < m → Alike A a b K m c same → Kept A K′ → x ≡ getD (cellsAt A a) c 0 → y ≡ getD (cellsAt A b) c 0
+    pub alike-more : {K K′ : List (List ℕ)} {c x y : ℕ} {same : Bool} → same ≡ true → c < m → Alike A a b K m c same → KeptWords A K′ → x ≡ getD (cellsAt A a) c 0 → y ≡ getD (cellsAt A b) c 0
         → Alike A a b K′ m (c + 1) (eqb x y)
     alike-more {K} {K′} {c} {x} {y} {same} es h s f ex ey =
         record {

@@ -22,26 +22,30 @@ use Rattle.circuits.specs.Layout.{Layout, typeAt, size, layout}
 use Rattle.circuits.specs.Meaning.{Frame, cellsAt, wordAt}
 use Rattle.circuits.specs.Model.Work.{numIn}
 use Rattle.peeks.specs.Peek.{stepZero}
-use Rattle.peeks.specs.Model.Looks.{Looks, Kept, keptAs, markIn, wordIn, WordLine, CellLine, FirstLine, SecondLine, StartAsked, startIn}
+use Rattle.peeks.specs.Model.Looks.{Looks, KeptWords, keptAs, keptMark, keptWord, WordLine, CellLine, WordFound, CellFound, FirstLine, SecondLine, StartAsked, startIn}
 use Rattle.peeks.proofs.Looked.{Arg, FactEquality, FactIte, FactWrite, FactStart, Fact, one-cell, shown, number-of, none-flat, facts}
 
 -- ---- the words found so far
 
 -- one word more
-pub kept : {A : Frame} {K K′ : List (List ℕ)} {n v : ℕ} → n ≤ 64 → Kept A K → v ≡ wordAt A n → K′ ≡ set K n (keptAs v) → Kept A K′
+kept : {A : Frame} {K K′ : List (List ℕ)} {n v : ℕ} → n ≤ 64 → KeptWords A K → v ≡ wordAt A n → K′ ≡ set K n (keptAs v) → KeptWords A K′
 kept {A} {K} {K′} {n} {v} h f ev e =
     let here : getD K′ n [] ≡ keptAs v = ap (λ (x : List (List ℕ)). getD x n []) e ∙ getD-set-same K n (keptAs v) [] (omega (arith, f .long)) in
     let there : (a : ℕ) → (a ≡ n → ⊥) → getD K′ a [] ≡ getD K a [] = λ a ne. ap (λ (x : List (List ℕ)). getD x a []) e ∙ getD-set-other K n a (keptAs v) [] ne in
     record {
       long = ap length e ∙ length-set K n (keptAs v) ∙ f .long;
-      none = by-place 0 n (λ z. ap (markIn K′) z ∙ ap (λ (x : List ℕ). getD x 1 0) here) (λ ne. ap (λ (x : List ℕ). getD x 1 0) (there 0 ne) ∙ f .none);
+      none = by-place 0 n (λ z. ap (keptMark K′) z ∙ ap (λ (x : List ℕ). getD x 1 0) here) (λ ne. ap (λ (x : List ℕ). getD x 1 0) (there 0 ne) ∙ f .none);
       are = λ a k.
-          by-place a n (λ z. ap (wordIn K′) z ∙ ap (λ (x : List ℕ). getD x 0 0) here ∙ ev ∙ ap (wordAt A) (sym z))
+          by-place a n (λ z. ap (keptWord K′) z ∙ ap (λ (x : List ℕ). getD x 0 0) here ∙ ev ∙ ap (wordAt A) (sym z))
           (λ ne. ap (λ (x : List ℕ). getD x 0 0) (there a ne) ∙ f .are a (sym (ap (λ (x : List ℕ). getD x 1 0) (there a ne)) ∙ k));
     }
 
--- a line whose word is not kept is none but line 0
-pub not-none : {A : Frame} {K : List (List ℕ)} (a : ℕ) → Kept A K → (markIn K a ≡ 1 → ⊥) → 1 ≤ a
+pub word-kept : {t : List ℕ} {n : ℕ} {S R : List ℕ} {K K′ : List (List ℕ)} {a v r : ℕ} → a ≤ 64 → KeptWords (stepZero (linesOf false t n) S R) K → v ≡ wordAt (stepZero (linesOf false t n) S R) a
+    → (r ≡ v) × (K′ ≡ set K a (keptAs v)) → WordFound t n S R K′ a r
+word-kept h f ev e = record { is = e .0 ∙ ev; kept = kept h f ev (e .1) }
+
+-- a line whose word is not kept is not line 0
+pub not-none : {A : Frame} {K : List (List ℕ)} (a : ℕ) → KeptWords A K → (keptMark K a ≡ 1 → ⊥) → 1 ≤ a
 not-none zero f z = absurd (z (f .none))
 not-none (suc a) f z = omega arith
 
@@ -63,16 +67,22 @@ pub record Second (t : List ℕ) (n m b : ℕ) : Type 0 where
   pub line : 1 ≤ b → WordLine t n b
 
 -- the line b, whose cell i is the cell c of the line m
-pub record Through (A : Frame) (t : List ℕ) (n m c b i : ℕ) : Type 0 where
+pub record ThroughCell (A : Frame) (t : List ℕ) (n m c b i : ℕ) : Type 0 where
   pub below : b < m
   pub line : CellLine t n b i
   pub is : getD (cellsAt A b) i 0 ≡ getD (cellsAt A m) c 0
 
 -- the line b, whose word is the cell c of the line m
-pub record Whole (A : Frame) (t : List ℕ) (n m c b : ℕ) : Type 0 where
+pub record ThroughWord (A : Frame) (t : List ℕ) (n m c b : ℕ) : Type 0 where
   pub below : b < m
   pub line : WordLine t n b
   pub is : wordAt A b ≡ getD (cellsAt A m) c 0
+
+pub cell-through : {t : List ℕ} {n : ℕ} {S R : List ℕ} {K : List (List ℕ)} {m c b i r : ℕ} → ThroughCell (stepZero (linesOf false t n) S R) t n m c b i → CellFound t n S R K b i r → CellFound t n S R K m c r
+cell-through q f = record { is = f .is ∙ q .is; kept = f .kept }
+
+pub cell-through-word : {t : List ℕ} {n : ℕ} {S R : List ℕ} {K : List (List ℕ)} {m c b r : ℕ} → ThroughWord (stepZero (linesOf false t n) S R) t n m c b → WordFound t n S R K b r → CellFound t n S R K m c r
+cell-through-word q f = record { is = f .is ∙ q .is; kept = f .kept }
 
 -- a line that an ite on the line m takes for its own value
 pub record Chosen (A : Frame) (Z : Layout) (m c e : ℕ) : Type 0 where
@@ -261,11 +271,11 @@ module _ {t : List ℕ} {n : ℕ} {P : List (List ℕ)} {ini S R : List ℕ} (lk
             go (isEquality false) e k = equality-second (omega arith) (omega arith)
 
         -- a read finds the cell that its index x says
-        pub read-through : kindIn r ≡ 54 → Through A t n m 0 b x
+        pub read-through : kindIn r ≡ 54 → ThroughCell A t n m 0 b x
         read-through k =
             let E = word-fact isRead (ap shapeOf k) in
             let ei : x ≡ wordAt A (secondIn r) = ex ∙ ap (wordAt A) (F .index (omega arith)) in
-            subst (λ (d : ℕ). Through A t n m 0 d x) (sym (G .array (omega arith)))
+            subst (λ (d : ℕ). ThroughCell A t n m 0 d x) (sym (G .array (omega arith)))
             (record {
               below = E .belowA;
               line = record { array = record { value = E .arr .is; deep = E .arr .deep }; inside = subst (λ (y : ℕ). y < size (typeAt Z (firstIn r))) (sym ei) (E .inside) };
@@ -325,7 +335,7 @@ module _ {t : List ℕ} {n : ℕ} {P : List (List ℕ)} {ini S R : List ℕ} (lk
         write k = none (secondIn r) (F .index (omega arith)) (written k .index)
 
     module _ {x b : ℕ} (ex : x ≡ wordAt A a) (G : SecondLine r x b) where
-      pub ite-through : kindIn r ≡ 53 → Through A t n m c b c
+      pub ite-through : kindIn r ≡ 53 → ThroughCell A t n m c b c
       ite-through k =
           let C = chosen (cell-fact isIte (ap shapeOf k)) (ex ∙ ap (wordAt A) (F .operand (omega arith) (omega arith))) (G .chosen k) in
           record { below = C .below; line = cell-same w (C .value) (C .sort); is = C .is }
@@ -334,11 +344,11 @@ module _ {t : List ℕ} {n : ℕ} {P : List (List ℕ)} {ini S R : List ℕ} (lk
         index : x ≡ wordAt A (secondIn r)
         index = ex ∙ ap (wordAt A) (F .index (omega (arith, is-write n₅ n₅₃)))
 
-        pub write-hit : x ≡ c → Whole A t n m c (thirdIn r)
+        pub write-hit : x ≡ c → ThroughWord A t n m c (thirdIn r)
         write-hit e = let W = written (is-write n₅ n₅₃) in record { below = W .value .below; line = word-arg (W .value); is = W .hit (sym index ∙ e) }
 
-        pub write-miss : (x ≡ c → ⊥) → Through A t n m c b c
+        pub write-miss : (x ≡ c → ⊥) → ThroughCell A t n m c b c
         write-miss z =
             let W = written (is-write n₅ n₅₃) in
-            subst (λ (d : ℕ). Through A t n m c d c) (sym (G .array (omega (arith, is-write n₅ n₅₃))))
+            subst (λ (d : ℕ). ThroughCell A t n m c d c) (sym (G .array (omega (arith, is-write n₅ n₅₃))))
             (record { below = W .belowA; line = cell-same w (W .arr .is) (W .sortA); is = W .miss (λ e. z (index ∙ e)) })

@@ -32,7 +32,7 @@ use Rattle.peeks.specs.Peek.{stepZero, peekAt, hasCell, mayPeek, seenAs,
 use Rattle.circuits.specs.Model.Work.{numIn}
 use Rattle.circuits.specs.Model.Places.{ShowsAll}
 use Rattle.circuits.specs.Model.Passes.{countsOf, totalsOf, Noted}
-use Rattle.peeks.specs.Model.Looks.{initOf, Laid, Looks, Kept, keptAs, markIn, wordIn, WordLine, CellLine, HasCell, lentPeek}
+use Rattle.peeks.specs.Model.Looks.{initOf, Laid, Looks, KeptWords, keptAs, keptMark, keptWord, WordLine, CellLine, HasCell, lentPeek}
 use Rattle.circuits.proofs.Placing.{all-sound, lines-here, noted-types}
 use Rattle.peeks.proofs.Looked.{shown, one-cell, more-cells}
 
@@ -85,7 +85,7 @@ may-on c z n k s i et ey ed ex = sym (ed ∙ ap₂ (λ (t : Totals) (y : Ty). ma
 -- ---- what a peek begins with
 
 -- of no line a word is kept but of line 0, which is none
-pub kept-none : (C : List Line) (S R : List ℕ) {K : List (List ℕ)} → K ≡ set (replicate 65 (replicate 2 0)) 0 (keptAs 0) → Kept (stepZero C S R) K
+pub kept-none : (C : List Line) (S R : List ℕ) {K : List (List ℕ)} → K ≡ set (replicate 65 (replicate 2 0)) 0 (keptAs 0) → KeptWords (stepZero C S R) K
 unfolding stepZero start
 kept-none C S R {K} e =
     let at : (a : ℕ) → getD K a [] ≡ getD (set (replicate 65 (replicate 2 0)) 0 (keptAs 0)) a [] = λ a. ap (λ (x : List (List ℕ)). getD x a []) e in
@@ -95,14 +95,14 @@ kept-none C S R {K} e =
       are = λ a k. go a k;
     }
   where
-    zeros : (m a : ℕ) → markIn (replicate m (replicate 2 0)) a ≡ 0
+    zeros : (m a : ℕ) → keptMark (replicate m (replicate 2 0)) a ≡ 0
     zeros zero a = refl
     zeros (suc m) zero = refl
     zeros (suc m) (suc a) = zeros m a
 
-    go : (a : ℕ) → markIn K a ≡ 1 → wordIn K a ≡ wordAt (stepZero C S R) a
-    go zero k = ap (λ (x : List (List ℕ)). wordIn x 0) e ∙ sym (ap (λ (x : List ℕ). getD x 0 0) (cells-first false false C (start false C S R) (take (rowLength false C) R) 0 0 (omega arith) (omega arith)))
-    go (suc a) k = absurd (omega (arith, sym k ∙ ap (λ (x : List (List ℕ)). markIn x (suc a)) e ∙ zeros 64 a))
+    go : (a : ℕ) → keptMark K a ≡ 1 → keptWord K a ≡ wordAt (stepZero C S R) a
+    go zero k = ap (λ (x : List (List ℕ)). keptWord x 0) e ∙ sym (ap (λ (x : List ℕ). getD x 0 0) (cells-first false false C (start false C S R) (take (rowLength false C) R) 0 0 (omega arith) (omega arith)))
+    go (suc a) k = absurd (omega (arith, sym k ∙ ap (λ (x : List (List ℕ)). keptMark x (suc a)) e ∙ zeros 64 a))
 
 pub looks-all : {t : List ℕ} {n : ℕ} {P : List (List ℕ)} {ini S R : List ℕ} → Laid t n P S R → length ini ≡ length {A = ℕ} (replicate 65 0)
     → ((q : ℕ) → q < 65 → getD ini q 0 ≡ initOf q (linesOf false t n)) → Looks t n P ini S R

@@ -12,7 +12,7 @@ use borrow.Author.Needs.{needs}
 use borrow.Author.Tests.{ltb-true, ltb-false}
 use Rattle.tables.specs.Layout.{linesOf}
 use Rattle.peeks.specs.Peek.{stepZero}
-use Rattle.peeks.proofs.Peeking.{kept, not-none, number, word-most, start-asks, start-is, init-is, word-first, first-equality, first-word, second-word, read-through, cell-first, cell-word, cell-start, ite-through, write-hit, write-miss}
+use Rattle.peeks.proofs.Peeking.{word-kept, cell-through, cell-through-word, not-none, number, word-most, start-asks, start-is, init-is, word-first, first-equality, first-word, second-word, read-through, cell-first, cell-word, cell-start, ite-through, write-hit, write-miss}
 use Rattle.peeks.proofs.Valued.{value-asks, value-is}
 use Rattle.peeks.proofs.Compared.{Alike, left-cell, right-cell, alike-none, alike-more, alike-all}
 use borrow.Fn.Kinds.{In}
@@ -98,7 +98,7 @@ cell-cell-requires : (t : ℕ) → cell-lts.Need-cell-requires (cell-uses t) (ce
 cell-cell-requires t c κs = let a = c .before .before .before .before .before .before .before .before .before .before .before .before .before .before .args in let p = c .before .before .before .before .before .before .before .before .before .before .before .before .before .before .pre in let lk = p .1 .looks in let ln = p .1 .line in let er = c .before .before .before .before .before .before .before .before .before .«record» .ensures in let f = c .before .before .before .before .before .before .before .first .ensures in let ex = c .before .before .before .before .word .ensures .is in let g = c .before .before .second .ensures in let q = ite-through lk ln er f ex g (c .before .if3 .taken) in (omega (arith, p .0, q .below), record { looks = lk; line = q .line; kept = (c .before .before .before .before .word .ensures .kept) })
 
 cell-returns-3 : (t : ℕ) → cell-lts.Need-returns-3 (cell-uses t) (cell-at t) cell.Post
-cell-returns-3 t c = let a = c .before .before .before .before .before .before .before .before .before .before .before .before .before .before .before .args in let p = c .before .before .before .before .before .before .before .before .before .before .before .before .before .before .before .pre in let lk = p .1 .looks in let ln = p .1 .line in let er = c .before .before .before .before .before .before .before .before .before .before .«record» .ensures in let f = c .before .before .before .before .before .before .before .before .first .ensures in let ex = c .before .before .before .before .before .word .ensures .is in let g = c .before .before .before .second .ensures in let q = ite-through lk ln er f ex g (c .before .before .if3 .taken) in record { is = (c .cell .ensures .is) ∙ q .is; kept = (c .cell .ensures .kept) }
+cell-returns-3 t c = let a = c .before .before .before .before .before .before .before .before .before .before .before .before .before .before .before .args in let p = c .before .before .before .before .before .before .before .before .before .before .before .before .before .before .before .pre in let lk = p .1 .looks in let ln = p .1 .line in let er = c .before .before .before .before .before .before .before .before .before .before .«record» .ensures in let f = c .before .before .before .before .before .before .before .before .first .ensures in let ex = c .before .before .before .before .before .word .ensures .is in let g = c .before .before .before .second .ensures in let q = ite-through lk ln er f ex g (c .before .before .if3 .taken) in cell-through q (c .cell .ensures)
 
 cell-array-read-v : (t : ℕ) → cell-lts.Need-array-read-v (cell-uses t) (cell-at t) cell.Post
 cell-array-read-v t c = search needs
@@ -107,13 +107,13 @@ cell-word-requires-2 : (t : ℕ) → cell-lts.Need-word-requires-2 (cell-uses t)
 cell-word-requires-2 t c κs = let a = c .before .before .before .before .before .before .before .before .before .before .before .before .before .before .before .args in let p = c .before .before .before .before .before .before .before .before .before .before .before .before .before .before .before .pre in let lk = p .1 .looks in let ln = p .1 .line in let er = c .before .before .before .before .before .before .before .before .before .before .«record» .ensures in let f = c .before .before .before .before .before .before .before .before .first .ensures in let ex = c .before .before .before .before .before .word .ensures .is in let g = c .before .before .before .second .ensures in let q = write-hit lk ln er f ex g (c .before .before .before .before .if2 .left) (c .before .before .if3 .left) (c .before .if4 .taken) in (omega (arith, p .0, q .below), record { looks = lk; line = λ h. q .line; kept = (c .before .before .before .before .before .word .ensures .kept) })
 
 cell-returns-4 : (t : ℕ) → cell-lts.Need-returns-4 (cell-uses t) (cell-at t) cell.Post
-cell-returns-4 t c = let a = c .before .before .before .before .before .before .before .before .before .before .before .before .before .before .before .before .args in let p = c .before .before .before .before .before .before .before .before .before .before .before .before .before .before .before .before .pre in let lk = p .1 .looks in let ln = p .1 .line in let er = c .before .before .before .before .before .before .before .before .before .before .before .«record» .ensures in let f = c .before .before .before .before .before .before .before .before .before .first .ensures in let ex = c .before .before .before .before .before .before .word .ensures .is in let g = c .before .before .before .before .second .ensures in let q = write-hit lk ln er f ex g (c .before .before .before .before .before .if2 .left) (c .before .before .before .if3 .left) (c .before .before .if4 .taken) in record { is = (c .word2 .ensures .is) ∙ q .is; kept = (c .word2 .ensures .kept) }
+cell-returns-4 t c = let a = c .before .before .before .before .before .before .before .before .before .before .before .before .before .before .before .before .args in let p = c .before .before .before .before .before .before .before .before .before .before .before .before .before .before .before .before .pre in let lk = p .1 .looks in let ln = p .1 .line in let er = c .before .before .before .before .before .before .before .before .before .before .before .«record» .ensures in let f = c .before .before .before .before .before .before .before .before .before .first .ensures in let ex = c .before .before .before .before .before .before .word .ensures .is in let g = c .before .before .before .before .second .ensures in let q = write-hit lk ln er f ex g (c .before .before .before .before .before .if2 .left) (c .before .before .before .if3 .left) (c .before .before .if4 .taken) in cell-through-word q (c .word2 .ensures)
 
 cell-cell-requires-2 : (t : ℕ) → cell-lts.Need-cell-requires-2 (cell-uses t) (cell-at t) cell.Post
 cell-cell-requires-2 t c κs = let a = c .before .before .before .before .before .before .before .before .before .before .before .before .before .before .before .args in let p = c .before .before .before .before .before .before .before .before .before .before .before .before .before .before .before .pre in let lk = p .1 .looks in let ln = p .1 .line in let er = c .before .before .before .before .before .before .before .before .before .before .«record» .ensures in let f = c .before .before .before .before .before .before .before .before .first .ensures in let ex = c .before .before .before .before .before .word .ensures .is in let g = c .before .before .before .second .ensures in let q = write-miss lk ln er f ex g (c .before .before .before .before .if2 .left) (c .before .before .if3 .left) (c .before .if4 .left) in (omega (arith, p .0, q .below), record { looks = lk; line = q .line; kept = (c .before .before .before .before .before .word .ensures .kept) })
 
 cell-returns-5 : (t : ℕ) → cell-lts.Need-returns-5 (cell-uses t) (cell-at t) cell.Post
-cell-returns-5 t c = let a = c .before .before .before .before .before .before .before .before .before .before .before .before .before .before .before .before .args in let p = c .before .before .before .before .before .before .before .before .before .before .before .before .before .before .before .before .pre in let lk = p .1 .looks in let ln = p .1 .line in let er = c .before .before .before .before .before .before .before .before .before .before .before .«record» .ensures in let f = c .before .before .before .before .before .before .before .before .before .first .ensures in let ex = c .before .before .before .before .before .before .word .ensures .is in let g = c .before .before .before .before .second .ensures in let q = write-miss lk ln er f ex g (c .before .before .before .before .before .if2 .left) (c .before .before .before .if3 .left) (c .before .before .if4 .left) in record { is = (c .cell2 .ensures .is) ∙ q .is; kept = (c .cell2 .ensures .kept) }
+cell-returns-5 t c = let a = c .before .before .before .before .before .before .before .before .before .before .before .before .before .before .before .before .args in let p = c .before .before .before .before .before .before .before .before .before .before .before .before .before .before .before .before .pre in let lk = p .1 .looks in let ln = p .1 .line in let er = c .before .before .before .before .before .before .before .before .before .before .before .«record» .ensures in let f = c .before .before .before .before .before .before .before .before .before .first .ensures in let ex = c .before .before .before .before .before .before .word .ensures .is in let g = c .before .before .before .before .second .ensures in let q = write-miss lk ln er f ex g (c .before .before .before .before .before .if2 .left) (c .before .before .before .if3 .left) (c .before .before .if4 .left) in cell-through q (c .cell2 .ensures)
 
 -- a turn of the loop that compares
 more-fits : (k m : ℕ) → ltb k m ≡ true → m < 2 ^ 64 → Fits w64 (k + 1)
@@ -198,7 +198,7 @@ word-keep-requires : (t : ℕ) → word-lts.Need-keep-requires (word-uses t) (wo
 word-keep-requires t c κs = let a = c .before .before .before .before .before .before .before .before .before .before .before .before .before .before .before .args in let p = c .before .before .before .before .before .before .before .before .before .before .before .before .before .before .before .pre in let lk = p .1 .looks in word-most lk (a .n) (p .1 .line)
 
 word-returns-2 : (t : ℕ) → word-lts.Need-returns-2 (word-uses t) (word-at t) word.Post word-Inv-loop word-μ-loop
-word-returns-2 t c = let a = c .before .before .before .before .before .before .before .before .before .before .before .before .before .before .before .before .args in let p = c .before .before .before .before .before .before .before .before .before .before .before .before .before .before .before .before .pre in let lk = p .1 .looks in let ln = p .1 .line (not-none (a .n) (p .1 .kept) (c .before .before .before .before .before .before .before .before .before .before .if1 .left)) in let er = c .before .before .before .before .before .before .before .before .before .«record» .ensures in let f = c .before .before .before .before .before .before .before .first .ensures in let em = c .before .before .before .before .before .before .cells .ensures in let o = c .before .before .before .before .before .if2 .taken in let q = first-equality lk ln er f (subst (λ (x : ℕ). 1 < x) em o) in let v = (c .before .before .says .ensures) ∙ alike-all lk q em (⊎-elim (λ u. inr (ltb-false (c .before .before .before .before .loop .k) (c .before .before .before .before .before .before .cells .result) (u .1 .left))) (λ u. inl (u .left)) (c .before .before .before .loop-test .came)) (c .before .before .before .before .loop .inv) in record { is = (c .keep .ensures .0) ∙ v; kept = kept (word-most lk (a .n) (p .1 .line)) (c .before .before .before .before .loop .inv .kept) v (c .keep .ensures .1) }
+word-returns-2 t c = let a = c .before .before .before .before .before .before .before .before .before .before .before .before .before .before .before .before .args in let p = c .before .before .before .before .before .before .before .before .before .before .before .before .before .before .before .before .pre in let lk = p .1 .looks in let ln = p .1 .line (not-none (a .n) (p .1 .kept) (c .before .before .before .before .before .before .before .before .before .before .if1 .left)) in let er = c .before .before .before .before .before .before .before .before .before .«record» .ensures in let f = c .before .before .before .before .before .before .before .first .ensures in let em = c .before .before .before .before .before .before .cells .ensures in let o = c .before .before .before .before .before .if2 .taken in let q = first-equality lk ln er f (subst (λ (x : ℕ). 1 < x) em o) in let v = (c .before .before .says .ensures) ∙ alike-all lk q em (⊎-elim (λ u. inr (ltb-false (c .before .before .before .before .loop .k) (c .before .before .before .before .before .before .cells .result) (u .1 .left))) (λ u. inl (u .left)) (c .before .before .before .loop-test .came)) (c .before .before .before .before .loop .inv) in word-kept (word-most lk (a .n) (p .1 .line)) (c .before .before .before .before .loop .inv .kept) v (c .keep .ensures)
 
 word-word-requires : (t : ℕ) → word-lts.Need-word-requires (word-uses t) (word-at t) word.Post word-Inv-loop word-μ-loop
 word-word-requires t c κs = let a = c .before .before .before .before .before .before .before .before .before .before .before .before .args in let p = c .before .before .before .before .before .before .before .before .before .before .before .before .pre in let lk = p .1 .looks in let ln = p .1 .line (not-none (a .n) (p .1 .kept) (c .before .before .before .before .before .before .if1 .left)) in let er = c .before .before .before .before .before .«record» .ensures in let f = c .before .before .before .first .ensures in let one = subst (λ (x : ℕ). x ≤ 1) (c .before .before .cells .ensures) (c .before .if2 .left) in (omega (arith, p .0, word-first lk ln er f .below), record { looks = lk; line = first-word lk ln er f one; kept = p .1 .kept })
@@ -216,7 +216,7 @@ word-keep-requires-2 : (t : ℕ) → word-lts.Need-keep-requires-2 (word-uses t)
 word-keep-requires-2 t c κs = let a = c .before .before .before .before .before .before .before .before .before .before .before .before .before .before .before .before .before .before .args in let p = c .before .before .before .before .before .before .before .before .before .before .before .before .before .before .before .before .before .before .pre in let lk = p .1 .looks in word-most lk (a .n) (p .1 .line)
 
 word-returns-3 : (t : ℕ) → word-lts.Need-returns-3 (word-uses t) (word-at t) word.Post word-Inv-loop word-μ-loop
-word-returns-3 t c = let a = c .before .before .before .before .before .before .before .before .before .before .before .before .before .before .before .before .before .before .before .args in let p = c .before .before .before .before .before .before .before .before .before .before .before .before .before .before .before .before .before .before .before .pre in let lk = p .1 .looks in let ln = p .1 .line (not-none (a .n) (p .1 .kept) (c .before .before .before .before .before .before .before .before .before .before .before .before .before .if1 .left)) in let er = c .before .before .before .before .before .before .before .before .before .before .before .before .«record» .ensures in let f = c .before .before .before .before .before .before .before .before .before .before .first .ensures in let one = subst (λ (x : ℕ). x ≤ 1) (c .before .before .before .before .before .before .before .before .before .cells .ensures) (c .before .before .before .before .before .before .before .before .if2 .left) in let ex = c .before .before .before .before .before .before .word .ensures .is in let g = c .before .before .before .before .before .second .ensures in let q = read-through lk ln er f one ex g (c .before .before .before .before .if4 .taken) in let v = (c .before .before .cell3 .ensures .is) ∙ q .is in record { is = (c .keep2 .ensures .0) ∙ v; kept = kept (word-most lk (a .n) (p .1 .line)) (c .before .before .cell3 .ensures .kept) v (c .keep2 .ensures .1) }
+word-returns-3 t c = let a = c .before .before .before .before .before .before .before .before .before .before .before .before .before .before .before .before .before .before .before .args in let p = c .before .before .before .before .before .before .before .before .before .before .before .before .before .before .before .before .before .before .before .pre in let lk = p .1 .looks in let ln = p .1 .line (not-none (a .n) (p .1 .kept) (c .before .before .before .before .before .before .before .before .before .before .before .before .before .if1 .left)) in let er = c .before .before .before .before .before .before .before .before .before .before .before .before .«record» .ensures in let f = c .before .before .before .before .before .before .before .before .before .before .first .ensures in let one = subst (λ (x : ℕ). x ≤ 1) (c .before .before .before .before .before .before .before .before .before .cells .ensures) (c .before .before .before .before .before .before .before .before .if2 .left) in let ex = c .before .before .before .before .before .before .word .ensures .is in let g = c .before .before .before .before .before .second .ensures in let q = read-through lk ln er f one ex g (c .before .before .before .before .if4 .taken) in let v = (c .before .before .cell3 .ensures .is) ∙ q .is in word-kept (word-most lk (a .n) (p .1 .line)) (c .before .before .cell3 .ensures .kept) v (c .keep2 .ensures)
 
 word-word-requires-2 : (t : ℕ) → word-lts.Need-word-requires-2 (word-uses t) (word-at t) word.Post word-Inv-loop word-μ-loop
 word-word-requires-2 t c κs = let a = c .before .before .before .before .before .before .before .before .before .before .before .before .before .before .before .before .args in let p = c .before .before .before .before .before .before .before .before .before .before .before .before .before .before .before .before .pre in let lk = p .1 .looks in let ln = p .1 .line (not-none (a .n) (p .1 .kept) (c .before .before .before .before .before .before .before .before .before .before .if1 .left)) in let er = c .before .before .before .before .before .before .before .before .before .«record» .ensures in let f = c .before .before .before .before .before .before .before .first .ensures in let one = subst (λ (x : ℕ). x ≤ 1) (c .before .before .before .before .before .before .cells .ensures) (c .before .before .before .before .before .if2 .left) in let ex = c .before .before .before .word .ensures .is in let g = c .before .before .second .ensures in let q = second-word lk ln er f one ex g (c .before .if4 .left) in (omega (arith, p .0, q .below), record { looks = lk; line = q .line; kept = (c .before .before .before .word .ensures .kept) })
@@ -228,7 +228,7 @@ word-keep-requires-3 : (t : ℕ) → word-lts.Need-keep-requires-3 (word-uses t)
 word-keep-requires-3 t c κs = let a = c .before .before .before .before .before .before .before .before .before .before .before .before .before .before .before .before .before .before .before .args in let p = c .before .before .before .before .before .before .before .before .before .before .before .before .before .before .before .before .before .before .before .pre in let lk = p .1 .looks in word-most lk (a .n) (p .1 .line)
 
 word-returns-4 : (t : ℕ) → word-lts.Need-returns-4 (word-uses t) (word-at t) word.Post word-Inv-loop word-μ-loop
-word-returns-4 t c = let a = c .before .before .before .before .before .before .before .before .before .before .before .before .before .before .before .before .before .before .before .before .args in let p = c .before .before .before .before .before .before .before .before .before .before .before .before .before .before .before .before .before .before .before .before .pre in let lk = p .1 .looks in let ln = p .1 .line (not-none (a .n) (p .1 .kept) (c .before .before .before .before .before .before .before .before .before .before .before .before .before .before .if1 .left)) in let er = c .before .before .before .before .before .before .before .before .before .before .before .before .before .«record» .ensures in let f = c .before .before .before .before .before .before .before .before .before .before .before .first .ensures in let one = subst (λ (x : ℕ). x ≤ 1) (c .before .before .before .before .before .before .before .before .before .before .cells .ensures) (c .before .before .before .before .before .before .before .before .before .if2 .left) in let ex = c .before .before .before .before .before .before .before .word .ensures .is in let g = c .before .before .before .before .before .before .second .ensures in let v = value-is lk ln er f one ex g (c .before .before .before .word2 .ensures .is) (c .before .before .before .before .before .if4 .left) (c .before .before .value .ensures) in record { is = (c .keep3 .ensures .0) ∙ v; kept = kept (word-most lk (a .n) (p .1 .line)) (c .before .before .before .word2 .ensures .kept) v (c .keep3 .ensures .1) }
+word-returns-4 t c = let a = c .before .before .before .before .before .before .before .before .before .before .before .before .before .before .before .before .before .before .before .before .args in let p = c .before .before .before .before .before .before .before .before .before .before .before .before .before .before .before .before .before .before .before .before .pre in let lk = p .1 .looks in let ln = p .1 .line (not-none (a .n) (p .1 .kept) (c .before .before .before .before .before .before .before .before .before .before .before .before .before .before .if1 .left)) in let er = c .before .before .before .before .before .before .before .before .before .before .before .before .before .«record» .ensures in let f = c .before .before .before .before .before .before .before .before .before .before .before .first .ensures in let one = subst (λ (x : ℕ). x ≤ 1) (c .before .before .before .before .before .before .before .before .before .before .cells .ensures) (c .before .before .before .before .before .before .before .before .before .if2 .left) in let ex = c .before .before .before .before .before .before .before .word .ensures .is in let g = c .before .before .before .before .before .before .second .ensures in let v = value-is lk ln er f one ex g (c .before .before .before .word2 .ensures .is) (c .before .before .before .before .before .if4 .left) (c .before .before .value .ensures) in word-kept (word-most lk (a .n) (p .1 .line)) (c .before .before .before .word2 .ensures .kept) v (c .keep3 .ensures)
 
 pub +cell+word-spec : {M : Type 1} → statement M
 +cell+word-spec = close μ-cell μ-word (λ t. cell-lts.spec (cell-uses t)

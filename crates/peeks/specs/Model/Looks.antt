@@ -60,16 +60,16 @@ pub record Looks (t : List ℕ) (n : ℕ) (P : List (List ℕ)) (ini S R : List 
 abbrev pub keptAs : (v : ℕ) → List ℕ
 keptAs v = v ∷ 1 ∷ []
 
-abbrev pub wordIn : List (List ℕ) → ℕ → ℕ
-wordIn K a = getD (getD K a []) 0 0
+abbrev pub keptWord : List (List ℕ) → ℕ → ℕ
+keptWord K a = getD (getD K a []) 0 0
 
-abbrev pub markIn : List (List ℕ) → ℕ → ℕ
-markIn K a = getD (getD K a []) 1 0
+abbrev pub keptMark : List (List ℕ) → ℕ → ℕ
+keptMark K a = getD (getD K a []) 1 0
 
-pub record Kept (A : Frame) (K : List (List ℕ)) : Type 0 where
+pub record KeptWords (A : Frame) (K : List (List ℕ)) : Type 0 where
   pub long : length K ≡ 65
-  pub none : markIn K 0 ≡ 1
-  pub are : (a : ℕ) → markIn K a ≡ 1 → wordIn K a ≡ wordAt A a
+  pub none : keptMark K 0 ≡ 1
+  pub are : (a : ℕ) → keptMark K a ≡ 1 → keptWord K a ≡ wordAt A a
 
 -- the line a is a word, and the line a is an array that has the cell c
 pub record WordLine (t : List ℕ) (n a : ℕ) : Type 0 where
@@ -94,20 +94,20 @@ pub record HasCell (t : List ℕ) (n a c : ℕ) : Type 0 where
 pub record WordAsked (t : List ℕ) (n : ℕ) (P : List (List ℕ)) (ini S R : List ℕ) (K : List (List ℕ)) (a : ℕ) : Type 0 where
   pub looks : Looks t n P ini S R
   pub line : 1 ≤ a → WordLine t n a
-  pub kept : Kept (stepZero (linesOf false t n) S R) K
+  pub kept : KeptWords (stepZero (linesOf false t n) S R) K
 
 pub record WordFound (t : List ℕ) (n : ℕ) (S R : List ℕ) (K : List (List ℕ)) (a r : ℕ) : Type 0 where
   pub is : r ≡ wordAt (stepZero (linesOf false t n) S R) a
-  pub kept : Kept (stepZero (linesOf false t n) S R) K
+  pub kept : KeptWords (stepZero (linesOf false t n) S R) K
 
 pub record CellAsked (t : List ℕ) (n : ℕ) (P : List (List ℕ)) (ini S R : List ℕ) (K : List (List ℕ)) (a c : ℕ) : Type 0 where
   pub looks : Looks t n P ini S R
   pub line : CellLine t n a c
-  pub kept : Kept (stepZero (linesOf false t n) S R) K
+  pub kept : KeptWords (stepZero (linesOf false t n) S R) K
 
 pub record CellFound (t : List ℕ) (n : ℕ) (S R : List ℕ) (K : List (List ℕ)) (a c r : ℕ) : Type 0 where
   pub is : r ≡ getD (cellsAt (stepZero (linesOf false t n) S R) a) c 0
-  pub kept : Kept (stepZero (linesOf false t n) S R) K
+  pub kept : KeptWords (stepZero (linesOf false t n) S R) K
 
 -- the line a that a record's line looks at first, where d is the line of its init's value
 pub record FirstLine (r : List ℕ) (d a : ℕ) : Type 0 where
