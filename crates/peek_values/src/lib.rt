@@ -4,10 +4,10 @@ use tables::Checked;
 use tables::WORDS;
 ghost use mathlib.Core.Path.{_≡_};
 ghost use mathlib.Core.Bool.{false};
-ghost use Prim.Native.Nat.{ℕ, _<_, _%_, _^_, _≤_, _+_};
+ghost use Prim.Native.Nat.{ℕ, _<_, _%_, _^_, _≤_};
 ghost use lib.ListN.{length, getD, replicate, set};
 ghost use Rattle.tables.specs.Lines.{lineOf, kindIn, firstIn, secondIn, thirdIn};
-ghost use Rattle.peeks.specs.Model.Looks.{noteInit, initOf};
+ghost use Rattle.peeks.specs.Model.Looks.{noteInit, initOf, keptAs, FirstLine, SecondLine, StartAsked, startIn, ValueAsked, ValueFound};
 ghost use Rattle.tables.specs.Tables.{checked};
 ghost use Rattle.tables.specs.Layout.{held, recordAt, linesOf};
 ghost use Rattle.words.specs.Word.{Width};
@@ -52,13 +52,47 @@ pub fn find_inits(table: &[u64], count: usize, ini: &mut [u64])
     }
 }
 
-// The word v of the line n is kept: `has` marks the lines whose words are in `vals`.
-pub fn keep(vals: &mut [u64], has: &mut [u8], n: usize, v: u64) -> u64
-    requires { ⌜ (n < length (now vals)) × (n < length (now has)) ⌝ }
-    ensures { λ r. ⌜ (r ≡ v) × ((now (vals .exit) ≡ set (now (vals .entry)) n v) × (now (has .exit) ≡ set (now (has .entry)) n 1)) ⌝ }
+// The line that is looked at first for the word of a line, or for a cell: the value of a state's init, d, the index of a read or of a write, else the first operand;
+// 0, which is no line, for a constant and for an input.
+pub fn first(rec: [u64; WORDS], d: u64) -> usize
+    ensures { λ r. ⌜ FirstLine rec d r ⌝ }
 {
-    vals[n] = v;
-    has[n] = 1;
+    let k = rec[0];
+    if k < 5 {
+        return 0;
+    }
+    if k == 5 {
+        return d as usize;
+    }
+    if k < 54 {
+        return rec[2] as usize;
+    }
+    rec[3] as usize
+}
+
+// The line that is looked at next, where the first one's word is x: the second operand, what an ite takes, the array of a read or of a write; 0 where one word is all.
+pub fn second(rec: [u64; WORDS], x: u64) -> usize
+    ensures { λ r. ⌜ SecondLine rec x r ⌝ }
+{
+    let k = rec[0];
+    if k < 21 {
+        return 0;
+    }
+    if k < 53 {
+        return rec[3] as usize;
+    }
+    if k == 53 {
+        return chosen(x, rec[3], rec[4]);
+    }
+    rec[2] as usize
+}
+
+// The word v of the line n is kept.
+pub fn keep(kept: &mut [[u64; 2]; 65], n: usize, v: u64) -> u64
+    requires { ⌜ n ≤ 64 ⌝ }
+    ensures { λ r. ⌜ (r ≡ v) × (now (kept .exit) ≡ set (now (kept .entry)) n (keptAs v)) ⌝ }
+{
+    kept[n] = [v, 1];
     v
 }
 
@@ -74,16 +108,27 @@ fn input_word(n: usize, laid: &[[u32; LAID]; 16385], row: &[u64]) -> u64
 
 // The start word of the cell k of the state on the line n.
 pub fn start_word(n: usize, k: usize, laid: &[[u32; LAID]; 16385], starts: &[u64]) -> u64
-    requires { ⌜ (n ≤ 16384) × ((posIn (now laid) n + k < length (now starts)) × Width (widIn (now laid) n)) ⌝ }
-    ensures { λ r. ⌜ r ≡ getD (now (starts .entry)) (posIn (now (laid .entry)) n + k) 0 % 2 ^ widIn (now (laid .entry)) n ⌝ }
+    requires { ⌜ StartAsked (now laid) (now starts) n k ⌝ }
+    ensures { λ r. ⌜ r ≡ startIn (now (laid .entry)) (now (starts .entry)) n k ⌝ }
 {
     let p = area::place(laid, n) + k;
     let v = starts[p];
     operators::low(area::width(laid, n), v)
 }
 
+// The word of the state on the line n: that of its init's value, x, or its start word where the value's line, a, is 0.
+fn state_word(n: usize, a: usize, laid: &[[u32; LAID]; 16385], starts: &[u64], x: u64) -> u64
+    requires { ⌜ (a ≡ 0 → StartAsked (now laid) (now starts) n 0) ⌝ }
+    ensures { λ r. ⌜ ((a ≡ 0 → r ≡ startIn (now (laid .entry)) (now (starts .entry)) n 0) × ((a ≡ 0 → ⊥) → r ≡ x)) ⌝ }
+{
+    if a == 0 {
+        return start_word(n, 0, laid, starts);
+    }
+    x
+}
+
 // An operator of one word, v, on the line n.
-pub fn unary(rec: [u64; WORDS], n: usize, laid: &[[u32; LAID]; 16385], v: u64) -> u64
+fn unary(rec: [u64; WORDS], n: usize, laid: &[[u32; LAID]; 16385], v: u64) -> u64
     requires { ⌜ (n ≤ 16384) × ((firstIn rec ≤ 16384) × FitWord false (kindIn rec) (widIn (now laid) n) (widIn (now laid) (firstIn rec)) 64 v (secondIn rec) (thirdIn rec)) ⌝ }
     ensures { λ r. ⌜ r ≡ opWord false (kindIn rec) (widIn (now (laid .entry)) (firstIn rec)) 64 v (secondIn rec) (thirdIn rec) ⌝ }
 {
@@ -93,7 +138,7 @@ pub fn unary(rec: [u64; WORDS], n: usize, laid: &[[u32; LAID]; 16385], v: u64) -
 }
 
 // An operator of two words, x and y, on the line n.
-pub fn binary(rec: [u64; WORDS], n: usize, laid: &[[u32; LAID]; 16385], x: u64, y: u64) -> u64
+fn binary(rec: [u64; WORDS], n: usize, laid: &[[u32; LAID]; 16385], x: u64, y: u64) -> u64
     requires { ⌜ (n ≤ 16384) × ((firstIn rec ≤ 16384) × ((secondIn rec ≤ 16384)
         × FitWord false (kindIn rec) (widIn (now laid) n) (widIn (now laid) (firstIn rec)) (widIn (now laid) (secondIn rec)) x y 0)) ⌝ }
     ensures { λ r. ⌜ r ≡ opWord false (kindIn rec) (widIn (now (laid .entry)) (firstIn rec)) (widIn (now (laid .entry)) (secondIn rec)) x y 0 ⌝ }
@@ -105,7 +150,7 @@ pub fn binary(rec: [u64; WORDS], n: usize, laid: &[[u32; LAID]; 16385], x: u64, 
 }
 
 // The word of the constant or of the input on the line n.
-pub fn given(rec: [u64; WORDS], n: usize, laid: &[[u32; LAID]; 16385], row: &[u64]) -> u64
+fn given(rec: [u64; WORDS], n: usize, laid: &[[u32; LAID]; 16385], row: &[u64]) -> u64
     requires { ⌜ ((kindIn rec ≡ 3 → ⊥) → (n ≤ 16384) × ((posIn (now laid) n < length (now row)) × Width (widIn (now laid) n))) ⌝ }
     ensures { λ r. ⌜ ((kindIn rec ≡ 3 → r ≡ firstIn rec)
         × ((kindIn rec ≡ 3 → ⊥) → r ≡ getD (now (row .entry)) (posIn (now (laid .entry)) n) 0 % 2 ^ widIn (now (laid .entry)) n)) ⌝ }
@@ -117,11 +162,36 @@ pub fn given(rec: [u64; WORDS], n: usize, laid: &[[u32; LAID]; 16385], row: &[u6
 }
 
 // The line that an ite takes where its condition is d.
-pub fn chosen(d: u64, b: u64, c: u64) -> usize
+fn chosen(d: u64, b: u64, c: u64) -> usize
     ensures { λ r. ⌜ r ≡ ifNonzero d b c ⌝ }
 {
     if d != 0 {
         return b as usize;
     }
     c as usize
+}
+
+// The word of the line n, whose operands are words: x and y are those of the lines that are looked at first and next, the first one being on the line a.
+pub fn value(
+    rec: [u64; WORDS],
+    n: usize,
+    a: usize,
+    laid: &[[u32; LAID]; 16385],
+    starts: &[u64],
+    row: &[u64],
+    x: u64,
+    y: u64,
+) -> u64
+    requires { ⌜ ValueAsked (now laid) (now starts) (now row) rec n a x y ⌝ }
+    ensures { λ r. ⌜ ValueFound (now (laid .entry)) (now (starts .entry)) (now (row .entry)) rec n a x y r ⌝ }
+{
+    let k = rec[0];
+    match k {
+        0..=4 => given(rec, n, laid, row),
+        5 => state_word(n, a, laid, starts, x),
+        6..=20 => unary(rec, n, laid, x),
+        21..=22 => evaluation::says(k == 21, x == y),
+        53 => y,
+        _ => binary(rec, n, laid, x, y),
+    }
 }

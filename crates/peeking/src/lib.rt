@@ -30,33 +30,13 @@ fn find(
 {
     let mut ini = [0u64; 65];
     peek_values::find_inits(table, count, &mut ini);
-    let mut vals = [0u64; 65];
-    let mut has = [0u8; 65];
+    let mut kept = [[0u64; 2]; 65];
+    // line 0, which is none, has the word 0
+    kept[0] = [0, 1];
     if area::cells(laid, n) == 1 {
-        return peek_cells::word(
-            table,
-            count,
-            laid,
-            &ini,
-            starts,
-            row,
-            &mut vals,
-            &mut has,
-            n,
-        );
+        return peek_cells::word(table, count, laid, &ini, starts, row, &mut kept, n);
     }
-    peek_cells::cell(
-        table,
-        count,
-        laid,
-        &ini,
-        starts,
-        row,
-        &mut vals,
-        &mut has,
-        n,
-        k,
-    )
+    peek_cells::cell(table, count, laid, &ini, starts, row, &mut kept, n, k)
 }
 
 // 14, 15 and 18: s start words and i inputs are lent, for the cell k of a line of the type y.

@@ -3,5 +3,7 @@ pub mod Begun
 pub mod Looked
 pub mod Inits
 pub mod Peeking
+pub mod Valued
+pub mod Compared
 pub mod Seen
 pub mod ValueLines

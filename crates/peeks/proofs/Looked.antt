@@ -223,6 +223,10 @@ module _ {t : List ℕ} {n : ℕ} {P : List (List ℕ)} {ini S R : List ℕ} (lk
   unfolding layout
   no-line = ap (λ (y : Ty). y .role) (later false noLayout (linesOf false t n) .type 0 (omega arith))
 
+  pub none-flat : typeAt (layout false (linesOf false t n)) 0 .iw ≡ 0
+  unfolding layout
+  none-flat = ap (λ (y : Ty). y .iw) (later false noLayout (linesOf false t n) .type 0 (omega arith))
+
   from-one : (a : ℕ) → 1 ≤ typeAt (layout false (linesOf false t n)) a .role → 1 ≤ a
   from-one zero q = absurd (omega (arith, no-line))
   from-one (suc a) q = omega arith

@@ -1,11 +1,11 @@
 -- The answers of a peek, test by test, and the value where none holds. Assumes nothing.
-use Prim.Native.Nat.{ℕ, _≤_, _<_}
+use Prim.Native.Nat.{ℕ, zero, suc, _≤_, _<_}
 use mathlib.Core.Path.{_≡_, refl, sym, ap, ap₂, _∙_, subst}
 use mathlib.Core.Bool.{Bool, true, false}
-use mathlib.Core.List.{List}
+use mathlib.Core.List.{List, []}
 use native.Mathlib.Omega.{arith}
 use lib.Dec.{leb, eqb}
-use lib.ListN.{length, getD, replicate, length-replicate}
+use lib.ListN.{length, take, getD, set, replicate, length-replicate}
 use borrow.Author.Tests.{le-leb, lt-leb, lt-ltb, le-ltb, eq-eqb, ne-eqb, leb-true, ltb-true, eqb-true}
 use Rattle.tables.specs.declared.Ty.{Ty}
 use Rattle.tables.specs.declared.Refusal.{Refusal}
@@ -16,20 +16,23 @@ use Rattle.tables.specs.Pick.{pick}
 use Rattle.tables.specs.Model.Notes.{lookIn}
 use Rattle.tables.specs.Types.{isValue}
 use Rattle.tables.specs.Tables.{checked}
-use Rattle.tables.proofs.Checking.{not-accepted, zeros-at}
+use Rattle.tables.proofs.Checking.{not-accepted}
 use Rattle.tables.proofs.Kept.{both}
 use Rattle.tables.proofs.Showing.{earlier}
 use Rattle.circuits.specs.declared.Totals.{Totals}
 use Rattle.peeks.specs.declared.Peeked.{Peeked}
 use Rattle.peeks.specs.declared.Peeked.the-variants.{Value, Refused as RefusedPeek}
 use Rattle.circuits.specs.Layout.{Counts, typeAt, size, layout}
-use Rattle.circuits.specs.Meaning.{Frame, cellsAt, wordAt}
+use Rattle.circuits.specs.Meaning.{cellsAt, wordAt}
+use Rattle.tables.specs.Lines.{Line}
 use Rattle.tables.specs.Layout.{linesOf}
+use Rattle.circuits.specs.Run.{rowLength, start}
+use Rattle.circuits.proofs.Earlier.{cells-first}
 use Rattle.peeks.specs.Peek.{stepZero, peekAt, hasCell, mayPeek, seenAs, peeked, toldPeek, peeks}
 use Rattle.circuits.specs.Model.Work.{numIn}
 use Rattle.circuits.specs.Model.Places.{ShowsAll}
 use Rattle.circuits.specs.Model.Passes.{countsOf, totalsOf, Noted}
-use Rattle.peeks.specs.Model.Looks.{initOf, Laid, Looks, Found, WordLine, CellLine, HasCell, lentPeek}
+use Rattle.peeks.specs.Model.Looks.{initOf, Laid, Looks, KeptWords, keptAs, keptMark, keptWord, WordLine, CellLine, HasCell, lentPeek}
 use Rattle.circuits.proofs.Placing.{all-sound, lines-here, noted-types}
 use Rattle.peeks.proofs.Looked.{shown, one-cell, more-cells}
 
@@ -81,8 +84,25 @@ may-on c z n k s i et ey ed ex = sym (ed ∙ ap₂ (λ (t : Totals) (y : Ty). ma
 
 -- ---- what a peek begins with
 
-pub found-none : (A : Frame) → Found A (replicate 65 0) (replicate 65 0)
-found-none A = record { long = length-replicate {A = ℕ} 65 0; marks = length-replicate {A = ℕ} 65 0; are = λ a e. absurd (omega (arith, zeros-at 65 a)) }
+-- of no line a word is kept but of line 0, which is none
+pub kept-none : (C : List Line) (S R : List ℕ) {K : List (List ℕ)} → K ≡ set (replicate 65 (replicate 2 0)) 0 (keptAs 0) → KeptWords (stepZero C S R) K
+unfolding stepZero start
+kept-none C S R {K} e =
+    let at : (a : ℕ) → getD K a [] ≡ getD (set (replicate 65 (replicate 2 0)) 0 (keptAs 0)) a [] = λ a. ap (λ (x : List (List ℕ)). getD x a []) e in
+    record {
+      long = ap length e;
+      none = ap (λ (x : List ℕ). getD x 1 0) (at 0);
+      are = λ a k. go a k;
+    }
+  where
+    zeros : (m a : ℕ) → keptMark (replicate m (replicate 2 0)) a ≡ 0
+    zeros zero a = refl
+    zeros (suc m) zero = refl
+    zeros (suc m) (suc a) = zeros m a
+
+    go : (a : ℕ) → keptMark K a ≡ 1 → keptWord K a ≡ wordAt (stepZero C S R) a
+    go zero k = ap (λ (x : List (List ℕ)). keptWord x 0) e ∙ sym (ap (λ (x : List ℕ). getD x 0 0) (cells-first false false C (start false C S R) (take (rowLength false C) R) 0 0 (omega arith) (omega arith)))
+    go (suc a) k = absurd (omega (arith, sym k ∙ ap (λ (x : List (List ℕ)). keptMark x (suc a)) e ∙ zeros 64 a))
 
 pub looks-all : {t : List ℕ} {n : ℕ} {P : List (List ℕ)} {ini S R : List ℕ} → Laid t n P S R → length ini ≡ length {A = ℕ} (replicate 65 0)
     → ((q : ℕ) → q < 65 → getD ini q 0 ≡ initOf q (linesOf false t n)) → Looks t n P ini S R

@@ -1,4 +1,4 @@
--- `peek_values::two` meets its contract. Assumes nothing.
+-- `peek_values::binary` meets its contract. Assumes nothing.
 use lib.ListN.{getD}
 use mathlib.Core.Bool.{false}
 use mathlib.Core.Path.{refl}

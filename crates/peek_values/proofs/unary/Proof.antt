@@ -1,4 +1,4 @@
--- `peek_values::one` meets its contract. Assumes nothing.
+-- `peek_values::unary` meets its contract. Assumes nothing.
 use lib.ListN.{getD}
 use mathlib.Core.Bool.{false}
 use mathlib.Core.Path.{refl}
