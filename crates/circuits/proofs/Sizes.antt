@@ -23,7 +23,7 @@ use Rattle.circuits.proofs.Walked.{seen-nothing, acc-lay}
 
 -- ---- a list that holds what a layout knows of its lines
 
--- of the line a, and of n lines from a on
+-- of the line a; of n lines from a on; of all lines
 abbrev row : Layout → (a : ℕ) → List ℕ
 row Y a = laidAs (offAt Y a) (size (typeAt Y a)) (placeAt Y a) (typeAt Y a .w)
 
@@ -31,14 +31,17 @@ abbrev rows : Layout → (a n : ℕ) → List (List ℕ)
 rows Y a zero = []
 rows Y a (suc n) = row Y a ∷ rows Y (suc a) n
 
+abbrev pub laidOf : Layout → List (List ℕ)
+laidOf Y = rows Y 0 (length (Y .places))
+
 rows-at : (Y : Layout) (a n i : ℕ) {b : ℕ} → i < n → a + i ≡ b → laidIn (rows Y a n) i ≡ row Y b
 rows-at Y a zero i h e = absurd (omega arith)
 rows-at Y a (suc n) zero h e = ap (row Y) (omega arith)
 rows-at Y a (suc n) (suc i) h e = rows-at Y (suc a) n i (omega arith) (omega arith)
 
-rows-show : (Y : Layout) → length (Y .places) ≤ 16385 → ShowsAll (rows Y 0 (length (Y .places))) Y
-rows-show Y few a h =
-    let e : laidIn (rows Y 0 (length (Y .places))) a ≡ row Y a = rows-at Y 0 (length (Y .places)) a h (omega arith) in
+pub laid-shows : (Y : Layout) → length (Y .places) ≤ 16385 → ShowsAll (laidOf Y) Y
+laid-shows Y few a h =
+    let e : laidIn (laidOf Y) a ≡ row Y a = rows-at Y 0 (length (Y .places)) a h (omega arith) in
     record {
       known = omega arith;
       isOff = ap (λ (r : List ℕ). getD r 0 0) e;
@@ -46,6 +49,23 @@ rows-show Y few a h =
       isNum = ap (λ (r : List ℕ). getD r 1 0) e;
       isPos = ap (λ (r : List ℕ). getD r 2 0) e;
     }
+
+-- ---- the cells of a value, read off a work area that holds the lines so far
+
+module _ {p : Bool} {all : ℕ} {σ work : List ℕ} {A : Frame} (H : Held p all σ work A) (room : A .lay .counts .cells ≤ all) (a : ℕ) (q : 2 ≤ typeAt (A .lay) a .role) where
+  pub held-size : length (cellsAt A a) ≡ size (typeAt (A .lay) a)
+  held-size =
+      let h = low (H .sound) a q in
+      ap length (sym (cells-at (H .sound) (H .holds) a q)) ∙ laws.length-part work (offAt (A .lay) a) (size (typeAt (A .lay) a)) (omega (arith, H .kept .len))
+
+  pub held-below : p ≡ false → (j : ℕ) → getD (cellsAt A a) j 0 < 2 ^ (typeAt (A .lay) a .w)
+  held-below e j =
+      let n = size (typeAt (A .lay) a) in
+      ⊎-elim
+      (λ lt. subst (λ (x : ℕ). x < 2 ^ (typeAt (A .lay) a .w))
+      (sym (ap (λ (x : List ℕ). getD x j 0) (sym (cells-at (H .sound) (H .holds) a q)) ∙ laws.part-getD work (offAt (A .lay) a) n j lt)) (H .holds .small e a q j lt))
+      (λ ge. subst (λ (x : ℕ). x < 2 ^ (typeAt (A .lay) a .w)) (sym (List·getD-eq-default (cellsAt A a) 0 (omega (arith, held-size)))) (pow-pos (typeAt (A .lay) a .w)))
+      (laws.lt-or-ge j n)
 
 -- ---- a walk
 
@@ -82,12 +102,12 @@ module _ (p f : Bool) (σ ι : List ℕ) where
   pub walk-line : {all : ℕ} (A : Frame) (l : Line) (C : List Line) → Walking p all σ A (l ∷ C) → Walking p all σ (evalLine p f σ ι A l) C
   walk-line {all} A l C k =
       let Z = lay p (A .lay) l in
-      let P = rows Z 0 (length (Z .places)) in
+      let P = laidOf Z in
       let g = later p Z C in
       let lp = more-places p (A .lay) l in
       record {
         work = workIn p f P all ι (k .work) (length (A .lay .ctx .tys)) l;
-        held = sim p f P all σ ι (k .work) A (k .held) l (k .ok .0) (rows-show Z (omega (arith, k .few))) (omega (arith, g .cells, k .cells)) (omega (arith, g .states, k .states));
+        held = sim p f P all σ ι (k .work) A (k .held) l (k .ok .0) (laid-shows Z (omega (arith, k .few))) (omega (arith, g .cells, k .cells)) (omega (arith, g .states, k .states));
         ok = k .ok .1;
         cells = k .cells;
         states = k .states;
@@ -113,21 +133,11 @@ module _ {p : Bool} {all : ℕ} {σ : List ℕ} {A : Frame} {C : List Line} (k :
   pub states-many : length (A .sts) ≡ A .lay .counts .states
   states-many = k .held .kept .many
 
-  module _ (a : ℕ) (q : 2 ≤ typeAt (A .lay) a .role) where
-    pub cells-size : length (cellsAt A a) ≡ size (typeAt (A .lay) a)
-    cells-size =
-        let h = low (k .held .sound) a q in
-        ap length (sym (cells-at (k .held .sound) (k .held .holds) a q))
-        ∙ laws.length-part (k .work) (offAt (A .lay) a) (size (typeAt (A .lay) a)) (omega (arith, k .held .kept .len, cells-counted))
+  pub cells-size : (a : ℕ) → 2 ≤ typeAt (A .lay) a .role → length (cellsAt A a) ≡ size (typeAt (A .lay) a)
+  cells-size = held-size (k .held) cells-counted
 
-    pub cells-below : p ≡ false → (j : ℕ) → getD (cellsAt A a) j 0 < 2 ^ (typeAt (A .lay) a .w)
-    cells-below e j =
-        let n = size (typeAt (A .lay) a) in
-        ⊎-elim
-        (λ lt. subst (λ (x : ℕ). x < 2 ^ (typeAt (A .lay) a .w))
-        (sym (ap (λ (x : List ℕ). getD x j 0) (sym (cells-at (k .held .sound) (k .held .holds) a q)) ∙ laws.part-getD (k .work) (offAt (A .lay) a) n j lt)) (k .held .holds .small e a q j lt))
-        (λ ge. subst (λ (x : ℕ). x < 2 ^ (typeAt (A .lay) a .w)) (sym (List·getD-eq-default (cellsAt A a) 0 (omega (arith, cells-size)))) (pow-pos (typeAt (A .lay) a .w)))
-        (laws.lt-or-ge j n)
+  pub cells-below : (a : ℕ) → 2 ≤ typeAt (A .lay) a .role → p ≡ false → (j : ℕ) → getD (cellsAt A a) j 0 < 2 ^ (typeAt (A .lay) a .w)
+  cells-below = held-below (k .held) cells-counted
 
 -- ---- a step, and the walk as a run starts
 

@@ -49,7 +49,7 @@ apart : (Y : Layout) → Rising Y → (x q : ℕ) → typeAt Y x .role ≡ 4 →
     → (placeAt Y q + size (typeAt Y q) ≤ placeAt Y x) ⊎ (placeAt Y x + size (typeAt Y x) ≤ placeAt Y q)
 apart Y r x q sx sq n = ⊎-elim (λ h. inr (r x q sx sq h)) (λ h. inl (r q x sq sx (omega (arith, n)))) (laws.lt-or-ge x q)
 
-part-front : (xs ys : List ℕ) (a m : ℕ) → a + m ≤ length xs → part (xs ++ ys) a m ≡ part xs a m
+pub part-front : (xs ys : List ℕ) (a m : ℕ) → a + m ≤ length xs → part (xs ++ ys) a m ≡ part xs a m
 part-front xs ys a m h = ap (take m) (drop-append-le a xs ys (omega arith)) ∙ take-append-le m (drop a xs) ys (omega (arith, length-drop a xs))
 
 -- ---- a line gives one state words, and leaves those of the others

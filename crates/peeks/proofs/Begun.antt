@@ -6,8 +6,8 @@ use mathlib.Core.Bool.{Bool, true, false}
 use mathlib.Core.List.{List, [], _∷_, _++_}
 use native.Mathlib.Omega.{arith}
 use lib.Dec.{eqb}
-use lib.ListN.{length, take, drop, getD, replicate, length-drop, length-replicate, List·getD-append}
-use lib.Seq.{drop-at, take-all, take-length, take-append-le, drop-append-le, take-suc}
+use lib.ListN.{length, take, drop, getD, replicate, length-replicate, List·getD-append}
+use lib.Seq.{drop-at, take-all, take-length, take-suc}
 use borrow.Author.Tests.{eq-eqb, ne-eqb}
 use Rattle.tables.specs.declared.Ty.{Ty}
 use Rattle.tables.specs.declared.Checked.the-variants.{Accepted}
@@ -22,6 +22,7 @@ use Rattle.circuits.specs.Layout.{Layout, typeAt, placeAt, size, lineTypeIn, pl
 use Rattle.circuits.specs.Meaning.{Frame, wordAt, cellsOf, statesAfter, evalLine, step}
 use Rattle.tables.specs.Layout.{linesOf}
 use Rattle.peeks.specs.Model.Looks.{noteInit, initAfter, initOf}
+use Rattle.circuits.proofs.StateWords.{part-front}
 use Rattle.circuits.proofs.Puts as laws
 use Rattle.circuits.proofs.Laid.{Sound, not-four, type-new, place-new, type-old, place-old, more-types, grew, later}
 use Rattle.circuits.proofs.Walked.{accAt, acc-suc, lines-many, number-at}
@@ -114,10 +115,6 @@ start-as S at m w (suc d) e = ap (replicate m) (e (λ z. omega arith))
 start-some : (S : List ℕ) (at m w d x : ℕ) → (d ≡ 0 → ⊥) → startOf S at m w d x ≡ replicate m x
 start-some S at m w zero x n = absurd (n refl)
 start-some S at m w (suc d) x n = refl
-
-part-front : (xs ys : List ℕ) (a m : ℕ) → a + m ≤ length xs → part (xs ++ ys) a m ≡ part xs a m
-part-front xs ys a m h =
-    ap (take m) (drop-append-le a xs ys (omega arith)) ∙ take-append-le m (drop a xs) ys (omega (arith, length-drop a xs))
 
 pub record Begun (S : List ℕ) (B : Frame) (q at m w d : ℕ) : Type 0 where
   pub settled : Settled (B .lay) q at m w d

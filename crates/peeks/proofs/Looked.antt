@@ -34,7 +34,8 @@ use Rattle.circuits.proofs.Simulation.{word-one, word-two, is-sort}
 use Rattle.circuits.proofs.Walked.{accAt, lines-many, line-here, number-at, later-at, Facts}
 use Rattle.circuits.proofs.Placing.{all-sound, lines-here}
 use Rattle.circuits.proofs.Earlier.{cells-first, cells-here, fixed-alike}
-use Rattle.peeks.proofs.Whole.{laidOf, HeldBy, lay-is, facts-of, held-at, held-whole, lay-whole, cells-many, cells-small}
+use Rattle.circuits.proofs.Sizes.{laidOf}
+use Rattle.peeks.proofs.Whole.{HeldBy, lay-is, facts-of, held-at, held-whole, lay-whole, cells-many, cells-small}
 use Rattle.peeks.proofs.Begun.{startOf, Begun, begun}
 use Rattle.circuits.proofs.Puts as laws
 

@@ -1,43 +1,24 @@
 -- All lines of an accepted circuit as one step leaves them: each value has the cells of its type, each below 2 to its width. Assumes nothing.
 use Prim.Native.Nat.{ℕ, zero, suc, _+_, _^_, _≤_, _<_}
 use mathlib.Core.Path.{_≡_, refl, sym, ap, _∙_, subst}
-use mathlib.Core.Logic.{⊎-elim}
 use mathlib.Core.Bool.{Bool, false}
-use mathlib.Core.List.{List, [], _∷_, _++_}
+use mathlib.Core.List.{List, _++_}
 use native.Mathlib.Omega.{arith}
-use lib.Pow.{pow-pos}
-use lib.ListN.{length, take, getD, replicate, length-append, length-replicate, List·getD-eq-default}
+use lib.ListN.{length, take, getD, replicate, length-append, length-replicate}
 use lib.Seq.{drop-at, take-length}
 use Rattle.tables.specs.declared.Checked.the-variants.{Accepted}
 use Rattle.tables.specs.Lines.{Line}
 use Rattle.tables.specs.Tables.{checked}
-use Rattle.circuits.specs.Layout.{Layout, typeAt, placeAt, size, layAll, noLayout, layout}
+use Rattle.circuits.specs.Layout.{Layout, typeAt, size, layAll, noLayout, layout}
 use Rattle.circuits.specs.Meaning.{Frame, cellsAt, evalAll, noFrame, step}
 use Rattle.tables.specs.Layout.{linesOf}
-use Rattle.circuits.specs.Model.Work.{laidAs, laidIn, workIn}
-use Rattle.circuits.specs.Model.Places.{offAt, Ready}
-use Rattle.circuits.proofs.Puts as laws
-use Rattle.circuits.proofs.Laid.{low}
-use Rattle.circuits.proofs.Held.{Held, cells-at}
+use Rattle.circuits.specs.Model.Work.{workIn}
+use Rattle.circuits.specs.Model.Places.{Ready}
+use Rattle.circuits.proofs.Held.{Held}
 use Rattle.circuits.proofs.Simulation.{sim}
 use Rattle.circuits.proofs.Walked.{accAt, acc-suc, acc-lay, lines-many, facts-at, Facts, walk-start}
 use Rattle.circuits.proofs.Placing.{all-sound, lines-here, few-here}
-
--- what a layout knows of the line a, and the list that holds it for n lines from a on, and for all
-abbrev row : Layout → (a : ℕ) → List ℕ
-row Y a = laidAs (offAt Y a) (size (typeAt Y a)) (placeAt Y a) (typeAt Y a .w)
-
-abbrev rows : Layout → (a n : ℕ) → List (List ℕ)
-rows Y a zero = []
-rows Y a (suc n) = row Y a ∷ rows Y (suc a) n
-
-abbrev pub laidOf : Layout → List (List ℕ)
-laidOf Y = rows Y 0 (length (Y .places))
-
-rows-at : (Y : Layout) (a n i : ℕ) {b : ℕ} → i < n → a + i ≡ b → laidIn (rows Y a n) i ≡ row Y b
-rows-at Y a zero i h e = absurd (omega arith)
-rows-at Y a (suc n) zero h e = ap (row Y) (omega arith)
-rows-at Y a (suc n) (suc i) h e = rows-at Y (suc a) n i (omega arith) (omega arith)
+use Rattle.circuits.proofs.Sizes.{laidOf, laid-shows, held-size, held-below}
 
 -- some work area holds the lines so far
 pub record HeldBy (all : ℕ) (σ : List ℕ) (A : Frame) : Type 0 where
@@ -56,15 +37,7 @@ module _ (t : List ℕ) (n : ℕ) (acc : checked false t n ≡ Accepted) where
         let few = few-here false t n acc in
         record {
           accepted = acc;
-          shows = λ a h.
-              let e : laidIn (laidOf whole) a ≡ row whole a = rows-at whole 0 (length (whole .places)) a h (omega arith) in
-              record {
-                known = omega arith;
-                isOff = ap (λ (r : List ℕ). getD r 0 0) e;
-                isWid = ap (λ (r : List ℕ). getD r 3 0) e;
-                isNum = ap (λ (r : List ℕ). getD r 1 0) e;
-                isPos = ap (λ (r : List ℕ). getD r 2 0) e;
-              };
+          shows = laid-shows whole (omega arith);
           cells = refl;
           states = sym many;
           inputs = refl;
@@ -119,15 +92,7 @@ module _ (t : List ℕ) (n : ℕ) (acc : checked false t n ≡ Accepted) where
 
 module _ {all : ℕ} {σ : List ℕ} {A : Frame} (H : HeldBy all σ A) (room : A .lay .counts .cells ≤ all) (a : ℕ) (q : 2 ≤ typeAt (A .lay) a .role) where
   pub cells-many : length (cellsAt A a) ≡ size (typeAt (A .lay) a)
-  cells-many =
-      let h = low (H .held .sound) a q in
-      let l = H .held .kept .len in
-      ap length (sym (cells-at (H .held .sound) (H .held .holds) a q)) ∙ laws.length-part (H .work) (offAt (A .lay) a) (size (typeAt (A .lay) a)) (omega arith)
+  cells-many = held-size (H .held) room a q
 
   pub cells-small : (j : ℕ) → getD (cellsAt A a) j 0 < 2 ^ (typeAt (A .lay) a .w)
-  cells-small j =
-      ⊎-elim (λ lt. subst (λ (x : ℕ). x < 2 ^ (typeAt (A .lay) a .w))
-      (sym (ap (λ (x : List ℕ). getD x j 0) (sym (cells-at (H .held .sound) (H .held .holds) a q)) ∙ laws.part-getD (H .work) (offAt (A .lay) a) (size (typeAt (A .lay) a)) j lt))
-      (H .held .holds .small refl a q j lt))
-      (λ ge. subst (λ (x : ℕ). x < 2 ^ (typeAt (A .lay) a .w)) (sym (List·getD-eq-default (cellsAt A a) 0 (omega (arith, cells-many)))) (pow-pos (typeAt (A .lay) a .w)))
-      (laws.lt-or-ge j (size (typeAt (A .lay) a)))
+  cells-small = held-below (H .held) room a q refl
