@@ -6,20 +6,22 @@ use mathlib.Core.Bool.{Bool, true, false}
 use mathlib.Core.List.{List, [], _∷_, map}
 use native.Mathlib.Nat.{le-of-lt}
 use native.Mathlib.Omega.{arith}
+use lib.Dec.{eqb}
 use lib.ListN.{length, getD, take, drop}
 use lib.Seq.{length-take-le}
-use borrow.Author.Tests.{eq-eqb}
+use borrow.Author.Tests.{eqb-true, eq-eqb}
 use Rattle.words.specs.Op.{eq, ite}
 use Rattle.words.specs.Circuit.{circ}
 use Rattle.words.specs.Program.{prog}
 use Rattle.tables.specs.declared.Ty.{Ty}
-use Rattle.tables.specs.Pick.{among}
+use Rattle.tables.specs.Pick.{among, all}
 use Rattle.tables.specs.Kinds.{rowOf}
 use Rattle.tables.specs.Lines.{Line, Expr, fields, lineOf, wordsOf, kindIn, firstIn, secondIn, thirdIn}
-use Rattle.tables.specs.Types.{sortAt, tyAt, given, noCtx}
+use Rattle.tables.specs.Types.{noTy, sortAt, tyAt, given, noCtx}
 use Rattle.tables.specs.Cone.{usesExpr}
 use Rattle.tables.specs.Rules.{suits, fault}
 use Rattle.tables.proofs.Laws.{or-true}
+use Rattle.tables.proofs.Kept.{both}
 use Rattle.tables.proofs.Showing.{earlier}
 use Rattle.tables.proofs.Facts.{OkExpr, Ok, AllOk}
 use Rattle.tables.proofs.Sound.{all-sound}
@@ -105,39 +107,26 @@ module _ (p f : Bool) (C : List Line) (σ ι : List ℕ) (ok : AllOk p noCtx C) 
 
 -- ---- examples that meet the premises
 
+-- every type of a list is a word's
+words-only : (ts : List Ty) → all (map (λ (t : Ty). eqb (t .iw) 0) ts) ≡ true → (a : ℕ) → getD ts a noTy .iw ≡ 0
+words-only [] e a = refl
+words-only (t ∷ ts) e zero = eqb-true (t .iw) 0 (both (eqb (t .iw) 0) _ e .0)
+words-only (t ∷ ts) e (suc a) = words-only ts (both (eqb (t .iw) 0) _ e .1) a
+
 -- 1 sort bitvec 1, 2 sort bitvec 3, 3 input 2, 4 input 2, 5 eq 1 3 4: at a step with the inputs 9 and 1, of which 9 is taken modulo 8
 abbrev circuit : List (List ℕ)
 circuit = fields 1 0 1 0 0 ∷ fields 1 0 3 0 0 ∷ fields 4 2 0 0 0 ∷ fields 4 2 0 0 0 ∷ fields 21 1 3 4 0 ∷ []
 
-circuit-words : (a : ℕ) → typeAt (layout false (map lineOf circuit)) a .iw ≡ 0
-unfolding layout
-circuit-words zero = refl
-circuit-words (suc zero) = refl
-circuit-words (suc (suc zero)) = refl
-circuit-words (suc (suc (suc zero))) = refl
-circuit-words (suc (suc (suc (suc zero)))) = refl
-circuit-words (suc (suc (suc (suc (suc zero))))) = refl
-circuit-words (suc (suc (suc (suc (suc (suc a)))))) = refl
-
 sample-eq : cellsAt (step false false (map lineOf circuit) [] (9 ∷ 1 ∷ [])) 5 ≡ circ eq 3 3 1 1 0 ∷ []
 unfolding step layout fault suits rowOf
 sample-eq =
-    step-word false false (map lineOf circuit) [] (9 ∷ 1 ∷ []) (all-sound false noCtx circuit refl) (omega arith) (omega arith) 4 (omega arith) 1 (anyEquality true 3 4) refl (λ a m. circuit-words a)
+    step-word false false (map lineOf circuit) [] (9 ∷ 1 ∷ []) (all-sound false noCtx circuit refl) (omega arith) (omega arith) 4 (omega arith) 1 (anyEquality true 3 4) refl (λ a m. words-only (layout false (map lineOf circuit) .ctx .tys) refl a)
 
 -- a program: 1 input of width 1, 2 and 3 inputs of width 3, 4 ite 1 2 3. Inputs stand as they are, and a condition of 2 is not 0
 abbrev program : List (List ℕ)
 program = fields 4 1 0 0 0 ∷ fields 4 3 0 0 0 ∷ fields 4 3 0 0 0 ∷ fields 53 3 1 2 3 ∷ []
 
-program-words : (a : ℕ) → typeAt (layout true (map lineOf program)) a .iw ≡ 0
-unfolding layout
-program-words zero = refl
-program-words (suc zero) = refl
-program-words (suc (suc zero)) = refl
-program-words (suc (suc (suc zero))) = refl
-program-words (suc (suc (suc (suc zero)))) = refl
-program-words (suc (suc (suc (suc (suc a))))) = refl
-
 sample-ite : cellsAt (step true false (map lineOf program) [] (2 ∷ 9 ∷ 4 ∷ [])) 4 ≡ prog ite 1 3 2 9 4 ∷ []
 unfolding step layout fault suits rowOf
 sample-ite =
-    step-word true false (map lineOf program) [] (2 ∷ 9 ∷ 4 ∷ []) (all-sound true noCtx program refl) (omega arith) (omega arith) 3 (omega arith) 3 (anyIte 1 2 3) refl (λ a m. program-words a)
+    step-word true false (map lineOf program) [] (2 ∷ 9 ∷ 4 ∷ []) (all-sound true noCtx program refl) (omega arith) (omega arith) 3 (omega arith) 3 (anyIte 1 2 3) refl (λ a m. words-only (layout true (map lineOf program) .ctx .tys) refl a)
