@@ -1,6 +1,6 @@
 // Runs of neighbouring words: the work area holds the cells of a line as one run, and `laid` says of each line where.
 ghost use mathlib.Core.Path.{_≡_};
-ghost use Prim.Native.Nat.{_≤_, _+_, _<_};
+ghost use Prim.Native.Nat.{_≤_, _+_, _-_, _<_};
 ghost use lib.ListN.{length, replicate, set, drop};
 ghost use Rattle.circuits.specs.Model.Work.{offIn, numIn, posIn, widIn, Apart};
 ghost use Rattle.circuits.specs.Cells.{part, put, maskWords, sameCells};
@@ -54,19 +54,6 @@ pub fn width(laid: &[[u32; LAID]; 16385], i: usize) -> u64
     wider(laid[i][3])
 }
 
-// Copies words[x..x + n] to words[y..y + n].
-pub fn copy(words: &mut [u64], x: usize, y: usize, n: usize)
-    requires { ⌜ Apart x y n × ((x + n ≤ length (now words)) × (y + n ≤ length (now words))) ⌝ }
-    ensures { λ _. ⌜ now (words .exit) ≡ put (now (words .entry)) y (part (now (words .entry)) x n) ⌝ }
-{
-    let mut i: usize = 0;
-    while i < n {
-        let v = words[x + i];
-        words[y + i] = v;
-        i += 1;
-    }
-}
-
 // Takes each word modulo 2^w.
 fn mask_all(cells: &mut [u64], w: u64)
     requires { ⌜ Width w ⌝ }
@@ -106,12 +93,31 @@ pub fn alike(words: &[u64], x: usize, y: usize, n: usize) -> bool
     true
 }
 
-// The write evaluator: the cells hold the array written to.
+// The write evaluator for the cell that is written: the cells hold the array written to.
 fn store(cells: &mut [u64], i: usize, v: u64)
     requires { ⌜ i < length (now cells) ⌝ }
     ensures { λ _. ⌜ now (cells .exit) ≡ set (now (cells .entry)) i v ⌝ }
 {
     cells[i] = v;
+}
+
+// Four neighbouring words, by value.
+fn four(words: &[u64], x: usize) -> [u64; 4]
+    requires { ⌜ x + 4 ≤ length (now words) ⌝ }
+    ensures { λ r. ⌜ r ≡ part (now (words .entry)) x 4 ⌝ }
+{
+    [words[x], words[x + 1], words[x + 2], words[x + 3]]
+}
+
+// The ite evaluator, and the write evaluator for what it keeps: four cells from i on are those of the operand.
+fn take_four(cells: &mut [u64], i: usize, v: [u64; 4])
+    requires { ⌜ i + 4 ≤ length (now cells) ⌝ }
+    ensures { λ _. ⌜ now (cells .exit) ≡ put (now (cells .entry)) i v ⌝ }
+{
+    cells[i] = v[0];
+    cells[i + 1] = v[1];
+    cells[i + 2] = v[2];
+    cells[i + 3] = v[3];
 }
 
 // The words of from go to to.
@@ -128,15 +134,6 @@ fn load(to: &mut [u64], from: &[u64])
 }
 
 // ---- a run of the work area, lent
-
-// Copies work[x..x + m] to work[o..o + m], through the part that holds both.
-pub fn raise(work: &mut [u64], x: usize, o: usize, m: usize)
-    requires { ⌜ (x + m ≤ o) × (o + m ≤ length (now work)) ⌝ }
-    ensures { λ _. ⌜ now (work .exit) ≡ put (now (work .entry)) o (part (now (work .entry)) x m) ⌝ }
-{
-    let e = o + m;
-    copy(&mut work[x..e], 0, o - x, m);
-}
 
 fn mask_run(work: &mut [u64], a: usize, m: usize, w: u64)
     requires { ⌜ (a + m ≤ length (now work)) × Width w ⌝ }
@@ -171,6 +168,55 @@ pub fn store_run(work: &mut [u64], a: usize, m: usize, i: usize, v: u64)
 {
     let e = a + m;
     store(&mut work[a..e], i, v);
+}
+
+fn take_run(work: &mut [u64], a: usize, m: usize, i: usize, v: [u64; 4])
+    requires { ⌜ (a + m ≤ length (now work)) × (i + 4 ≤ m) ⌝ }
+    ensures { λ _. ⌜ now (work .exit) ≡ put (now (work .entry)) (a + i) v ⌝ }
+{
+    let e = a + m;
+    take_four(&mut work[a..e], i, v);
+}
+
+// The cells from the given one on, one by one.
+fn copy_rest(work: &mut [u64], x: usize, o: usize, m: usize, from: usize)
+    requires { ⌜ Apart x o m × ((x + m ≤ length (now work)) × ((o + m ≤ length (now work)) × (from ≤ m))) ⌝ }
+    ensures { λ _. ⌜ now (work .exit) ≡ put (now (work .entry)) (o + from) (part (now (work .entry)) (x + from) (m - from)) ⌝ }
+{
+    let mut i = from;
+    while i < m {
+        let v = work[x + i];
+        store_run(work, o, m, i, v);
+        i += 1;
+    }
+}
+
+// The cells of an array, of which only work[o..o + m] is lent on. The operand's come by value, four by four:
+// two parts of one slice cannot be lent at once.
+fn copy_cells(work: &mut [u64], x: usize, o: usize, m: usize)
+    requires { ⌜ Apart x o m × ((x + m ≤ length (now work)) × (o + m ≤ length (now work))) ⌝ }
+    ensures { λ _. ⌜ now (work .exit) ≡ put (now (work .entry)) o (part (now (work .entry)) x m) ⌝ }
+{
+    let mut i: usize = 0;
+    while 4 <= m - i {
+        let v = four(work, x + i);
+        take_run(work, o, m, i, v);
+        i += 4;
+    }
+    copy_rest(work, x, o, m, i);
+}
+
+// The m words from x on go to work[o..o + m]. A word, which has one cell, is one load and one store.
+pub fn copy(work: &mut [u64], x: usize, o: usize, m: usize)
+    requires { ⌜ Apart x o m × ((x + m ≤ length (now work)) × (o + m ≤ length (now work))) ⌝ }
+    ensures { λ _. ⌜ now (work .exit) ≡ put (now (work .entry)) o (part (now (work .entry)) x m) ⌝ }
+{
+    if m == 1 {
+        let v = work[x];
+        work[o] = v;
+        return;
+    }
+    copy_cells(work, x, o, m);
 }
 
 // The words of from go to work[a..].

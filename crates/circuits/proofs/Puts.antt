@@ -10,11 +10,11 @@ use native.Mathlib.Numerals.{add-one}
 use lib.Dec.{ltb}
 use borrow.Author.Tests.{eq-eqb, ne-eqb, ltb-true, ltb-false}
 use lib.ListN.{length, take, drop, getD, set, length-set, length-append, length-drop, List·getD-append, drop-of-length-le, take-append-drop}
-use lib.Seq.{drop-at, length-take-le, take-suc, drop-cons, getD-take, getD-drop, ext-getD, set-at, getD-at, set-split, getD-append-add, drop-drop, take-take}
+use lib.Seq.{drop-at, length-take-le, take-suc, drop-cons, getD-take, getD-drop, ext-getD, set-at, getD-at, set-split, getD-append-add, drop-drop, take-add, take-at, take-all, drop-append-add}
 use Rattle.words.specs.Word.{Width}
 use Rattle.circuits.specs.Cells.{ifNonzero, part, put, maskWords, sameCells}
 use Rattle.tables.specs.Pick.{pick}
-use Rattle.circuits.specs.Model.Work.{Apart}
+use Rattle.circuits.specs.Model.Work.{Apart, offIn, numIn, cellsKept}
 
 lt-or-ge-by : (a b : ℕ) (t : Bool) → ltb a b ≡ t → (a < b) ⊎ (b ≤ a)
 lt-or-ge-by a b true e = inl (ltb-true a b e)
@@ -84,17 +84,6 @@ module _ (w : List ℕ) (o : ℕ) (vs : List ℕ) (h : o + length vs ≤ length 
       ext-getD 0 (drop m (put w o vs)) (drop m w) (simp length-drop (ap (λ (n : ℕ). n - m) length-put))
       (λ i t. getD-drop m (put w o vs) i 0 ∙ put-hi (m + i) (omega arith) ∙ sym (getD-drop m w i 0))
 
--- one more word is put
-pub put-more : (w : List ℕ) (o : ℕ) (vs : List ℕ) (v : ℕ) → o + length vs < length w → set (put w o vs) (o + length vs) v ≡ put w o (vs ++ (v ∷ []))
-unfolding put
-put-more w o vs v h =
-    let front : length (take o w) ≡ o = length-take-le o w (omega arith) in
-    let e : o + length (vs ++ (v ∷ [])) ≡ suc (o + length vs) = omega (arith, length-append vs (v ∷ [])) in
-    ap (λ (l : List ℕ). set l (o + length vs) v) (ap (λ (l : List ℕ). take o w ++ (vs ++ l)) (drop-cons w (o + length vs) 0 h) ∙ sym (append-assoc (take o w) vs (getD w (o + length vs) 0 ∷ drop (suc (o + length vs)) w)))
-    ∙ set-at (take o w ++ vs) (getD w (o + length vs) 0) (drop (suc (o + length vs)) w) v (o + length vs) (length-append (take o w) vs ∙ ap (λ (n : ℕ). n + length vs) front)
-    ∙ append-assoc (take o w) vs (v ∷ drop (suc (o + length vs)) w)
-    ∙ ap (λ (l : List ℕ). take o w ++ l) (sym (append-assoc vs (v ∷ []) (drop (suc (o + length vs)) w)) ∙ ap (λ (n : ℕ). (vs ++ (v ∷ [])) ++ drop n w) (sym e))
-
 pub put-none : (w : List ℕ) (o : ℕ) → put w o [] ≡ w
 unfolding put
 put-none w o = ap (λ (n : ℕ). take o w ++ drop n w) (add-zero o) ∙ take-append-drop o w
@@ -102,12 +91,6 @@ put-none w o = ap (λ (n : ℕ). take o w ++ drop n w) (add-zero o) ∙ take-app
 pub put-one : (w : List ℕ) (o v : ℕ) → o < length w → set w o v ≡ put w o (v ∷ [])
 unfolding put
 put-one w o v h = set-split w o v h ∙ ap (λ (n : ℕ). take o w ++ (v ∷ drop n w)) (sym (add-one o))
-
--- a part one word longer
-pub part-more : (w : List ℕ) (x i : ℕ) → x + i < length w → part w x (i + 1) ≡ part w x i ++ (getD w (x + i) 0 ∷ [])
-part-more w x i h =
-    ap (λ (n : ℕ). take n (drop x w)) (add-one i) ∙ take-suc (drop x w) i 0 (omega (arith, length-drop x w))
-    ∙ ap (λ (v : ℕ). take i (drop x w) ++ (v ∷ [])) (getD-drop x w i 0)
 
 -- ---- masked words
 
@@ -139,23 +122,6 @@ pub same-not : (xs ys : List ℕ) (i : ℕ) → i < length xs → i < length ys 
 same-not xs ys i h k e =
     ap₂ sameCells (drop-cons xs i 0 h) (drop-cons ys i 0 k)
     ∙ ap (λ (b : Bool). b && sameCells (drop (suc i) xs) (drop (suc i) ys)) (ne-eqb (getD xs i 0) (getD ys i 0) e)
-
--- ---- copy
-
-pub copy-more :
-    (w w₀ : List ℕ) (x y n i : ℕ) → Apart x y n → x + n ≤ length w₀ → y + n ≤ length w₀ → i < n → w ≡ put w₀ y (part w₀ x i)
-    → set w (y + i) (getD w (x + i) 0) ≡ put w₀ y (part w₀ x (i + 1))
-copy-more w w₀ x y n i q hx hy k e =
-    let vs : List ℕ = part w₀ x i in
-    let l : length vs ≡ i = length-part w₀ x i (omega arith) in
-    let r : y + length vs ≤ length w₀ = omega arith in
-    let same : getD w (x + i) 0 ≡ getD w₀ (x + i) 0 =
-    ap (λ (u : List ℕ). getD u (x + i) 0) e
-    ∙ ⊎-elim (λ h. put-lo w₀ y vs r (x + i) (omega arith)) (λ h. put-hi w₀ y vs r (x + i) (omega arith)) q in
-    ap₂ (λ (u : List ℕ) (v : ℕ). set u (y + i) v) e same
-    ∙ ap (λ (j : ℕ). set (put w₀ y vs) (y + j) (getD w₀ (x + i) 0)) (sym l)
-    ∙ put-more w₀ y vs (getD w₀ (x + i) 0) (omega arith)
-    ∙ ap (put w₀ y) (sym (part-more w₀ x i (omega arith)))
 
 pub lows-rest : (w : ℕ) (c : List ℕ) (i : ℕ) → i < length c → getD (maskWords w (take i c) ++ drop i c) i 0 ≡ getD c i 0
 lows-rest w c i h =
@@ -221,18 +187,103 @@ put-again w o vs us e h =
     (lt-or-ge i (o + length us)))
     (lt-or-ge i o))
 
-pub raised :
-    (w : List ℕ) (x o m : ℕ) (r : List ℕ) → x + m ≤ o → o + m ≤ length w → r ≡ put (part w x (o + m - x)) (o - x) (part (part w x (o + m - x)) 0 m)
-    → take x w ++ (r ++ drop (o + m - x) (drop x w)) ≡ put w o (part w x m)
-raised w x o m r h k e =
-    let d : ℕ = o + m - x in
-    let p : List ℕ = part w x d in
-    let lp : length p ≡ d = length-part w x d (omega arith) in
-    let lm : length (part p 0 m) ≡ m = length-part p 0 m (omega arith) in
-    let lr : length r ≡ d = ap length e ∙ length-put p (o - x) (part p 0 m) (omega arith) ∙ lp in
-    let eo : x + (o - x) ≡ o = omega arith in
-    mid-put w x d r lr ∙ ap (put w x) e ∙ put-inner w x d (o - x) (part p 0 m) (omega arith) (omega arith)
-    ∙ ap₂ (put w) eo (take-take m d (drop x w) (omega arith))
+-- a part was lent, and came back with vs put at i
+pub lent-put :
+    (w : List ℕ) (a m i : ℕ) (vs r : List ℕ) → a + m ≤ length w → i + length vs ≤ m → r ≡ put (part w a (a + m - a)) i vs
+    → take a w ++ (r ++ drop (a + m - a) (drop a w)) ≡ put w (a + i) vs
+lent-put w a m i vs r h k e =
+    let d : a + m - a ≡ m = omega arith in
+    let l : length (part w a (a + m - a)) ≡ m = length-part w a (a + m - a) (omega arith) ∙ d in
+    mid-put w a (a + m - a) r (ap length e ∙ length-put (part w a (a + m - a)) i vs (omega arith) ∙ l ∙ sym d)
+    ∙ ap (put w a) e ∙ put-inner w a (a + m - a) i vs (omega arith) (omega arith)
+
+-- ---- copy
+
+-- vs is put right behind us
+pub put-behind : (w : List ℕ) (o : ℕ) (us vs : List ℕ) → o + length us + length vs ≤ length w → put (put w o us) (o + length us) vs ≡ put w o (us ++ vs)
+unfolding put
+put-behind w o us vs h =
+    let front : List ℕ = take o w ++ us in
+    let rest : List ℕ = drop (o + length us) w in
+    let lf : length front ≡ o + length us = length-append (take o w) us ∙ ap (λ (n : ℕ). n + length us) (length-take-le o w (omega arith)) in
+    let parted : take o w ++ (us ++ rest) ≡ front ++ rest = sym (append-assoc (take o w) us rest) in
+    let below : take (o + length us) (take o w ++ (us ++ rest)) ≡ front = ap (take (o + length us)) parted ∙ take-at front rest (o + length us) lf in
+    let above : drop (o + length us + length vs) (take o w ++ (us ++ rest)) ≡ drop (o + length us + length vs) w =
+    ap (drop (o + length us + length vs)) parted ∙ ap (λ (n : ℕ). drop (n + length vs) (front ++ rest)) (sym lf)
+    ∙ drop-append-add front rest (length vs) ∙ drop-drop (length vs) (o + length us) w in
+    let e : o + length us + length vs ≡ o + length (us ++ vs) = omega (arith, length-append us vs) in
+    ap₂ (λ (x y : List ℕ). x ++ (vs ++ y)) below above
+    ∙ append-assoc (take o w) us (vs ++ drop (o + length us + length vs) w)
+    ∙ ap (λ (l : List ℕ). take o w ++ l) (sym (append-assoc us vs (drop (o + length us + length vs) w)) ∙ ap (λ (n : ℕ). (us ++ vs) ++ drop n w) e)
+
+put-more : (w : List ℕ) (o : ℕ) (us : List ℕ) (v : ℕ) → o + length us < length w → set (put w o us) (o + length us) v ≡ put w o (us ++ (v ∷ []))
+put-more w o us v h =
+    let l : length (put w o us) ≡ length w = length-put w o us (omega arith) in
+    put-one (put w o us) (o + length us) v (omega arith) ∙ put-behind w o us (v ∷ []) (omega arith)
+
+-- a part by its first word
+part-cons : (w : List ℕ) (x y n : ℕ) → x < length w → y ≡ suc x → getD w x 0 ∷ part w y n ≡ part w x (suc n)
+part-cons w x y n h e = ap (λ (a : ℕ). getD w x 0 ∷ take n (drop a w)) e ∙ ap (take (suc n)) (sym (drop-cons w x 0 h))
+
+-- four words are read, and set
+pub four-read : (w : List ℕ) (x : ℕ) → x + 4 ≤ length w → getD w x 0 ∷ getD w (x + 1) 0 ∷ getD w (x + 2) 0 ∷ getD w (x + 3) 0 ∷ [] ≡ part w x 4
+four-read w x h =
+    ap (λ (l : List ℕ). getD w x 0 ∷ l)
+    (ap (λ (l : List ℕ). getD w (x + 1) 0 ∷ l)
+    (ap (λ (l : List ℕ). getD w (x + 2) 0 ∷ l) (part-cons w (x + 3) (x + 4) 0 (omega arith) (omega arith)) ∙ part-cons w (x + 2) (x + 3) 1 (omega arith) (omega arith))
+    ∙ part-cons w (x + 1) (x + 2) 2 (omega arith) (omega arith))
+    ∙ part-cons w x (x + 1) 3 (omega arith) (omega arith)
+
+pub four-set :
+    (w : List ℕ) (i : ℕ) (v : List ℕ) → i + 4 ≤ length w → length v ≡ 4
+    → set (set (set (set w i (getD v 0 0)) (i + 1) (getD v 1 0)) (i + 2) (getD v 2 0)) (i + 3) (getD v 3 0) ≡ put w i v
+four-set w i v h l =
+    let a : ℕ = getD v 0 0 in
+    let b : ℕ = getD v 1 0 in
+    let c : ℕ = getD v 2 0 in
+    let d : ℕ = getD v 3 0 in
+    ap (λ (u : List ℕ). set (set (set u (i + 1) b) (i + 2) c) (i + 3) d) (put-one w i a (omega arith))
+    ∙ ap (λ (u : List ℕ). set (set u (i + 2) c) (i + 3) d) (put-more w i (a ∷ []) b (omega arith))
+    ∙ ap (λ (u : List ℕ). set u (i + 3) d) (put-more w i (a ∷ b ∷ []) c (omega arith))
+    ∙ put-more w i (a ∷ b ∷ c ∷ []) d (omega arith)
+    ∙ ap (put w i) (four-read v 0 (omega arith) ∙ take-all 4 v (omega arith))
+
+-- the words from x on are put at o, n more
+pub copy-more :
+    (w w₀ : List ℕ) (x o m i n : ℕ) → Apart x o m → x + m ≤ length w₀ → o + m ≤ length w₀ → i + n ≤ m → w ≡ put w₀ o (part w₀ x i)
+    → put w (o + i) (part w (x + i) n) ≡ put w₀ o (part w₀ x (i + n))
+copy-more w w₀ x o m i n q hx ho k e =
+    let us : List ℕ = part w₀ x i in
+    let vs : List ℕ = part w₀ (x + i) n in
+    let lu : length us ≡ i = length-part w₀ x i (omega arith) in
+    let lv : length vs ≡ n = length-part w₀ (x + i) n (omega arith) in
+    let same : part w (x + i) n ≡ vs =
+    ap (λ (l : List ℕ). part l (x + i) n) e
+    ∙ put-apart w₀ o us (omega arith) (x + i) n (omega arith) (⊎-elim (λ h. inl (omega arith)) (λ h. inr (omega arith)) q) in
+    ap₂ (λ (l ws : List ℕ). put l (o + i) ws) e same
+    ∙ ap (λ (j : ℕ). put (put w₀ o us) (o + j) vs) (sym lu)
+    ∙ put-behind w₀ o us vs (omega arith)
+    ∙ ap (put w₀ o) (sym (take-add i n (drop x w₀) ∙ ap (λ (l : List ℕ). us ++ take n l) (drop-drop i x w₀)))
+
+-- one cell of a run that was lent is set
+store-at : (w : List ℕ) (o m i v : ℕ) → o + m ≤ length w → i < m → put w o (set (part w o m) i v) ≡ put w (o + i) (v ∷ [])
+store-at w o m i v h k =
+    let l : length (part w o m) ≡ m = length-part w o m h in
+    ap (put w o) (put-one (part w o m) i v (omega arith)) ∙ put-inner w o m i (v ∷ []) h (omega arith)
+
+-- the words from x + f on are put at o + f, one more
+pub rest-more :
+    (w w₀ : List ℕ) (x o m f i : ℕ) → Apart x o m → x + m ≤ length w₀ → o + m ≤ length w₀ → f ≤ i → i < m → length w ≡ length w₀
+    → w ≡ put w₀ (o + f) (part w₀ (x + f) (i - f)) → put w o (set (part w o m) i (getD w (x + i) 0)) ≡ put w₀ (o + f) (part w₀ (x + f) (i + 1 - f))
+rest-more w w₀ x o m f i q hx ho kf ki l e =
+    let eo : o + i ≡ o + f + (i - f) = omega arith in
+    let ex : x + i ≡ x + f + (i - f) = omega arith in
+    let en : i - f + 1 ≡ i + 1 - f = omega arith in
+    store-at w o m i (getD w (x + i) 0) (omega arith) ki
+    ∙ ap (put w (o + i)) (part-cons w (x + i) (suc (x + i)) 0 (omega arith) refl)
+    ∙ ap₂ (λ (a b : ℕ). put w a (part w b 1)) eo ex
+    ∙ copy-more w w₀ (x + f) (o + f) (m - f) (i - f) 1 (⊎-elim (λ h. inl (omega arith)) (λ h. inr (omega arith)) q) (omega arith) (omega arith) (omega arith) e
+    ∙ ap (λ (n : ℕ). put w₀ (o + f) (part w₀ (x + f) n)) en
 
 -- ---- laws that the lines cite
 
@@ -264,6 +315,34 @@ picked-yes w {p} {q} x y e n = choose-yes (getD w q 0) x y (λ z. n (ap (λ (i :
 
 pub picked-no : {A : Type 0} (w : List ℕ) {p q : ℕ} (x y : A) → p ≡ q → getD w p 0 ≡ 0 → ifNonzero (getD w q 0) x y ≡ y
 picked-no w {p} {q} x y e z = choose-no (getD w q 0) x y (ap (λ (i : ℕ). getD w i 0) (sym e) ∙ z)
+
+-- what an ite chose: a property of both operands, and its cells
+pub chosen-has : {A : Type 0} (F : A → Type 0) (c : ℕ) {a b : A} → F a → F b → F (ifNonzero c a b)
+chosen-has F zero x y = y
+chosen-has F (suc c) x y = x
+
+pub chosen-below :
+    (P : List (List ℕ)) (c a b k : ℕ) {x z m m′ : ℕ} → x ≡ offIn P z → z ≡ ifNonzero c a b → m ≡ m′ → numIn P a ≡ m′ → numIn P b ≡ m′
+    → offIn P a + numIn P a ≤ k → offIn P b + numIn P b ≤ k → x + m ≤ k
+chosen-below P c a b k {x} {z} {m} {m′} ex ez em ea eb ha hb =
+    let h : offIn P (ifNonzero c a b) + m ≤ k = chosen-has (λ (i : ℕ). offIn P i + m ≤ k) c (omega arith) (omega arith) in
+    subst (λ (i : ℕ). i + m ≤ k) (sym (ex ∙ ap (offIn P) ez)) h
+
+chosen-part :
+    (P : List (List ℕ)) (w : List ℕ) (c a b m : ℕ) → m ≡ numIn P a → m ≡ numIn P b
+    → part w (offIn P (ifNonzero c a b)) m ≡ ifNonzero c (cellsKept P w a) (cellsKept P w b)
+chosen-part P w zero a b m x y = ap (part w (offIn P b)) y
+chosen-part P w (suc c) a b m x y = ap (part w (offIn P a)) x
+
+pub chosen-as :
+    (P : List (List ℕ)) (w : List ℕ) {r : List ℕ} (c a b : ℕ) {o o′ x z m m′ : ℕ} → r ≡ put w o (part w x m) → o ≡ o′ → x ≡ offIn P z → z ≡ ifNonzero c a b
+    → m ≡ m′ → numIn P a ≡ m′ → numIn P b ≡ m′ → r ≡ put w o′ (ifNonzero c (cellsKept P w a) (cellsKept P w b))
+chosen-as P w c a b {o} {o′} {x} {z} {m} {m′} er eo ex ez em ea eb =
+    er ∙ ap₂ (put w) eo (ap (λ (p : ℕ). part w p m) (ex ∙ ap (offIn P) ez) ∙ chosen-part P w c a b m (em ∙ sym ea) (em ∙ sym eb))
+
+-- a run of one word
+pub copied-word : (w : List ℕ) (o x m : ℕ) → m ≡ 1 → o < length w → x < length w → set w o (getD w x 0) ≡ put w o (part w x m)
+copied-word w o x m e h k = put-one w o (getD w x 0) h ∙ ap (put w o) (part-cons w x (suc x) 0 k refl ∙ ap (part w x) (sym e))
 
 pub wide-as : {d w : ℕ} → d ≡ w → Width w → Width d
 wide-as e h = subst (λ (n : ℕ). Width n) (sym e) h

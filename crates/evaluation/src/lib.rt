@@ -6,10 +6,10 @@ ghost use mathlib.Core.List.{[], _∷_};
 ghost use lib.ListN.{length, getD};
 ghost use Rattle.circuits.specs.Meaning.{opWord, inputWord};
 ghost use Rattle.tables.specs.Lines.{Expr};
-ghost use Rattle.circuits.specs.Model.Work.{offIn, posIn, widIn, exprIn};
+ghost use Rattle.circuits.specs.Model.Work.{offIn, posIn, widIn, wordKept, exprIn};
 ghost use Rattle.circuits.specs.Model.Fits.{FitWord, WordBelow, FitInput, FitUnary, FitBinary, FitEquality, FitRead, RunBelow, FitIte, FitWrite};
 ghost use Rattle.words.specs.Word.{Width, bit};
-ghost use Rattle.circuits.specs.Cells.{eqOrNeq, put};
+ghost use Rattle.circuits.specs.Cells.{ifNonzero, eqOrNeq, put};
 
 // A word operator, of a program or of a circuit.
 pub fn word(program: bool, k: u64, w: u64, u: u64, v: u64, a: u64, b: u64, c: u64) -> u64
@@ -157,6 +157,15 @@ pub fn line_read(a: usize, i: usize, n: usize, laid: &[[u32; LAID]; 16385], work
     work[o] = y;
 }
 
+// The operand that an ite takes.
+fn chosen(c: usize, a: usize, b: usize, laid: &[[u32; LAID]; 16385], work: &[u64]) -> usize
+    requires { ⌜ WordBelow (now laid) (length (now work)) c ⌝ }
+    ensures { λ r. ⌜ r ≡ ifNonzero (wordKept (now (laid .entry)) (now (work .entry)) c) a b ⌝ }
+{
+    let p = area::off(laid, c);
+    if work[p] != 0 { a } else { b }
+}
+
 pub fn line_ite(
     c: usize,
     a: usize,
@@ -170,12 +179,9 @@ pub fn line_ite(
 {
     let o = area::off(laid, n);
     let m = area::cells(laid, n);
-    let p = area::off(laid, c);
-    if work[p] != 0 {
-        area::raise(work, area::off(laid, a), o, m);
-    } else {
-        area::raise(work, area::off(laid, b), o, m);
-    }
+    let z = chosen(c, a, b, laid, work);
+    let x = area::off(laid, z);
+    area::copy(work, x, o, m);
 }
 
 pub fn line_write(
@@ -195,6 +201,6 @@ pub fn line_write(
     let j = work[p] as usize;
     let q = area::off(laid, v);
     let x = work[q];
-    area::raise(work, area::off(laid, a), o, m);
+    area::copy(work, area::off(laid, a), o, m);
     area::store_run(work, o, m, j, x);
 }

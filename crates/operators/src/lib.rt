@@ -80,7 +80,8 @@ pub fn ulte(a: u64, b: u64) -> u64
 
 // ---- signed operators, on the low w bits of their operands
 
-// The low w bits of a word as a signed number, by their sign bit, bit w - 1. `-1 - n` fits at every width, 64 included.
+// The low w bits of a word as a signed number, by their sign bit, bit w - 1: x, or x - 2^w.
+// 2^w - x may be 2^63, which is no i64, so one less of it is negated.
 fn to_signed(w: u64, a: u64) -> i64
     requires { ⌜ Width w ⌝ }
     ensures { λ r. ⌜ r ≡ signedValue w (a % 2 ^ w) ⌝ }
@@ -89,11 +90,11 @@ fn to_signed(w: u64, a: u64) -> i64
     if x >> (w - 1) == 0 {
         x as i64
     } else {
-        -1 - ((mask(w) - x) as i64)
+        -((mask(w) - x) as i64) - 1
     }
 }
 
-// The word of width w of a signed number.
+// The word of width w of a signed number. The least i64 has no opposite, so one more of a negative number is negated.
 fn from_signed(w: u64, z: i64) -> u64
     requires { ⌜ Width w ⌝ }
     ensures { λ r. ⌜ r ≡ twosComplement w z ⌝ }
@@ -101,7 +102,7 @@ fn from_signed(w: u64, z: i64) -> u64
     if z >= 0 {
         low(w, z as u64)
     } else {
-        mask(w) - low(w, (-1 - z) as u64)
+        mask(w) - low(w, (-(z + 1)) as u64)
     }
 }
 

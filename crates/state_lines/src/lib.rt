@@ -79,7 +79,7 @@ pub fn line_next(
     let x = area::off(laid, v);
     let p = area::place(laid, q);
     let m = area::cells(laid, v);
-    area::raise(work, x, all + p, m);
+    area::copy(work, x, all + p, m);
 }
 
 pub fn line_signal(

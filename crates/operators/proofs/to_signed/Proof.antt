@@ -2,7 +2,7 @@
 use mathlib.Core.Path.{_∙_, ap}
 use borrow.Author.Needs.{needs}
 use Rattle.words.specs.Word.{signedValue}
-use Rattle.words.proofs.Signed.{clear-fits, clear-law, set-fits, set-down, set-law}
+use Rattle.words.proofs.Signed.{clear-fits, clear-law, set-fits, set-neg, set-down, set-law}
 use Rattle.operators.proofs.to_signed.Statement.{statement}
 use Rattle.operators.proofs.to_signed.Tie as tie
 
@@ -16,6 +16,11 @@ cast-result-2 c =
 
 sub-result-2 : tie.Need-sub-result-2
 sub-result-2 c =
+    let s = c .before .before in
+    set-neg (s .before .args .w) (s .low .result) (c .mask .result) (s .before .pre) (c .mask .ensures) (c .before .if1 .left)
+
+sub-result-3 : tie.Need-sub-result-3
+sub-result-3 c =
     let s = c .before .before in
     set-down (s .before .args .w) (s .low .result) (c .mask .result) (s .before .pre) (c .mask .ensures) (c .before .if1 .left)
 
@@ -42,5 +47,6 @@ to-signed-spec =
     (λ c. search needs)
     cast-result-2
     sub-result-2
+    sub-result-3
     returns
     returns-2)

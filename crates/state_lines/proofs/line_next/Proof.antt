@@ -1,5 +1,7 @@
 -- `state_lines::line_next` meets its contract. Assumes nothing.
 use mathlib.Core.Path.{ap, ap₂, _∙_}
+use mathlib.Core.Logic.{inl}
+use native.Mathlib.Omega.{arith}
 use Prim.Native.Nat.{ℕ, _+_}
 use Rattle.circuits.specs.Cells.{put, part}
 use borrow.Author.Needs.{needs}
@@ -18,18 +20,18 @@ place-requires c κs = c .before .before .before .pre .known
 cells-requires : tie.Need-cells-requires
 cells-requires c κs = c .before .before .before .before .pre .value .known
 
-add-raise : tie.Need-add-raise
-add-raise c = search needs
+add-copy : tie.Need-add-copy
+add-copy c = search needs
 
-raise-requires : tie.Need-raise-requires
-raise-requires c κs = search needs
+copy-requires : tie.Need-copy-requires
+copy-requires c κs = (inl (omega arith), (omega arith, omega arith))
 
 same-length : tie.Need-same-length
-same-length c = c .before .before .raise .kept .0
+same-length c = c .before .before .copy .kept .0
 
 returns-2 : tie.Need-returns-2
 returns-2 c = let a = c .before .before .before .before .before .before .before .before .before .args in let w = a .work .now in
-    rw (c .before .before .before .before .before .before .before .if1 .left) (c .before .before .raise .ensures ∙ ap₂ (put w) (ap (λ (n : ℕ). a .all + n) (c .before .before .before .before .before .place .ensures)) (ap₂ (part w) (c .before .before .before .before .before .before .off .ensures) (c .before .before .before .before .cells .ensures)))
+    rw (c .before .before .before .before .before .before .before .if1 .left) (c .before .before .copy .ensures ∙ ap₂ (put w) (ap (λ (n : ℕ). a .all + n) (c .before .before .before .before .before .place .ensures)) (ap₂ (part w) (c .before .before .before .before .before .before .off .ensures) (c .before .before .before .before .cells .ensures)))
 
 pub line-next-spec : {M : Type 1} → statement M
 line-next-spec =
@@ -39,7 +41,7 @@ line-next-spec =
     off-requires
     place-requires
     cells-requires
-    add-raise
-    raise-requires
+    add-copy
+    copy-requires
     same-length
     returns-2)
