@@ -1,14 +1,31 @@
 // The pass over the lines: each is counted, and then its flat lines are written.
 use flat_cells::cells::KEPT;
+use flat_cells::written;
+use flattening::Made;
 use records::notes::BYTES;
 use tables::Answer;
 use tables::Refusal;
 ghost use mathlib.Core.Path.{_≡_};
 ghost use mathlib.Core.List.{[], _∷_};
+ghost use Prim.Native.Nat.{_<_};
 ghost use lib.ListN.{length};
 ghost use Rattle.tables.specs.Answers.{told};
 ghost use Rattle.flattening.specs.Answers.{flattens};
+ghost use Rattle.flattening.specs.Model.Cells.{Sound, keep, Written, Shortened};
 ghost use Rattle.flattening.specs.Model.Start.{Begun};
+
+// What is kept of the line n; a write by a constant index may have cells written out, for which the first `used` words are taken.
+fn keep_line(kept: &mut [[u64; KEPT]], n: usize, m: Made, used: usize) -> usize
+    requires { ⌜ Sound (keep (now kept) n m) × (Written (keep (now kept) n m) used × (n < length (now kept))) ⌝ }
+    ensures { λ r. ⌜ Shortened (keep (now (kept .entry)) n m) (now (kept .exit)) r ⌝ }
+{
+    let r = kept[n];
+    kept[n] = [m.at, m.bit, m.old, m.key, m.con, r[5]];
+    if m.old == 0 {
+        return used;
+    }
+    written::shorten(kept, n, used)
+}
 
 // The lines of an accepted table.
 pub fn all_lines(
@@ -25,6 +42,7 @@ pub fn all_lines(
     let room = records::room_of(false, target.len());
     let mut i: usize = 0;
     let mut p: usize = 0;
+    let mut used: usize = 0;
     while i < count {
         let rec = records::record(false, table, h, i);
         let c = flat_counts::count_line(rec, kept, types);
@@ -34,7 +52,7 @@ pub fn all_lines(
         }
         let m = flat_dispatch::line(rec, kept, types, p, target);
         let n = i + 1;
-        kept[n] = [m.at, m.bit, m.old, m.key, m.con];
+        used = keep_line(kept, n, m, used);
         p = m.next;
         i = n;
     }
