@@ -16,16 +16,16 @@ const CELLS: usize = 256;
 const LONG: u64 = 512;
 
 // The word i becomes w, with d above it.
-fn put_word(kept: &mut [[u64; KEPT]], i: usize, d: u64, w: u64)
+fn put_word(kept: &mut [[u32; KEPT]], i: usize, d: u64, w: u64)
     requires { ⌜ (i < length (now kept)) × ((d < 512) × (w < 131072)) ⌝ }
     ensures { λ _. ⌜ now (kept .exit) ≡ putWord (now (kept .entry)) i (d * 131072 + w) ⌝ }
 {
     let r = kept[i];
-    kept[i] = [r[0], r[1], r[2], r[3], r[4], d * SPAN + w];
+    kept[i] = [r[0], r[1], r[2], r[3], r[4], (d * SPAN + w) as u32];
 }
 
 // The line at 256 writes above the line n, or that of fewer which writes over none.
-fn far(kept: &[[u64; KEPT]], n: u64) -> u64 {
+fn far(kept: &[[u32; KEPT]], n: u64) -> u64 {
     let mut m = n;
     let mut k: usize = 0;
     while k < CELLS {
@@ -40,7 +40,7 @@ fn far(kept: &[[u64; KEPT]], n: u64) -> u64 {
 }
 
 // The cells of the line m go to the words from the place u on.
-fn fill(kept: &mut [[u64; KEPT]], m: u64, u: usize)
+fn fill(kept: &mut [[u32; KEPT]], m: u64, u: usize)
     requires { ⌜ Sound (now kept) × (Written (now kept) u × (u + 256 ≤ length (now kept))) ⌝ }
     ensures { λ _. ⌜ Filled (now (kept .entry)) (now (kept .exit)) m u 256 ⌝ }
 {
@@ -55,16 +55,16 @@ fn fill(kept: &mut [[u64; KEPT]], m: u64, u: usize)
 }
 
 // The cells of the line m are those written out from the place u on.
-fn put_row(kept: &mut [[u64; KEPT]], m: usize, u: usize)
-    requires { ⌜ m < length (now kept) ⌝ }
+fn put_row(kept: &mut [[u32; KEPT]], m: usize, u: usize)
+    requires { ⌜ (m < length (now kept)) × (u ≤ 65536) ⌝ }
     ensures { λ _. ⌜ now (kept .exit) ≡ putRow (now (kept .entry)) m u ⌝ }
 {
     let r = kept[m];
-    kept[m] = [u as u64, r[1], 0, WRITTEN, r[4], r[5]];
+    kept[m] = [u as u32, r[1], 0, WRITTEN as u32, r[4], r[5]];
 }
 
 // The cells of the line m are written out, where it writes over another and there is room.
-fn write_out(kept: &mut [[u64; KEPT]], m: u64, u: usize) -> usize
+fn write_out(kept: &mut [[u32; KEPT]], m: u64, u: usize) -> usize
     requires { ⌜ Sound (now kept) × Written (now kept) u ⌝ }
     ensures { λ r. ⌜ Shortened (now (kept .entry)) (now (kept .exit)) r ⌝ }
 {
@@ -80,7 +80,7 @@ fn write_out(kept: &mut [[u64; KEPT]], m: u64, u: usize) -> usize
 }
 
 // After the line n, which writes over another by a constant index: each written-out line is paid by 256 writes below it alone, so that there is room for all.
-pub fn shorten(kept: &mut [[u64; KEPT]], n: usize, u: usize) -> usize
+pub fn shorten(kept: &mut [[u32; KEPT]], n: usize, u: usize) -> usize
     requires { ⌜ Sound (now kept) × (Written (now kept) u × (n < length (now kept))) ⌝ }
     ensures { λ r. ⌜ Shortened (now (kept .entry)) (now (kept .exit)) r ⌝ }
 {

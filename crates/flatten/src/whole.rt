@@ -11,16 +11,23 @@ ghost use Prim.Native.Nat.{_<_};
 ghost use lib.ListN.{length};
 ghost use Rattle.tables.specs.Answers.{told};
 ghost use Rattle.flattening.specs.Answers.{flattens};
-ghost use Rattle.flattening.specs.Model.Cells.{Sound, keep, Written, Shortened};
+ghost use Rattle.flattening.specs.Model.Cells.{Sound, Low, keep, Written, Shortened};
 ghost use Rattle.flattening.specs.Model.Start.{Begun};
 
 // What is kept of the line n; a write by a constant index may have cells written out, for which the first `used` words are taken.
-fn keep_line(kept: &mut [[u64; KEPT]], n: usize, m: Made, used: usize) -> usize
-    requires { ⌜ Sound (keep (now kept) n m) × (Written (keep (now kept) n m) used × (n < length (now kept))) ⌝ }
+fn keep_line(kept: &mut [[u32; KEPT]], n: usize, m: Made, used: usize) -> usize
+    requires { ⌜ Sound (keep (now kept) n m) × (Written (keep (now kept) n m) used × (Low m × (n < length (now kept)))) ⌝ }
     ensures { λ r. ⌜ Shortened (keep (now (kept .entry)) n m) (now (kept .exit)) r ⌝ }
 {
     let r = kept[n];
-    kept[n] = [m.at, m.bit, m.old, m.key, m.con, r[5]];
+    kept[n] = [
+        m.at as u32,
+        m.bit as u32,
+        m.old as u32,
+        m.key as u32,
+        m.con as u32,
+        r[5],
+    ];
     if m.old == 0 {
         return used;
     }
@@ -32,7 +39,7 @@ pub fn all_lines(
     table: &[u64],
     count: usize,
     types: &[[u8; BYTES]],
-    kept: &mut [[u64; KEPT]],
+    kept: &mut [[u32; KEPT]],
     target: &mut [u64],
 ) -> Answer
     requires { ⌜ Begun (now table) count (now types) (now kept) (now target) ⌝ }

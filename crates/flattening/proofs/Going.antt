@@ -18,7 +18,7 @@ use Rattle.tables.proofs.Encoding.{fits-table}
 use Rattle.flattening.specs.declared.Made.{Made}
 use Rattle.flattening.specs.Flat.{flatten}
 use Rattle.flattening.specs.Answers.{flattens}
-use Rattle.flattening.specs.Model.Cells.{nothing, Sound, keep, Written, Shortened}
+use Rattle.flattening.specs.Model.Cells.{nothing, Sound, Low, keep, Written, Shortened}
 use Rattle.flattening.specs.Model.Lines.{notes, flatCount}
 use Rattle.flattening.specs.Model.Fits.{Deep, Fit, MadeFlat, Shallow}
 use Rattle.flattening.specs.Model.Start.{Begun}
@@ -26,7 +26,7 @@ use Rattle.flattening.proofs.Placing.{length-flat-filled}
 use Rattle.flattening.proofs.Outcomes.{flattens-as}
 use Rattle.flattening.proofs.Passing.{lineIn, sofar}
 use Rattle.flattening.proofs.Depths.{wide-at, flat-at}
-use Rattle.flattening.proofs.Pass.{Pass, record-known, record-line, deep, too-many, length-target, fit, passed, shortened, begun, stopped, stopped-target, done, done-target}
+use Rattle.flattening.proofs.Pass.{Pass, record-known, record-line, deep, too-many, length-target, fit, made-low, passed, shortened, begun, stopped, stopped-target, done, done-target}
 
 abbrev pub Going : (t : List ℕ) (n : ℕ) (types kept₀ : List (List ℕ)) (target₀ : List ℕ) (i p : ℕ) (kept : List (List ℕ)) (target : List ℕ) (u : ℕ) → Type 0
 Going t n types kept₀ target₀ i p kept target u =
@@ -88,6 +88,15 @@ module _ {t : List ℕ} {n : ℕ} {types kept₀ : List (List ℕ)} {target₀ :
       let e₁ : c ≡ flatCount (notes kept types) (lineIn (linesOf false t n) i) = e ∙ ap (flatCount (notes kept types)) el in
       let fi = s .fits in
       passed t n (q .accepted) types (q .iw) (q .w) (length target₀) (q .size) (q .wide) s h (omega arith) (i + 1) d (omega arith) (subst (λ (l : Line). MadeFlat (notes kept types) p l target target₁ d) el w)
+
+  pub rec-low : {i p : ℕ} {kept : List (List ℕ)} {target : List ℕ} {u : ℕ} → Going t n types kept₀ target₀ i p kept target u → (h : i < n) (r : List ℕ) → r ≡ recordAt false t i → (c m : ℕ)
+      → c ≡ flatCount (notes kept types) (lineOf r) → m ≡ room false (length target₀) → c ≤ m - p → (d : Made) {target₁ : List ℕ} → MadeFlat (notes kept types) p (lineOf r) target target₁ d → Low d
+  rec-low {i} {p} {kept} {target} {u} g h r er c m e f z d {target₁} w =
+      let s = g b in
+      let el = ap lineOf er ∙ record-line t n (b .accepted) i h in
+      let e₁ : c ≡ flatCount (notes kept types) (lineIn (linesOf false t n) i) = e ∙ ap (flatCount (notes kept types)) el in
+      let fi = s .fits in
+      made-low t n (b .accepted) types (b .iw) (b .w) (length target₀) (b .size) (b .wide) s h (omega arith) d (subst (λ (l : Line). MadeFlat (notes kept types) p l target target₁ d) el w)
 
   -- where cells are held
   pub rec-ready : {i p : ℕ} {kept : List (List ℕ)} {target : List ℕ} {u : ℕ} → Going t n types kept₀ target₀ i p kept target u → Sound kept × Written kept u

@@ -37,7 +37,7 @@ use Rattle.flattening.specs.declared.Made.{Made}
 use Rattle.flattening.specs.Flat.{Info, noInfo, infoAt, chunk, flatten, flatLines, flatRecords}
 use Rattle.flattening.specs.Placed.{putFlat, flatFilled}
 use Rattle.flattening.specs.Answers.{flattened, flatLeft}
-use Rattle.flattening.specs.Model.Cells.{nothing, keptOf, atOf, keyOf, Sound, keptNow, keep, Written, Shortened}
+use Rattle.flattening.specs.Model.Cells.{nothing, keptOf, atOf, keyOf, Sound, Low, keptNow, keep, Written, Shortened}
 use Rattle.flattening.specs.Model.Lines.{notes, flatCount, lineRecords, flatMade}
 use Rattle.flattening.specs.Model.Fits.{Neat, Deep, Fit, MadeFlat}
 use Rattle.flattening.proofs.Walk.{new-type}
@@ -297,6 +297,16 @@ module _ (t : List ℕ) (n : ℕ) (acc : checked false t n ≡ Accepted) where
             all-records =
                 ap₂ (λ (x : List ℕ) (y : List (List ℕ)). putFlat x p y) (s .records) (sym chunk-records)
                 ∙ flat-filled len (map wordsOf F) p (map wordsOf L) (s .count ∙ sym (length-words F)) ∙ ap (flatFilled len) (sym (map-append wordsOf F L))
+
+        low-next : Low m
+        low-next = record { at = lk .low; bit = lk .bit; old = go (eqb (m .old) 0) refl; key = lk .few; con = lk .con }
+          where
+            go : (y : Bool) → eqb (m .old) 0 ≡ y → m .old ≤ 65536
+            go true q = let z = eqb-true (m .old) 0 q in omega arith
+            go false q = let z = lk .falls (eqb-false (m .old) 0 q) in let e = many .0 in omega (arith, h)
+
+        pub made-low : (r : Made) {target₁ : List ℕ} → MadeFlat (notes kept types) p (lineIn C i) target target₁ r → Low r
+        made-low r d = subst⁻¹ Low (d .kept) low-next
 
         -- the same, as the code says it
         pub passed : (q : ℕ) (r : Made) {target₁ : List ℕ} → q ≡ suc i → MadeFlat (notes kept types) p (lineIn C i) target target₁ r

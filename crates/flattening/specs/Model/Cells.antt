@@ -62,6 +62,14 @@ pub record Sound (H : Held) : Type 0 where
   pub low : (m : ℕ) → atOf H m ≤ 65536
   pub few : (m : ℕ) → keyOf H m ≤ 257
 
+-- what is kept of a line is small
+pub record Low (m : Made) : Type 0 where
+  pub at : m .at ≤ 65536
+  pub bit : m .bit ≤ 65536
+  pub old : m .old ≤ 65536
+  pub key : m .key ≤ 256
+  pub con : m .con ≤ 256
+
 -- the list with what is kept of the line n; the words stay
 abbrev pub keptNow : Held → ℕ → Made → List ℕ
 keptNow H n m = numbers (m .at) (m .bit) (m .old) (m .key) (m .con) (keptOf H 5 n)

@@ -10,14 +10,20 @@ mul-r c = search needs
 slice-copy-out-r : tie.Need-slice-copy-out-r
 slice-copy-out-r c = search needs
 
+cast-t8 : tie.Need-cast-t8
+cast-t8 c = search needs
+
 array-read-t11 : tie.Need-array-read-t11
 array-read-t11 c = search needs
 
-array-read-t14 : tie.Need-array-read-t14
-array-read-t14 c = search needs
+cast-t12 : tie.Need-cast-t12
+cast-t12 c = search needs
 
-array-read-t17 : tie.Need-array-read-t17
-array-read-t17 c = search needs
+array-read-t15 : tie.Need-array-read-t15
+array-read-t15 c = search needs
+
+array-read-t18 : tie.Need-array-read-t18
+array-read-t18 c = search needs
 
 mul-t5 : tie.Need-mul-t5
 mul-t5 c = search needs
@@ -29,7 +35,7 @@ same-length : tie.Need-same-length
 same-length c = search needs
 
 returns : tie.Need-returns
-returns c = let a = c .before .args in row-read (a .kept .now) (a .m) (a .u) (c .before .pre)
+returns c = let a = c .before .args in row-read (a .kept .now) (a .m) (a .u) (c .before .pre .0)
 
 pub put-row-spec : {M : Type 1} → statement M
 put-row-spec =
@@ -37,9 +43,11 @@ put-row-spec =
     (tie.spec
     mul-r
     slice-copy-out-r
+    cast-t8
     array-read-t11
-    array-read-t14
-    array-read-t17
+    cast-t12
+    array-read-t15
+    array-read-t18
     mul-t5
     slice-set-from-kept
     same-length

@@ -32,6 +32,9 @@ mul-t24 c = search needs
 add-t25 : tie.Need-add-t25
 add-t25 c = search needs
 
+cast-t26 : tie.Need-cast-t26
+cast-t26 c = search needs
+
 mul-t6 : tie.Need-mul-t6
 mul-t6 c = search needs
 
@@ -57,6 +60,7 @@ put-word-spec =
     array-read-t23
     mul-t24
     add-t25
+    cast-t26
     mul-t6
     slice-set-from-kept
     same-length

@@ -31,8 +31,13 @@ fill-requires : tie.Need-fill-requires
 fill-requires c κs = search needs
 
 put-row-requires : tie.Need-put-row-requires
-put-row-requires c κs = let a = c .before .before .before .before .before .before .before .before .args in
-    subst⁻¹ (λ (x : ℕ). a .m < x) (c .before .before .fill .ensures .from .len) (place-of (a .kept .now) (a .m) (λ z. c .before .before .before .before .before .if1 .left (c .before .before .before .before .before .before .entry .ensures ∙ z)))
+put-row-requires c κs = let s = c .before .before .before .before .before .before .before .before in
+    let a = s .args in
+    let w = s .pre .1 .within in
+    let l = s .pre .1 .most in (
+      subst⁻¹ (λ (x : ℕ). a .m < x) (c .before .before .fill .ensures .from .len) (place-of (a .kept .now) (a .m) (λ z. c .before .before .before .before .before .if1 .left (c .before .before .before .before .before .before .entry .ensures ∙ z))),
+      omega (arith, w, l),
+    )
 
 add-result : tie.Need-add-result
 add-result c = search needs

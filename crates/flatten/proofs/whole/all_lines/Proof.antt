@@ -3,7 +3,7 @@ use Prim.Native.Nat.{ℕ, _-_}
 use mathlib.Core.Path.{ap, _∙_}
 use native.Mathlib.Omega.{arith}
 use lib.ListN.{length, length-replicate}
-use Rattle.flattening.proofs.Going.{Going, shallow, going, record-fits, line-fits, rec-known, rec-deep, rec-fit, rec-next, rec-ready, rec-short, rec-stopped, rec-done, same-kept, same-target}
+use Rattle.flattening.proofs.Going.{Going, shallow, going, record-fits, line-fits, rec-known, rec-deep, rec-fit, rec-next, rec-low, rec-ready, rec-short, rec-stopped, rec-done, same-kept, same-target}
 use Rattle.flatten.proofs.whole.all_lines.Statement.{statement}
 use Rattle.flatten.proofs.whole.all_lines.Tie as tie
 
@@ -53,7 +53,7 @@ keep-line-requires : tie.Need-keep-line-requires Inv-loop μ-loop
 keep-line-requires c κs = let r = rec-ready (c .before .before .before .before .before .before .before .before .before .before .before .before .before .before .before .before .pre) (rec-next (c .before .before .before .before .before .before .before .before .before .before .before .before .before .before .before .before .pre) (c .before .before .before .before .before .before .before .before .before .before .before .loop .inv) (c .before .before .before .before .before .before .before .before .before .before .loop-test .taken) _ (c .before .before .before .before .before .before .before .before .before .«record» .ensures) (c .before .before .before .before .before .before .before .count-line .result) (c .before .before .before .before .before .before .before .before .before .before .before .before .room-of .result) (c .before .before .before .before .before .before .before .count-line .ensures) (c .before .before .before .before .before .before .before .before .before .before .before .before .room-of .ensures) (c .before .before .before .before .before .before .if1 .left) (c .before .before .before .line .result) (c .before .before .before .line .ensures)) in
     let w = line-fits (c .before .before .before .before .before .before .before .before .before .before .before .before .before .before .before .before .pre) (c .before .before .before .before .before .before .before .before .before .before .before .loop .i) (c .before .before .before .before .before .before .before .before .before .before .loop-test .taken) in
     let s = c .before .before .before .before .before .before .before .before .before .before .before .loop .inv (c .before .before .before .before .before .before .before .before .before .before .before .before .before .before .before .before .pre) in
-    (r .0, (r .1, omega (arith, w .1, s .of-kept)))
+    (r .0, (r .1, (rec-low (c .before .before .before .before .before .before .before .before .before .before .before .before .before .before .before .before .pre) (c .before .before .before .before .before .before .before .before .before .before .before .loop .inv) (c .before .before .before .before .before .before .before .before .before .before .loop-test .taken) _ (c .before .before .before .before .before .before .before .before .before .«record» .ensures) (c .before .before .before .before .before .before .before .count-line .result) (c .before .before .before .before .before .before .before .before .before .before .before .before .room-of .result) (c .before .before .before .before .before .before .before .count-line .ensures) (c .before .before .before .before .before .before .before .before .before .before .before .before .room-of .ensures) (c .before .before .before .before .before .before .if1 .left) (c .before .before .before .line .result) (c .before .before .before .line .ensures), omega (arith, w .1, s .of-kept))))
 
 loop-less : tie.Need-loop-less Inv-loop μ-loop
 loop-less c = omega (arith, c .before .before .before .before .before .before .before .before .before .before .before .before .loop-test .taken)
