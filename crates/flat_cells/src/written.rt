@@ -1,4 +1,4 @@
-// Cells written out: a look-up goes along no more than some hundred writes by constant indexes.
+// Cells written out, so that a look-up goes along no more than 512 writes by constant indexes. No answer depends on when it is done.
 use crate::cells;
 use crate::cells::KEPT;
 use crate::cells::SPAN;
@@ -8,14 +8,14 @@ ghost use Prim.Native.Nat.{_+_, _*_, _≤_, _<_};
 ghost use lib.ListN.{length};
 ghost use Rattle.flattening.specs.Model.Cells.{Sound, putWord, putRow, Written, Filled, Shortened};
 
-// The cells of a line.
+// The words of a line whose cells are written out: as many as a line may have cells.
 const CELLS: usize = 256;
 
-// A word is a flat line, and above it how many writes lie between its line and one that writes over none, or more.
-// A write with this many above it has cells written out.
+// The sixth number kept of a line is d * SPAN + w. The number w is a word. Along the writes from that line to one that writes over none there are at most d lines.
+// Where d would come to LONG, the cells of the line that is CELLS writes away are written out, unless it writes over none.
 const LONG: u64 = 512;
 
-// The word i becomes w, with d above it.
+// The sixth number of the line i.
 fn put_word(kept: &mut [[u32; KEPT]], i: usize, d: u64, w: u64)
     requires { ⌜ (i < length (now kept)) × ((d < 512) × (w < 131072)) ⌝ }
     ensures { λ _. ⌜ now (kept .exit) ≡ putWord (now (kept .entry)) i (d * 131072 + w) ⌝ }
@@ -24,7 +24,7 @@ fn put_word(kept: &mut [[u32; KEPT]], i: usize, d: u64, w: u64)
     kept[i] = [r[0], r[1], r[2], r[3], r[4], (d * SPAN + w) as u32];
 }
 
-// The line at 256 writes above the line n, or that of fewer which writes over none.
+// The line that is CELLS writes away from the line n, or one at fewer that writes over none.
 fn far(kept: &[[u32; KEPT]], n: u64) -> u64 {
     let mut m = n;
     let mut k: usize = 0;
@@ -79,7 +79,8 @@ fn write_out(kept: &mut [[u32; KEPT]], m: u64, u: usize) -> usize
     u + CELLS
 }
 
-// After the line n, which writes over another by a constant index: each written-out line is paid by 256 writes below it alone, so that there is room for all.
+// After the line n, which writes over another by a constant index. The 256 writes from n to a line whose cells are then written out lead to no other such line first, so there
+// are at most 64 such lines, and words for all of them.
 pub fn shorten(kept: &mut [[u32; KEPT]], n: usize, u: usize) -> usize
     requires { ⌜ Sound (now kept) × (Written (now kept) u × (n < length (now kept))) ⌝ }
     ensures { λ r. ⌜ Shortened (now (kept .entry)) (now (kept .exit)) r ⌝ }

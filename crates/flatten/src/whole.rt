@@ -14,7 +14,7 @@ ghost use Rattle.flattening.specs.Answers.{flattens};
 ghost use Rattle.flattening.specs.Model.Cells.{Sound, Low, keep, Written, Shortened};
 ghost use Rattle.flattening.specs.Model.Start.{Begun};
 
-// What is kept of the line n; a write by a constant index may have cells written out, for which the first `used` words are taken.
+// Keeps what the line n leaves. After a write by a constant index cells may be written out: the words below `used` are taken.
 fn keep_line(kept: &mut [[u32; KEPT]], n: usize, m: Made, used: usize) -> usize
     requires { ⌜ Sound (keep (now kept) n m) × (Written (keep (now kept) n m) used × (Low m × (n < length (now kept)))) ⌝ }
     ensures { λ r. ⌜ Shortened (keep (now (kept .entry)) n m) (now (kept .exit)) r ⌝ }

@@ -89,6 +89,7 @@ module _ {t : List ℕ} {n : ℕ} {types kept₀ : List (List ℕ)} {target₀ :
       let fi = s .fits in
       passed t n (q .accepted) types (q .iw) (q .w) (length target₀) (q .size) (q .wide) s h (omega arith) (i + 1) d (omega arith) (subst (λ (l : Line). MadeFlat (notes kept types) p l target target₁ d) el w)
 
+  -- what is kept of the line is small
   pub rec-low : {i p : ℕ} {kept : List (List ℕ)} {target : List ℕ} {u : ℕ} → Going t n types kept₀ target₀ i p kept target u → (h : i < n) (r : List ℕ) → r ≡ recordAt false t i → (c m : ℕ)
       → c ≡ flatCount (notes kept types) (lineOf r) → m ≡ room false (length target₀) → c ≤ m - p → (d : Made) {target₁ : List ℕ} → MadeFlat (notes kept types) p (lineOf r) target target₁ d → Low d
   rec-low {i} {p} {kept} {target} {u} g h r er c m e f z d {target₁} w =

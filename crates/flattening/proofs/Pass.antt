@@ -210,7 +210,7 @@ module _ (t : List ℕ) (n : ℕ) (acc : checked false t n ≡ Accepted) where
       info-this : infoAt (sofar C (suc i) .infos) (suc i) ≡ chunkAt (sofar C i) (lineIn C i) .info
       info-this = getD-at (sofar C i .infos) (chunkAt (sofar C i) (lineIn C i) .info) [] noInfo (suc i) len-infos
 
-      pub places : Holds (notes kept types) (suc i)
+      places : Holds (notes kept types) (suc i)
       places =
           let q = many .0 in
           record { place = omega (arith, s .of-kept, wide) }

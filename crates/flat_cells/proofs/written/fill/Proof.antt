@@ -22,8 +22,7 @@ loop-holds c = (omega arith, record { from = from-none; word = λ j l. absurd (o
 
 cell-requires : tie.Need-cell-requires Inv-loop μ-loop
 cell-requires c κs = let s = c .before .before .before in
-    let j = c .before .before .loop .j in
-    let h = c .before .loop-test .taken in
+    let h : c .before .before .loop .j < 256 = omega (arith, c .before .loop-test .taken) in
     (filling (s .pre .0) (s .pre .1 .0) h (omega (arith, s .pre .1 .1)) (c .before .before .loop .inv .1), h)
 
 add-i : tie.Need-add-i Inv-loop μ-loop
@@ -35,7 +34,7 @@ entry-requires c κs = search needs
 put-word-requires : tie.Need-put-word-requires Inv-loop μ-loop
 put-word-requires c κs = let s = c .before .before .before .before .before .before .before in
     let l = c .before .before .before .before .before .before .loop in
-    let h = c .before .before .before .before .before .loop-test .taken in
+    let h : l .j < 256 = omega (arith, c .before .before .before .before .before .loop-test .taken) in
     let f = l .inv .1 in
     let r : s .args .u + l .j < length (s .args .kept .now) = omega (arith, s .pre .1 .1) in
     let z = f .from .len in
@@ -50,7 +49,7 @@ loop-less c = search needs
 loop-again : tie.Need-loop-again Inv-loop μ-loop
 loop-again c = let s = c .before .before .before .before .before .before .before .before .before in
     let l = c .before .before .before .before .before .before .before .before .loop in
-    let h = c .before .before .before .before .before .before .before .loop-test .taken in (
+    let h : l .j < 256 = omega (arith, c .before .before .before .before .before .before .before .loop-test .taken) in (
       omega arith,
       subst⁻¹ (λ (K : List (List ℕ)). Filled (s .args .kept .now) K (s .args .m) (s .args .u) (l .j + 1)) (c .before .put-word .ensures)
           (filled (s .pre .0) (s .pre .1 .0) h (omega (arith, s .pre .1 .1)) (l .inv .1) (c .before .before .before .entry .result / 131072 % 512) (c .before .before .before .before .before .cell .result) (c .before .before .before .before .before .cell .ensures)),
