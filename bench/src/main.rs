@@ -334,8 +334,8 @@ fn program_rows() {
     }
 }
 
-/// Writes by one constant index, each to the array before it; then reads of another cell of the last of them, or ites between it and itself: each such
-/// cell is looked up along all the writes. An array has 256 cells, as many as it may have.
+/// Writes by one constant index, each to the array before it; then reads of another cell of the last of them, or ites between it and itself. An array has
+/// 256 cells, as many as it may have.
 fn chain(writes: u64, reads: u64, ites: u64) -> Vec<u64> {
     let mut table = vec![1, 0, 8, 0, 0, 2, 0, 1, 1, 0, 3, 1, 0, 0, 0, 3, 1, 1, 0, 0, 5, 2, 0, 0, 0];
     table.extend([1, 0, 1, 0, 0, 4, 6, 0, 0, 0]);

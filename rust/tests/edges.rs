@@ -1,8 +1,10 @@
-//! Inputs that could take long: each call has to end within 10 ms. The time is the least of some calls, as other tests may
-//! run beside it.
+//! Inputs that could take long: each call has to end within 10 ms, or 100 ms where all the lines of the largest tables are
+//! flattened. The time is the least of some calls, as other tests may run beside it.
 #![allow(unused_imports, dead_code)]
 
 use std::time::{Duration, Instant};
+
+mod independent;
 
 const MOST: Duration = Duration::from_millis(10);
 
@@ -110,5 +112,125 @@ fn peeking_through_arrays() {
         let took = least(|| assert_eq!(gofeshan::peek(&table, n as usize + 1, n as usize + 1, 0, &starts, &[]), Ok(1)));
         println!("a peek through {} lines of arrays: {took:?}", n + 1);
         assert!(took < MOST, "the peek took {took:?}");
+    });
+}
+
+/// A table with an array of 256 cells and the constants 0 to 255 as indexes and values, and writes, reads and ites of it.
+#[cfg(feature = "flatten")]
+struct Arrays(Vec<u64>);
+
+#[cfg(feature = "flatten")]
+impl Arrays {
+    const ARRAY: u64 = 3;
+
+    fn new() -> Self {
+        let mut table = vec![1, 0, 8, 0, 0, 2, 0, 1, 1, 0, 5, 2, 0, 0, 0, 1, 0, 1, 0, 0, 4, 4, 0, 0, 0];
+        (0..256).for_each(|v| table.extend([3, 1, v, 0, 0]));
+        Arrays(table)
+    }
+
+    fn count(&self) -> usize {
+        self.0.len() / 5
+    }
+
+    fn line(&mut self, record: [u64; 5]) -> u64 {
+        self.0.extend(record);
+        self.count() as u64
+    }
+
+    fn write(&mut self, array: u64, index: u64, value: u64) -> u64 {
+        self.line([55, 2, array, 6 + index % 256, 6 + value % 256])
+    }
+
+    fn read(&mut self, array: u64, index: u64) -> u64 {
+        self.line([54, 1, array, 6 + index % 256, 0])
+    }
+
+    fn ite(&mut self, a: u64, b: u64) -> u64 {
+        self.line([53, 2, 5, a, b])
+    }
+
+    /// `n` writes, each over the one before, by the indexes that `index` gives; the last of them.
+    fn chain(&mut self, array: u64, n: u64, index: impl Fn(u64) -> u64) -> u64 {
+        (0..n).fold(array, |a, i| self.write(a, index(i), i))
+    }
+}
+
+/// Long chains of writes by constant indexes: a cell is not looked up along all of them.
+#[cfg(feature = "flatten")]
+#[test]
+fn flattening_chains() {
+    let reads = |index: fn(u64) -> u64| {
+        let mut t = Arrays::new();
+        let last = t.chain(Arrays::ARRAY, 8_000, index);
+        (0..8_000).for_each(|_| _ = t.read(last, 200));
+        t
+    };
+    let ites = || {
+        let mut t = Arrays::new();
+        let last = t.chain(Arrays::ARRAY, 16_000, |_| 0);
+        (0..60).for_each(|_| _ = t.ite(last, last));
+        t
+    };
+    // Writes over one line that `deep` writes lie above, and ites of the last of them.
+    let tree = |deep: u64| {
+        let mut t = Arrays::new();
+        let stem = t.chain(Arrays::ARRAY, deep, |_| 0);
+        let last = (0..15_000).fold(stem, |_, i| t.write(stem, 1, i));
+        (0..60).for_each(|_| _ = t.ite(last, stem));
+        t
+    };
+    on_stack(move || {
+        let tables = [
+            ("8,000 writes and reads", reads(|_| 0)),
+            ("8,000 writes by two indexes in turn, and reads", reads(|i| i % 2)),
+            ("16,000 writes and 60 ites", ites()),
+            ("15,000 writes over one after 300", tree(300)),
+            ("15,000 writes over one after 511", tree(511)),
+            ("15,000 writes over one after 1,000", tree(1_000)),
+        ];
+        let mut target = vec![1; 5 * gofeshan::MOST_RECORDS];
+        for (name, table) in tables {
+            let took = least(|| assert!(gofeshan::flatten(&table.0, table.count(), &mut target).is_ok(), "{name}"));
+            println!("flattening {name}: {took:?}");
+            assert!(took < 10 * MOST, "flattening {name} took {took:?}");
+        }
+    });
+}
+
+/// The flat circuits of chains, trees and what reads them, beside those of the independent implementation.
+#[cfg(feature = "flatten")]
+#[test]
+fn flattening_chains_alike() {
+    let mut tables = Vec::new();
+    for index in [|_| 0, |i| i % 2, |i| i, |i| 97 * i, |i: u64| i * i / 3] {
+        let mut t = Arrays::new();
+        let last = t.chain(Arrays::ARRAY, 2_000, index);
+        (0..2_000).for_each(|i| _ = t.read(last - i, 5 * i));
+        tables.push(t);
+        let mut t = Arrays::new();
+        let last = t.chain(Arrays::ARRAY, 1_200, index);
+        (0..58).for_each(|i| _ = t.ite(last - 20 * i, last - 7 * i));
+        tables.push(t);
+    }
+    for deep in [1, 255, 256, 257, 300, 511, 512, 513, 1_000] {
+        let mut t = Arrays::new();
+        let stem = t.chain(Arrays::ARRAY, deep, |i| 3 * i);
+        let lasts: Vec<u64> = (0..20).map(|i| t.chain(stem, 200 * (i % 4), |k| k + i)).collect();
+        lasts.iter().for_each(|&a| _ = t.ite(a, stem));
+        lasts.iter().for_each(|&a| (0..256).for_each(|i| _ = t.read(a, i)));
+        let joined = t.ite(lasts[3], lasts[7]);
+        let last = t.chain(joined, 600, |i| 5 * i);
+        (0..20).for_each(|_| _ = t.ite(last, lasts[2]));
+        tables.push(t);
+    }
+    on_stack(move || {
+        for table in tables {
+            let (mut ours, mut theirs) = (vec![1; 5 * gofeshan::MOST_RECORDS], vec![2; 5 * gofeshan::MOST_RECORDS]);
+            let mut answer = [0; 3];
+            assert_eq!(independent::flatten(&table.0, table.count(), &mut theirs, &mut answer), 0);
+            assert_eq!(gofeshan::flatten(&table.0, table.count(), &mut ours), Ok(answer[0] as usize));
+            assert!(ours == theirs);
+        }
     });
 }

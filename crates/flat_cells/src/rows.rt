@@ -23,7 +23,7 @@ pub fn put(target: &mut [u64], i: usize, rec: [u64; WORDS])
 
 // n records of the kind k and the sort line s, from the place p on: the record j has the words j of the three sources.
 pub fn rows(
-    kept: &[[u64; KEPT]],
+    kept: &[[u32; KEPT]],
     target: &mut [u64],
     p: usize,
     n: usize,
@@ -54,7 +54,7 @@ pub fn rows(
 // n pairs of records from the place p on, for n index constants: an eq, of the sort line o, of the index i and the word j of c; then an ite, of the sort line s, of that eq
 // and the words j of x and y.
 pub fn pairs(
-    kept: &[[u64; KEPT]],
+    kept: &[[u32; KEPT]],
     target: &mut [u64],
     p: usize,
     n: usize,

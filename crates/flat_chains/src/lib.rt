@@ -13,7 +13,7 @@ ghost use Rattle.flattening.specs.Model.Cells.{Sound};
 ghost use Rattle.flattening.specs.Model.Rows.{arrayRecords, joinRecords, equalityRecords, readRecords};
 
 // An array sort of n cells, whose index sort has the flat line s: a width-1 sort, then the index constants.
-pub fn array_lines(kept: &[[u64; KEPT]], s: u64, n: usize, p: usize, target: &mut [u64])
+pub fn array_lines(kept: &[[u32; KEPT]], s: u64, n: usize, p: usize, target: &mut [u64])
     requires { ⌜ Sound (now kept) × ((n ≤ 256) × (p + (1 + n) ≤ held false (length (now target)))) ⌝ }
     ensures { λ _. ⌜ now (target .exit) ≡ putFlat (now (target .entry)) p (arrayRecords (now (kept .entry)) s n) ⌝ }
 {
@@ -23,7 +23,7 @@ pub fn array_lines(kept: &[[u64; KEPT]], s: u64, n: usize, p: usize, target: &mu
 }
 
 // The ands, or ors, of n tests that begin at the place p, from the left.
-fn join_lines(kept: &[[u64; KEPT]], j: u64, s: u64, n: usize, p: usize, target: &mut [u64])
+fn join_lines(kept: &[[u32; KEPT]], j: u64, s: u64, n: usize, p: usize, target: &mut [u64])
     requires { ⌜ Sound (now kept) × ((n ≤ 256) × ((p ≤ 65536) × (p + (n + (n - 1)) ≤ held false (length (now target))))) ⌝ }
     ensures { λ _. ⌜ now (target .exit) ≡ putFlat (now (target .entry)) (p + n) (joinRecords (now (kept .entry)) p j s n) ⌝ }
 {
@@ -50,7 +50,7 @@ fn join_lines(kept: &[[u64; KEPT]], j: u64, s: u64, n: usize, p: usize, target: 
 
 // eq or neq, of the kind k, of two values of n cells: a test for each cell, then their ands, or ors, of the kind j.
 pub fn equality_lines(
-    kept: &[[u64; KEPT]],
+    kept: &[[u32; KEPT]],
     k: u64,
     j: u64,
     s: u64,
@@ -79,7 +79,7 @@ pub fn equality_lines(
 
 // A read of the cells of a by the index i, from the last cell: o is the width-1 sort line, and the index constants stand after it.
 pub fn read_lines(
-    kept: &[[u64; KEPT]],
+    kept: &[[u32; KEPT]],
     o: u64,
     i: u64,
     s: u64,

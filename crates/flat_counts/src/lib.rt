@@ -35,7 +35,7 @@ fn count_write(c: u64, n: usize) -> usize
 }
 
 // The line of a record.
-pub fn count_line(rec: [u64; WORDS], kept: &[[u64; KEPT]], types: &[[u8; BYTES]]) -> usize
+pub fn count_line(rec: [u64; WORDS], kept: &[[u32; KEPT]], types: &[[u8; BYTES]]) -> usize
     requires { ⌜ (knownOf false (kindIn rec) ≡ true) × (Shallow (now types) × Deep (notes (now kept) (now types)) (lineOf rec)) ⌝ }
     ensures { λ r. ⌜ r ≡ flatCount (notes (now (kept .entry)) (now (types .entry))) (lineOf rec) ⌝ }
 {

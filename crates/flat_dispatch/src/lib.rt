@@ -15,7 +15,7 @@ ghost use Rattle.flattening.specs.Model.Fits.{Fit, MadeFlat};
 // The line of a record of an operator.
 fn operator(
     rec: [u64; WORDS],
-    kept: &[[u64; KEPT]],
+    kept: &[[u32; KEPT]],
     types: &[[u8; BYTES]],
     p: usize,
     target: &mut [u64],
@@ -45,7 +45,7 @@ fn operator(
 // The line of a record of a circuit.
 pub fn line(
     rec: [u64; WORDS],
-    kept: &[[u64; KEPT]],
+    kept: &[[u32; KEPT]],
     types: &[[u8; BYTES]],
     p: usize,
     target: &mut [u64],

@@ -46,7 +46,7 @@ fn small(v: u64) -> u64
 // A word sort is copied.
 pub fn line_bitvec(
     w: u64,
-    kept: &[[u64; KEPT]],
+    kept: &[[u32; KEPT]],
     types: &[[u8; BYTES]],
     p: usize,
     target: &mut [u64],
@@ -69,7 +69,7 @@ pub fn line_bitvec(
 pub fn line_array(
     i: u64,
     e: u64,
-    kept: &[[u64; KEPT]],
+    kept: &[[u32; KEPT]],
     types: &[[u8; BYTES]],
     p: usize,
     target: &mut [u64],
@@ -92,7 +92,7 @@ pub fn line_array(
 // An input is copied.
 pub fn line_input(
     s: u64,
-    kept: &[[u64; KEPT]],
+    kept: &[[u32; KEPT]],
     types: &[[u8; BYTES]],
     p: usize,
     target: &mut [u64],
@@ -115,7 +115,7 @@ pub fn line_input(
 pub fn line_const(
     s: u64,
     v: u64,
-    kept: &[[u64; KEPT]],
+    kept: &[[u32; KEPT]],
     types: &[[u8; BYTES]],
     p: usize,
     target: &mut [u64],
@@ -141,7 +141,7 @@ pub fn line_unary(
     a: u64,
     x: u64,
     y: u64,
-    kept: &[[u64; KEPT]],
+    kept: &[[u32; KEPT]],
     types: &[[u8; BYTES]],
     p: usize,
     target: &mut [u64],
@@ -166,7 +166,7 @@ pub fn line_binary(
     s: u64,
     a: u64,
     b: u64,
-    kept: &[[u64; KEPT]],
+    kept: &[[u32; KEPT]],
     types: &[[u8; BYTES]],
     p: usize,
     target: &mut [u64],
@@ -195,7 +195,7 @@ pub fn line_binary(
 pub fn line_signal(
     m: bool,
     a: u64,
-    kept: &[[u64; KEPT]],
+    kept: &[[u32; KEPT]],
     types: &[[u8; BYTES]],
     p: usize,
     target: &mut [u64],
@@ -213,7 +213,7 @@ pub fn line_signal(
 // An output is copied.
 pub fn line_output(
     a: u64,
-    kept: &[[u64; KEPT]],
+    kept: &[[u32; KEPT]],
     types: &[[u8; BYTES]],
     p: usize,
     target: &mut [u64],

@@ -37,7 +37,7 @@ fn few(table: &[u64], count: usize, target: &mut [u64]) -> Answer
     ensures { λ r. ⌜ told r (now (target .exit) ∷ []) ≡ flattens (now (table .entry)) count (length (now (target .entry))) ⌝ }
 {
     let mut notes = [[0u8; BYTES]; 512];
-    let mut kept = [[0u64; KEPT]; 512];
+    let mut kept = [[0u32; KEPT]; 512];
     checked(table, count, &mut notes, &mut kept, target)
 }
 
@@ -47,7 +47,7 @@ fn many(table: &[u64], count: usize, target: &mut [u64]) -> Answer
     ensures { λ r. ⌜ told r (now (target .exit) ∷ []) ≡ flattens (now (table .entry)) count (length (now (target .entry))) ⌝ }
 {
     let mut notes = [[0u8; BYTES]; 16385];
-    let mut kept = [[0u64; KEPT]; 16385];
+    let mut kept = [[0u32; KEPT]; 16385];
     checked(table, count, &mut notes, &mut kept, target)
 }
 
@@ -56,7 +56,7 @@ fn checked(
     table: &[u64],
     count: usize,
     notes: &mut [[u8; BYTES]],
-    kept: &mut [[u64; KEPT]],
+    kept: &mut [[u32; KEPT]],
     target: &mut [u64],
 ) -> Answer
     requires { ⌜ Blank (now table) count (now notes) (now kept) (now target) ⌝ }

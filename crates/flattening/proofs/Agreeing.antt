@@ -19,7 +19,7 @@ use Rattle.circuits.specs.Layout.{typeAt}
 use Rattle.circuits.specs.Meaning.{Frame, cellsAt}
 use Rattle.flattening.specs.declared.Source.{Source}
 use Rattle.flattening.specs.Flat.{from, Info, infoAt, linesAt, lineAt, chunk, chunkRead, chunkWrite, valueLines, equalityLines, joinKind, joinLines, writeLines, readChain}
-use Rattle.flattening.specs.Model.Cells.{Held, cellIn}
+use Rattle.flattening.specs.Model.Cells.{Held, oldOf, cellIn}
 use Rattle.flattening.specs.Model.Rows.{sourceAt, rowsFor, rowAt, pairAt, stepping, still, of, runDown, ofDown, joinRecords, readRecords, writeRecords}
 use Rattle.flattening.specs.Model.Lines.{deepIn, wideIn, Notes, sortLine, wordLine, bitIn, conIn, sizeIn, small, givenFrom, lineRecords}
 use Rattle.flattening.specs.Model.Fits.{Neat}
@@ -37,9 +37,11 @@ KnownNote (some v) c = c ≡ small v
 -- the numbers kept of the line a, of the type t, tell what the definition keeps of it
 pub record NoteRel (N : Notes) (t : Ty) (a : ℕ) (f : Info) : Type 0 where
   pub elem : t .role ≡ 1 → sortLine N a ≡ f .elem
+  -- a sort writes over no line
+  pub sort : t .role ≡ 1 → oldOf (N .held) a ≡ 0
   pub bit : bitIn N a ≡ f .bit
   pub index : f .index ≡ from (suc (f .bit)) (length (f .index))
-  pub cells : (j : ℕ) → j < length (f .cells) → cellIn (N .held) a j ≡ getD (f .cells) j 0
+  pub cells : (j : ℕ) → j < length (f .cells) → j < 256 → cellIn (N .held) a j ≡ getD (f .cells) j 0
   pub known : KnownNote (f .known) (conIn N a)
 
 -- the index widths and widths are those of the lines so far
@@ -128,7 +130,7 @@ module _ {A B : Frame} {I : List Info} (v : Inv A B I) (N : Notes) (ne : Neat N)
   size-of a h = let r = v .rel a .value h in holds-length (r .held) ∙ r .len ∙ ap (λ (i : ℕ). 2 ^ i) (sym (tl .iw a (omega arith)))
 
   pub cell-of : (a : ℕ) → 2 ≤ typeAt (A .lay) a .role → (j : ℕ) → j < sizeIn N a → cellIn (N .held) a j ≡ getD (linesAt I a) j 0
-  cell-of a h j l = nr a .cells j (subst⁻¹ (λ (n : ℕ). j < n) (size-of a h) l)
+  cell-of a h j l = nr a .cells j (subst⁻¹ (λ (n : ℕ). j < n) (size-of a h) l) (let z : sizeIn N a ≤ 256 = pow-mono (ne .deep a) in omega arith)
 
   from-line : (a : ℕ) → 2 ≤ typeAt (A .lay) a .role → (j : ℕ) → j < sizeIn N a → getD (linesAt I a) j 0 ≡ sourceAt (N .held) (of a) j
   from-line a h j l = of-at (N .held) a j (getD (linesAt I a) j 0) (is-line a (omega arith)) (cell-of a h j l)

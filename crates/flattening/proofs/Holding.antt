@@ -11,15 +11,15 @@ use lib.ListN.{length, getD, replicate}
 use borrow.Author.Tests.{eqb-true, eqb-false, eq-eqb, ne-eqb}
 use Rattle.tables.specs.Pick.{pick}
 use Rattle.flattening.specs.declared.Source.{Source}
-use Rattle.flattening.specs.Model.Cells.{Held, nothing, keptOf, atOf, oldOf, keyOf, cellBy, cellIn, Sound}
+use Rattle.flattening.specs.Model.Cells.{Held, nothing, keptOf, atOf, oldOf, keyOf, wordAt, ownCell, cellBy, cellIn, Sound}
 use Rattle.flattening.specs.Model.Rows.{Tame, turnAt, sourceAt, stepping, of, runDown, ofDown}
 
 -- a step of a row
-pub product : (x j : ℕ) → x ≤ 256 → j < 256 → x * j ≤ 65536
-product x j h l = mul-le-mul h (let k : j ≤ 256 = omega arith in k)
+pub product : (x j : ℕ) → x ≤ 256 → j < 256 → x * j ≤ 65280
+product x j h l = mul-le-mul h (let k : j ≤ 255 = omega arith in k)
 
 module _ (H : Held) where
-  own-by : (k m j : ℕ) → oldOf H m ≡ 0 → cellBy H k m j ≡ atOf H m + keyOf H m * j
+  own-by : (k m j : ℕ) → oldOf H m ≡ 0 → cellBy H k m j ≡ ownCell H m j
   own-by zero m j e = refl
   own-by (suc k) m j e = rw (eq-eqb (oldOf H m) 0 e)
 
@@ -46,9 +46,16 @@ module _ (H : Held) where
           let d = eqb-false (oldOf H m) 0 e in
           link-by k m j d ∙ ap (λ (x : ℕ). pick (eqb (keyOf H m) j) (atOf H m) x) (r (s .falls m d)) ∙ sym (link-by n m j d)
 
-  pub cell-own : (m j : ℕ) → oldOf H m ≡ 0 → cellIn H m j ≡ atOf H m + keyOf H m * j
+  pub cell-own : (m j : ℕ) → oldOf H m ≡ 0 → cellIn H m j ≡ ownCell H m j
   unfolding cellIn
   cell-own m j e = own-by m m j e
+
+  -- a row of numbers, or cells written out
+  pub own-run : (m j : ℕ) → keyOf H m ≢ 257 → ownCell H m j ≡ atOf H m + keyOf H m * j
+  own-run m j d = rw (ne-eqb (keyOf H m) 257 d)
+
+  pub own-row : (m j : ℕ) → keyOf H m ≡ 257 → ownCell H m j ≡ wordAt H (atOf H m + j)
+  own-row m j e = rw (eq-eqb (keyOf H m) 257 e)
 
   swapped : Sound H → (m j : ℕ) → oldOf H m ≢ 0 → cellIn H m j ≡ pick (eqb (keyOf H m) j) (atOf H m) (cellIn H (oldOf H m) j)
   unfolding cellIn
@@ -63,18 +70,62 @@ module _ (H : Held) where
   pub cell-old : Sound H → (m j : ℕ) → oldOf H m ≢ 0 → keyOf H m ≢ j → cellIn H m j ≡ cellIn H (oldOf H m) j
   cell-old s m j d e = swapped s m j d ∙ rw (ne-eqb (keyOf H m) j e)
 
-  bound-by : Sound H → (k m j : ℕ) → j < 256 → cellBy H k m j ≤ 131072
-  bound-by s zero m j h = let a = s .low m in let p = product (keyOf H m) j (s .few m) h in omega arith
-  bound-by s (suc k) m j h = go (eqb (oldOf H m) 0) (eqb (keyOf H m) j) (bound-by s k (oldOf H m) j h)
+  own-lt : Sound H → (m j : ℕ) → j < 256 → ownCell H m j < 131072
+  own-lt s m j h = go (eqb (keyOf H m) 257) refl
     where
-      go : (b c : Bool) → cellBy H k (oldOf H m) j ≤ 131072 → pick b (atOf H m + keyOf H m * j) (pick c (atOf H m) (cellBy H k (oldOf H m) j)) ≤ 131072
-      go true c r = let a = s .low m in let p = product (keyOf H m) j (s .few m) h in omega arith
+      go : (b : Bool) → eqb (keyOf H m) 257 ≡ b → ownCell H m j < 131072
+      go true e = let r = own-row m j (eqb-true (keyOf H m) 257 e) in omega arith
+      go false e =
+          let d = eqb-false (keyOf H m) 257 e in
+          let f = s .few m in
+          let k : keyOf H m ≤ 256 = omega arith in
+          let a = s .low m in
+          let p = product (keyOf H m) j k h in
+          let r = own-run m j d in
+          omega arith
+
+  lt-by : Sound H → (k m j : ℕ) → j < 256 → cellBy H k m j < 131072
+  lt-by s zero m j h = own-lt s m j h
+  lt-by s (suc k) m j h = go (eqb (oldOf H m) 0) (eqb (keyOf H m) j) (lt-by s k (oldOf H m) j h)
+    where
+      go : (b c : Bool) → cellBy H k (oldOf H m) j < 131072 → pick b (ownCell H m j) (pick c (atOf H m) (cellBy H k (oldOf H m) j)) < 131072
+      go true c r = own-lt s m j h
       go false true r = let a = s .low m in omega arith
       go false false r = r
 
-  pub cell-bound : Sound H → (m j : ℕ) → j < 256 → cellIn H m j ≤ 131072
+  pub cell-lt : Sound H → (m j : ℕ) → j < 256 → cellIn H m j < 131072
   unfolding cellIn
-  cell-bound s m j h = bound-by s m m j h
+  cell-lt s m j h = lt-by s m m j h
+
+  pub cell-bound : Sound H → (m j : ℕ) → j < 256 → cellIn H m j ≤ 131072
+  cell-bound s m j h = let l = cell-lt s m j h in omega arith
+
+  -- what goes over from the line written over to each line holds of all lines
+  pub along : Sound H → (Q : ℕ → Type 0) → ((a : ℕ) → (oldOf H a ≢ 0 → Q (oldOf H a)) → Q a) → (a : ℕ) → Q a
+  along s Q f a = by a a (omega arith)
+    where
+      by : (k b : ℕ) → b ≤ k → Q b
+      by zero b l = f b (λ d. absurd (let z = s .falls b d in omega arith))
+      by (suc k) b l = f b (λ d. by k (oldOf H b) (let z = s .falls b d in omega arith))
+
+-- a line of which two lists keep the same has its cell j at one flat line, where the line that it writes over has
+pub record SameLine (H K : Held) (j a : ℕ) : Type 0 where
+  pub at : atOf K a ≡ atOf H a
+  pub old : oldOf K a ≡ oldOf H a
+  pub key : keyOf K a ≡ keyOf H a
+  pub own : ownCell K a j ≡ ownCell H a j
+
+pub same-cell : (H K : Held) → Sound H → Sound K → (j a : ℕ) → SameLine H K j a → (oldOf H a ≢ 0 → cellIn K (oldOf H a) j ≡ cellIn H (oldOf H a) j) → cellIn K a j ≡ cellIn H a j
+same-cell H K sH sK j a r f = go (eqb (oldOf H a) 0) refl
+  where
+    go : (b : Bool) → eqb (oldOf H a) 0 ≡ b → cellIn K a j ≡ cellIn H a j
+    go true e =
+        let z = eqb-true (oldOf H a) 0 e in
+        cell-own K a j (r .old ∙ z) ∙ r .own ∙ sym (cell-own H a j z)
+    go false e =
+        let d = eqb-false (oldOf H a) 0 e in
+        swapped K sK a j (λ z. d (sym (r .old) ∙ z)) ∙ (λ i. pick (eqb (r .key i) j) (r .at i) (cellIn K (r .old i) j))
+        ∙ ap (λ (x : ℕ). pick (eqb (keyOf H a) j) (atOf H a) x) (f d) ∙ sym (swapped H sH a j d)
 
 -- ---- sources
 
@@ -120,7 +171,8 @@ nothing-at (suc zero) = refl
 nothing-at (suc (suc zero)) = refl
 nothing-at (suc (suc (suc zero))) = refl
 nothing-at (suc (suc (suc (suc zero)))) = refl
-nothing-at (suc (suc (suc (suc (suc k))))) = refl
+nothing-at (suc (suc (suc (suc (suc zero))))) = refl
+nothing-at (suc (suc (suc (suc (suc (suc k)))))) = refl
 
 pub nothing-kept : (n k a : ℕ) → keptOf (replicate n nothing) k a ≡ 0
 nothing-kept zero k a = nothing-at k

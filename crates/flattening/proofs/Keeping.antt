@@ -1,5 +1,5 @@
 -- What the code keeps of a line, put to the lists, tells what the definition keeps of it; and of earlier lines it still does. Assumes nothing.
-use Prim.Native.Nat.{ℕ, zero, suc, _+_, _*_, _≤_, _<_}
+use Prim.Native.Nat.{ℕ, zero, suc, _+_, _*_, _%_, _≤_, _<_}
 use mathlib.Core.Path.{_≡_, refl, sym, ap, ap₂, _∙_, subst⁻¹}
 use mathlib.Core.Logic.{_≢_}
 use mathlib.Core.Bool.{Bool, true, false}
@@ -12,20 +12,16 @@ use lib.Seq.{getD-set-same, getD-set-other}
 use borrow.Author.Tests.{eqb-true, eqb-false}
 use Rattle.tables.specs.declared.Ty.{Ty}
 use Rattle.tables.specs.Pick.{pick}
-use Rattle.tables.specs.Lines.{fields}
 use Rattle.flattening.specs.declared.Made.{Made}
 use Rattle.flattening.specs.Flat.{Info, writeCells}
-use Rattle.flattening.specs.Model.Cells.{Held, nothing, keptOf, atOf, oldOf, keyOf, cellBy, cellIn, Sound}
+use Rattle.flattening.specs.Model.Cells.{Held, nothing, keptOf, atOf, oldOf, keyOf, wordAt, ownCell, cellIn, Sound, keptNow, keep, SameKept}
 use Rattle.flattening.specs.Model.Lines.{Notes, notes}
-use Rattle.flattening.proofs.Holding.{cell-own, cell-new, cell-old}
+use Rattle.flattening.proofs.Holding.{cell-own, own-run, cell-new, cell-old, along, SameLine, same-cell}
 use Rattle.flattening.proofs.Agreeing.{KnownNote, NoteRel}
-
-abbrev pub keptNow : Made → List ℕ
-keptNow m = fields (m .at) (m .bit) (m .old) (m .key) (m .con)
 
 -- the list with what is kept of the line n
 abbrev pub noted : Notes → ℕ → Made → Notes
-noted N n m = notes (set (N .held) n (keptNow m)) (N .types)
+noted N n m = notes (keep (N .held) n m) (N .types)
 
 -- there is a place for the line n
 pub record Holds (N : Notes) (n : ℕ) : Type 0 where
@@ -39,7 +35,7 @@ module _ (N : Notes) (n : ℕ) (m : Made) where
   K = noted N n m .held
 
   pub kept-other : (k a : ℕ) → a ≢ n → keptOf K k a ≡ keptOf H k a
-  kept-other k a d = ap (λ (r : List ℕ). getD r k 0) (getD-set-other (N .held) n a (keptNow m) nothing d)
+  kept-other k a d = ap (λ (r : List ℕ). getD r k 0) (getD-set-other (N .held) n a (keptNow (N .held) n m) nothing d)
 
   at-other : (a : ℕ) → a ≢ n → atOf K a ≡ atOf H a
   at-other a d = kept-other 0 a d
@@ -50,45 +46,9 @@ module _ (N : Notes) (n : ℕ) (m : Made) where
   key-other : (a : ℕ) → a ≢ n → keyOf K a ≡ keyOf H a
   key-other a d = kept-other 3 a d
 
-  -- an earlier line's cells are held where they were
-  frame-by : Sound H → (k a j : ℕ) → a < n → cellBy K k a j ≡ cellBy H k a j
-  frame-by s zero a j l = let d : a ≢ n = (λ e. omega arith) in ap₂ (λ (x y : ℕ). x + y * j) (at-other a d) (key-other a d)
-  frame-by s (suc k) a j l = go (λ h. frame-by s k (oldOf H a) j h) (eqb (oldOf H a) 0) refl
-    where
-      d : a ≢ n
-      d e = omega arith
-
-      go : (oldOf H a < n → cellBy K k (oldOf H a) j ≡ cellBy H k (oldOf H a) j) → (b : Bool) → eqb (oldOf H a) 0 ≡ b → cellBy K (suc k) a j ≡ cellBy H (suc k) a j
-      go r true e =
-          (λ i. pick (eqb (old-other a d i) 0) (at-other a d i + key-other a d i * j) (pick (eqb (key-other a d i) j) (at-other a d i) (cellBy K k (old-other a d i) j)))
-          ∙ ap (λ (b : Bool). pick b (atOf H a + keyOf H a * j) (pick (eqb (keyOf H a) j) (atOf H a) (cellBy K k (oldOf H a) j))) e
-          ∙ sym (ap (λ (b : Bool). pick b (atOf H a + keyOf H a * j) (pick (eqb (keyOf H a) j) (atOf H a) (cellBy H k (oldOf H a) j))) e)
-      go r false e =
-          (λ i. pick (eqb (old-other a d i) 0) (at-other a d i + key-other a d i * j) (pick (eqb (key-other a d i) j) (at-other a d i) (cellBy K k (old-other a d i) j)))
-          ∙ ap (λ (x : ℕ). pick (eqb (oldOf H a) 0) (atOf H a + keyOf H a * j) (pick (eqb (keyOf H a) j) (atOf H a) x)) (r (let f = s .falls a (eqb-false (oldOf H a) 0 e) in omega arith))
-
-  pub frame : Sound H → (a j : ℕ) → a < n → cellIn K a j ≡ cellIn H a j
-  unfolding cellIn
-  frame s a j l = frame-by s a a j l
-
-  -- of another line the same is told; one that is still to come has no cells
-  pub note-other : {t : Ty} {f : Info} → Sound H → (a : ℕ) → a ≢ n → (n < a → f .cells ≡ []) → NoteRel N t a f → NoteRel (noted N n m) t a f
-  note-other {f = f} s a d e r =
-      record {
-        elem = λ h. at-other a d ∙ r .elem h;
-        bit = kept-other 1 a d ∙ r .bit;
-        index = r .index;
-        cells = λ j l. by (decLt a n) j l;
-        known = subst⁻¹ (λ (c : ℕ). KnownNote (f .known) c) (kept-other 4 a d) (r .known);
-      }
-    where
-      by : Dec (a < n) → (j : ℕ) → j < length (f .cells) → cellIn K a j ≡ getD (f .cells) j 0
-      by (yes h) j l = frame s a j h ∙ r .cells j l
-      by (no h) j l = absurd (let z : length (f .cells) ≡ 0 = ap length (e (omega arith)) in omega arith)
-
   module _ (h : Holds N n) where
-    pub kept-new : (k : ℕ) → keptOf K k n ≡ getD (keptNow m) k 0
-    kept-new k = ap (λ (r : List ℕ). getD r k 0) (getD-set-same (N .held) n (keptNow m) nothing (h .place))
+    pub kept-new : (k : ℕ) → keptOf K k n ≡ getD (keptNow (N .held) n m) k 0
+    kept-new k = ap (λ (r : List ℕ). getD r k 0) (getD-set-same (N .held) n (keptNow (N .held) n m) nothing (h .place))
 
     at-new : atOf K n ≡ m .at
     at-new = kept-new 0
@@ -98,6 +58,47 @@ module _ (N : Notes) (n : ℕ) (m : Made) where
 
     key-new : keyOf K n ≡ m .key
     key-new = kept-new 3
+
+    -- the words stay
+    word-same : (i : ℕ) → wordAt K i ≡ wordAt H i
+    word-same i = ap (λ (x : ℕ). x % 131072) (go (eqb i n) refl)
+      where
+        go : (b : Bool) → eqb i n ≡ b → keptOf K 5 i ≡ keptOf H 5 i
+        go true e = let q = eqb-true i n e in ap (keptOf K 5) q ∙ kept-new 5 ∙ ap (keptOf H 5) (sym q)
+        go false e = kept-other 5 i (eqb-false i n e)
+
+    line-same : (a j : ℕ) → a ≢ n → SameLine H K j a
+    line-same a j d =
+        record {
+          at = at-other a d;
+          old = old-other a d;
+          key = key-other a d;
+          own =
+              (λ i. pick (eqb (key-other a d i) 257) (wordAt K (at-other a d i + j)) (at-other a d i + key-other a d i * j))
+              ∙ ap (λ (x : ℕ). pick (eqb (keyOf H a) 257) x (atOf H a + keyOf H a * j)) (word-same (atOf H a + j));
+        }
+
+    -- an earlier line's cells are held where they were
+    pub frame : Sound H → Sound K → (a j : ℕ) → a < n → cellIn K a j ≡ cellIn H a j
+    frame sH sK a j =
+        along H sH (λ b. b < n → cellIn K b j ≡ cellIn H b j)
+        (λ b f l. same-cell H K sH sK j b (line-same b j (λ e. omega arith)) (λ d. f d (let z = sH .falls b d in omega arith))) a
+
+    -- of another line the same is told; one that is still to come has no cells
+    pub note-other : {t : Ty} {f : Info} → Sound H → Sound K → (a : ℕ) → a ≢ n → (n < a → f .cells ≡ []) → NoteRel N t a f → NoteRel (noted N n m) t a f
+    note-other {f = f} sH sK a d e r =
+        record {
+          elem = λ h. at-other a d ∙ r .elem h;
+          sort = λ h. old-other a d ∙ r .sort h;
+          bit = kept-other 1 a d ∙ r .bit;
+          index = r .index;
+          cells = λ j l q. by (decLt a n) j l q;
+          known = subst⁻¹ (λ (c : ℕ). KnownNote (f .known) c) (kept-other 4 a d) (r .known);
+        }
+      where
+        by : Dec (a < n) → (j : ℕ) → j < length (f .cells) → j < 256 → cellIn K a j ≡ getD (f .cells) j 0
+        by (yes h) j l q = frame sH sK a j h ∙ r .cells j l q
+        by (no h) j l q = absurd (let z : length (f .cells) ≡ 0 = ap length (e (omega arith)) in omega arith)
 
     -- where the cells of lines are held stays sound
     pub sound-new : Sound H → (m .old ≢ 0 → m .old < n) → m .at ≤ 65536 → m .key ≤ 256 → Sound K
@@ -123,13 +124,13 @@ module _ (N : Notes) (n : ℕ) (m : Made) where
         low-by a true e = let w : atOf K a ≡ m .at = ap (atOf K) (eqb-true a n e) ∙ at-new in omega arith
         low-by a false e = let w = at-other a (eqb-false a n e) in let y = s .low a in omega arith
 
-        few-by : (a : ℕ) (b : Bool) → eqb a n ≡ b → keyOf K a ≤ 256
+        few-by : (a : ℕ) (b : Bool) → eqb a n ≡ b → keyOf K a ≤ 257
         few-by a true e = let w : keyOf K a ≡ m .key = ap (keyOf K) (eqb-true a n e) ∙ key-new in omega arith
         few-by a false e = let w = key-other a (eqb-false a n e) in let y = s .few a in omega arith
 
     -- the cells of the new line, where it swaps none
-    pub cell-step : m .old ≡ 0 → (j : ℕ) → cellIn K n j ≡ m .at + m .key * j
-    cell-step e j = cell-own K n j (old-new ∙ e) ∙ ap₂ (λ (x y : ℕ). x + y * j) at-new key-new
+    pub cell-step : m .old ≡ 0 → m .key ≤ 256 → (j : ℕ) → cellIn K n j ≡ m .at + m .key * j
+    cell-step e k j = cell-own K n j (old-new ∙ e) ∙ own-run K n j (λ z. omega (arith, key-new, z)) ∙ ap₂ (λ (x y : ℕ). x + y * j) at-new key-new
 
     -- and where it writes over the line a, whose cells are ps
     pub cell-swap : Sound K → Sound H → (a k : ℕ) (ps : List ℕ) → m .old ≡ a → a ≢ 0 → a < n → m .key ≡ k → ((j : ℕ) → j < length ps → cellIn H a j ≡ getD ps j 0)
@@ -145,8 +146,20 @@ module _ (N : Notes) (n : ℕ) (m : Made) where
             cell-new K sK n j (λ x. d (sym o ∙ x)) (key-new ∙ ek ∙ z) ∙ at-new ∙ sym (ap (λ (i : ℕ). getD (set ps i (m .at)) j 0) z ∙ getD-set-same ps j (m .at) 0 lj)
         go false q =
             let z = eqb-false k j q in
-            cell-old K sK n j (λ x. d (sym o ∙ x)) (λ x. z (sym (key-new ∙ ek) ∙ x)) ∙ ap (λ (i : ℕ). cellIn K i j) o ∙ frame sH a j l ∙ c j lj
+            cell-old K sK n j (λ x. d (sym o ∙ x)) (λ x. z (sym (key-new ∙ ek) ∙ x)) ∙ ap (λ (i : ℕ). cellIn K i j) o ∙ frame sH sK a j l ∙ c j lj
             ∙ sym (getD-set-other ps k j (m .at) 0 (λ x. z (sym x)))
+
+-- a list that tells the same of each line
+pub note-same : {H K : Held} {types : List (List ℕ)} {t : Ty} {f : Info} → SameKept H K → (a : ℕ) → NoteRel (notes H types) t a f → NoteRel (notes K types) t a f
+note-same {f = f} s a r =
+    record {
+      elem = λ e. s .at a (r .sort e) ∙ r .elem e;
+      sort = λ e. s .old a (r .sort e);
+      bit = s .bit a ∙ r .bit;
+      index = r .index;
+      cells = λ j l h. s .cells a j h ∙ r .cells j l h;
+      known = subst⁻¹ (λ (c : ℕ). KnownNote (f .known) c) (s .con a) (r .known);
+    }
 
 -- ---- the flat lines of chains
 

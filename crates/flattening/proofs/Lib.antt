@@ -13,6 +13,7 @@ pub mod Arrayless
 pub mod Leaves
 pub mod Sample
 pub mod Holding
+pub mod Written
 pub mod Outcomes
 pub mod Placing
 pub mod Laying

@@ -37,7 +37,7 @@ use Rattle.flattening.specs.declared.Made.{Made}
 use Rattle.flattening.specs.Flat.{Info, noInfo, infoAt, chunk, flatten, flatLines, flatRecords}
 use Rattle.flattening.specs.Placed.{putFlat, flatFilled}
 use Rattle.flattening.specs.Answers.{flattened, flatLeft}
-use Rattle.flattening.specs.Model.Cells.{nothing, keptOf}
+use Rattle.flattening.specs.Model.Cells.{nothing, keptOf, atOf, keyOf, Sound, Low, keptNow, keep, Written, Shortened}
 use Rattle.flattening.specs.Model.Lines.{notes, flatCount, lineRecords, flatMade}
 use Rattle.flattening.specs.Model.Fits.{Neat, Deep, Fit, MadeFlat}
 use Rattle.flattening.proofs.Walk.{new-type}
@@ -46,7 +46,7 @@ use Rattle.flattening.proofs.Holding.{nothing-kept}
 use Rattle.flattening.proofs.Placing.{flat-empty, length-flat-filled, flat-filled}
 use Rattle.flattening.proofs.Alike.{zeros, step-lay}
 use Rattle.flattening.proofs.Agreeing.{NoteRel, Told, line-records}
-use Rattle.flattening.proofs.Keeping.{keptNow, noted, Holds, kept-other, kept-new, note-other, sound-new}
+use Rattle.flattening.proofs.Keeping.{noted, Holds, kept-other, kept-new, note-other, sound-new, note-same}
 use Rattle.flattening.proofs.Remembering.{LineKept, line-kept}
 use Rattle.flattening.proofs.Passing.{lineIn, chunkAt, sofar, all-lines, lines-le, walked, flatWalked, walked-suc, ok-at, inv-at, flat-length, walked-ext, walked-length}
 use Rattle.flattening.proofs.Counting.{records-length, next-of}
@@ -107,10 +107,11 @@ module _ (t : List ℕ) (n : ℕ) (acc : checked false t n ≡ Accepted) where
   -- ---- what holds after the first i lines
 
   module _ (types : List (List ℕ)) (eiw : (a : ℕ) → lookIn types a .iw ≡ tyAt (context false C) a .iw) (ew : (a : ℕ) → lookIn types a .w ≡ tyAt (context false C) a .w) (len size : ℕ) (wide : n < size) where
-    pub record Pass (i p : ℕ) (kept : List (List ℕ)) (target : List ℕ) : Type 0 where
+    pub record Pass (i p : ℕ) (kept : List (List ℕ)) (target : List ℕ) (u : ℕ) : Type 0 where
       pub upto : i ≤ n
       pub of-kept : length kept ≡ size
       pub neat : Neat (notes kept types)
+      pub written : Written kept u
       pub rel : (a : ℕ) → NoteRel (notes kept types) (typeAt (walked C i .lay) a) a (infoAt (sofar C i .infos) a)
       pub count : p ≡ length (sofar C i .lines)
       pub fits : p ≤ room false len
@@ -124,7 +125,7 @@ module _ (t : List ℕ) (n : ℕ) (acc : checked false t n ≡ Accepted) where
           w = λ a k. ew a ∙ sym (ap (λ (x : Ty). x .w) (types-at i h a k .1));
         }
 
-    module _ {i p : ℕ} {kept : List (List ℕ)} {target : List ℕ} (s : Pass i p kept target) (h : i < n) where
+    module _ {i p : ℕ} {kept : List (List ℕ)} {target : List ℕ} {u : ℕ} (s : Pass i p kept target u) (h : i < n) where
       hi : i ≤ length C
       hi = subst⁻¹ (λ (m : ℕ). i ≤ m) size-C (s .upto)
 
@@ -223,12 +224,32 @@ module _ (t : List ℕ) (n : ℕ) (acc : checked false t n ≡ Accepted) where
             line-kept v (notes kept types) (s .neat) tl (s .rel) p (suc i) places (ap suc (s .count) ∙ flat-length C i) (λ a z. types-at i (s .upto) a z .0) (lineIn C i) k
             (roomy false len (p + flatCount (notes kept types) (lineIn C i)) g .0)
 
-        neat-by : (k c : ℕ) → ((a : ℕ) → keptOf kept k a ≤ c) → getD (keptNow m) k 0 ≤ c → (a : ℕ) → keptOf (set kept (suc i) (keptNow m)) k a ≤ c
+        neat-by : (k c : ℕ) → ((a : ℕ) → keptOf kept k a ≤ c) → getD (keptNow kept (suc i) m) k 0 ≤ c → (a : ℕ) → keptOf (keep kept (suc i) m) k a ≤ c
         neat-by k c f e a = go (eqb a (suc i)) refl
           where
-            go : (y : Bool) → eqb a (suc i) ≡ y → keptOf (set kept (suc i) (keptNow m)) k a ≤ c
-            go true q = subst⁻¹ (λ (y : ℕ). y ≤ c) (ap (λ (y : ℕ). keptOf (set kept (suc i) (keptNow m)) k y) (eqb-true a (suc i) q) ∙ kept-new (notes kept types) (suc i) m places k) e
+            go : (y : Bool) → eqb a (suc i) ≡ y → keptOf (keep kept (suc i) m) k a ≤ c
+            go true q = subst⁻¹ (λ (y : ℕ). y ≤ c) (ap (λ (y : ℕ). keptOf (keep kept (suc i) m) k y) (eqb-true a (suc i) q) ∙ kept-new (notes kept types) (suc i) m places k) e
             go false q = subst⁻¹ (λ (y : ℕ). y ≤ c) (kept-other (notes kept types) (suc i) m k a (eqb-false a (suc i) q)) (f a)
+
+        sound-next : Sound (keep kept (suc i) m)
+        sound-next = sound-new (notes kept types) (suc i) m places (s .neat .sound) (lk .falls) (lk .low) (lk .few)
+
+        written-next : Written (keep kept (suc i) m) u
+        written-next =
+            let e = length-set kept (suc i) (keptNow kept (suc i) m) in
+            let w = s .written in
+            record { within = omega (arith, e, w .within); most = omega (arith, e, w .most); below = λ a. below-by a (eqb a (suc i)) refl }
+          where
+            below-by : (a : ℕ) (y : Bool) → eqb a (suc i) ≡ y → keyOf (keep kept (suc i) m) a ≡ 257 → atOf (keep kept (suc i) m) a + 256 ≤ u
+            below-by a true q e =
+                absurd (let z : keyOf (keep kept (suc i) m) a ≡ m .key = ap (keyOf (keep kept (suc i) m)) (eqb-true a (suc i) q) ∙ kept-new (notes kept types) (suc i) m places 3 in
+                let l = lk .few in
+                omega arith)
+            below-by a false q e =
+                let d = eqb-false a (suc i) q in
+                let z = kept-other (notes kept types) (suc i) m 0 a d in
+                let b = s .written .below a (sym (kept-other (notes kept types) (suc i) m 3 a d) ∙ e) in
+                omega arith
 
         rel-next : (a : ℕ) → NoteRel (noted (notes kept types) (suc i) m) (typeAt (walked C (suc i) .lay) a) a (infoAt (sofar C (suc i) .infos) a)
         rel-next a = go (eqb a (suc i)) refl
@@ -243,22 +264,23 @@ module _ (t : List ℕ) (n : ℕ) (acc : checked false t n ≡ Accepted) where
                 let d = eqb-false a (suc i) q in
                 subst⁻¹ (λ (x : Ty). NoteRel (noted (notes kept types) (suc i) m) x a (infoAt (sofar C (suc i) .infos) a)) (type-other a d)
                 (subst⁻¹ (λ (x : Info). NoteRel (noted (notes kept types) (suc i) m) (typeAt (walked C i .lay) a) a x) (info-other a d)
-                (note-other (notes kept types) (suc i) m (s .neat .sound) a d
+                (note-other (notes kept types) (suc i) m places (s .neat .sound) sound-next a d
                 (λ z. ap (λ (x : Info). x .cells) (List·getD-eq-default (sofar C i .infos) noInfo {n = a} (omega (arith, len-infos)))) (s .rel a)))
 
         further : {target₁ : List ℕ} → target₁ ≡ putFlat target p (lineRecords (notes kept types) p (lineIn C i))
-            → Pass (suc i) (m .next) (set kept (suc i) (keptNow m)) target₁
+            → Pass (suc i) (m .next) (keep kept (suc i) m) target₁ u
         further e =
             record {
               upto = h;
-              of-kept = length-set kept (suc i) (keptNow m) ∙ s .of-kept;
+              of-kept = length-set kept (suc i) (keptNow kept (suc i) m) ∙ s .of-kept;
               neat =
                   record {
-                    sound = sound-new (notes kept types) (suc i) m places (s .neat .sound) (lk .falls) (lk .low) (lk .few);
+                    sound = sound-next;
                     bit = neat-by 1 65536 (s .neat .bit) (lk .bit);
                     con = neat-by 4 256 (s .neat .con) (lk .con);
                     deep = s .neat .deep;
                   };
+              written = written-next;
               rel = rel-next;
               count = next-of (notes kept types) p (lineIn C i) ∙ sym next-length;
               fits = subst⁻¹ (λ (x : ℕ). x ≤ room false len) (next-of (notes kept types) p (lineIn C i)) g;
@@ -276,18 +298,48 @@ module _ (t : List ℕ) (n : ℕ) (acc : checked false t n ≡ Accepted) where
                 ap₂ (λ (x : List ℕ) (y : List (List ℕ)). putFlat x p y) (s .records) (sym chunk-records)
                 ∙ flat-filled len (map wordsOf F) p (map wordsOf L) (s .count ∙ sym (length-words F)) ∙ ap (flatFilled len) (sym (map-append wordsOf F L))
 
+        low-next : Low m
+        low-next = record { at = lk .low; bit = lk .bit; old = go (eqb (m .old) 0) refl; key = lk .few; con = lk .con }
+          where
+            go : (y : Bool) → eqb (m .old) 0 ≡ y → m .old ≤ 65536
+            go true q = let z = eqb-true (m .old) 0 q in omega arith
+            go false q = let z = lk .falls (eqb-false (m .old) 0 q) in let e = many .0 in omega (arith, h)
+
+        pub made-low : (r : Made) {target₁ : List ℕ} → MadeFlat (notes kept types) p (lineIn C i) target target₁ r → Low r
+        made-low r d = subst⁻¹ Low (d .kept) low-next
+
         -- the same, as the code says it
         pub passed : (q : ℕ) (r : Made) {target₁ : List ℕ} → q ≡ suc i → MadeFlat (notes kept types) p (lineIn C i) target target₁ r
-            → Pass q (r .next) (set kept q (keptNow r)) target₁
+            → Pass q (r .next) (keep kept q r) target₁ u
         passed q r {target₁} e d =
-            subst⁻¹ (λ (x : ℕ). Pass x (r .next) (set kept x (keptNow r)) target₁) e
-            (subst⁻¹ (λ (x : Made). Pass (suc i) (x .next) (set kept (suc i) (keptNow x)) target₁) (d .kept) (further (d .records)))
+            subst⁻¹ (λ (x : ℕ). Pass x (r .next) (keep kept x r) target₁ u) e
+            (subst⁻¹ (λ (x : Made). Pass (suc i) (x .next) (keep kept (suc i) x) target₁ u) (d .kept) (further (d .records)))
+
+    -- in a list that tells the same
+    pub shortened : {i p : ℕ} {kept kept₁ : List (List ℕ)} {target : List ℕ} {u u₁ : ℕ} → Pass i p kept target u → Shortened kept kept₁ u₁ → Pass i p kept₁ target u₁
+    shortened s e =
+        record {
+          upto = s .upto;
+          of-kept = e .same .len ∙ s .of-kept;
+          neat =
+              record {
+                sound = e .sound;
+                bit = λ a. subst⁻¹ (λ (x : ℕ). x ≤ 65536) (e .same .bit a) (s .neat .bit a);
+                con = λ a. subst⁻¹ (λ (x : ℕ). x ≤ 256) (e .same .con a) (s .neat .con a);
+                deep = s .neat .deep;
+              };
+          written = e .written;
+          rel = λ a. note-same (e .same) a (s .rel a);
+          count = s .count;
+          fits = s .fits;
+          records = s .records;
+        }
 
     -- ---- the start and the answers
 
     empty-note : (t₁ : Ty) (a : ℕ) → t₁ .role ≡ 0 → NoteRel (notes (replicate size nothing) types) t₁ a noInfo
     empty-note t₁ a e =
-        record { elem = λ z. absurd (omega arith); bit = nothing-kept size 1 a; index = refl; cells = λ j l. absurd (omega arith); known = nothing-kept size 4 a }
+        record { elem = λ z. absurd (omega arith); sort = λ z. absurd (omega arith); bit = nothing-kept size 1 a; index = refl; cells = λ j l q. absurd (omega arith); known = nothing-kept size 4 a }
 
     none-type : (a : ℕ) → typeAt (noFrame .lay) a .role ≡ 0
     none-type zero = refl
@@ -297,17 +349,23 @@ module _ (t : List ℕ) (n : ℕ) (acc : checked false t n ≡ Accepted) where
     none-info zero = refl
     none-info (suc a) = refl
 
-    pub begun : ((a : ℕ) → lookIn types a .iw ≤ 8) → Pass 0 0 (replicate size nothing) (replicate len 0)
-    begun dp =
+    pub begun : ((a : ℕ) → lookIn types a .iw ≤ 8) → size ≤ 65536 → Pass 0 0 (replicate size nothing) (replicate len 0) 0
+    begun dp most =
         record {
           upto = omega arith;
           of-kept = length-replicate size nothing;
           neat =
               record {
-                sound = record { falls = λ a z. absurd (z (nothing-kept size 2 a)); low = λ a. zero-le 0 a 65536; few = λ a. zero-le 3 a 256 };
+                sound = record { falls = λ a z. absurd (z (nothing-kept size 2 a)); low = λ a. zero-le 0 a 65536; few = λ a. zero-le 3 a 257 };
                 bit = λ a. zero-le 1 a 65536;
                 con = λ a. zero-le 4 a 256;
                 deep = dp;
+              };
+          written =
+              record {
+                within = omega arith;
+                most = subst⁻¹ (λ (x : ℕ). x ≤ 65536) (length-replicate size nothing) most;
+                below = λ a e. absurd (let z = nothing-kept size 3 a in omega arith);
               };
           rel = λ a. subst⁻¹ (λ (x : Info). NoteRel (notes (replicate size nothing) types) (typeAt (noFrame .lay) a) a x) (none-info a)
               (empty-note (typeAt (noFrame .lay) a) a (none-type a));
@@ -331,7 +389,7 @@ module _ (t : List ℕ) (n : ℕ) (acc : checked false t n ≡ Accepted) where
       unfolding flatLeft
       stopped-target z = ap (λ (r : Answer). leftBy r len (flatFilled len (flatRecords t n))) (stopped z)
 
-      module _ {p : ℕ} {kept : List (List ℕ)} {target : List ℕ} (s : Pass n p kept target) where
+      module _ {p : ℕ} {kept : List (List ℕ)} {target : List ℕ} {u : ℕ} (s : Pass n p kept target u) where
         whole-lines : sofar C n .lines ≡ flatten C
         whole-lines = ap (λ (i : ℕ). sofar C i .lines) (sym size-C) ∙ all-lines C
 

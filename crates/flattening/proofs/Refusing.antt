@@ -59,12 +59,13 @@ module _ (t : List ℕ) (n : ℕ) {target : List ℕ} where
         empty = k .clear .empty;
         size = k .size;
         wide = k .wide (fits-table false t n (sym a) .0);
+        most = k .most;
         no-kept = k .no-kept;
       }
 
 -- lists of m entries
-pub blank-lists : (t : List ℕ) (n m : ℕ) {target : List ℕ} → Clear t target → (n ≤ 16384 → n < m) → Blank t n (replicate m blank) (replicate m nothing) target
-blank-lists t n m k h = record { clear = k; fresh = fresh n m h; size = m; wide = h; no-kept = refl }
+pub blank-lists : (t : List ℕ) (n m : ℕ) {target : List ℕ} → Clear t target → (n ≤ 16384 → n < m) → m ≤ 65536 → Blank t n (replicate m blank) (replicate m nothing) target
+blank-lists t n m k h l = record { clear = k; fresh = fresh n m h; size = m; wide = h; most = l; no-kept = refl }
 
 -- ---- a target that has been cleared keeps its length and is empty
 

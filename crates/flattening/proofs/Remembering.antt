@@ -61,19 +61,20 @@ module _ (N : Notes) (n : ℕ) (h : Holds N n) where
   val-note m f ps k t d eb ei ek ec =
       record {
         elem = λ e. absurd (d e);
+        sort = λ e. absurd (d e);
         bit = bit-new m ∙ eb;
         index = ei;
-        cells = ec;
+        cells = λ j l q. ec j l;
         known = subst⁻¹ (λ (c : ℕ). KnownNote k c) (con-new m) ek;
       }
 
-  word-cell : (m : Made) (x : ℕ) → m .old ≡ 0 → m .at ≡ x → (j : ℕ) → j < 1 → cellIn (noted N n m .held) n j ≡ getD (x ∷ []) j 0
-  word-cell m x eo ea zero l = cell-step N n m h eo 0 ∙ omega arith
-  word-cell m x eo ea (suc j) l = absurd (omega arith)
+  word-cell : (m : Made) (x : ℕ) → m .old ≡ 0 → m .key ≤ 256 → m .at ≡ x → (j : ℕ) → j < 1 → cellIn (noted N n m .held) n j ≡ getD (x ∷ []) j 0
+  word-cell m x eo lk ea zero l = cell-step N n m h eo lk 0 ∙ omega arith
+  word-cell m x eo lk ea (suc j) l = absurd (omega arith)
 
   -- a line of which nothing is kept
   none-note : (m : Made) → m .bit ≡ 0 → m .con ≡ 0 → NoteRel (noted N n m) noTy n noInfo
-  none-note m eb ek = record { elem = λ e. absurd (omega arith); bit = bit-new m ∙ eb; index = refl; cells = λ j l. absurd (omega arith); known = con-new m ∙ ek }
+  none-note m eb ek = record { elem = λ e. absurd (omega arith); sort = λ e. absurd (omega arith); bit = bit-new m ∙ eb; index = refl; cells = λ j l q. absurd (omega arith); known = con-new m ∙ ek }
 
 module _ {A B : Frame} {I : List Info} (v : Inv A B I) (N : Notes) (ne : Neat N) (tl : Told A N) (nr : (a : ℕ) → NoteRel N (typeAt (A .lay) a) a (infoAt I a)) (p : ℕ) (n : ℕ) (hn : Holds N n)
     (base : suc p ≡ length (B .env)) (below : (a : ℕ) → 1 ≤ typeAt (A .lay) a .role → a < n) where
@@ -94,7 +95,7 @@ module _ {A B : Frame} {I : List Info} (v : Inv A B I) (N : Notes) (ne : Neat N)
         few = omega arith;
         bit = let b = ne .bit s in omega arith;
         con = ec;
-        note = val-note N n hn m (infoAt I s) (x ∷ []) k t d (eb ∙ nr s .bit) (nr s .index) ek (word-cell N n hn m x eo ea);
+        note = val-note N n hn m (infoAt I s) (x ∷ []) k t d (eb ∙ nr s .bit) (nr s .index) ek (word-cell N n hn m x eo (omega arith) ea);
       }
 
   -- a run of flat lines
@@ -110,7 +111,7 @@ module _ {A B : Frame} {I : List Info} (v : Inv A B I) (N : Notes) (ne : Neat N)
             val-note N n hn m (infoAt I s) (from (suc p) c) none t d (eb ∙ nr s .bit) (nr s .index) ek
             (λ j l.
             let z : j < c = subst (λ (x : ℕ). j < x) (length-from (suc p) c) l in
-            cell-step N n m hn eo j ∙ ap₂ (λ (x y : ℕ). x + y * j) ea ekey ∙ sym (from-at (suc p) c j z ∙ omega arith));
+            cell-step N n m hn eo (omega arith) j ∙ ap₂ (λ (x y : ℕ). x + y * j) ea ekey ∙ sym (from-at (suc p) c j z ∙ omega arith));
       }
 
   none-kept : (m : Made) → m .old ≡ 0 → m .key ≡ 0 → m .at ≡ 0 → m .bit ≡ 0 → m .con ≡ 0 → LineKept N n m noTy noInfo
@@ -189,7 +190,7 @@ module _ {A B : Frame} {I : List Info} (v : Inv A B I) (N : Notes) (ne : Neat N)
                 val-note N n hn m (infoAt I s) (set (linesAt I a) y (lineAt I x)) none t d (nr s .bit) (nr s .index) refl
                 (λ j l.
                 let lj : j < length (linesAt I a) = subst (λ (u : ℕ). j < u) (length-set (linesAt I a) y (lineAt I x)) l in
-                cell-swap N n m hn sK (ne .sound) a y (linesAt I a) refl (is-line v N ne tl nr p a (omega arith)) an e (λ u lu. nr a .cells u lu) j lj ∙ ap (λ (u : ℕ). getD (set (linesAt I a) y u) j 0) (sym w));
+                cell-swap N n m hn sK (ne .sound) a y (linesAt I a) refl (is-line v N ne tl nr p a (omega arith)) an e (λ u lu. cell-of v N ne tl nr p a ha u (subst (λ (y : ℕ). u < y) (size-of v N ne tl nr p a ha) lu)) j lj ∙ ap (λ (u : ℕ). getD (set (linesAt I a) y u) j 0) (sym w));
           })
       go none r z =
           let c = sizeIn N s in
@@ -204,7 +205,7 @@ module _ {A B : Frame} {I : List Info} (v : Inv A B I) (N : Notes) (ne : Neat N)
             con = omega arith;
             note =
                 val-note N n hn m (infoAt I s) (writeCells (suc p) (length (linesAt I a))) none t d (nr s .bit) (nr s .index) refl
-                (λ j l. cell-step N n m hn refl j ∙ sym (write-cell (suc p) (length (linesAt I a)) j (subst (λ (u : ℕ). j < u) (write-length (suc p) (length (linesAt I a))) l) ∙ omega arith));
+                (λ j l. cell-step N n m hn refl (omega arith) j ∙ sym (write-cell (suc p) (length (linesAt I a)) j (subst (λ (u : ℕ). j < u) (write-length (suc p) (length (linesAt I a))) l) ∙ omega arith));
           })
 
   -- ---- any line
@@ -221,7 +222,7 @@ module _ {A B : Frame} {I : List Info} (v : Inv A B I) (N : Notes) (ne : Neat N)
         few = omega arith;
         bit = omega arith;
         con = omega arith;
-        note = record { elem = λ e. kept-new N n m hn 0 ∙ omega arith; bit = bit-new N n hn m; index = refl; cells = λ j l. absurd (omega arith); known = con-new N n hn m };
+        note = record { elem = λ e. kept-new N n m hn 0 ∙ omega arith; sort = λ e. kept-new N n m hn 2; bit = bit-new N n hn m; index = refl; cells = λ j l q. absurd (omega arith); known = con-new N n hn m };
       }
   line-kept (Line.array i e) k top =
       let m = flatMade N p (Line.array i e) in
@@ -235,9 +236,10 @@ module _ {A B : Frame} {I : List Info} (v : Inv A B I) (N : Notes) (ne : Neat N)
         note =
             record {
               elem = λ z. kept-new N n m hn 0 ∙ sym (elem-of v N ne tl nr p e (k .element .is));
+              sort = λ z. kept-new N n m hn 2;
               bit = bit-new N n hn m ∙ omega arith;
               index = ap (λ (x : ℕ). from (suc (suc p)) x) (sym (length-from (suc (suc p)) c));
-              cells = λ j l. absurd (omega arith);
+              cells = λ j l q. absurd (omega arith);
               known = con-new N n hn m;
             };
       }

@@ -12,7 +12,7 @@ slice-aggregate-checked-2 : tie.Need-slice-aggregate-checked-2
 slice-aggregate-checked-2 c = search needs
 
 checked-requires : tie.Need-checked-requires
-checked-requires c κs = blank-lists (c .before .before .before .before .before .args .table .now) (c .before .before .before .before .before .args .count) 16385 (c .before .before .before .before .before .pre) (λ h. omega arith)
+checked-requires c κs = blank-lists (c .before .before .before .before .before .args .table .now) (c .before .before .before .before .before .args .count) 16385 (c .before .before .before .before .before .pre) (λ h. omega arith) (omega arith)
 
 same-length : tie.Need-same-length
 same-length c = c .before .before .before .before .checked .kept .1 .1 .1 .1 .0

@@ -20,6 +20,7 @@ pub record Begun (t : List ℕ) (n : ℕ) (types kept : List (List ℕ)) (target
   -- there are more entries than lines
   pub size : ℕ
   pub wide : n < size
+  pub most : size ≤ 65536
   pub no-kept : kept ≡ replicate size nothing
 
 -- both tables hold whole records, and the target is empty
@@ -34,4 +35,5 @@ pub record Blank (t : List ℕ) (n : ℕ) (types kept : List (List ℕ)) (target
   pub fresh : Fresh n types
   pub size : ℕ
   pub wide : n ≤ 16384 → n < size
+  pub most : size ≤ 65536
   pub no-kept : kept ≡ replicate size nothing

@@ -3,7 +3,7 @@ use Prim.Native.Nat.{ℕ, _+_, _*_, _≤_, _<_}
 use mathlib.Core.Path.{_≡_, refl, sym, ap, ap₂, _∙_, subst⁻¹}
 use native.Mathlib.Omega.{arith}
 use Rattle.flattening.specs.Model.Cells.{cellIn}
-use Rattle.flattening.proofs.Holding.{cell-own, cell-new, cell-old, product}
+use Rattle.flattening.proofs.Holding.{cell-own, cell-new, cell-old}
 use Rattle.flat_cells.proofs.cells.cell.Statement.{statement}
 use Rattle.flat_cells.proofs.cells.cell.Tie as tie
 
@@ -48,25 +48,14 @@ loop-again c = let s = c .before .before .before .before .before .before .args i
     ∙ sym (cell-old H (c .before .before .before .before .before .before .pre .0) m (s .j) (λ z. c .before .before .before .if1 .taken (c .before .before .before .before .entry .ensures ∙ z)) (λ z. c .before .if2 .left (c .before .before .entry2 .ensures ∙ z)))
     ∙ c .before .before .before .before .before .loop .inv
 
-entry-requires-5 : tie.Need-entry-requires-5 Inv-loop μ-loop
-entry-requires-5 c κs = omega arith
-
-entry-requires-6 : tie.Need-entry-requires-6 Inv-loop μ-loop
-entry-requires-6 c κs = omega arith
-
-mul-result : tie.Need-mul-result Inv-loop μ-loop
-mul-result c = omega (arith, product (c .entry6 .result) (c .before .before .before .before .before .args .j) (subst⁻¹ (λ (x : ℕ). x ≤ 256) (c .entry6 .ensures) (c .before .before .before .before .before .pre .0 .few (c .before .before .before .before .loop .m))) (c .before .before .before .before .before .pre .1))
-
-add-result : tie.Need-add-result Inv-loop μ-loop
-add-result c = let s = c .before .before .before .before .before .args in
-    let m = c .before .before .before .before .loop .m in
-    omega (arith, product (c .entry6 .result) (s .j) (subst⁻¹ (λ (x : ℕ). x ≤ 256) (c .entry6 .ensures) (c .before .before .before .before .before .pre .0 .few m)) (c .before .before .before .before .before .pre .1), subst⁻¹ (λ (x : ℕ). x ≤ 65536) (c .before .entry5 .ensures) (c .before .before .before .before .before .pre .0 .low m))
+own-requires : tie.Need-own-requires Inv-loop μ-loop
+own-requires c κs = c .before .before .before .pre
 
 returns-2 : tie.Need-returns-2 Inv-loop μ-loop
-returns-2 c = let s = c .before .before .before .before .before .args in
+returns-2 c = let s = c .before .before .before .before .args in
     let H = s .kept .now in
-    let m = c .before .before .before .before .loop .m in
-    ap₂ (λ (x y : ℕ). x + y * s .j) (c .before .entry5 .ensures) (c .entry6 .ensures) ∙ sym (cell-own H m (s .j) (sym (c .before .before .before .entry .ensures) ∙ c .before .before .if1 .left)) ∙ c .before .before .before .before .loop .inv
+    let m = c .before .before .before .loop .m in
+    c .own .ensures ∙ sym (cell-own H m (s .j) (sym (c .before .before .entry .ensures) ∙ c .before .if1 .left)) ∙ c .before .before .before .loop .inv
 
 pub cell-spec : {M : Type 1} → statement M
 cell-spec =
@@ -82,8 +71,5 @@ cell-spec =
     entry-requires-4
     loop-less
     loop-again
-    entry-requires-5
-    entry-requires-6
-    mul-result
-    add-result
+    own-requires
     returns-2)

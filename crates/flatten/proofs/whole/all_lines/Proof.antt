@@ -3,15 +3,15 @@ use Prim.Native.Nat.{ℕ, _-_}
 use mathlib.Core.Path.{ap, _∙_}
 use native.Mathlib.Omega.{arith}
 use lib.ListN.{length, length-replicate}
-use Rattle.flattening.proofs.Going.{Going, shallow, going, record-fits, line-fits, rec-known, rec-deep, rec-fit, rec-next, rec-stopped, rec-done, same-kept, same-target}
+use Rattle.flattening.proofs.Going.{Going, shallow, going, record-fits, line-fits, rec-known, rec-deep, rec-fit, rec-next, rec-low, rec-ready, rec-short, rec-stopped, rec-done, same-kept, same-target}
 use Rattle.flatten.proofs.whole.all_lines.Statement.{statement}
 use Rattle.flatten.proofs.whole.all_lines.Tie as tie
 
 abbrev Inv-loop : tie.InvT-loop
-Inv-loop table count types kept₀ target₀ h room i₀ p₀ kept target i p = Going table count types kept₀ target₀ i p kept target
+Inv-loop table count types kept₀ target₀ h room i₀ p₀ used₀ kept target i p used = Going table count types kept₀ target₀ i p kept target used
 
 abbrev μ-loop : tie.MeasureT-loop
-μ-loop table count types kept₀ target₀ h room i₀ p₀ kept target i p = count - i
+μ-loop table count types kept₀ target₀ h room i₀ p₀ used₀ kept target i p used = count - i
 
 step-requires : tie.Need-step-requires Inv-loop μ-loop
 step-requires c κs = tt
@@ -49,17 +49,17 @@ line-requires c κs = (rec-known (c .before .before .before .before .before .bef
 add-n : tie.Need-add-n Inv-loop μ-loop
 add-n c = let w = line-fits (c .before .before .before .before .before .before .before .before .before .before .before .before .before .before .before .pre) (c .before .before .before .before .before .before .before .before .before .before .loop .i) (c .before .before .before .before .before .before .before .before .before .loop-test .taken) in omega (arith, w .0)
 
-mul-t18 : tie.Need-mul-t18 Inv-loop μ-loop
-mul-t18 c = let w = line-fits (c .before .before .before .before .before .before .before .before .before .before .before .before .before .before .before .pre) (c .before .before .before .before .before .before .before .before .before .before .loop .i) (c .before .before .before .before .before .before .before .before .before .loop-test .taken) in omega (arith, w .0)
-
-slice-set-from-kept : tie.Need-slice-set-from-kept Inv-loop μ-loop
-slice-set-from-kept c = let w = line-fits (c .before .before .before .before .before .before .before .before .before .before .before .before .before .before .before .pre) (c .before .before .before .before .before .before .before .before .before .before .loop .i) (c .before .before .before .before .before .before .before .before .before .loop-test .taken) in let s = c .before .before .before .before .before .before .before .before .before .before .loop .inv (c .before .before .before .before .before .before .before .before .before .before .before .before .before .before .before .pre) in omega (arith, w .1, s .of-kept)
+keep-line-requires : tie.Need-keep-line-requires Inv-loop μ-loop
+keep-line-requires c κs = let r = rec-ready (c .before .before .before .before .before .before .before .before .before .before .before .before .before .before .before .before .pre) (rec-next (c .before .before .before .before .before .before .before .before .before .before .before .before .before .before .before .before .pre) (c .before .before .before .before .before .before .before .before .before .before .before .loop .inv) (c .before .before .before .before .before .before .before .before .before .before .loop-test .taken) _ (c .before .before .before .before .before .before .before .before .before .«record» .ensures) (c .before .before .before .before .before .before .before .count-line .result) (c .before .before .before .before .before .before .before .before .before .before .before .before .room-of .result) (c .before .before .before .before .before .before .before .count-line .ensures) (c .before .before .before .before .before .before .before .before .before .before .before .before .room-of .ensures) (c .before .before .before .before .before .before .if1 .left) (c .before .before .before .line .result) (c .before .before .before .line .ensures)) in
+    let w = line-fits (c .before .before .before .before .before .before .before .before .before .before .before .before .before .before .before .before .pre) (c .before .before .before .before .before .before .before .before .before .before .before .loop .i) (c .before .before .before .before .before .before .before .before .before .before .loop-test .taken) in
+    let s = c .before .before .before .before .before .before .before .before .before .before .before .loop .inv (c .before .before .before .before .before .before .before .before .before .before .before .before .before .before .before .before .pre) in
+    (r .0, (r .1, (rec-low (c .before .before .before .before .before .before .before .before .before .before .before .before .before .before .before .before .pre) (c .before .before .before .before .before .before .before .before .before .before .before .loop .inv) (c .before .before .before .before .before .before .before .before .before .before .loop-test .taken) _ (c .before .before .before .before .before .before .before .before .before .«record» .ensures) (c .before .before .before .before .before .before .before .count-line .result) (c .before .before .before .before .before .before .before .before .before .before .before .before .room-of .result) (c .before .before .before .before .before .before .before .count-line .ensures) (c .before .before .before .before .before .before .before .before .before .before .before .before .room-of .ensures) (c .before .before .before .before .before .before .if1 .left) (c .before .before .before .line .result) (c .before .before .before .line .ensures), omega (arith, w .1, s .of-kept))))
 
 loop-less : tie.Need-loop-less Inv-loop μ-loop
-loop-less c = omega (arith, c .before .before .before .before .before .before .before .before .before .loop-test .taken)
+loop-less c = omega (arith, c .before .before .before .before .before .before .before .before .before .before .before .before .loop-test .taken)
 
 loop-again : tie.Need-loop-again Inv-loop μ-loop
-loop-again c = rec-next (c .before .before .before .before .before .before .before .before .before .before .before .before .before .before .before .pre) (c .before .before .before .before .before .before .before .before .before .before .loop .inv) (c .before .before .before .before .before .before .before .before .before .loop-test .taken) _ (c .before .before .before .before .before .before .before .before .«record» .ensures) (c .before .before .before .before .before .before .count-line .result) (c .before .before .before .before .before .before .before .before .before .before .before .room-of .result) (c .before .before .before .before .before .before .count-line .ensures) (c .before .before .before .before .before .before .before .before .before .before .before .room-of .ensures) (c .before .before .before .before .before .if1 .left) (c .before .before .line .result) (c .before .before .line .ensures)
+loop-again c = rec-short (c .before .before .before .before .before .before .before .before .before .before .before .before .before .before .before .before .before .before .pre) (rec-next (c .before .before .before .before .before .before .before .before .before .before .before .before .before .before .before .before .before .before .pre) (c .before .before .before .before .before .before .before .before .before .before .before .before .before .loop .inv) (c .before .before .before .before .before .before .before .before .before .before .before .before .loop-test .taken) _ (c .before .before .before .before .before .before .before .before .before .before .before .«record» .ensures) (c .before .before .before .before .before .before .before .before .before .count-line .result) (c .before .before .before .before .before .before .before .before .before .before .before .before .before .before .room-of .result) (c .before .before .before .before .before .before .before .before .before .count-line .ensures) (c .before .before .before .before .before .before .before .before .before .before .before .before .before .before .room-of .ensures) (c .before .before .before .before .before .before .before .before .if1 .left) (c .before .before .before .before .before .line .result) (c .before .before .before .before .before .line .ensures)) (c .before .keep-line .ensures)
 
 same-length-3 : tie.Need-same-length-3 Inv-loop μ-loop
 same-length-3 c = same-kept (c .before .before .before .before .before .before .pre) (c .before .loop .inv)
@@ -88,8 +88,7 @@ all-lines-spec =
     returns
     line-requires
     add-n
-    mul-t18
-    slice-set-from-kept
+    keep-line-requires
     loop-less
     loop-again
     same-length-3
