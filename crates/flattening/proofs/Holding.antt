@@ -11,7 +11,7 @@ use lib.ListN.{length, getD, replicate}
 use borrow.Author.Tests.{eqb-true, eqb-false, eq-eqb, ne-eqb}
 use Rattle.tables.specs.Pick.{pick}
 use Rattle.flattening.specs.declared.Source.{Source}
-use Rattle.flattening.specs.Model.Cells.{Held, nothing, keptOf, atOf, oldOf, keyOf, wordAt, ownCell, cellBy, cellIn, Sound}
+use Rattle.flattening.specs.Model.Cells.{Held, nothing, keptOf, atOf, oldOf, keyOf, writtenAt, ownCell, cellBy, cellIn, Sound}
 use Rattle.flattening.specs.Model.Rows.{Tame, turnAt, sourceAt, stepping, of, runDown, ofDown}
 
 -- a step of a row
@@ -54,7 +54,7 @@ module _ (H : Held) where
   pub own-run : (m j : ℕ) → keyOf H m ≢ 257 → ownCell H m j ≡ atOf H m + keyOf H m * j
   own-run m j d = rw (ne-eqb (keyOf H m) 257 d)
 
-  pub own-row : (m j : ℕ) → keyOf H m ≡ 257 → ownCell H m j ≡ wordAt H (atOf H m + j)
+  pub own-row : (m j : ℕ) → keyOf H m ≡ 257 → ownCell H m j ≡ writtenAt H (atOf H m + j)
   own-row m j e = rw (eq-eqb (keyOf H m) 257 e)
 
   swapped : Sound H → (m j : ℕ) → oldOf H m ≢ 0 → cellIn H m j ≡ pick (eqb (keyOf H m) j) (atOf H m) (cellIn H (oldOf H m) j)

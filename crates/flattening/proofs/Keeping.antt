@@ -14,7 +14,7 @@ use Rattle.tables.specs.declared.Ty.{Ty}
 use Rattle.tables.specs.Pick.{pick}
 use Rattle.flattening.specs.declared.Made.{Made}
 use Rattle.flattening.specs.Flat.{Info, writeCells}
-use Rattle.flattening.specs.Model.Cells.{Held, nothing, keptOf, atOf, oldOf, keyOf, wordAt, ownCell, cellIn, Sound, keptNow, keep, SameKept}
+use Rattle.flattening.specs.Model.Cells.{Held, nothing, keptOf, atOf, oldOf, keyOf, writtenAt, ownCell, cellIn, Sound, keptNow, keep, SameKept}
 use Rattle.flattening.specs.Model.Lines.{Notes, notes}
 use Rattle.flattening.proofs.Holding.{cell-own, own-run, cell-new, cell-old, along, SameLine, same-cell}
 use Rattle.flattening.proofs.Agreeing.{KnownNote, NoteRel}
@@ -60,7 +60,7 @@ module _ (N : Notes) (n : ℕ) (m : Made) where
     key-new = kept-new 3
 
     -- the words stay
-    word-same : (i : ℕ) → wordAt K i ≡ wordAt H i
+    word-same : (i : ℕ) → writtenAt K i ≡ writtenAt H i
     word-same i = ap (λ (x : ℕ). x % 131072) (go (eqb i n) refl)
       where
         go : (b : Bool) → eqb i n ≡ b → keptOf K 5 i ≡ keptOf H 5 i
@@ -74,7 +74,7 @@ module _ (N : Notes) (n : ℕ) (m : Made) where
           old = old-other a d;
           key = key-other a d;
           own =
-              (λ i. pick (eqb (key-other a d i) 257) (wordAt K (at-other a d i + j)) (at-other a d i + key-other a d i * j))
+              (λ i. pick (eqb (key-other a d i) 257) (writtenAt K (at-other a d i + j)) (at-other a d i + key-other a d i * j))
               ∙ ap (λ (x : ℕ). pick (eqb (keyOf H a) 257) x (atOf H a + keyOf H a * j)) (word-same (atOf H a + j));
         }
 

@@ -12,7 +12,7 @@ use lib.Seq.{getD-set-same, getD-set-other}
 use borrow.Author.Tests.{eqb-true, eqb-false}
 use Rattle.tables.specs.Pick.{pick}
 use Rattle.flattening.specs.declared.Made.{Made}
-use Rattle.flattening.specs.Model.Cells.{Held, numbers, nothing, keptOf, atOf, bitOf, oldOf, keyOf, conOf, wordAt, ownCell, cellIn, Sound, keep, putWord, putRow, Written, FromWord, SameKept, Shortened, Filled}
+use Rattle.flattening.specs.Model.Cells.{Held, keptNumbers, nothing, keptOf, atOf, bitOf, oldOf, keyOf, conOf, writtenAt, ownCell, cellIn, Sound, keep, putWord, putRow, Written, FromWord, SameKept, Shortened, Filled}
 use Rattle.flattening.proofs.Holding.{cell-own, own-row, cell-lt, along, SameLine, same-cell, nothing-at, read-kept}
 
 -- a line that writes over another has its place
@@ -42,10 +42,10 @@ module _ {H K : Held} {u : ℕ} (f : FromWord H K u) (s : Sound H) (w : Written 
         at = at;
         old = f .own 2 a (omega arith);
         key = key;
-        own = (λ i. pick (eqb (key i) 257) (wordAt K (at i + j)) (at i + key i * j)) ∙ go (eqb (keyOf H a) 257) refl;
+        own = (λ i. pick (eqb (key i) 257) (writtenAt K (at i + j)) (at i + key i * j)) ∙ go (eqb (keyOf H a) 257) refl;
       }
     where
-      go : (b : Bool) → eqb (keyOf H a) 257 ≡ b → pick (eqb (keyOf H a) 257) (wordAt K (atOf H a + j)) (atOf H a + keyOf H a * j) ≡ ownCell H a j
+      go : (b : Bool) → eqb (keyOf H a) 257 ≡ b → pick (eqb (keyOf H a) 257) (writtenAt K (atOf H a + j)) (atOf H a + keyOf H a * j) ≡ ownCell H a j
       go true e = ap (λ (x : ℕ). pick (eqb (keyOf H a) 257) x (atOf H a + keyOf H a * j)) (f .word (atOf H a + j) (let z = w .below a (eqb-true (keyOf H a) 257 e) in omega arith))
       go false e = rw e
 
@@ -82,13 +82,13 @@ short-none s w = short-from from-none s w
 -- ---- one word
 
 module _ (H : Held) (i v : ℕ) (h : i < length H) where
-  put-this : (k : ℕ) → keptOf (putWord H i v) k i ≡ getD (numbers (keptOf H 0 i) (keptOf H 1 i) (keptOf H 2 i) (keptOf H 3 i) (keptOf H 4 i) v) k 0
-  put-this k = ap (λ (r : List ℕ). getD r k 0) (getD-set-same H i (numbers (keptOf H 0 i) (keptOf H 1 i) (keptOf H 2 i) (keptOf H 3 i) (keptOf H 4 i) v) nothing h)
+  put-this : (k : ℕ) → keptOf (putWord H i v) k i ≡ getD (keptNumbers (keptOf H 0 i) (keptOf H 1 i) (keptOf H 2 i) (keptOf H 3 i) (keptOf H 4 i) v) k 0
+  put-this k = ap (λ (r : List ℕ). getD r k 0) (getD-set-same H i (keptNumbers (keptOf H 0 i) (keptOf H 1 i) (keptOf H 2 i) (keptOf H 3 i) (keptOf H 4 i) v) nothing h)
 
   put-other : (k a : ℕ) → a ≢ i → keptOf (putWord H i v) k a ≡ keptOf H k a
-  put-other k a d = ap (λ (r : List ℕ). getD r k 0) (getD-set-other H i a (numbers (keptOf H 0 i) (keptOf H 1 i) (keptOf H 2 i) (keptOf H 3 i) (keptOf H 4 i) v) nothing d)
+  put-other k a d = ap (λ (r : List ℕ). getD r k 0) (getD-set-other H i a (keptNumbers (keptOf H 0 i) (keptOf H 1 i) (keptOf H 2 i) (keptOf H 3 i) (keptOf H 4 i) v) nothing d)
 
-  five : (w k : ℕ) → k < 5 → getD (numbers (keptOf H 0 i) (keptOf H 1 i) (keptOf H 2 i) (keptOf H 3 i) (keptOf H 4 i) w) k 0 ≡ keptOf H k i
+  five : (w k : ℕ) → k < 5 → getD (keptNumbers (keptOf H 0 i) (keptOf H 1 i) (keptOf H 2 i) (keptOf H 3 i) (keptOf H 4 i) w) k 0 ≡ keptOf H k i
   five w zero l = refl
   five w (suc zero) l = refl
   five w (suc (suc zero)) l = refl
@@ -104,12 +104,12 @@ module _ (H : Held) (i v : ℕ) (h : i < length H) where
       go false e = put-other k a (eqb-false a i e)
 
   len-put : length (putWord H i v) ≡ length H
-  len-put = length-set H i (numbers (keptOf H 0 i) (keptOf H 1 i) (keptOf H 2 i) (keptOf H 3 i) (keptOf H 4 i) v)
+  len-put = length-set H i (keptNumbers (keptOf H 0 i) (keptOf H 1 i) (keptOf H 2 i) (keptOf H 3 i) (keptOf H 4 i) v)
 
-  pub word-this : wordAt (putWord H i v) i ≡ v % 131072
+  pub word-this : writtenAt (putWord H i v) i ≡ v % 131072
   word-this = ap (λ (x : ℕ). x % 131072) (put-this 5)
 
-  pub word-other : (a : ℕ) → a ≢ i → wordAt (putWord H i v) a ≡ wordAt H a
+  pub word-other : (a : ℕ) → a ≢ i → writtenAt (putWord H i v) a ≡ writtenAt H a
   word-other a d = ap (λ (x : ℕ). x % 131072) (put-other 5 a d)
 
   -- a word from u on
@@ -122,28 +122,28 @@ module _ (H : Held) (i v : ℕ) (h : i < length H) where
       }
 
   -- a word that tells what it told
-  pub put-same : v % 131072 ≡ wordAt H i → (u : ℕ) → FromWord H (putWord H i v) u
+  pub put-same : v % 131072 ≡ writtenAt H i → (u : ℕ) → FromWord H (putWord H i v) u
   put-same e u = record { len = len-put; own = own-put; word = λ a z. go a (eqb a i) refl }
     where
-      go : (a : ℕ) (b : Bool) → eqb a i ≡ b → wordAt (putWord H i v) a ≡ wordAt H a
-      go a true q = let z = eqb-true a i q in ap (wordAt (putWord H i v)) z ∙ word-this ∙ e ∙ ap (wordAt H) (sym z)
+      go : (a : ℕ) (b : Bool) → eqb a i ≡ b → writtenAt (putWord H i v) a ≡ writtenAt H a
+      go a true q = let z = eqb-true a i q in ap (writtenAt (putWord H i v)) z ∙ word-this ∙ e ∙ ap (writtenAt H) (sym z)
       go a false q = word-other a (eqb-false a i q)
 
 -- a word that tells what it told, with another number above it
-pub short-word : {H : Held} {u : ℕ} → Sound H → Written H u → (i : ℕ) → i < length H → (q w : ℕ) → w ≡ wordAt H i → Shortened H (putWord H i (q * 131072 + w)) u
+pub short-word : {H : Held} {u : ℕ} → Sound H → Written H u → (i : ℕ) → i < length H → (q w : ℕ) → w ≡ writtenAt H i → Shortened H (putWord H i (q * 131072 + w)) u
 short-word {H} {u} s w i h q x e = short-from (put-same H i (q * 131072 + x) h (let z : (q * 131072 + x) % 131072 ≡ x = omega arith in z ∙ e) u) s w
 
 -- as the code reads the other numbers
 pub put-read : (H : Held) (i v : ℕ) → i < length H
-    → set H i (numbers (getD (getD H i []) 0 0) (getD (getD H i []) 1 0) (getD (getD H i []) 2 0) (getD (getD H i []) 3 0) (getD (getD H i []) 4 0) v) ≡ putWord H i v
-put-read H i v h z = set H i (numbers (read-kept H 0 i h z) (read-kept H 1 i h z) (read-kept H 2 i h z) (read-kept H 3 i h z) (read-kept H 4 i h z) v)
+    → set H i (keptNumbers (getD (getD H i []) 0 0) (getD (getD H i []) 1 0) (getD (getD H i []) 2 0) (getD (getD H i []) 3 0) (getD (getD H i []) 4 0) v) ≡ putWord H i v
+put-read H i v h z = set H i (keptNumbers (read-kept H 0 i h z) (read-kept H 1 i h z) (read-kept H 2 i h z) (read-kept H 3 i h z) (read-kept H 4 i h z) v)
 
 pub row-read : (H : Held) (m u : ℕ) → m < length H
-    → set H m (numbers u (getD (getD H m []) 1 0) 0 257 (getD (getD H m []) 4 0) (getD (getD H m []) 5 0)) ≡ putRow H m u
-row-read H m u h z = set H m (numbers u (read-kept H 1 m h z) 0 257 (read-kept H 4 m h z) (read-kept H 5 m h z))
+    → set H m (keptNumbers u (getD (getD H m []) 1 0) 0 257 (getD (getD H m []) 4 0) (getD (getD H m []) 5 0)) ≡ putRow H m u
+row-read H m u h z = set H m (keptNumbers u (read-kept H 1 m h z) 0 257 (read-kept H 4 m h z) (read-kept H 5 m h z))
 
-pub keep-read : (H : Held) (n : ℕ) (m : Made) → n < length H → set H n (numbers (m .at) (m .bit) (m .old) (m .key) (m .con) (getD (getD H n []) 5 0)) ≡ keep H n m
-keep-read H n m h z = set H n (numbers (m .at) (m .bit) (m .old) (m .key) (m .con) (read-kept H 5 n h z))
+pub keep-read : (H : Held) (n : ℕ) (m : Made) → n < length H → set H n (keptNumbers (m .at) (m .bit) (m .old) (m .key) (m .con) (getD (getD H n []) 5 0)) ≡ keep H n m
+keep-read H n m h z = set H n (keptNumbers (m .at) (m .bit) (m .old) (m .key) (m .con) (read-kept H 5 n h z))
 
 -- ---- the cells of one line
 
@@ -151,11 +151,11 @@ module _ (H : Held) (m u : ℕ) (s : Sound H) (w : Written H u) (d : oldOf H m �
   abbrev K : Held
   K = putRow H m u
 
-  row-this : (k : ℕ) → keptOf K k m ≡ getD (numbers u (keptOf H 1 m) 0 257 (keptOf H 4 m) (keptOf H 5 m)) k 0
-  row-this k = ap (λ (r : List ℕ). getD r k 0) (getD-set-same H m (numbers u (keptOf H 1 m) 0 257 (keptOf H 4 m) (keptOf H 5 m)) nothing (place-of H m d))
+  row-this : (k : ℕ) → keptOf K k m ≡ getD (keptNumbers u (keptOf H 1 m) 0 257 (keptOf H 4 m) (keptOf H 5 m)) k 0
+  row-this k = ap (λ (r : List ℕ). getD r k 0) (getD-set-same H m (keptNumbers u (keptOf H 1 m) 0 257 (keptOf H 4 m) (keptOf H 5 m)) nothing (place-of H m d))
 
   row-other : (k a : ℕ) → a ≢ m → keptOf K k a ≡ keptOf H k a
-  row-other k a e = ap (λ (r : List ℕ). getD r k 0) (getD-set-other H m a (numbers u (keptOf H 1 m) 0 257 (keptOf H 4 m) (keptOf H 5 m)) nothing e)
+  row-other k a e = ap (λ (r : List ℕ). getD r k 0) (getD-set-other H m a (keptNumbers u (keptOf H 1 m) 0 257 (keptOf H 4 m) (keptOf H 5 m)) nothing e)
 
   -- what holds of the line m and of any other line
   each : (P : ℕ → Type 0) → P m → ((a : ℕ) → a ≢ m → P a) → (a : ℕ) → P a
@@ -166,10 +166,10 @@ module _ (H : Held) (m u : ℕ) (s : Sound H) (w : Written H u) (d : oldOf H m �
       go false e = q a (eqb-false a m e)
 
   len-row : length K ≡ length H
-  len-row = length-set H m (numbers u (keptOf H 1 m) 0 257 (keptOf H 4 m) (keptOf H 5 m))
+  len-row = length-set H m (keptNumbers u (keptOf H 1 m) 0 257 (keptOf H 4 m) (keptOf H 5 m))
 
-  word-row : (a : ℕ) → wordAt K a ≡ wordAt H a
-  word-row = each (λ a. wordAt K a ≡ wordAt H a) (ap (λ (x : ℕ). x % 131072) (row-this 5)) (λ a e. ap (λ (x : ℕ). x % 131072) (row-other 5 a e))
+  word-row : (a : ℕ) → writtenAt K a ≡ writtenAt H a
+  word-row = each (λ a. writtenAt K a ≡ writtenAt H a) (ap (λ (x : ℕ). x % 131072) (row-this 5)) (λ a e. ap (λ (x : ℕ). x % 131072) (row-other 5 a e))
 
   sound-row : Sound K
   sound-row =
@@ -188,11 +188,11 @@ module _ (H : Held) (m u : ℕ) (s : Sound H) (w : Written H u) (d : oldOf H m �
         old = row-other 2 a e;
         key = key;
         own =
-            (λ i. pick (eqb (key i) 257) (wordAt K (at i + j)) (at i + key i * j))
+            (λ i. pick (eqb (key i) 257) (writtenAt K (at i + j)) (at i + key i * j))
             ∙ ap (λ (x : ℕ). pick (eqb (keyOf H a) 257) x (atOf H a + keyOf H a * j)) (word-row (atOf H a + j));
       }
 
-  pub short-row : ((j : ℕ) → j < 256 → wordAt H (u + j) ≡ cellIn H m j) → Shortened H K (u + 256)
+  pub short-row : ((j : ℕ) → j < 256 → writtenAt H (u + j) ≡ cellIn H m j) → Shortened H K (u + 256)
   short-row c =
       record {
         same =
@@ -214,7 +214,7 @@ module _ (H : Held) (m u : ℕ) (s : Sound H) (w : Written H u) (d : oldOf H m �
       }
     where
       this : (j : ℕ) → j < 256 → cellIn K m j ≡ cellIn H m j
-      this j h = cell-own K m j (row-this 2) ∙ own-row K m j (row-this 3) ∙ ap (λ (x : ℕ). wordAt K (x + j)) (row-this 0) ∙ word-row (u + j) ∙ c j h
+      this j h = cell-own K m j (row-this 2) ∙ own-row K m j (row-this 3) ∙ ap (λ (x : ℕ). writtenAt K (x + j)) (row-this 0) ∙ word-row (u + j) ∙ c j h
 
       by : (j : ℕ) → j < 256 → (b : ℕ) → (oldOf H b ≢ 0 → cellIn K (oldOf H b) j ≡ cellIn H (oldOf H b) j) → cellIn K b j ≡ cellIn H b j
       by j h = each (λ b. (oldOf H b ≢ 0 → cellIn K (oldOf H b) j ≡ cellIn H (oldOf H b) j) → cellIn K b j ≡ cellIn H b j) (λ r. this j h) (λ b e r. same-cell H K s sound-row j b (line-row j b e) r)
@@ -257,11 +257,11 @@ module _ {H K : Held} {m u n : ℕ} (s : Sound H) (w : Written H u) (h : n < 256
         word = λ j z. go v l (let z₁ : v % 131072 ≡ c = omega arith in z₁ ∙ y) j z (decLt j n);
       }
     where
-      go : (v : ℕ) → u + n < length K → v % 131072 ≡ cellIn H m n → (j : ℕ) → j < n + 1 → Dec (j < n) → wordAt (putWord K (u + n) v) (u + j) ≡ cellIn H m j
+      go : (v : ℕ) → u + n < length K → v % 131072 ≡ cellIn H m n → (j : ℕ) → j < n + 1 → Dec (j < n) → writtenAt (putWord K (u + n) v) (u + j) ≡ cellIn H m j
       go v l y j z (yes b) = word-other K (u + n) v l (u + j) (λ e. omega arith) ∙ f .word j b
       go v l y j z (no b) =
           let e : j ≡ n = omega arith in
-          ap (λ (x : ℕ). wordAt (putWord K (u + n) v) (u + x)) e ∙ word-this K (u + n) v l ∙ y ∙ ap (cellIn H m) (sym e)
+          ap (λ (x : ℕ). writtenAt (putWord K (u + n) v) (u + x)) e ∙ word-this K (u + n) v l ∙ y ∙ ap (cellIn H m) (sym e)
 
 -- written out
 pub short-filled : {H K : Held} {m u : ℕ} → Sound H → Written H u → oldOf H m ≢ 0 → u + 256 ≤ length H → Filled H K m u 256 → Shortened H (putRow K m u) (u + 256)

@@ -14,12 +14,12 @@ use Rattle.flattening.specs.declared.Made.{Made}
 abbrev pub Held : Type 0
 Held = List (List ℕ)
 
-abbrev pub numbers : (at bit old key con word : ℕ) → List ℕ
-numbers a b o k c w = a ∷ b ∷ o ∷ k ∷ c ∷ w ∷ []
+abbrev pub keptNumbers : (at bit old key con word : ℕ) → List ℕ
+keptNumbers a b o k c w = a ∷ b ∷ o ∷ k ∷ c ∷ w ∷ []
 
 -- what is kept of no line
 abbrev pub nothing : List ℕ
-nothing = numbers 0 0 0 0 0 0
+nothing = keptNumbers 0 0 0 0 0 0
 
 -- the number k of what is kept of the line m
 abbrev pub keptOf : Held → (k m : ℕ) → ℕ
@@ -41,12 +41,12 @@ abbrev pub conOf : Held → ℕ → ℕ
 conOf H m = keptOf H 4 m
 
 -- the flat line that the word i tells; the rest of the word is the code's own
-abbrev pub wordAt : Held → ℕ → ℕ
-wordAt H i = keptOf H 5 i % 131072
+abbrev pub writtenAt : Held → ℕ → ℕ
+writtenAt H i = keptOf H 5 i % 131072
 
 -- the flat line of the cell j of a line that writes over none
 abbrev pub ownCell : Held → (m j : ℕ) → ℕ
-ownCell H m j = pick (eqb (keyOf H m) 257) (wordAt H (atOf H m + j)) (atOf H m + keyOf H m * j)
+ownCell H m j = pick (eqb (keyOf H m) 257) (writtenAt H (atOf H m + j)) (atOf H m + keyOf H m * j)
 
 -- the flat line of the cell j of the line m, along at most k writes
 abbrev pub cellBy : Held → (k m j : ℕ) → ℕ
@@ -72,7 +72,7 @@ pub record Low (m : Made) : Type 0 where
 
 -- the list with what is kept of the line n; the words stay
 abbrev pub keptNow : Held → ℕ → Made → List ℕ
-keptNow H n m = numbers (m .at) (m .bit) (m .old) (m .key) (m .con) (keptOf H 5 n)
+keptNow H n m = keptNumbers (m .at) (m .bit) (m .old) (m .key) (m .con) (keptOf H 5 n)
 
 abbrev pub keep : Held → ℕ → Made → Held
 keep H n m = set H n (keptNow H n m)
@@ -81,11 +81,11 @@ keep H n m = set H n (keptNow H n m)
 
 -- the list with the number w for the word i
 abbrev pub putWord : Held → (i w : ℕ) → Held
-putWord H i w = set H i (numbers (keptOf H 0 i) (keptOf H 1 i) (keptOf H 2 i) (keptOf H 3 i) (keptOf H 4 i) w)
+putWord H i w = set H i (keptNumbers (keptOf H 0 i) (keptOf H 1 i) (keptOf H 2 i) (keptOf H 3 i) (keptOf H 4 i) w)
 
 -- the list where the cells of the line m are those written out from the word u on
 abbrev pub putRow : Held → (m u : ℕ) → Held
-putRow H m u = set H m (numbers u (keptOf H 1 m) 0 257 (keptOf H 4 m) (keptOf H 5 m))
+putRow H m u = set H m (keptNumbers u (keptOf H 1 m) 0 257 (keptOf H 4 m) (keptOf H 5 m))
 
 -- the cells written out have words below u
 pub record Written (H : Held) (u : ℕ) : Type 0 where
@@ -97,12 +97,12 @@ pub record Written (H : Held) (u : ℕ) : Type 0 where
 pub record FromWord (H K : Held) (u : ℕ) : Type 0 where
   pub len : length K ≡ length H
   pub own : (k a : ℕ) → k < 5 → keptOf K k a ≡ keptOf H k a
-  pub word : (i : ℕ) → i < u → wordAt K i ≡ wordAt H i
+  pub word : (i : ℕ) → i < u → writtenAt K i ≡ writtenAt H i
 
 -- and where its words from u on tell the first n cells of the line m
 pub record Filled (H K : Held) (m u n : ℕ) : Type 0 where
   pub from : FromWord H K u
-  pub word : (j : ℕ) → j < n → wordAt K (u + j) ≡ cellIn H m j
+  pub word : (j : ℕ) → j < n → writtenAt K (u + j) ≡ cellIn H m j
 
 -- K tells of each line what H tells
 pub record SameKept (H K : Held) : Type 0 where

@@ -2,7 +2,7 @@
 use Prim.Native.Nat.{ℕ, _+_, _*_, _%_, _≤_}
 use mathlib.Core.Path.{_≡_, sym, ap, ap₂, _∙_, subst⁻¹}
 use native.Mathlib.Omega.{arith}
-use Rattle.flattening.specs.Model.Cells.{wordAt}
+use Rattle.flattening.specs.Model.Cells.{writtenAt}
 use Rattle.flattening.proofs.Holding.{own-run, own-row, product}
 use borrow.Author.Needs.{needs}
 use Rattle.flat_cells.proofs.cells.own.Statement.{statement}
@@ -23,7 +23,7 @@ entry-requires-3 c κs = search needs
 returns : tie.Need-returns
 returns c = let s = c .before .before .before .before .args in
     let H = s .kept .now in
-    ap (λ (x : ℕ). x % 131072) (c .entry3 .ensures) ∙ ap (λ (x : ℕ). wordAt H (x + s .j)) (c .before .before .before .entry .ensures)
+    ap (λ (x : ℕ). x % 131072) (c .entry3 .ensures) ∙ ap (λ (x : ℕ). writtenAt H (x + s .j)) (c .before .before .before .entry .ensures)
     ∙ sym (own-row H (s .m) (s .j) (sym (c .before .before .entry2 .ensures) ∙ c .before .if1 .taken))
 
 mul-result : tie.Need-mul-result
