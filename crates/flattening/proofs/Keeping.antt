@@ -14,7 +14,7 @@ use Rattle.tables.specs.declared.Ty.{Ty}
 use Rattle.tables.specs.Pick.{pick}
 use Rattle.flattening.specs.declared.Made.{Made}
 use Rattle.flattening.specs.Flat.{Info, writeCells}
-use Rattle.flattening.specs.Model.Cells.{Held, nothing, keptOf, atOf, oldOf, keyOf, writtenAt, ownCell, cellIn, Sound, keptNow, keep, SameKept}
+use Rattle.flattening.specs.Model.Cells.{Held, nothing, keptOf, atOf, oldOf, keyOf, writtenAt, cellIn, Sound, keptNow, keep, SameKept}
 use Rattle.flattening.specs.Model.Lines.{Notes, notes}
 use Rattle.flattening.proofs.Holding.{cell-own, own-run, cell-new, cell-old, along, SameLine, same-cell}
 use Rattle.flattening.proofs.Agreeing.{KnownNote, NoteRel}

@@ -185,11 +185,3 @@ module _ (p : Bool) (C : List Line) (ok : AllOk p noCtx C) where
 
   pub source-in-cone : (v : ℕ) → 2 ≤ tyAt (growAll p noCtx C) v .role → isFixed (tyAt (growAll p noCtx C) v) ≡ false → SourceInCone C v
   source-in-cone v t f = source-within (suc v) v (omega arith) t f
-
-  -- every line of the cone is neither an input nor a state: a fixed value
-  pub cone-fixed : (v : ℕ) → 2 ≤ tyAt (growAll p noCtx C) v .role → ((w : ℕ) → Cone C v w → isFree (lineNumbered C w) ≡ true) → tyAt (growAll p noCtx C) v .role ≡ 2
-  cone-fixed v t f = go (isFixed (tyAt (growAll p noCtx C) v)) refl
-    where
-      go : (b : Bool) → isFixed (tyAt (growAll p noCtx C) v) ≡ b → tyAt (growAll p noCtx C) v .role ≡ 2
-      go true e = eqb-true (tyAt (growAll p noCtx C) v .role) 2 e
-      go false e = let F = source-in-cone v t e in absurd (no-yes (sym (F .is) ∙ f (F .line) (F .inCone)))

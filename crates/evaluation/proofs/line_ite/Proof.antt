@@ -1,8 +1,8 @@
 -- `evaluation::line_ite` meets its contract: the operand that was chosen has as many cells as the line, and lies below it. Assumes nothing.
 use borrow.Author.Needs.{needs}
-use mathlib.Core.Path.{_≡_, sym, subst}
+use mathlib.Core.Path.{sym, subst}
 use mathlib.Core.Logic.{inl}
-use Prim.Native.Nat.{ℕ, _+_, _≤_}
+use Prim.Native.Nat.{ℕ, _≤_}
 use native.Mathlib.Omega.{arith}
 use Rattle.circuits.specs.Model.Work.{wordKept}
 use Rattle.circuits.proofs.Puts as laws

@@ -4,27 +4,24 @@ use mathlib.Core.Bool.{Bool, true, false, cond}
 use lib.IntN.{ℤ, pos, _+ℤ_}
 use lib.Signed.{leZ}
 use mir.Syntax.{w64}
-use mir.Val.{SFits, toZ, ofZ}
+use mir.Val.{SFits, ofZ}
 use mir.Facts.{toZ-ofZ, sfits-toZ, fits-ofZ}
 use Rattle.words.specs.Word.{towardDivisor}
+use Rattle.words.proofs.Signed.{back}
 use Rattle.words.proofs.Divide.{is, sum-fits, toward-same, toward-other}
 use Rattle.operators.proofs.toward_divisor.Statement.{statement}
 use Rattle.operators.proofs.toward_divisor.Tie as tie
 
--- a signed number as the code reads it back from its bits
-abbrev y : ℤ → ℤ
-y z = toZ w64 (ofZ w64 z)
-
 module _ (r d : ℤ) (fr : SFits w64 r) (fd : SFits w64 d) where
-  fits : (t : Bool) → leZ (pos 0) (y r) ≡ t → leZ (pos 0) (y d) ≡ cond t false true → SFits w64 (y r +ℤ y d)
-  fits t e f = sum-fits (y r) (y d) t (sfits-toZ (fits-ofZ fr)) (sfits-toZ (fits-ofZ fd)) e f
+  fits : (t : Bool) → leZ (pos 0) (back r) ≡ t → leZ (pos 0) (back d) ≡ cond t false true → SFits w64 (back r +ℤ back d)
+  fits t e f = sum-fits (back r) (back d) t (sfits-toZ (fits-ofZ fr)) (sfits-toZ (fits-ofZ fd)) e f
 
-  same : (t : Bool) → leZ (pos 0) (y r) ≡ t → leZ (pos 0) (y d) ≡ t → y r ≡ towardDivisor r d
-  same t e f = sym (toward-same (y r) (y d) t e f) ∙ ap₂ towardDivisor (toZ-ofZ fr) (toZ-ofZ fd)
+  same : (t : Bool) → leZ (pos 0) (back r) ≡ t → leZ (pos 0) (back d) ≡ t → back r ≡ towardDivisor r d
+  same t e f = sym (toward-same (back r) (back d) t e f) ∙ ap₂ towardDivisor (toZ-ofZ fr) (toZ-ofZ fd)
 
-  other : (t : Bool) → (ofZ w64 r ≡ 0 → ⊥) → leZ (pos 0) (y r) ≡ t → leZ (pos 0) (y d) ≡ cond t false true → y (y r +ℤ y d) ≡ towardDivisor r d
+  other : (t : Bool) → (ofZ w64 r ≡ 0 → ⊥) → leZ (pos 0) (back r) ≡ t → leZ (pos 0) (back d) ≡ cond t false true → back (back r +ℤ back d) ≡ towardDivisor r d
   other t g e f =
-      toZ-ofZ (fits t e f) ∙ sym (toward-other (y r) (y d) t (λ p. g (ap (ofZ w64) (sym (toZ-ofZ fr) ∙ p))) e f) ∙ ap₂ towardDivisor (toZ-ofZ fr) (toZ-ofZ fd)
+      toZ-ofZ (fits t e f) ∙ sym (toward-other (back r) (back d) t (λ p. g (ap (ofZ w64) (sym (toZ-ofZ fr) ∙ p))) e f) ∙ ap₂ towardDivisor (toZ-ofZ fr) (toZ-ofZ fd)
 
 add-result : tie.Need-add-result
 add-result c = fits (c .before .before .before .args .r) (c .before .before .before .args .d) (c .before .before .before .fits .r) (c .before .before .before .fits .d) true (c .before .if2 .taken) (c .if3 .left)

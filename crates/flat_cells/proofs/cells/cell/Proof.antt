@@ -1,6 +1,6 @@
 -- The loop keeps the cell's flat line: from one line to the line it writes over. Assumes nothing.
-use Prim.Native.Nat.{ℕ, _+_, _*_, _≤_, _<_}
-use mathlib.Core.Path.{_≡_, refl, sym, ap, ap₂, _∙_, subst⁻¹}
+use Prim.Native.Nat.{ℕ, _<_}
+use mathlib.Core.Path.{_≡_, refl, sym, ap, _∙_, subst⁻¹}
 use native.Mathlib.Omega.{arith}
 use Rattle.flattening.specs.Model.Cells.{cellIn}
 use Rattle.flattening.proofs.Holding.{cell-own, cell-new, cell-old}

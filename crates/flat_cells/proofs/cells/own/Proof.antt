@@ -1,6 +1,6 @@
 -- A row of numbers, or cells written out. Assumes nothing.
 use Prim.Native.Nat.{ℕ, _+_, _*_, _%_, _≤_}
-use mathlib.Core.Path.{_≡_, sym, ap, ap₂, _∙_, subst⁻¹}
+use mathlib.Core.Path.{sym, ap, ap₂, _∙_, subst⁻¹}
 use native.Mathlib.Omega.{arith}
 use Rattle.flattening.specs.Model.Cells.{writtenAt}
 use Rattle.flattening.proofs.Holding.{own-run, own-row, product}

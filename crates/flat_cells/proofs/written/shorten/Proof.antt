@@ -2,7 +2,7 @@
 use Prim.Native.Nat.{ℕ, _%_, _/_, _+_}
 use mathlib.Core.Path.{ap, subst⁻¹}
 use mathlib.Core.List.{List}
-use Rattle.flattening.specs.Model.Cells.{Held, Shortened}
+use Rattle.flattening.specs.Model.Cells.{Shortened}
 use Rattle.flattening.proofs.Written.{short-word, short-trans}
 use borrow.Author.Needs.{needs}
 use Rattle.flat_cells.proofs.written.shorten.Statement.{statement}
