@@ -2,26 +2,33 @@
  *
  * Link target/staticlib/libexports.a, which `rt staticlib exports` writes.
  *
- * A table is a list of records of five words each: kind, sort line, three
- * operands; unused words are 0. A record's number is its place, from 1. At most
- * 16,384 records count. A program is a list of records too: kind, width, three
- * operands. A list whose length is no multiple of five is neither.
+ * A table is a list of a circuit's records, six words each: kind, sort line,
+ * three operands, and the id as written. A program is a list of records of five
+ * words each: kind, width, three operands. Unused words are 0. A list whose
+ * length is no multiple of six is no table; one whose length is no multiple of
+ * five is no program. At most 16,384 records count.
+ *
+ * A record's number is its place, from 1, and records tell lines by their
+ * places. Ids only rise, from 1 up to 4,294,967,295, with or without gaps: those
+ * of a text, whose operand tokens name ids, and those of the counted records of a
+ * table. Flat circuits and written texts are numbered 1, 2, 3.
  *
  * A list is passed as a pointer and its length (in elements). Each function
  * returns 0 when done, else the number of the first refusal that holds, in the
  * order given with the function:
  *
- *    1  a list is no table, or `answer` has not three words
+ *    1  a list is no table, or no program, or `answer` has not three words
  *    2  text above 65,536 bytes
- *    3  id is not the next number
+ *    3  id is no number above the id before it (0 before the first) and up to 4,294,967,295
  *    4  no record left
  *    5  word unknown or missing
  *    6  operand missing or malformed, or two extra tokens
  *    7  number above 2^64 - 1, const above 64 or consth above 16 digits, or bitvec width not 1 to 64
- *    8  operand is not an earlier line of the right class
+ *    8  operand is not the id of an earlier line of the right class
  *    9  sorts, widths, bounds or constant misfit
  *   10  second init or next of a state, or the init rule
- *   11  the count exceeds the table or 16,384, or a record breaks a rule
+ *   11  the count exceeds the table (a sixth of its length) or 16,384, or a record breaks a rule, or its id is not above
+ *       the one before it, or not 1 to 4,294,967,295
  *   12  more records than the target or 16,384 holds
  *   13  steps above 4,096
  *   14  start words: not one for each state cell
@@ -30,7 +37,7 @@
  *   17  work area below one word for each cell of each value line plus each state cell
  *   18  above 64 records, not a value line, or no such cell
  *   19  a record of kind 2 is present
- *   20  the count exceeds the program or 16,384, or a record breaks a rule for programs
+ *   20  the count exceeds the program (a fifth of its length) or 16,384, or a record breaks a rule for programs
  *   21  text buffer too short
  *
  * Further values go to `answer`, a list of three words; words that are not used
@@ -60,25 +67,27 @@
 extern "C" {
 #endif
 
-/* Reads a BTOR2 text into a table. 1, 2; then line by line 3 to 10.
+/* Reads a BTOR2 text into a table, which has room for table_len / 6 records. 1, 2; then line by line 3 to 10.
  * answer[0]: the number of records; with 3 to 10 the text line, from 1. */
 uint64_t gofeshan_read(const uint8_t *text, size_t text_len,
                        uint64_t *table, size_t table_len,
                        uint64_t *answer, size_t answer_len);
 
-/* Writes the first `count` records as text. 1, 11, 21.
+/* Writes the first `count` records as text, numbered 1, 2, 3 whatever their ids are. 1, 11, 21.
  * answer[0]: the number of bytes. */
 uint64_t gofeshan_write(const uint64_t *table, size_t table_len, size_t count,
                         uint8_t *text, size_t text_len,
                         uint64_t *answer, size_t answer_len);
 
-/* Flattens a circuit: arrays become words, one for each cell. 1, 11, 12.
+/* Flattens a circuit: arrays become words, one for each cell. The target is a
+ * table too, with room for target_len / 6 records; their ids are 1, 2, 3. 1, 11, 12.
  * answer[0]: the number of records in the target. */
 uint64_t gofeshan_flatten(const uint64_t *table, size_t table_len, size_t count,
                           uint64_t *target, size_t target_len,
                           uint64_t *answer, size_t answer_len);
 
-/* Translates a flat circuit into a program on 64-bit words. 1, 11, 19, 12.
+/* Translates a flat circuit into a program on 64-bit words. The target is a
+ * program, with room for target_len / 5 records. 1, 11, 19, 12.
  * answer[0]: the number of records in the target. */
 uint64_t gofeshan_translate(const uint64_t *table, size_t table_len, size_t count,
                             uint64_t *target, size_t target_len,
@@ -97,7 +106,7 @@ uint64_t gofeshan_run_circuit(const uint64_t *table, size_t table_len, size_t co
                               uint64_t *work, size_t work_len,
                               uint64_t *answer, size_t answer_len);
 
-/* Runs a program, as gofeshan_run_circuit runs a circuit. 1, 20, 13, 14, 15, 16, 17. */
+/* Runs a program, as gofeshan_run_circuit runs a circuit; `table` has five words a record. 1, 20, 13, 14, 15, 16, 17. */
 uint64_t gofeshan_run_program(const uint64_t *table, size_t table_len, size_t count, size_t steps,
                               const uint64_t *starts, size_t starts_len,
                               const uint64_t *inputs, size_t inputs_len,
@@ -105,15 +114,15 @@ uint64_t gofeshan_run_program(const uint64_t *table, size_t table_len, size_t co
                               uint64_t *work, size_t work_len,
                               uint64_t *answer, size_t answer_len);
 
-/* The value of a line's cell at step 0, from start words and one row of inputs;
- * a word has cell 0 only. 1, 11, 14, 15, 18.
+/* The value of a line's cell at step 0, from start words and one row of inputs.
+ * `line` is the record's place, not its id; a word has cell 0 only. 1, 11, 14, 15, 18.
  * answer[0]: the value. */
 uint64_t gofeshan_peek(const uint64_t *table, size_t table_len, size_t count, size_t line, size_t cell,
                        const uint64_t *starts, size_t starts_len,
                        const uint64_t *row, size_t row_len,
                        uint64_t *answer, size_t answer_len);
 
-/* The name in the first line whose id is the given number. 1.
+/* The name in the first line whose id, as written, is the given number. 1.
  * answer[0]: where it starts in the text, answer[1]: its length, 0 where the
  * line is missing, has an unknown word or has not just one extra token. */
 uint64_t gofeshan_name(const uint8_t *text, size_t text_len, uint64_t id,

@@ -4,6 +4,7 @@
 use crate::independent::rules::{check_program, check_table, Lines};
 use crate::{clock, interpreter, measure, Random};
 use gofeshan::interface as proved;
+use gofeshan::{MOST_RECORDS, PROGRAM_RECORD, RECORD};
 use std::path::{Path, PathBuf};
 use std::process::Command;
 
@@ -16,7 +17,7 @@ fn folder() -> PathBuf {
 
 /// Nanoseconds for a step, by the proved library and by the two interpreters.
 fn run(program: bool, lines: &Lines) -> [f64; 3] {
-    let (table, n) = (lines.records.concat(), lines.records.len());
+    let (table, n) = (lines.words(), lines.records.len());
     let mut random = Random::new(3);
     let (starts, inputs) = (random.words(lines.state_cells()), random.words(STEPS * lines.inputs()));
     let length = STEPS * lines.signals();
@@ -113,17 +114,17 @@ pub fn rows() {
     );
     for name in DESIGNS {
         let text = std::fs::read(folder().join(format!("{name}.btor2"))).unwrap();
-        let mut table = vec![0; 5 * 1000];
+        let mut table = vec![0; RECORD * 1000];
         let count = gofeshan::read(&text, &mut table).unwrap();
-        let (mut flat, mut program) = (vec![0; 5 * 16_384], vec![0; 5 * 16_384]);
+        let (mut flat, mut program) = (vec![0; RECORD * MOST_RECORDS], vec![0; PROGRAM_RECORD * MOST_RECORDS]);
         let flat_count = gofeshan::flatten(&table, count, &mut flat).unwrap();
         let program_count = gofeshan::translate(&flat, flat_count, &mut program).unwrap();
         let lines = check_table(&table, count).unwrap();
         let [circuit, plain, shape] = run(false, &lines);
         let [of_program, plain_program, shape_program] = run(true, &check_program(&program, program_count).unwrap());
-        let of_kind_4 = (1..).zip(&lines.records).filter(|(_, r)| r[0] == 4);
+        let of_kind_4 = lines.ids.iter().zip(&lines.records).filter(|(_, r)| r[0] == 4);
         let inputs: Vec<(String, u64)> = of_kind_4
-            .map(|(id, r)| (String::from_utf8_lossy(gofeshan::name(&text, id)).into_owned(), lines.sort(r[1]).width()))
+            .map(|(&id, r)| (String::from_utf8_lossy(gofeshan::name(&text, id)).into_owned(), lines.sort(r[1]).width()))
             .filter(|input| !input.0.is_empty())
             .collect();
         let show = |x: Option<f64>| x.map_or("-".to_string(), |x| format!("{x:.1}"));

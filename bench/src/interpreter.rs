@@ -5,6 +5,7 @@
 use crate::independent::kinds::{is_value, row, Place};
 use crate::independent::rules::{check_program, check_table, Lines};
 use crate::independent::MOST_STEPS;
+use gofeshan::{PROGRAM_RECORD, RECORD};
 
 /// What a word operator needs besides its operands.
 #[derive(Clone, Copy, Default)]
@@ -191,7 +192,7 @@ impl Machine {
         };
         let cells = |n: usize| lines.lines[n].sort.map_or(1, |s| s.cells() as u32);
         let mut machine = Machine {
-            table: lines.records.concat(),
+            table: lines.words(),
             places: first(&|i| i.to),
             widths: std::iter::once(1).chain(instructions.iter().map(|i| i.of.w)).collect(),
             numbers: std::iter::once(1).chain((0..instructions.len()).map(cells)).collect(),
@@ -268,7 +269,7 @@ impl Machine {
         let (values, states) = (&mut self.values[..], &mut self.states[..]);
         let (places, widths, numbers) = (&self.places[..], &self.widths[..], &self.numbers[..]);
         let (mut input, mut signal) = (0, 0);
-        for (line, r) in (1..).zip(self.table.chunks_exact(5)) {
+        for (line, r) in (1..).zip(self.table.chunks_exact(if P { PROGRAM_RECORD } else { RECORD })) {
             let (to, w) = (places[line] as usize, widths[line]);
             let at = |operand: usize| places[r[1 + operand] as usize] as usize;
             match r[0] as u8 {

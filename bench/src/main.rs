@@ -1,7 +1,8 @@
 //! The proved library against plain Rust: `bash bench/run` in the repository's root.
 //!
 //! Reading, writing, flattening and translating are compared with the independent implementation of rust/tests, runs
-//! with the two interpreters of this crate. Each is measured at three sizes, the sides taking turns.
+//! with the two interpreters of this crate. Each is measured at three sizes, the sides taking turns. Texts with gaps in
+//! their ids are measured beside texts of the same lines without.
 //! `bash bench/run -- write` measures one operation alone, `-- edges` the inputs that could take long. `bench profile write` calls the proved one at its largest size
 //! and measures nothing; `bench/profile` runs that under callgrind.
 #![allow(dead_code, unused_imports)]
@@ -23,8 +24,9 @@ mod interpreter;
 
 use generator::Random;
 use gofeshan::interface as proved;
+use gofeshan::{PROGRAM_RECORD, RECORD};
 use independent::rules::{check_table, Lines};
-use independent::Record;
+use independent::{numbered, Record};
 use std::time::{Duration, Instant};
 
 /// Whether nothing is measured, and the proved operations alone are called.
@@ -186,16 +188,46 @@ fn read_rows() {
         let mut table = Table::new();
         for &lines in sizes(&[80, 500, 2900]) {
             let c = circuit(lines, Some(3));
-            let text = independent::texts::print(&c.records);
-            let (mut a, mut b) = (vec![1; 5 * c.records.len()], vec![2; 5 * c.records.len()]);
-            let (mut x, mut y) = ([1; 3], [2; 3]);
-            let times = measure([&mut || assert_eq!(proved::read(&text, &mut a, &mut x), 0), &mut || {
-                assert_eq!(independent::read(&text, &mut b, &mut y), 0)
-            }]);
-            assert!(a == b && x == y);
-            let size = format!("{} bytes, {} lines", text.len(), c.records.len());
-            table.row("reading", &size, text.len() as f64, "byte", &times);
+            read_row(&mut table, "reading", &c);
         }
+    }
+}
+
+#[cfg(feature = "read")]
+fn read_row(table: &mut Table, name: &str, lines: &Lines) {
+    let (text, n) = (generator::plain_text(lines), lines.records.len());
+    let (mut a, mut b) = (vec![1; RECORD * n], vec![2; RECORD * n]);
+    let (mut x, mut y) = ([1; 3], [2; 3]);
+    let times = measure([&mut || assert_eq!(proved::read(&text, &mut a, &mut x), 0), &mut || {
+        assert_eq!(independent::read(&text, &mut b, &mut y), 0)
+    }]);
+    assert!(a == b && x == y && a == lines.words());
+    table.row(name, &format!("{} bytes, {n} lines", text.len()), text.len() as f64, "byte", &times);
+}
+
+/// The ids of so many lines: 1, 2, 3; 2, 4, 6; or anywhere up to 4,294,967,295, so that a gap is some millions.
+fn ids(style: &str, n: usize) -> Vec<u64> {
+    match style {
+        "no gaps" => (1..=n as u64).collect(),
+        "small gaps" => (1..=n as u64).map(|i| 2 * i).collect(),
+        _ => {
+            let (mut random, step) = (Random::new(n as u64), gofeshan::MOST_ID / n as u64);
+            (0..n as u64).map(|i| 1 + step * i + random.next() % step).collect()
+        }
+    }
+}
+
+/// Texts with gaps before all ids, each behind the text of the same circuit without gaps. Small gaps make hardly more
+/// bytes, so that the times of the two texts can be compared: they differ in how an operand's line is found. With large
+/// gaps there are more digits to read, and the times for a byte can be compared.
+const GAPS: [(usize, &str); 4] = [(3010, "no gaps"), (3010, "small gaps"), (1512, "no gaps"), (1512, "large gaps")];
+
+fn gap_rows() {
+    #[cfg(feature = "read")]
+    for (lines, style) in sizes(&GAPS) {
+        let mut c = circuit(*lines, Some(3));
+        c.ids = ids(style, c.records.len());
+        read_row(&mut Table::new(), style, &c);
     }
 }
 
@@ -205,7 +237,7 @@ fn write_rows() {
         let mut table = Table::new();
         for &lines in sizes(&[250, 2000, 16_000]) {
             let c = circuit(lines, Some(3));
-            let (words, n) = (c.records.concat(), c.records.len());
+            let (words, n) = (c.words(), c.records.len());
             let length = independent::texts::print(&c.records).len();
             let (mut a, mut b) = (vec![1; length], vec![2; length]);
             let (mut x, mut y) = ([1; 3], [2; 3]);
@@ -224,9 +256,9 @@ fn flatten_rows() {
         let mut table = Table::new();
         for &lines in sizes(&[90, 600, 4000]) {
             let c = circuit(lines, Some(3));
-            let (words, n) = (c.records.concat(), c.records.len());
+            let (words, n) = (c.words(), c.records.len());
             let flat = independent::flattening::flat_records(&c, independent::MOST_RECORDS).unwrap().len();
-            let (mut a, mut b) = (vec![1; 5 * flat], vec![2; 5 * flat]);
+            let (mut a, mut b) = (vec![1; RECORD * flat], vec![2; RECORD * flat]);
             let (mut x, mut y) = ([1; 3], [2; 3]);
             let times = measure([&mut || assert_eq!(proved::flatten(&words, n, &mut a, &mut x), 0), &mut || {
                 assert_eq!(independent::flatten(&words, n, &mut b, &mut y), 0)
@@ -243,9 +275,9 @@ fn translate_rows() {
         let mut table = Table::new();
         for &lines in sizes(&[200, 1500, 11_000]) {
             let c = circuit(lines, None);
-            let (words, n) = (c.records.concat(), c.records.len());
+            let (words, n) = (c.words(), c.records.len());
             let program = independent::translating::program_records(&c).len();
-            let (mut a, mut b) = (vec![1; 5 * program], vec![2; 5 * program]);
+            let (mut a, mut b) = (vec![1; PROGRAM_RECORD * program], vec![2; PROGRAM_RECORD * program]);
             let (mut x, mut y) = ([1; 3], [2; 3]);
             let times = measure([&mut || assert_eq!(proved::translate(&words, n, &mut a, &mut x), 0), &mut || {
                 assert_eq!(independent::translate(&words, n, &mut b, &mut y), 0)
@@ -262,7 +294,7 @@ type Running = fn(&[u64], usize, usize, &[u64], &[u64], &mut [u8], &mut [u64], &
 #[cfg(any(feature = "run_circuit", feature = "run_program"))]
 fn run_row(rows: &mut Table, operation: &str, run: Running, program: bool, lines: &Lines, steps: usize) {
     let mut random = Random::new(3);
-    let (table, n) = (lines.records.concat(), lines.records.len());
+    let (table, n) = (lines.words(), lines.records.len());
     let (starts, inputs) = (random.words(lines.state_cells()), random.words(steps * lines.inputs()));
     let length = steps * lines.signals();
     let (mut a, mut b, mut c) = (vec![1; length], vec![2; length], vec![3; length]);
@@ -336,35 +368,41 @@ fn program_rows() {
 
 /// Writes by one constant index, each to the array before it; then reads of another cell of the last of them, or ites between it and itself. An array has
 /// 256 cells, as many as it may have.
-fn chain(writes: u64, reads: u64, ites: u64) -> Vec<u64> {
-    let mut table = vec![1, 0, 8, 0, 0, 2, 0, 1, 1, 0, 3, 1, 0, 0, 0, 3, 1, 1, 0, 0, 5, 2, 0, 0, 0];
-    table.extend([1, 0, 1, 0, 0, 4, 6, 0, 0, 0]);
-    (7..7 + writes).for_each(|n| table.extend([55, 2, if n == 7 { 5 } else { n }, 3, 4]));
-    (0..reads).for_each(|_| table.extend([54, 1, 7 + writes, 4, 0]));
-    (0..ites).for_each(|_| table.extend([53, 2, 7, 7 + writes, 7 + writes]));
-    table
+fn chain(writes: u64, reads: u64, ites: u64) -> Vec<Record> {
+    let mut records = vec![[1, 0, 8, 0, 0], [2, 0, 1, 1, 0], [3, 1, 0, 0, 0], [3, 1, 1, 0, 0], [5, 2, 0, 0, 0]];
+    records.extend([[1, 0, 1, 0, 0], [4, 6, 0, 0, 0]]);
+    (7..7 + writes).for_each(|n| records.push([55, 2, if n == 7 { 5 } else { n }, 3, 4]));
+    (0..reads).for_each(|_| records.push([54, 1, 7 + writes, 4, 0]));
+    (0..ites).for_each(|_| records.push([53, 2, 7, 7 + writes, 7 + writes]));
+    records
 }
 
 /// Inputs that could take long.
 fn edges() {
     #[cfg(feature = "read")]
     {
-        let mut shortest = b"1 sort bitvec 1\n2 input 1\n".to_vec();
-        let mut id = 3;
-        while shortest.len() + 11 <= 65_536 {
-            shortest.extend(format!("{id} bad 2\n").bytes());
-            id += 1;
-        }
-        let lines = format!("reading {} shortest lines", id - 1);
-        let texts: [(&str, Vec<u8>); 6] = [
+        let shortest = |gap: u64| {
+            let (mut text, mut id) = (b"1 sort bitvec 1\n2 input 1\n".to_vec(), 2);
+            while text.len() + 11 + (gap as usize - 1) <= 65_536 {
+                id += gap;
+                text.extend(format!("{id} bad 2\n").bytes());
+            }
+            text
+        };
+        let lines = |text: &[u8]| text.iter().filter(|&&byte| byte == b'\n').count();
+        let (dense, gaps) = (shortest(1), shortest(2));
+        let dense_name = format!("reading {} shortest lines", lines(&dense));
+        let gaps_name = format!("reading {} shortest lines, gaps", lines(&gaps));
+        let texts: [(&str, Vec<u8>); 7] = [
             ("reading 65,536 semicolons", vec![b';'; 65_536]),
             ("reading 65,536 spaces", vec![b' '; 65_536]),
             ("reading 65,536 LFs", vec![b'\n'; 65_536]),
             ("reading one token of 65,536 digits", vec![b'1'; 65_536]),
             ("reading a number of 65,520 digits", [b"1 sort bitvec ".to_vec(), vec![b'1'; 65_520]].concat()),
-            (&lines, shortest),
+            (&dense_name, dense),
+            (&gaps_name, gaps),
         ];
-        let mut table = vec![1; 5 * independent::MOST_RECORDS];
+        let mut table = vec![1; RECORD * independent::MOST_RECORDS];
         for (name, text) in texts {
             let began = Instant::now();
             let number = proved::read(&text, &mut table, &mut [0; 3]);
@@ -375,8 +413,9 @@ fn edges() {
     for (writes, reads, ites) in
         [(8_188, 8_188, 0), (16_310, 0, 61), (500, 500, 0), (1_000, 1_000, 0), (2_000, 2_000, 0)]
     {
-        let table = chain(writes, reads, ites);
-        let (count, mut target) = (table.len() / 5, vec![1; 5 * independent::MOST_RECORDS]);
+        let records = chain(writes, reads, ites);
+        let (table, count) = (numbered(&records), records.len());
+        let mut target = vec![1; RECORD * independent::MOST_RECORDS];
         let began = clock::thread();
         let number = proved::flatten(&table, count, &mut target, &mut [0; 3]);
         let name = format!("flattening {writes} writes, {reads} reads, {ites} ites");
@@ -384,8 +423,9 @@ fn edges() {
     }
     #[cfg(feature = "peek")]
     {
-        let mut table = vec![1, 0, 64, 0, 0, 4, 1, 0, 0, 0];
-        (2..64).for_each(|i| table.extend([39, 1, i, i, 0]));
+        let mut records = vec![[1, 0, 64, 0, 0], [4, 1, 0, 0, 0]];
+        (2..64).for_each(|i| records.push([39, 1, i, i, 0]));
+        let table = numbered(&records);
         let began = Instant::now();
         let number = proved::peek(&table, 64, 64, 0, &[], &[1], &mut [0; 3]);
         println!(
@@ -408,8 +448,9 @@ fn main() {
         "{:<12} {:<34} {:>10} {:>10} {:>6} {:>10} {:>6} {:>24} {:>6} {:>6}",
         "operation", "size", "proved", "plain", "ratio", "same shape", "ratio", "proved per unit", "growth", "plain"
     );
-    let rows: [(&str, fn()); 6] = [
+    let rows: [(&str, fn()); 7] = [
         ("read", read_rows),
+        ("read_gaps", gap_rows),
         ("write", write_rows),
         ("flatten", flatten_rows),
         ("translate", translate_rows),

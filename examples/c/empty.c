@@ -4,7 +4,8 @@
 #include <stdio.h>
 #include <stdlib.h>
 
-enum { WORDS = 50, STEPS = 3 };
+/* Sixty words are ten records of a circuit, twelve of a program. */
+enum { WORDS = 60, STEPS = 3 };
 
 static int failed;
 

@@ -1,4 +1,5 @@
-/* Reads the circuit below, flattens it and prints the flat text; then runs it and its program, and peeks at a value.
+/* Reads the circuit below, whose ids have a gap, flattens it and prints the flat text; then runs it and its program, and
+ * peeks at values.
  *
  *     rt staticlib exports
  *     cc -O2 -Iinclude examples/c/example.c target/staticlib/libexports.a -o example && ./example
@@ -8,9 +9,10 @@
 #include <stdio.h>
 #include <string.h>
 
-enum { RECORDS = 1000, WORDS = 5 * RECORDS, BYTES = 65536, STEPS = 3 };
+/* A circuit's record has six words, a program's five. */
+enum { RECORDS = 1000, WORDS = 6 * RECORDS, PROGRAM_WORDS = 5 * RECORDS, BYTES = 65536, STEPS = 3 };
 
-static uint64_t circuit[WORDS], flat[WORDS], program[WORDS], work[WORDS], answer[3];
+static uint64_t circuit[WORDS], flat[WORDS], program[PROGRAM_WORDS], work[WORDS], answer[3];
 static uint8_t text[BYTES];
 
 static const char *example =
@@ -23,8 +25,8 @@ static const char *example =
     "7 write 3 4 5 6\n"
     "8 next 3 4 7\n"
     "9 read 2 4 5\n"
-    "10 eq 1 9 6\n"
-    "11 bad 10 five\n";
+    "20 eq 1 9 6\n"
+    "21 bad 20 five\n";
 
 static int refused(const char *operation, uint64_t number) {
     if (number)
@@ -52,7 +54,7 @@ int main(void) {
     if (refused("write", gofeshan_write(flat, WORDS, flat_count, text, BYTES, answer, 3)))
         return 1;
     fwrite(text, 1, answer[0], stdout);
-    if (refused("translate", gofeshan_translate(flat, WORDS, flat_count, program, WORDS, answer, 3)))
+    if (refused("translate", gofeshan_translate(flat, WORDS, flat_count, program, PROGRAM_WORDS, answer, 3)))
         return 1;
     size_t program_count = answer[0];
 
@@ -62,17 +64,22 @@ int main(void) {
     if (refused("run", gofeshan_run_circuit(circuit, WORDS, count, STEPS, starts, 2, inputs, STEPS, signals, STEPS, work, WORDS, answer, 3)))
         return 1;
     print_run("circuit", signals);
-    if (refused("run", gofeshan_run_program(program, WORDS, program_count, STEPS, starts, 2, inputs, STEPS, signals, STEPS, work, WORDS, answer, 3)))
+    if (refused("run", gofeshan_run_program(program, PROGRAM_WORDS, program_count, STEPS, starts, 2, inputs, STEPS, signals, STEPS, work, WORDS, answer, 3)))
         return 1;
     print_run("program", signals);
 
-    /* Line 7 is the array with 5 written to the cell that the input names: its cell 1 at step 0, for the input 1. */
+    /* Record 7 is the array with 5 written to the cell that the input names: its cell 1 at step 0, for the input 1. */
     uint64_t row[1] = {1};
     if (refused("peek", gofeshan_peek(circuit, WORDS, count, 7, 1, starts, 2, row, 1, answer, 3)))
         return 1;
-    printf("; cell 1 of line 7: %llu\n", (unsigned long long)answer[0]);
+    printf("; cell 1 of record 7: %llu\n", (unsigned long long)answer[0]);
 
-    if (refused("name", gofeshan_name(source, length, 11, answer, 3)))
+    /* A peek goes by the record's place, a name by the id as written, which is the record's last word. */
+    if (refused("peek", gofeshan_peek(circuit, WORDS, count, 10, 0, starts, 2, row, 1, answer, 3)))
+        return 1;
+    uint64_t id = circuit[6 * (11 - 1) + 5];
+    printf("; record 10, the eq: %llu; record 11 has the id %llu\n", (unsigned long long)answer[0], (unsigned long long)id);
+    if (refused("name", gofeshan_name(source, length, id, answer, 3)))
         return 1;
     printf("; the bad line's name: %.*s\n", (int)answer[1], example + answer[0]);
     return 0;

@@ -82,8 +82,8 @@ fn main() {
     for case in 0..cases {
         let size = generator::size(&mut random);
         let lines = generator::circuit(&mut random, size);
-        let (table, count) = (lines.records.concat(), lines.records.len());
-        let mut flat = vec![0; 5 * independent::MOST_RECORDS];
+        let (table, count) = (lines.words(), lines.records.len());
+        let mut flat = vec![0; gofeshan::RECORD * independent::MOST_RECORDS];
         let Ok(flat_count) = gofeshan::flatten(&table, count, &mut flat) else { continue };
         let steps = 1 + random.below(6);
         let (starts, inputs) = (random.words(lines.state_cells()), random.words(steps * lines.inputs()));

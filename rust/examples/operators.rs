@@ -153,15 +153,16 @@ fn circuit(o: &Operator) -> Vec<u64> {
         table.push([18, bit, line, i, i]);
         table.push([8, 0, table.len() as u64, 0, 0]);
     }
-    table.concat()
+    (1..).zip(table).flat_map(|(id, [kind, sort, a, b, c])| [kind, sort, a, b, c, id]).collect()
 }
 
 /// The results of a run for each row of operands, of the circuit or of its program.
 fn results(o: &Operator, rows: &[Vec<u64>], program: bool) -> Vec<u64> {
-    let (mut table, mut count) = (circuit(o), circuit(o).len() / 5);
+    let mut table = circuit(o);
+    let mut count = table.len() / gofeshan::RECORD;
     let mut run: fn(&[u64], usize, usize, &[u64], &[u64], &mut [u8], &mut [u64]) -> _ = gofeshan::run_circuit;
     if program {
-        let mut target = vec![0; 2 * table.len()];
+        let mut target = vec![0; gofeshan::PROGRAM_RECORD * 2 * count];
         count = gofeshan::translate(&table, count, &mut target).unwrap();
         (table, run) = (target, gofeshan::run_program);
     }

@@ -1,9 +1,15 @@
 //! Safe functions over the C interface of Gofeshan, a proved tool for BTOR2
 //! circuits with small memories.
 //!
-//! A *table* is a list of records of five words each: kind, sort line, three
-//! operands. A record's number is its place, from 1. A *program* is a list of
-//! records too: kind, width, three operands. At most 16,384 records count.
+//! A *table* is a list of a circuit's records, six words each ([`RECORD`]): kind,
+//! sort line, three operands, and the id as written in the text. A *program* is
+//! a list of records of five words each ([`PROGRAM_RECORD`]): kind, width, three
+//! operands. At most 16,384 records count.
+//!
+//! A record's number is its place, from 1, and records tell lines by their
+//! places. Ids only rise, from 1 up to 4,294,967,295 ([`MOST_ID`]),
+//! with or without gaps; the operands of a text's lines name ids. Flat circuits
+//! and written texts are numbered 1, 2, 3.
 //!
 //! Every operation ends with a listed answer. A refusal is a number
 //! ([`Refusal::number`], documented by [`Refusal::reason`]); after it
@@ -21,16 +27,21 @@
 //! Those beside them give the same answers as Rust values:
 //!
 //! ```
-//! let mut table = [0; 5 * 100];
-//! let count = gofeshan::read(b"1 sort bitvec 1\n2 input 1\n3 bad 2\n", &mut table).unwrap();
+//! let mut table = [0; gofeshan::RECORD * 100];
+//! let count = gofeshan::read(b"1 sort bitvec 1\n2 input 1\n7 bad 2\n", &mut table).unwrap();
+//! assert_eq!(table[12..18], [8, 0, 2, 0, 0, 7]);
 //! let mut signals = [0; 2];
 //! let mut work = [0; 100];
 //! let bad = gofeshan::run_circuit(&table, count, 2, &[], &[0, 1], &mut signals, &mut work).unwrap();
 //! assert_eq!(bad, Some(gofeshan::FirstBad { step: 1, place: 1 }));
 //! ```
 
-/// Words in a record.
-pub const RECORD: usize = 5;
+/// Words in a circuit's record.
+pub const RECORD: usize = 6;
+/// Words in a program's record.
+pub const PROGRAM_RECORD: usize = 5;
+/// The greatest id of a line.
+pub const MOST_ID: u64 = 4_294_967_295;
 /// At most this many records count.
 pub const MOST_RECORDS: usize = 16_384;
 /// The longest text that is read, in bytes.
@@ -116,7 +127,7 @@ pub mod interface {
         }
     }
 
-    /// Writes the first `count` records of a table as text. `answer[0]` is the number of bytes.
+    /// Writes the first `count` records of a table as text, numbered 1, 2, 3. `answer[0]` is the number of bytes.
     #[cfg(feature = "write")]
     pub fn write(table: &[u64], count: usize, text: &mut [u8], answer: &mut [u64]) -> u64 {
         // SAFETY: each pointer comes with the length of its slice.
@@ -133,7 +144,7 @@ pub mod interface {
         }
     }
 
-    /// Flattens a circuit. `answer[0]` is the number of records in the target.
+    /// Flattens a circuit. `answer[0]` is the number of records in the target, a table with the ids 1, 2, 3.
     #[cfg(feature = "flatten")]
     pub fn flatten(table: &[u64], count: usize, target: &mut [u64], answer: &mut [u64]) -> u64 {
         // SAFETY: each pointer comes with the length of its slice.
@@ -150,7 +161,8 @@ pub mod interface {
         }
     }
 
-    /// Translates a flat circuit into a program. `answer[0]` is the number of records in the target.
+    /// Translates a flat circuit into a program. `answer[0]` is the number of records in the target, which has five words
+    /// for each.
     #[cfg(feature = "translate")]
     pub fn translate(table: &[u64], count: usize, target: &mut [u64], answer: &mut [u64]) -> u64 {
         // SAFETY: each pointer comes with the length of its slice.
@@ -235,7 +247,7 @@ pub mod interface {
         }
     }
 
-    /// The value of a line's cell at step 0. `answer[0]` is the value.
+    /// The value of a line's cell at step 0; the line is told by its record's place. `answer[0]` is the value.
     #[cfg(feature = "peek")]
     pub fn peek(
         table: &[u64],
@@ -264,7 +276,7 @@ pub mod interface {
         }
     }
 
-    /// The name of a line. `answer[0]` is the start of the name in the text,
+    /// The name of a line, which is told by its id as written. `answer[0]` is the start of the name in the text,
     /// `answer[1]` its length; where there is none, the length is 0.
     #[cfg(feature = "name")]
     pub fn name(text: &[u8], id: u64, answer: &mut [u64]) -> u64 {
@@ -286,17 +298,17 @@ impl Refusal {
     /// The refusal in words.
     pub fn reason(self) -> &'static str {
         match self.number {
-            1 => "a list is no table: its length is no multiple of five",
+            1 => "a list is no table, whose length is a multiple of six, or no program, whose length is one of five",
             2 => "the text is above 65,536 bytes",
-            3 => "the id is not the next number",
+            3 => "the id is no number above the one before, up to 4,294,967,295",
             4 => "no record is left",
             5 => "the word is unknown or missing",
             6 => "an operand is missing or malformed, or there are two extra tokens",
             7 => "a number is too large, or a bitvec width is not 1 to 64",
-            8 => "an operand is not an earlier line of the right class",
+            8 => "an operand is not the id of an earlier line of the right class",
             9 => "sorts, widths, bounds or a constant do not fit",
             10 => "a second init or next of a state, or the init rule",
-            11 => "the count exceeds the table, or a record breaks a rule",
+            11 => "the count exceeds the table, a record breaks a rule, or its id does",
             12 => "more records than the target holds",
             13 => "more than 4,096 steps",
             14 => "not one start word for each state cell",
@@ -352,21 +364,22 @@ pub fn read(text: &[u8], table: &mut [u64]) -> Result<usize, Refusal> {
     counted(interface::read(text, table, &mut answer), answer)
 }
 
-/// Writes the first `count` records of a table as text and gives the number of bytes.
+/// Writes the first `count` records of a table as text, numbered 1, 2, 3 whatever their ids are, and gives the number of
+/// bytes.
 #[cfg(feature = "write")]
 pub fn write(table: &[u64], count: usize, text: &mut [u8]) -> Result<usize, Refusal> {
     let mut answer = [0; 3];
     counted(interface::write(table, count, text, &mut answer), answer)
 }
 
-/// Flattens a circuit and gives the number of records in the target.
+/// Flattens a circuit and gives the number of records in the target, whose ids are 1, 2, 3.
 #[cfg(feature = "flatten")]
 pub fn flatten(table: &[u64], count: usize, target: &mut [u64]) -> Result<usize, Refusal> {
     let mut answer = [0; 3];
     counted(interface::flatten(table, count, target, &mut answer), answer)
 }
 
-/// Translates a flat circuit into a program and gives the number of records in the target.
+/// Translates a flat circuit into a program and gives the number of records in the target, five words each.
 #[cfg(feature = "translate")]
 pub fn translate(table: &[u64], count: usize, target: &mut [u64]) -> Result<usize, Refusal> {
     let mut answer = [0; 3];
@@ -409,7 +422,8 @@ pub fn run_program(
 }
 
 /// The value of a line's cell at step 0, from start words and one row of
-/// inputs, in a circuit of at most 64 records. A word has cell 0 only.
+/// inputs, in a circuit of at most 64 records. The line is told by its record's
+/// place, not by its id; a word has cell 0 only.
 #[cfg(feature = "peek")]
 pub fn peek(
     table: &[u64],
@@ -426,7 +440,7 @@ pub fn peek(
     }
 }
 
-/// The name of the first line whose id is the given number, as that part of
+/// The name of the first line whose id, as written, is the given number, as that part of
 /// the text; empty where the line is missing, has an unknown word or has not
 /// just one extra token.
 #[cfg(feature = "name")]

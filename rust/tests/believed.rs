@@ -1,4 +1,4 @@
-//! What has to be believed: the files of definitions that the promises of the public operations and demand 3 rest on.
+//! What has to be believed: the files of definitions that the promises of the public operations, demand 3 and the theorem on ids rest on.
 //! They are found by the `use` lines, from the contracts on; docs/PROOFS.md lists them with their lines, and this test holds it to that.
 //! `cargo test --test believed -- --nocapture` prints them.
 use std::collections::{BTreeMap, BTreeSet};
@@ -8,8 +8,8 @@ use std::path::{Path, PathBuf};
 const OPERATIONS: [&str; 9] =
     ["reading", "writing", "naming", "flatten", "translating", "runs", "peeking", "exports", "flat_text"];
 
-/// Demand 3 is stated there.
-const DEMAND_3: &str = "crates/agreement/specs/Comparison.antt";
+/// Demand 3 is stated there, and that ids are of no matter.
+const THEOREMS: [&str; 2] = ["crates/agreement/specs/Comparison.antt", "crates/agreement/specs/Ids.antt"];
 
 fn root() -> PathBuf {
     Path::new(env!("CARGO_MANIFEST_DIR")).join("..")
@@ -61,7 +61,7 @@ fn promises(text: &str) -> BTreeSet<String> {
 }
 
 fn believed() -> BTreeMap<String, usize> {
-    let mut ahead = vec![DEMAND_3.to_string()];
+    let mut ahead: Vec<String> = THEOREMS.iter().map(|file| file.to_string()).collect();
     for name in OPERATIONS {
         let text = read(&format!("crates/{name}/src/lib.rt"));
         let words = promises(&text);

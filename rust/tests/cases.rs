@@ -54,8 +54,8 @@ fn listed_bytes(bytes: &[u8]) -> String {
     listed(&bytes.iter().map(|&byte| byte.into()).collect::<Vec<u64>>())
 }
 
-/// The records of a list from a place on, five words to a line; zeros up to its end are one line.
-fn records(list: &[u64], from: usize) -> Vec<String> {
+/// The records of a list from a place on, one to a line; zeros up to its end are one line.
+fn records(list: &[u64], from: usize, size: usize) -> Vec<String> {
     let mut said = Vec::new();
     let mut rest = &list[from..];
     while !rest.is_empty() {
@@ -63,7 +63,7 @@ fn records(list: &[u64], from: usize) -> Vec<String> {
             said.push(format!("0*{}", rest.len()));
             break;
         }
-        let (record, after) = rest.split_at(rest.len().min(gofeshan::RECORD));
+        let (record, after) = rest.split_at(rest.len().min(size));
         said.push(record.iter().map(u64::to_string).collect::<Vec<_>>().join(" "));
         rest = after;
     }
@@ -102,7 +102,8 @@ fn call(line: &str, lists: &mut Lists) -> Vec<String> {
         "starts" => *starts = given,
         "inputs" => *inputs = given,
         "take" => *table = target.clone(),
-        "show" => return records(target, size(0)),
+        "show" => return records(target, size(0), gofeshan::RECORD),
+        "show_program" => return records(target, size(0), gofeshan::PROGRAM_RECORD),
         "read" => {
             *target = lent(given[0]);
             let number = interface::read(text, target, &mut answer);

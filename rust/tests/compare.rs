@@ -16,6 +16,8 @@ mod independent;
 
 use generator::*;
 use gofeshan::interface as proved;
+use gofeshan::{PROGRAM_RECORD, RECORD};
+use independent::numbered;
 use independent::rules::Lines;
 use std::collections::BTreeMap;
 
@@ -103,23 +105,32 @@ fn on_stack(work: impl FnOnce() + Send + 'static) {
     }
 }
 
-fn show(table: &[u64], count: usize) -> String {
+/// The records of a circuit's table, or of a program's.
+fn show(table: &[u64], count: usize, program: bool) -> String {
+    let size = if program { PROGRAM_RECORD } else { RECORD };
     let records: Vec<String> =
-        table.chunks(5).take(count.min(400)).enumerate().map(|(i, r)| format!("{}: {r:?}", i + 1)).collect();
+        table.chunks(size).take(count.min(400)).enumerate().map(|(i, r)| format!("{}: {r:?}", i + 1)).collect();
     format!("table of {} words, count {count}\n{}\n", table.len(), records.join("\n"))
 }
 
-/// A table with a count: valid, damaged, cut, or with other words past the count.
-fn table_of(random: &mut Random, records: &[independent::Record], program: bool) -> (Vec<u64>, usize) {
-    let mut table = records.concat();
+/// A table or a program with a count: valid, damaged, cut, or with other words past the count.
+fn table_of(random: &mut Random, lines: &Lines) -> (Vec<u64>, usize) {
+    let (mut table, program) = (lines.words(), lines.program);
+    let size = if program { PROGRAM_RECORD } else { RECORD };
     if random.one_in(3) {
         damage_records(random, &mut table, program);
     }
-    let n = table.len() / 5;
+    let n = table.len() / size;
+    if n > 0 && !program && random.one_in(12) {
+        // Ids that are broken past the count alone.
+        let at = random.below(n);
+        (at..n).for_each(|i| table[size * i + 5] = random.word());
+        return (table, at);
+    }
     let length = match random.below(8) {
-        0 => table_length(random, n),
-        1 => 5 * (n + random.below(20)),
-        _ => 5 * n,
+        0 => table_length(random, n, program),
+        1 => size * (n + random.below(20)),
+        _ => size * n,
     };
     while table.len() < length {
         table.push(random.word());
@@ -130,7 +141,15 @@ fn table_of(random: &mut Random, records: &[independent::Record], program: bool)
 
 fn flat_of(lines: &Lines) -> Option<Lines> {
     let flat = independent::flattening::flat_records(lines, independent::MOST_RECORDS)?;
-    independent::rules::check_table(&flat.concat(), flat.len())
+    independent::rules::check_table(&numbered(&flat), flat.len())
+}
+
+/// The program of a flat circuit, where it has at most 16,384 records.
+fn program_of(flat: &Lines) -> Option<Lines> {
+    let records = independent::translating::program_records(flat);
+    let program = independent::rules::check_program(&records.concat(), records.len());
+    assert!(program.is_some() || records.len() > independent::MOST_RECORDS);
+    program
 }
 
 // Reading.
@@ -169,7 +188,7 @@ fn read_case(random: &mut Random) -> u64 {
         _ => damaged_text(random, &lines),
     };
     let n = lines.records.len();
-    let length = if random.one_in(4) { table_length(random, n) } else { 5 * (n + random.below(9)) };
+    let length = if random.one_in(4) { table_length(random, n, false) } else { RECORD * (n + random.below(9)) };
     let answer = answer_length(random);
     both_read(random, &text, length, answer)
 }
@@ -190,15 +209,17 @@ fn reading_at_the_edges() {
             for byte in b"; \n1x0\xff" {
                 texts.push(vec![*byte; n]);
             }
-            // The shortest lines, as many as fit.
-            let mut text = b"1 sort bitvec 1\n2 input 1\n".to_vec();
-            let mut id = 3;
-            while text.len() + format!("{id} bad 2\n").len() <= n {
-                text.extend(format!("{id} bad 2\n").bytes());
-                id += 1;
+            // The shortest lines, as many as fit, without gaps and with gaps of all sizes.
+            for gap in [1, 2, 7, 715_000] {
+                let mut text = b"1 sort bitvec 1\n2 input 1\n".to_vec();
+                let mut id = 2 + gap;
+                while text.len() + format!("{id} bad 2\n").len() <= n {
+                    text.extend(format!("{id} bad 2\n").bytes());
+                    id += gap;
+                }
+                text.resize(n, b' ');
+                texts.push(text);
             }
-            text.resize(n, b' ');
-            texts.push(text);
         }
         for w in 0..=66 {
             texts.push(format!("1 sort bitvec {w}").into_bytes());
@@ -232,9 +253,22 @@ fn reading_at_the_edges() {
                 }
             }
         }
+        // Every id, and every operand, before and behind ids at the edges.
+        let edges = ["0", "1", "2", "3", "4", "5", "6", "07", "4294967294", "4294967295", "4294967296", "4294967297"];
+        let edges = edges.into_iter().chain(["18446744073709551615", "18446744073709551616", "-3", "+3", "3\r", "x"]);
+        let edges: Vec<&str> = edges.collect();
+        for first in &edges {
+            for second in &edges {
+                for operand in &edges {
+                    texts.push(format!("{first} sort bitvec 1\n{second} input {operand}\n").into_bytes());
+                    texts.push(format!("1 sort bitvec 1\n{first} input 1\n{second} bad {operand}\n").into_bytes());
+                }
+            }
+        }
         let count = texts.len();
         for text in texts {
-            let lengths = if text.len() < 1000 { [10, 55] } else { [5 * 16_384, 5 * 16_385] };
+            let lengths =
+                if text.len() < 1000 { [2 * RECORD, 11 * RECORD] } else { [RECORD * 16_384, RECORD * 16_385] };
             for length in lengths {
                 both_read(&mut random, &text, length, 3);
             }
@@ -254,7 +288,9 @@ fn both_write(random: &mut Random, table: &[u64], count: usize, length: usize, a
     let (mut text, mut words) = dirt;
     let number = proved::write(table, count, &mut text, &mut words);
     let theirs = Told { number, words: vec![words], bytes: text };
-    same(&ours, &theirs, || format!("write, text of {length} bytes, answer of {answer}\n{}", show(table, count)));
+    same(&ours, &theirs, || {
+        format!("write, text of {length} bytes, answer of {answer}\n{}", show(table, count, false))
+    });
     ours.number
 }
 
@@ -262,7 +298,7 @@ fn both_write(random: &mut Random, table: &[u64], count: usize, length: usize, a
 fn write_case(random: &mut Random) -> u64 {
     let size = size(random);
     let lines = circuit(random, size);
-    let (table, count) = table_of(random, &lines.records, false);
+    let (table, count) = table_of(random, &lines);
     let exact = independent::texts::print(&lines.records).len();
     let (length, answer) = (length(random, exact), answer_length(random));
     both_write(random, &table, count, length, answer)
@@ -279,23 +315,24 @@ fn writing() {
 fn writing_at_the_edges() {
     on_stack(|| {
         let mut random = Random::new(6);
-        let (n, mut table) = (16_384, vec![1, 0, 64, 0, 0]);
-        while table.len() < 5 * (n + 1) {
-            table.extend([3, 1, random.word(), 0, 0]);
+        let (n, mut records) = (16_384, vec![[1, 0, 64, 0, 0]]);
+        while records.len() < n + 1 {
+            records.push([3, 1, random.word(), 0, 0]);
         }
+        let table = numbered(&records);
         assert_eq!(both_write(&mut random, &table, n, 1_000_000, 3), 0);
         assert_eq!(both_write(&mut random, &table, n + 1, 1_000_000, 3), 11);
         assert_eq!(both_write(&mut random, &table, n, 65_536, 3), 21);
-        assert_eq!(both_write(&mut random, &table[..5 * n], n, 1_000_000, 3), 0);
-        assert_eq!(both_write(&mut random, &table[..5 * n + 1], n, 1_000_000, 3), 1);
+        assert_eq!(both_write(&mut random, &table[..RECORD * n], n, 1_000_000, 3), 0);
+        assert_eq!(both_write(&mut random, &table[..RECORD * n + 1], n, 1_000_000, 3), 1);
         assert_eq!(both_write(&mut random, &[], 0, 0, 3), 0);
         assert_eq!(both_write(&mut random, &[], 1, 0, 3), 11);
         // Every word of every record of a circuit with all classes, set to edge values.
         for _ in 0..20 {
             let lines = circuit(&mut random, Size { lines: 25, arrays: true });
-            let table = lines.records.concat();
+            let table = lines.words();
             for at in 0..table.len() {
-                for value in [0, 1, 2, 3, 6, 7, 55, 56, 57, 63, 64, 65, 1 << 32, u64::MAX] {
+                for value in [0, 1, 2, 3, 6, 7, 55, 56, 57, 63, 64, 65, (1 << 32) - 1, 1 << 32, u64::MAX] {
                     let mut changed = table.clone();
                     changed[at] = value;
                     both_write(&mut random, &changed, lines.records.len(), 2000, 3);
@@ -305,19 +342,19 @@ fn writing_at_the_edges() {
     });
 }
 
-/// What is written is read back.
+/// What is written is read back, with the ids 1, 2, 3.
 #[cfg(all(feature = "read", feature = "write"))]
 #[test]
 fn writing_then_reading() {
     cases("write then read", 3_000, &[0], |random| {
         let size = size(random);
         let lines = circuit(random, size);
-        let (table, n) = (lines.records.concat(), lines.records.len());
+        let (table, n) = (lines.words(), lines.records.len());
         let mut text = vec![1; 40 * n + 1];
         let length = gofeshan::write(&table, n, &mut text).unwrap();
-        let mut back = random.words(5 * n);
+        let mut back = random.words(RECORD * n);
         assert_eq!(gofeshan::read(&text[..length], &mut back), Ok(n));
-        assert!(back == table);
+        assert!(back == numbered(&lines.records));
         0
     });
 }
@@ -343,7 +380,7 @@ fn both_change(
     let (mut target, mut words) = dirt;
     let number = operations.1(table, count, &mut target, &mut words);
     let theirs = Told { number, words: vec![words, target], bytes: vec![] };
-    same(&ours, &theirs, || format!("target of {length} words, answer of {answer}\n{}", show(table, count)));
+    same(&ours, &theirs, || format!("target of {length} words, answer of {answer}\n{}", show(table, count, false)));
     ours.number
 }
 
@@ -352,8 +389,8 @@ fn flatten_case(random: &mut Random) -> u64 {
     let size = size(random);
     let lines = circuit(random, size);
     let exact = flat_of(&lines).map_or(0, |f| f.records.len());
-    let (table, count) = table_of(random, &lines.records, false);
-    let (length, answer) = (table_length(random, exact), answer_length(random));
+    let (table, count) = table_of(random, &lines);
+    let (length, answer) = (table_length(random, exact, false), answer_length(random));
     both_change(random, (independent::flatten, proved::flatten), &table, count, length, answer)
 }
 
@@ -375,29 +412,29 @@ fn flattening_at_the_edges() {
                 let text = format!(
                     "1 sort bitvec 1\n2 sort bitvec {i}\n3 sort bitvec {e}\n4 sort array 2 3\n5 sort array 2 3\n6 zero 3\n7 state 4\n8 state 5\n9 init 5 7 6\n10 input 2\n11 input 3\n12 write 5 7 10 11\n13 ones 2\n14 write 4 12 13 11\n15 input 1\n16 ite 4 15 14 8\n17 next 4 8 16\n18 read 3 16 10\n19 read 3 12 13\n20 eq 1 7 8\n21 neq 1 16 12\n22 bad 20\n23 bad 21\n24 next 5 7 12\n25 eq 1 18 19\n26 constraint 25\n"
                 );
-                let mut table = vec![0; 5 * 26];
+                let mut table = vec![0; RECORD * 26];
                 assert_eq!(independent::read(text.as_bytes(), &mut table, &mut [0; 3]), 0);
-                for length in [0, 5, 5 * 4000, 5 * 6144, 5 * 16_384, 5 * 20_000] {
-                    both_change(&mut random, both, &table, 26, length, 3);
+                for records in [0, 1, 4000, 6144, 16_384, 20_000] {
+                    both_change(&mut random, both, &table, 26, RECORD * records, 3);
                 }
             }
         }
         // As many records as count, one fewer and one more.
         for n in [16_382, 16_383, 16_384, 16_385] {
-            let mut table = vec![1, 0, 64, 0, 0];
-            while table.len() < 5 * n {
-                table.extend([5, 1, 0, 0, 0]);
-            }
-            for length in [5 * 16_383, 5 * 16_384, 5 * 16_385, 5 * 20_000] {
-                both_change(&mut random, both, &table, n, length, 3);
+            let mut records = vec![[1, 0, 64, 0, 0]];
+            records.resize(n, [5, 1, 0, 0, 0]);
+            let table = numbered(&records);
+            for records in [16_383, 16_384, 16_385, 20_000] {
+                both_change(&mut random, both, &table, n, RECORD * records, 3);
             }
         }
         // States of 256 cells until the target is full.
         for states in [62, 63, 64, 200] {
-            let mut table = vec![1, 0, 8, 0, 0, 2, 0, 1, 1, 0];
-            (0..states).for_each(|_| table.extend([5, 2, 0, 0, 0]));
-            for length in [5 * (2 + 256 + 256 * 62), 5 * 16_384, 5 * 40_000] {
-                both_change(&mut random, both, &table, states + 2, length, 3);
+            let mut records = vec![[1, 0, 8, 0, 0], [2, 0, 1, 1, 0]];
+            records.resize(states + 2, [5, 2, 0, 0, 0]);
+            let table = numbered(&records);
+            for records in [2 + 256 + 256 * 62, 16_384, 40_000] {
+                both_change(&mut random, both, &table, states + 2, RECORD * records, 3);
             }
         }
     });
@@ -414,8 +451,11 @@ fn translate_case(random: &mut Random) -> u64 {
         };
     }
     let exact = independent::translating::program_records(&flat_of(&lines).unwrap_or_default()).len();
-    let (table, count) = table_of(random, &lines.records, false);
-    let (length, answer) = (table_length(random, exact), answer_length(random));
+    if random.one_in(2) {
+        lines.ids = rising_ids(random, lines.records.len());
+    }
+    let (table, count) = table_of(random, &lines);
+    let (length, answer) = (table_length(random, exact, true), answer_length(random));
     both_change(random, (independent::translate, proved::translate), &table, count, length, answer)
 }
 
@@ -434,13 +474,12 @@ fn translating_at_the_edges() {
         for n in [16_382, 16_383, 16_384, 16_385] {
             for masked in [0, 1, 2, 3] {
                 // A sort, inputs, and outputs that each ask for a mask.
-                let mut table = vec![1, 0, 8, 0, 0];
-                while table.len() < 5 * (n - masked) {
-                    table.extend([4, 1, 0, 0, 0]);
-                }
-                (0..masked).for_each(|i| table.extend([10, 0, 2 + i as u64, 0, 0]));
-                for length in [5 * 16_383, 5 * 16_384, 5 * 16_385, 5 * 20_000] {
-                    both_change(&mut random, both, &table, n, length, 3);
+                let mut records = vec![[1, 0, 8, 0, 0]];
+                records.resize(n - masked, [4, 1, 0, 0, 0]);
+                (0..masked).for_each(|i| records.push([10, 0, 2 + i as u64, 0, 0]));
+                let table = numbered(&records);
+                for records in [16_383, 16_384, 16_385, 20_000] {
+                    both_change(&mut random, both, &table, n, PROGRAM_RECORD * records, 3);
                 }
             }
         }
@@ -463,7 +502,12 @@ struct Run {
 }
 
 #[cfg(any(feature = "run_circuit", feature = "run_program"))]
-fn both_run(random: &mut Random, operations: (Running, Running), table: &[u64], count: usize, run: &Run) -> u64 {
+fn both_run(
+    random: &mut Random,
+    operations: (Running, Running),
+    (table, count, program): (&[u64], usize, bool),
+    run: &Run,
+) -> u64 {
     let dirt = (random.bytes(run.signals), random.words(run.work), random.words(run.answer));
     let (mut signals, mut work, mut words) = dirt.clone();
     let (k, s, i) = (run.steps, &run.starts, &run.inputs);
@@ -473,7 +517,7 @@ fn both_run(random: &mut Random, operations: (Running, Running), table: &[u64], 
     let number = operations.1(table, count, k, s, i, &mut signals, &mut work, &mut words);
     let theirs = Told { number, words: vec![words, work], bytes: signals };
     same(&ours, &theirs, || {
-        format!("steps {k}, starts {s:?}, inputs {i:?}, work of {} words\n{}", run.work, show(table, count))
+        format!("steps {k}, starts {s:?}, inputs {i:?}, work of {} words\n{}", run.work, show(table, count, program))
     });
     if ours.words[0].first() == Some(&1) {
         100
@@ -513,12 +557,8 @@ fn run_circuit_case(random: &mut Random) -> u64 {
         lines = flat_of(&lines).unwrap_or_default();
     }
     let run = run_of(random, &lines);
-    let (table, count) = if random.one_in(3) {
-        table_of(random, &lines.records, false)
-    } else {
-        (lines.records.concat(), lines.records.len())
-    };
-    both_run(random, (independent::run_circuit, proved::run_circuit), &table, count, &run)
+    let (table, count) = if random.one_in(3) { table_of(random, &lines) } else { (lines.words(), lines.records.len()) };
+    both_run(random, (independent::run_circuit, proved::run_circuit), (&table, count, false), &run)
 }
 
 #[cfg(feature = "run_circuit")]
@@ -539,9 +579,8 @@ fn run_program_case(random: &mut Random) -> u64 {
         return 20;
     };
     let run = run_of(random, &lines);
-    let (table, count) =
-        if random.one_in(3) { table_of(random, &records, true) } else { (records.concat(), records.len()) };
-    both_run(random, (independent::run_program, proved::run_program), &table, count, &run)
+    let (table, count) = if random.one_in(3) { table_of(random, &lines) } else { (lines.words(), lines.records.len()) };
+    both_run(random, (independent::run_program, proved::run_program), (&table, count, true), &run)
 }
 
 #[cfg(feature = "run_program")]
@@ -665,11 +704,59 @@ fn operators(random: &mut Random, both: (Running, Running), program: bool) {
                     answer: 3,
                 };
                 compared += steps;
-                assert!(matches!(both_run(random, both, &table.concat(), table.len(), &run), 0 | 100));
+                let words = if program { table.concat() } else { numbered(&table) };
+                assert!(matches!(both_run(random, both, (&words, table.len(), program), &run), 0 | 100));
             }
         }
     }
     println!("operators: {compared} results compared");
+}
+
+/// What the operations give for a table: the flat table, the text, and a run with its first counted bad; for a table
+/// without arrays the program; for one of at most 64 records a value.
+#[cfg(all(feature = "write", feature = "flatten", feature = "translate", feature = "run_circuit", feature = "peek"))]
+fn all_results(random: &mut Random, lines: &Lines) -> Vec<(Vec<u64>, Vec<u8>)> {
+    let (table, n) = (lines.words(), lines.records.len());
+    let room = flat_of(lines).map_or(0, |flat| flat.records.len());
+    let mut results = Vec::new();
+    let mut keep = |number: u64, answer: [u64; 3], words: Vec<u64>, bytes: Vec<u8>| {
+        results.push(([vec![number], answer.to_vec(), words].concat(), bytes));
+    };
+    let (mut target, mut answer) = (random.words(RECORD * room), [7; 3]);
+    let number = proved::flatten(&table, n, &mut target, &mut answer);
+    keep(number, answer, target, vec![]);
+    let mut target = random.words(PROGRAM_RECORD * (2 * n).min(16_384));
+    let number = proved::translate(&table, n, &mut target, &mut answer);
+    keep(number, answer, target, vec![]);
+    let mut text = random.bytes(40 * n + 1);
+    let number = proved::write(&table, n, &mut text, &mut answer);
+    keep(number, answer, vec![], text);
+    let (k, s) = (3, Random::new(n as u64).words(lines.state_cells()));
+    let i = Random::new(n as u64 + 1).words(k * lines.inputs());
+    let (mut signals, mut work) = (random.bytes(k * lines.signals()), random.words(lines.work()));
+    let number = proved::run_circuit(&table, n, k, &s, &i, &mut signals, &mut work, &mut answer);
+    keep(number, answer, work, signals);
+    for line in 0..=n.min(64) + 1 {
+        let number = proved::peek(&table, n, line, 0, &s, &i[..lines.inputs()], &mut answer);
+        keep(number, answer, vec![], vec![]);
+    }
+    results
+}
+
+/// Two tables that differ in their ids alone give the same flat table, program, text, run and values.
+#[cfg(all(feature = "write", feature = "flatten", feature = "translate", feature = "run_circuit", feature = "peek"))]
+#[test]
+fn ids_make_no_difference() {
+    cases("ids", 2_000, &[0, 19], |random| {
+        let size = size(random);
+        let mut lines = circuit(random, size);
+        let ours = all_results(random, &lines);
+        lines.ids = rising_ids(random, lines.ids.len());
+        let theirs = all_results(random, &lines);
+        assert!(ours == theirs, "{}", show(&lines.words(), 400, false));
+        // The translation's number.
+        ours[1].0[0]
+    });
 }
 
 /// A circuit, its flat circuit and its program give the same signals and the same first counted bad.
@@ -679,13 +766,13 @@ fn circuit_flat_circuit_and_program() {
     cases("C, F and P", 10_000, &[0, 100], |random| {
         let size = size(random);
         let lines = circuit(random, size);
-        let (c, n) = (lines.records.concat(), lines.records.len());
+        let (c, n) = (lines.words(), lines.records.len());
         let Some(known) = flat_of(&lines) else { return 12 };
         let room = known.records.len() + random.below(3);
-        let mut f = random.words(5 * room);
+        let mut f = random.words(RECORD * room);
         let flat = gofeshan::flatten(&c, n, &mut f).unwrap();
         // A mask behind each line at the most.
-        let mut p = random.words((10 * flat).min(5 * 16_384));
+        let mut p = random.words(PROGRAM_RECORD * (2 * flat).min(16_384));
         let Ok(program) = gofeshan::translate(&f, flat, &mut p) else { return 12 };
         let k = 1 + random.below(12);
         let (starts, inputs) = (random.words(lines.state_cells()), random.words(k * lines.inputs()));
@@ -700,7 +787,7 @@ fn circuit_flat_circuit_and_program() {
             (signals, bad.unwrap())
         };
         let (of_c, of_f, of_p) = (run(0, random), run(1, random), run(2, random));
-        assert!(of_c == of_f && of_f == of_p, "{of_c:?}\n{of_f:?}\n{of_p:?}\n{}", show(&c, n));
+        assert!(of_c == of_f && of_f == of_p, "{of_c:?}\n{of_f:?}\n{of_p:?}\n{}", show(&c, n, false));
         let signals = lines.run(k, &starts, &inputs);
         let bad = lines.first_bad(k, &signals).map(|(step, place)| gofeshan::FirstBad { step, place });
         assert!(of_c == (signals, bad));
@@ -716,20 +803,16 @@ fn runs_of_circuit_flat_circuit_and_program() {
         let size = size(random);
         let lines = circuit(random, size);
         let Some(flat) = flat_of(&lines) else { return 12 };
-        let program = independent::translating::program_records(&flat);
-        if program.len() > independent::MOST_RECORDS {
-            return 12;
-        }
+        let Some(program) = program_of(&flat) else { return 12 };
         let k = 1 + random.below(12);
         let (starts, inputs) = (random.words(lines.state_cells()), random.words(k * lines.inputs()));
         let expected = lines.run(k, &starts, &inputs);
         let bad = lines.first_bad(k, &expected).map(|(step, place)| gofeshan::FirstBad { step, place });
-        for (i, records) in [&lines.records, &flat.records, &program].into_iter().enumerate() {
-            let run = if i < 2 { gofeshan::run_circuit } else { gofeshan::run_program };
-            let (mut signals, mut work) =
-                (random.bytes(expected.len()), random.words(lines.work() + 3 * program.len()));
-            let told = run(&records.concat(), records.len(), k, &starts, &inputs, &mut signals, &mut work);
-            assert!(told == Ok(bad) && signals == expected, "{i}: {told:?}\n{}", show(&lines.records.concat(), 400));
+        for of in [&lines, &flat, &program] {
+            let run = if of.program { gofeshan::run_program } else { gofeshan::run_circuit };
+            let (mut signals, mut work) = (random.bytes(expected.len()), random.words(of.work()));
+            let told = run(&of.words(), of.records.len(), k, &starts, &inputs, &mut signals, &mut work);
+            assert!(told == Ok(bad) && signals == expected, "{told:?}\n{}", show(&lines.words(), 400, false));
         }
         100 * u64::from(bad.is_some())
     });
@@ -742,11 +825,7 @@ fn independent_circuit_flat_circuit_and_program() {
         let size = size(random);
         let lines = circuit(random, size);
         let Some(flat) = flat_of(&lines) else { return 12 };
-        let records = independent::translating::program_records(&flat);
-        let Some(program) = independent::rules::check_program(&records.concat(), records.len()) else {
-            assert!(records.len() > independent::MOST_RECORDS);
-            return 12;
-        };
+        let Some(program) = program_of(&flat) else { return 12 };
         let k = 1 + random.below(12);
         let (starts, inputs) = (random.words(lines.state_cells()), random.words(k * lines.inputs()));
         let of = |lines: &Lines| {
@@ -754,7 +833,7 @@ fn independent_circuit_flat_circuit_and_program() {
             let bad = lines.first_bad(k, &signals);
             (signals, bad)
         };
-        assert!(of(&lines) == of(&flat) && of(&flat) == of(&program), "{}", show(&lines.records.concat(), 400));
+        assert!(of(&lines) == of(&flat) && of(&flat) == of(&program), "{}", show(&lines.words(), 400, false));
         0
     });
 }
@@ -769,9 +848,13 @@ fn peek_case(random: &mut Random) -> u64 {
         circuit(random, size)
     };
     let n = lines.records.len();
-    let (table, count) =
-        if random.one_in(4) { table_of(random, &lines.records, false) } else { (lines.records.concat(), n) };
-    let line = if random.one_in(15) { random.pick(&[0, n + 1, usize::MAX, 1 << 32]) } else { 1 + random.below(n) };
+    let (table, count) = if random.one_in(4) { table_of(random, &lines) } else { (lines.words(), n) };
+    // A place; seldom a place that there is not, or an id.
+    let line = match random.below(30) {
+        0 | 1 => random.pick(&[0, n + 1, usize::MAX, 1 << 32]),
+        2 if n > 0 => random.pick(&lines.ids) as usize,
+        _ => 1 + random.below(n),
+    };
     let cells = lines.line(line as u64).and_then(|l| l.sort).map_or(1, |s| s.cells());
     let cell = if random.one_in(12) { random.pick(&[cells, usize::MAX, 1 << 32]) } else { random.below(cells) };
     let (starts, row) = (lines.state_cells(), lines.inputs());
@@ -785,7 +868,7 @@ fn peek_case(random: &mut Random) -> u64 {
     let number = proved::peek(&table, count, line, cell, &starts, &row, &mut words);
     let theirs = Told { number, words: vec![words], bytes: vec![] };
     same(&ours, &theirs, || {
-        format!("peek, line {line}, cell {cell}, starts {starts:?}, row {row:?}\n{}", show(&table, count))
+        format!("peek, line {line}, cell {cell}, starts {starts:?}, row {row:?}\n{}", show(&table, count, false))
     });
     ours.number
 }
@@ -801,19 +884,21 @@ fn peeking() {
 #[test]
 fn peeking_at_doubling_lines() {
     on_stack(|| {
-        let mut table = vec![1, 0, 64, 0, 0, 4, 1, 0, 0, 0];
-        (2..64).for_each(|i| table.extend([39, 1, i, i, 0]));
+        let mut records = vec![[1, 0, 64, 0, 0], [4, 1, 0, 0, 0]];
+        (2..64).for_each(|i| records.push([39, 1, i, i, 0]));
+        let table = numbered(&records);
         let began = std::time::Instant::now();
         assert_eq!(gofeshan::peek(&table, 64, 64, 0, &[], &[1]), Ok(1 << 62));
         println!("a peek at 64 doubling lines: {:?}", began.elapsed());
         assert!(began.elapsed().as_millis() < 10);
         // The same through an array: each line writes what it reads.
-        let mut table = vec![1, 0, 8, 0, 0, 2, 0, 1, 1, 0, 5, 2, 0, 0, 0, 4, 1, 0, 0, 0];
+        let mut records = vec![[1, 0, 8, 0, 0], [2, 0, 1, 1, 0], [5, 2, 0, 0, 0], [4, 1, 0, 0, 0]];
         let (mut array, mut n) = (3, 4);
         while n + 3 <= 64 {
-            table.extend([54, 1, array, 4, 0, 39, 1, n + 1, n + 1, 0, 55, 2, array, n + 2, n + 2]);
+            records.extend([[54, 1, array, 4, 0], [39, 1, n + 1, n + 1, 0], [55, 2, array, n + 2, n + 2]]);
             (array, n) = (n + 3, n + 3);
         }
+        let table = numbered(&records);
         let starts: Vec<u64> = (0..256).map(|i| i * 7 % 256).collect();
         for cell in 0..256 {
             let mut words = [0; 3];
@@ -830,7 +915,8 @@ fn peeking_at_doubling_lines() {
 fn name_case(random: &mut Random) -> u64 {
     let size = size(random);
     let lines = circuit(random, size);
-    let text = match random.below(6) {
+    let form = random.below(6);
+    let text = match form {
         0 | 1 => damaged_text(random, &lines),
         2 => {
             // Any text has names, one that is too long to read as well.
@@ -844,8 +930,11 @@ fn name_case(random: &mut Random) -> u64 {
     };
     let id = match random.below(20) {
         0 => random.word(),
-        1..=4 => random.below(5) as u64,
-        _ => random.below(lines.records.len() + 2) as u64,
+        1..=4 => random.pick(ODD_IDS),
+        5..=12 if form == 2 => random.pick(ODD_IDS),
+        5..=9 => random.below(lines.records.len() + 2) as u64,
+        _ if lines.ids.is_empty() => 1,
+        _ => random.pick(&lines.ids),
     };
     let answer = answer_length(random);
     let dirt = random.words(answer);

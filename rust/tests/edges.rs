@@ -24,13 +24,27 @@ fn on_stack(work: impl FnOnce() + Send + 'static) {
     }
 }
 
-/// As many of the shortest lines as a text holds.
+/// Many of the shortest lines.
 fn shortest_lines() -> Vec<u8> {
     let mut text = b"1 sort bitvec 1\n2 input 1\n".to_vec();
     for id in 3..=6000 {
         text.extend(format!("{id} bad 2\n").bytes());
     }
     text
+}
+
+/// As many lines as a text holds, in which each operand is looked up among ids with gaps everywhere.
+fn lines_with_gaps(first: u64, gap: u64) -> (Vec<u8>, usize) {
+    let mut text = format!("{first} sort bitvec 1\n{} input {first}\n", first + gap).into_bytes();
+    for count in 2.. {
+        let id = |i: u64| first + gap * i;
+        let line = format!("{} ite {first} {} {} {}\n", id(count), id(count / 2), id(count - 1), id(1 + count / 3));
+        if text.len() + line.len() > gofeshan::MOST_TEXT {
+            return (text, count as usize);
+        }
+        text.extend(line.bytes());
+    }
+    unreachable!("a text has an end")
 }
 
 #[cfg(feature = "read")]
@@ -42,6 +56,8 @@ fn reading() {
             text.resize(gofeshan::MOST_TEXT, byte);
             text
         };
+        let ((small, small_count), (large, large_count)) =
+            (lines_with_gaps(1000, 3), lines_with_gaps(1 << 31, 1 << 19));
         let texts = [
             ("semicolons", full("", b';'), Ok(0)),
             ("spaces", full("", b' '), Ok(0)),
@@ -57,8 +73,10 @@ fn reading() {
                 Err((6, 1)),
             ),
             ("6,000 shortest lines", shortest_lines(), Ok(6000)),
+            ("lines with small gaps", small, Ok(small_count)),
+            ("lines with large gaps", large, Ok(large_count)),
         ];
-        let mut table = vec![1; 5 * gofeshan::MOST_RECORDS];
+        let mut table = vec![1; gofeshan::RECORD * gofeshan::MOST_RECORDS];
         for (name, text, told) in texts {
             assert!(text.len() <= gofeshan::MOST_TEXT);
             let mut answer = Ok(0);
@@ -87,8 +105,9 @@ fn naming() {
 #[test]
 fn peeking() {
     on_stack(|| {
-        let mut table = vec![1, 0, 64, 0, 0, 4, 1, 0, 0, 0];
-        (2..64).for_each(|i| table.extend([39, 1, i, i, 0]));
+        let mut records = vec![[1, 0, 64, 0, 0], [4, 1, 0, 0, 0]];
+        (2..64).for_each(|i| records.push([39, 1, i, i, 0]));
+        let table = independent::numbered(&records);
         let took = least(|| assert_eq!(gofeshan::peek(&table, 64, 64, 0, &[], &[1]), Ok(1 << 62)));
         println!("a peek at 64 doubling lines: {took:?}");
         assert!(took < MOST, "the peek took {took:?}");
@@ -100,13 +119,14 @@ fn peeking() {
 #[test]
 fn peeking_through_arrays() {
     on_stack(|| {
-        let mut table = vec![1, 0, 8, 0, 0, 2, 0, 1, 1, 0, 1, 0, 1, 0, 0, 5, 2, 0, 0, 0, 5, 2, 0, 0, 0];
+        let mut records = vec![[1, 0, 8, 0, 0], [2, 0, 1, 1, 0], [1, 0, 1, 0, 0], [5, 2, 0, 0, 0], [5, 2, 0, 0, 0]];
         let (mut a, mut b, mut n) = (4, 5, 5);
         while n + 2 < 64 {
-            table.extend([21, 3, a, b, 0, 53, 2, n + 1, b, a]);
+            records.extend([[21, 3, a, b, 0], [53, 2, n + 1, b, a]]);
             (a, b, n) = (b, n + 2, n + 2);
         }
-        table.extend([21, 3, a, b, 0]);
+        records.push([21, 3, a, b, 0]);
+        let table = independent::numbered(&records);
         // All cells alike, so that every comparison goes through all of them.
         let starts = vec![7; 512];
         let took = least(|| assert_eq!(gofeshan::peek(&table, n as usize + 1, n as usize + 1, 0, &starts, &[]), Ok(1)));
@@ -117,25 +137,26 @@ fn peeking_through_arrays() {
 
 /// A table with an array of 256 cells and the constants 0 to 255 as indexes and values, and writes, reads and ites of it.
 #[cfg(feature = "flatten")]
-struct Arrays(Vec<u64>);
+struct Arrays(Vec<independent::Record>);
 
 #[cfg(feature = "flatten")]
 impl Arrays {
     const ARRAY: u64 = 3;
 
     fn new() -> Self {
-        let mut table = vec![1, 0, 8, 0, 0, 2, 0, 1, 1, 0, 5, 2, 0, 0, 0, 1, 0, 1, 0, 0, 4, 4, 0, 0, 0];
-        (0..256).for_each(|v| table.extend([3, 1, v, 0, 0]));
-        Arrays(table)
+        let mut records = vec![[1, 0, 8, 0, 0], [2, 0, 1, 1, 0], [5, 2, 0, 0, 0], [1, 0, 1, 0, 0], [4, 4, 0, 0, 0]];
+        (0..256).for_each(|v| records.push([3, 1, v, 0, 0]));
+        Arrays(records)
     }
 
-    fn count(&self) -> usize {
-        self.0.len() / 5
+    /// The table and its count.
+    fn table(&self) -> (Vec<u64>, usize) {
+        (independent::numbered(&self.0), self.0.len())
     }
 
-    fn line(&mut self, record: [u64; 5]) -> u64 {
-        self.0.extend(record);
-        self.count() as u64
+    fn line(&mut self, record: independent::Record) -> u64 {
+        self.0.push(record);
+        self.0.len() as u64
     }
 
     fn write(&mut self, array: u64, index: u64, value: u64) -> u64 {
@@ -189,9 +210,10 @@ fn flattening_chains() {
             ("15,000 writes over one after 511", tree(511)),
             ("15,000 writes over one after 1,000", tree(1_000)),
         ];
-        let mut target = vec![1; 5 * gofeshan::MOST_RECORDS];
-        for (name, table) in tables {
-            let took = least(|| assert!(gofeshan::flatten(&table.0, table.count(), &mut target).is_ok(), "{name}"));
+        let mut target = vec![1; gofeshan::RECORD * gofeshan::MOST_RECORDS];
+        for (name, arrays) in tables {
+            let (table, count) = arrays.table();
+            let took = least(|| assert!(gofeshan::flatten(&table, count, &mut target).is_ok(), "{name}"));
             println!("flattening {name}: {took:?}");
             assert!(took < 10 * MOST, "flattening {name} took {took:?}");
         }
@@ -225,11 +247,12 @@ fn flattening_chains_alike() {
         tables.push(t);
     }
     on_stack(move || {
-        for table in tables {
-            let (mut ours, mut theirs) = (vec![1; 5 * gofeshan::MOST_RECORDS], vec![2; 5 * gofeshan::MOST_RECORDS]);
-            let mut answer = [0; 3];
-            assert_eq!(independent::flatten(&table.0, table.count(), &mut theirs, &mut answer), 0);
-            assert_eq!(gofeshan::flatten(&table.0, table.count(), &mut ours), Ok(answer[0] as usize));
+        for arrays in tables {
+            let (table, count) = arrays.table();
+            let room = gofeshan::RECORD * gofeshan::MOST_RECORDS;
+            let (mut ours, mut theirs, mut answer) = (vec![1; room], vec![2; room], [0; 3]);
+            assert_eq!(independent::flatten(&table, count, &mut theirs, &mut answer), 0);
+            assert_eq!(gofeshan::flatten(&table, count, &mut ours), Ok(answer[0] as usize));
             assert!(ours == theirs);
         }
     });

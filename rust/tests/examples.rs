@@ -14,7 +14,7 @@ mod generator;
 mod independent;
 
 use generator::Random;
-use gofeshan::FirstBad;
+use gofeshan::{FirstBad, MOST_RECORDS, PROGRAM_RECORD, RECORD};
 
 fn file(name: &str) -> Vec<u8> {
     let path = std::path::Path::new(env!("CARGO_MANIFEST_DIR")).join("../examples").join(name);
@@ -41,10 +41,9 @@ struct Example {
 impl Example {
     fn new(name: &str) -> Example {
         let text = file(name);
-        let mut table = vec![0; 5 * 1000];
+        let mut table = vec![0; RECORD * 1000];
         let count = gofeshan::read(&text, &mut table).unwrap_or_else(|e| panic!("{name}: {e}"));
-        let room = 5 * gofeshan::MOST_RECORDS;
-        let (mut flat, mut program) = (vec![0; room], vec![0; room]);
+        let (mut flat, mut program) = (vec![0; RECORD * MOST_RECORDS], vec![0; PROGRAM_RECORD * MOST_RECORDS]);
         let flat_count = gofeshan::flatten(&table, count, &mut flat).unwrap();
         let program_count = gofeshan::translate(&flat, flat_count, &mut program).unwrap();
         let lines = independent::rules::check_table(&table, count).unwrap();
@@ -70,8 +69,8 @@ impl Example {
 
     /// A run from start words 0 whose inputs are given by their names.
     fn driven(&self, steps: usize, input: impl Fn(&[u8], u64) -> u64) -> Option<(u64, u64)> {
-        let of_kind_4 = (1..).zip(&self.lines.records).filter(|(_, r)| r[0] == 4);
-        let names: Vec<&[u8]> = of_kind_4.map(|(id, _)| gofeshan::name(&self.text, id)).collect();
+        let of_kind_4 = self.lines.ids.iter().zip(&self.lines.records).filter(|(_, r)| r[0] == 4);
+        let names: Vec<&[u8]> = of_kind_4.map(|(&id, _)| gofeshan::name(&self.text, id)).collect();
         let inputs: Vec<u64> = (0..steps as u64)
             .flat_map(|k| names.iter().map(move |name| (k, *name)))
             .map(|(k, name)| input(name, k))
@@ -129,7 +128,15 @@ fn accepted() {
 
         let worked = Example::new("worked.btor2");
         assert_eq!(worked.run(3, &[0, 0], &[0, 0, 1]), Some(FirstBad { step: 1, place: 1 }));
-        for example in [counter, fifo, lfsr, caption, own, alu, registers, worked] {
+
+        // The worked example with gaps in its ids: the same circuit, whose names go by the ids.
+        let gaps = Example::new("gaps.btor2");
+        assert_eq!(gaps.lines.records, worked.lines.records);
+        assert_eq!(gaps.lines.ids, [5, 9, 10, 40, 41, 50, 70, 71, 90, 100, 4_294_967_295]);
+        assert_eq!((&gaps.flat, &gaps.program), (&worked.flat, &worked.program));
+        assert_eq!((gofeshan::name(&gaps.text, 71), gofeshan::name(&gaps.text, 8)), (&b"store"[..], &b""[..]));
+        assert_eq!(gaps.run(3, &[0, 0], &[0, 0, 1]), Some(FirstBad { step: 1, place: 1 }));
+        for example in [counter, fifo, lfsr, caption, own, alu, registers, worked, gaps] {
             example.tried();
         }
     });
@@ -139,8 +146,55 @@ fn accepted() {
 fn refused() {
     on_stack(|| {
         for (name, number, line) in [("rom", 8, 22), ("deep", 9, 9), ("wide", 7, 4)] {
-            let told = gofeshan::read(&file(&format!("verilog/{name}.btor2")), &mut [0; 5 * 1000]);
+            let told = gofeshan::read(&file(&format!("verilog/{name}.btor2")), &mut [0; RECORD * 1000]);
             assert_eq!(told.map_err(|r| (r.number, r.line)), Err((number, line)), "{name}");
         }
+    });
+}
+
+const CAPTION_256: &str = "1 sort bitvec 1
+2 sort bitvec 8
+3 sort array 2 2
+4 zero 2
+5 constd 2 7
+6 state 3
+7 init 3 6 5
+8 state 2
+9 init 2 8 4
+10 inc 2 8
+11 next 2 8 10
+12 input 2
+13 write 3 6 10 12
+14 next 3 6 13
+15 read 2 6 4
+16 neq 1 15 5
+17 bad 16
+";
+
+/// Lists of 7,800 words, as the flat program has them, hold 1,300 records.
+#[test]
+fn the_flat_programs_lists() {
+    on_stack(|| {
+        let told = |text: &str| {
+            let (mut table, mut target) = ([0; 7800], [0; 7800]);
+            let flat = gofeshan::read(text.as_bytes(), &mut table)
+                .and_then(|count| gofeshan::flatten(&table, count, &mut target));
+            flat.map_err(|r| (r.number, r.line))
+        };
+        let inputs = |lines: u64| -> String {
+            let line = |id| format!("{id} input 1\n");
+            std::iter::once("1 sort bitvec 1\n".to_string()).chain((2..=lines).map(line)).collect()
+        };
+        assert_eq!(told(&inputs(1300)), Ok(1300));
+        assert_eq!(told(&inputs(1301)), Err((4, 1301)));
+        // An array sort of two cells is three records.
+        assert_eq!(told(&(inputs(1297) + "1298 sort array 1 1\n")), Ok(1300));
+        assert_eq!(told(&(inputs(1298) + "1299 sort array 1 1\n")), Err((12, 0)));
+        // The caption memory of 64 bytes, and one of 256 bytes, which has 1,548 flat records.
+        assert_eq!(told(&String::from_utf8(file("caption.btor2")).unwrap()), Ok(398));
+        assert_eq!(told(CAPTION_256), Err((12, 0)));
+        let (mut table, mut target) = ([0; 7800], [0; RECORD * 1548]);
+        let count = gofeshan::read(CAPTION_256.as_bytes(), &mut table).unwrap();
+        assert_eq!(gofeshan::flatten(&table, count, &mut target), Ok(1548));
     });
 }

@@ -43,17 +43,20 @@ const FLAT: &str = "1 sort bitvec 1
 
 /// The number, the text line, and the records.
 fn reading(text: &str) -> (u64, u64, Vec<Record>) {
-    let (mut table, mut answer) = (vec![7; 5 * 20_000], [7; 3]);
+    let (mut table, mut answer) = (vec![7; 6 * 20_000], [7; 3]);
     let number = read(text.as_bytes(), &mut table, &mut answer);
     let count = if number == 0 { answer[0] as usize } else { 0 };
-    assert!(table[5 * count..].iter().all(|&x| x == 0));
-    (number, answer[0], records(&table, count))
+    assert!(table[6 * count..].iter().all(|&x| x == 0));
+    (number, answer[0], records(&table, count, false))
 }
 
+/// The words of an accepted text's table, and the count.
 fn table(text: &str) -> (Vec<u64>, usize) {
-    let (number, count, records) = reading(text);
-    assert_eq!(number, 0, "{text}");
-    (records.concat(), count as usize)
+    let (mut table, mut answer) = (vec![7; 6 * 20_000], [7; 3]);
+    assert_eq!(read(text.as_bytes(), &mut table, &mut answer), 0, "{text}");
+    let count = answer[0] as usize;
+    table.truncate(6 * count);
+    (table, count)
 }
 
 /// The refusal of a last line after a fixed beginning.
@@ -70,7 +73,7 @@ fn last(line: &str) -> u64 {
 fn example() {
     let (circuit, count) = table(EXAMPLE);
     assert_eq!(count, 11);
-    let mut flat = vec![9; 5 * 19];
+    let mut flat = vec![9; 6 * 19];
     let mut answer = [9; 3];
     assert_eq!(flatten(&circuit, count, &mut flat, &mut answer), 0);
     assert_eq!(answer, [19, 0, 0]);
@@ -78,7 +81,7 @@ fn example() {
     assert_eq!(write(&flat, 19, &mut text, &mut answer), 0);
     assert_eq!(answer, [FLAT.len() as u64, 0, 0]);
     assert_eq!(String::from_utf8(text).unwrap(), FLAT);
-    assert_eq!(flatten(&circuit, count, &mut [9; 5 * 18], &mut answer), 12);
+    assert_eq!(flatten(&circuit, count, &mut [9; 6 * 18], &mut answer), 12);
 
     let mut program = vec![9; 5 * 17];
     assert_eq!(translate(&flat, 19, &mut program, &mut answer), 0);
@@ -161,7 +164,8 @@ fn tokens_and_numbers() {
     assert_eq!(reading("\n"), (0, 0, vec![]));
     assert_eq!(reading("  ; x\n\n1 sort bitvec 64").1, 1);
     assert_eq!((reading("1 sort bitvec 65").0, reading("1 sort bitvec 0").0, reading("1 sort bitvec 00").0), (7, 7, 6));
-    assert_eq!(reading("\n\n2 sort bitvec 3"), (3, 3, vec![]));
+    assert_eq!(reading("\n\n2 sort bitvec 3"), (0, 1, vec![[1, 0, 3, 0, 0]]));
+    assert_eq!(reading("\n\n0 sort bitvec 3"), (3, 3, vec![]));
     assert_eq!(reading("\t"), (3, 1, vec![]));
     assert_eq!(reading("18446744073709551616 x").0, 3);
     for (line, number) in [
@@ -279,6 +283,181 @@ fn next_values_together() {
     assert_eq!(peek(&t, n, 0, 0, &[0, 2, 5], &[], &mut answer), 18);
 }
 
+/// The example with gaps in its ids; line 8 has a name.
+const GAPS: &str = include_str!("../../examples/gaps.btor2");
+
+#[test]
+fn gaps() {
+    let (gapped, count) = table(GAPS);
+    let (plain, _) = table(EXAMPLE);
+    let written = [5, 9, 10, 40, 41, 50, 70, 71, 90, 100, 4_294_967_295];
+    assert_eq!((count, ids(&gapped, count)), (11, written.to_vec()));
+    assert_eq!(ids(&plain, count), (1..=11).collect::<Vec<u64>>());
+    assert_eq!(records(&gapped, count, false), records(&plain, count, false));
+    assert_eq!(gapped[6 * 6..6 * 7], [55, 3, 4, 5, 6, 70]);
+    let mut answer = [9; 3];
+    let mut text = vec![9; 146];
+    assert_eq!((write(&gapped, count, &mut text, &mut answer), answer), (0, [146, 0, 0]));
+    assert_eq!(String::from_utf8(text).unwrap(), EXAMPLE);
+    let mut flat = vec![9; 120];
+    assert_eq!((flatten(&gapped, count, &mut flat, &mut answer), answer), (0, [19, 0, 0]));
+    assert_eq!(ids(&flat, 19), (1..=19).collect::<Vec<u64>>());
+    assert_eq!(flat[6 * 19..], [0; 6]);
+    assert_eq!((translate(&flat, 19, &mut [9; 85], &mut answer), answer), (0, [17, 0, 0]));
+    assert_eq!(translate(&flat, 19, &mut [9; 84], &mut answer), 1);
+    let named = |id| find_name_of(GAPS.as_bytes(), id);
+    assert_eq!((named(71), named(8)), (Some(&b"store"[..]), None));
+    assert_eq!((peek(&gapped, count, 9, 0, &[2, 6], &[1], &mut answer), answer), (0, [6, 0, 0]));
+    assert_eq!(peek(&gapped, count, 90, 0, &[2, 6], &[1], &mut answer), 18);
+}
+
+/// Every id and every operand behind a sort with the id 5 and an input with the id 7.
+#[test]
+fn ids_and_operands_at_the_edges() {
+    for (line, number) in [
+        ("8 input 5", 0),
+        ("4294967295 input 5", 0),
+        ("4294967296 input 5", 3),
+        ("18446744073709551615 input 5", 3),
+        ("18446744073709551616 input 5", 3),
+        ("7 input 5", 3),
+        ("6 input 5", 3),
+        ("0 input 5", 3),
+        ("08 input 5", 3),
+        ("+8 input 5", 3),
+        ("-8 input 5", 3),
+        ("8\r input 5", 3),
+        ("9 bad 7", 0),
+        // A hole, 0, the line itself, later lines.
+        ("9 bad 6", 8),
+        ("9 bad 8", 8),
+        ("9 bad 1", 8),
+        ("9 bad 2", 8),
+        ("9 bad 0", 8),
+        ("9 bad 9", 8),
+        ("9 bad 10", 8),
+        ("9 bad 4294967303", 8),
+        ("9 bad 18446744073709551615", 8),
+        ("9 bad 18446744073709551616", 7),
+        ("9 input 1", 8),
+        ("9 input 6", 8),
+        // Plain numbers are no operand tokens.
+        ("9 slice 5 7 0 0", 0),
+        ("9 uext 5 7 0", 0),
+        ("9 constd 5 1", 0),
+        ("9 sort bitvec 6", 0),
+    ] {
+        let text = format!("5 sort bitvec 1\n7 input 5\n\n; 8 a comment\n{line}\n");
+        let (told, at, _) = reading(&text);
+        assert_eq!((told, at), (number, if number == 0 { 3 } else { 5 }), "{line}");
+    }
+    // A wrong id in a line without a record left is 3; a right one 4.
+    let mut answer = [9; 3];
+    for (text, words, number, line) in [
+        ("5 sort bitvec 1\n6 input 5\n", 10, 1, 0),
+        ("5 sort bitvec 1\n6 input 5\n", 6, 4, 2),
+        ("5 sort bitvec 1\n5 input 5\n", 6, 3, 2),
+        ("5 sort bitvec 1\n6 input 5\n", 12, 0, 2),
+        ("6 sort bitvec 1\n", 0, 4, 1),
+        ("0 sort bitvec 1\n", 0, 3, 1),
+    ] {
+        assert_eq!(read(text.as_bytes(), &mut vec![9; words], &mut answer), number, "{text}");
+        assert_eq!(answer, [line, 0, 0], "{text}");
+    }
+}
+
+/// A table's ids: 11 where those of the counted records break the rule, in every operation on circuits; programs have none.
+#[test]
+fn ids_of_tables() {
+    for (first, second, number) in
+        [(5, 6, 0), (1, MOST_ID, 0), (5, 5, 11), (5, 4, 11), (0, 1, 11), (5, 0, 11), (5, MOST_ID + 1, 11)]
+    {
+        let table = [1, 0, 1, 0, 0, first, 4, 1, 0, 0, 0, second];
+        let mut answer = [9; 3];
+        assert_eq!(write(&table, 2, &mut [9; 60], &mut answer), number);
+        assert_eq!(flatten(&table, 2, &mut [9; 60], &mut answer), number);
+        assert_eq!(translate(&table, 2, &mut [9; 60], &mut answer), number);
+        assert_eq!(run_circuit(&table, 2, 1, &[], &[1], &mut [], &mut [9; 4], &mut answer), number);
+        assert_eq!(peek(&table, 2, 2, 0, &[], &[1], &mut answer), number);
+        // Records past the count are not looked at.
+        let number = if first == 0 { 11 } else { 0 };
+        assert_eq!(write(&table, 1, &mut [9; 60], &mut answer), number);
+    }
+    // Thirty words are five records of a circuit and six of a program.
+    let (circuit, program) = (numbered(&[[1, 0, 1, 0, 0]; 5]), [[3, 1, 0, 0, 0]; 6].concat());
+    assert_eq!((circuit.len(), program.len()), (30, 30));
+    let mut answer = [9; 3];
+    let mut run = |list: &[u64], count| {
+        let circuit = run_circuit(list, count, 1, &[], &[], &mut [], &mut [9; 8], &mut answer);
+        (circuit, run_program(list, count, 1, &[], &[], &mut [], &mut [9; 8], &mut answer))
+    };
+    assert_eq!((run(&circuit, 5), run(&circuit, 6)), ((0, 20), (11, 20)));
+    assert_eq!((run(&program, 5), run(&program, 6), run(&program, 7)), ((11, 0), (11, 0), (11, 20)));
+    assert_eq!((run(&program[..25], 5), run(&circuit[..24], 4)), ((1, 0), (0, 1)));
+}
+
+/// Two tables that differ in their ids alone give the same; a written text gives the first five words back.
+#[test]
+fn ids_make_no_difference() {
+    let mut random = generator::Random::new(2);
+    for _ in 0..500 {
+        let size = generator::size(&mut random);
+        let mut lines = generator::circuit(&mut random, size);
+        let n = lines.records.len();
+        let mut results = Vec::new();
+        for _ in 0..2 {
+            let (words, mut answer) = (lines.words(), [9; 3]);
+            let (mut text, mut flat, mut program) = (vec![9; 40 * n + 1], vec![9; 6 * 20_000], vec![9; 5 * 20_000]);
+            assert_eq!(write(&words, n, &mut text, &mut answer), 0);
+            text.truncate(answer[0] as usize);
+            let flat_number = flatten(&words, n, &mut flat, &mut answer);
+            let program_number = translate(&words, n, &mut program, &mut answer);
+            results.push((text, flat_number, flat, program_number, program));
+            lines.ids = generator::rising_ids(&mut random, n);
+        }
+        assert!(results[0] == results[1]);
+        let (mut back, mut answer) = (vec![9; 6 * n], [9; 3]);
+        assert_eq!(read(&results[0].0, &mut back, &mut answer), 0);
+        assert!(answer[0] == n as u64 && back == numbered(&lines.records));
+        // A text with the ids gives them back too.
+        let text = generator::text(&mut random, &lines);
+        assert_eq!(read(&text, &mut back, &mut answer), 0);
+        assert!(answer[0] == n as u64 && back == lines.words());
+    }
+}
+
+/// The generator makes gaps of all sizes, and texts and tables that break the rule for ids.
+#[test]
+fn generator_reaches_gaps() {
+    let mut random = generator::Random::new(3);
+    let (mut gaps, mut late, mut last, mut wide) = (0, 0, 0, 0);
+    let mut read_answers = std::collections::BTreeMap::new();
+    let mut ids_alone = 0;
+    for _ in 0..2000 {
+        let size = generator::size(&mut random);
+        let lines = generator::circuit(&mut random, size);
+        let n = lines.records.len();
+        gaps += usize::from(lines.ids.iter().zip(1..).any(|(&id, place)| id != place));
+        late += usize::from(lines.ids.first().is_some_and(|&id| id > 1));
+        last += usize::from(lines.ids.last() == Some(&MOST_ID));
+        wide += usize::from(lines.ids.windows(2).any(|pair| pair[1] - pair[0] > 1 << 20));
+        let text = generator::damaged_text(&mut random, &lines);
+        let number = read(&text, &mut vec![9; 6 * 400], &mut [9; 3]);
+        *read_answers.entry(number).or_insert(0) += 1;
+        let mut words = lines.words();
+        generator::damage_records(&mut random, &mut words, false);
+        let n = n.max(words.len() / 6);
+        let renumbered = numbered(&records(&words, n, false));
+        let accepted = |words: &[u64]| rules::check_table(words, n).is_some();
+        ids_alone += usize::from(accepted(&renumbered) && !accepted(&words));
+    }
+    assert!((800..1100).contains(&gaps), "{gaps}");
+    for n in [late, last, wide, ids_alone] {
+        assert!(n > 50, "{late} {last} {wide} {ids_alone}");
+    }
+    assert!([3, 5, 6, 7, 8, 9, 10].iter().all(|n| read_answers.get(n) > Some(&10)), "{read_answers:?}");
+}
+
 /// The generator makes lines of every kind, and the cases that are easy to get wrong.
 #[test]
 fn generator_reaches() {
@@ -301,7 +480,7 @@ fn generator_reaches() {
         let signals = lines.run(k, &starts, &inputs);
         counted += usize::from(lines.first_bad(k, &signals).is_some());
         let flat = flattening::flat_records(&lines, MOST_RECORDS).unwrap();
-        let flat = rules::check_table(&flat.concat(), flat.len()).expect("a flat circuit is accepted");
+        let flat = rules::check_table(&numbered(&flat), flat.len()).expect("a flat circuit is accepted");
         generator::wild_program(&mut random, &flat).iter().for_each(|r| program_kinds[r[0] as usize] += 1);
     }
     assert!(kinds[1..56].iter().all(|&n| n > 20), "{kinds:?}");

@@ -1,4 +1,5 @@
 // The check of a table with its count: a circuit's (1, 11) and a program's (1, 20).
+use records::ids;
 use records::kinds;
 use records::notes;
 use records::notes::BYTES;
@@ -7,13 +8,14 @@ use tables::Refusal;
 use tables::Ty;
 use tables::WORDS;
 ghost use mathlib.Core.Path.{_≡_};
-ghost use mathlib.Core.Bool.{true};
+ghost use mathlib.Core.Bool.{true, false};
 ghost use Prim.Native.Nat.{_≤_, _<_};
 ghost use lib.ListN.{length};
 ghost use Rattle.tables.specs.Tables.{known as knownOf, unused as unusedOf, tidy as tidyOf, keeps, lawful, checked, broken};
 ghost use Rattle.tables.specs.Pick.{all};
 ghost use Rattle.tables.specs.Lines.{lineOf, kindIn, firstIn};
-ghost use Rattle.tables.specs.Layout.{held, recordsOf, linesOf};
+ghost use Rattle.tables.specs.Layout.{held, recordsOf, linesOf, idsOf};
+ghost use Rattle.tables.specs.Ids.{rising, idsRight};
 ghost use Rattle.tables.specs.Types.{recordType, noCtx, context};
 ghost use Rattle.tables.specs.Model.Notes.{lookIn, noted, givenIn, Shows, Fresh};
 ghost use Rattle.tables.specs.Kinds.{rows};
@@ -151,6 +153,36 @@ fn lines(
     true
 }
 
+// The ids of a circuit's records only rise; a program has none.
+fn ids_right(program: bool, table: &[u64], count: usize) -> bool
+    requires { ⌜ count ≤ held program (length (now table)) ⌝ }
+    ensures { λ r. ⌜ r ≡ idsRight program (now (table .entry)) count ⌝ }
+{
+    if program {
+        return true;
+    }
+    ids_rise(table, count)
+}
+
+// The ids of so many records only rise.
+fn ids_rise(table: &[u64], count: usize) -> bool
+    requires { ⌜ count ≤ held false (length (now table)) ⌝ }
+    ensures { λ r. ⌜ r ≡ rising 0 (idsOf (now (table .entry)) count) ⌝ }
+{
+    let h = records::step(false, table.len());
+    let mut last: u64 = 0;
+    let mut i: usize = 0;
+    while i < count {
+        let d = records::id(table, h, i);
+        if !ids::follows(last, d) {
+            return false;
+        }
+        last = d;
+        i += 1;
+    }
+    true
+}
+
 // The check of a table with its count. Where it is accepted the notes, blank before, hold its context.
 pub fn check(program: bool, table: &[u64], count: usize, notes: &mut [[u8; BYTES]]) -> Checked
     requires { ⌜ Fresh count (now notes) ⌝ }
@@ -161,6 +193,9 @@ pub fn check(program: bool, table: &[u64], count: usize, notes: &mut [[u8; BYTES
         return Checked::Refused(Refusal::NotATable);
     }
     if records::room_of(program, table.len()) < count {
+        return refused(program);
+    }
+    if !ids_right(program, table, count) {
         return refused(program);
     }
     let kinds = kinds::all();

@@ -5,7 +5,7 @@ use mathlib.Core.Bool.{true, false}
 use mathlib.Core.List.{List, [], _∷_}
 use Rattle.tables.specs.Kinds.{rowOf as kindRow}
 use Rattle.tables.specs.Lines.{fields}
-use Rattle.tables.specs.Layout.{filledBy, tableWith}
+use Rattle.tables.specs.Layout.{filledBy, withIds, filled, tableWith}
 use Rattle.tables.specs.Rules.{suits, fault}
 use Rattle.tables.specs.Tables.{checked}
 use Rattle.circuits.specs.declared.Ran.the-variants.{Bad}
@@ -16,11 +16,17 @@ use Rattle.circuits.specs.Run.{start, steps, run}
 use Rattle.circuits.specs.Answers.{ready, ran, signalsLeft}
 
 -- 1 sort bitvec 1, 2 sort bitvec 3, 3 sort array 1 2, 4 state 3, 5 input 1, 6 constd 2 5, 7 write 3 4 5 6, 8 next 3 4 7, 9 read 2 4 5, 10 eq 1 9 6, 11 bad 10
+abbrev circuitRecords : List (List ℕ)
+circuitRecords =
+    fields 1 0 1 0 0 ∷ fields 1 0 3 0 0 ∷ fields 2 0 1 2 0 ∷ fields 5 3 0 0 0 ∷ fields 4 1 0 0 0 ∷ fields 3 2 5 0 0 ∷ fields 55 3 4 5 6 ∷ fields 7 3 4 7 0 ∷ fields 54 2 4 5 0 ∷ fields 21 1 9 6 0
+    ∷ fields 8 0 10 0 0 ∷ []
+
 abbrev pub circuit : List ℕ
-circuit =
-    tableWith false
-    (fields 1 0 1 0 0 ∷ fields 1 0 3 0 0 ∷ fields 2 0 1 2 0 ∷ fields 5 3 0 0 0 ∷ fields 4 1 0 0 0 ∷ fields 3 2 5 0 0 ∷ fields 55 3 4 5 6 ∷ fields 7 3 4 7 0 ∷ fields 54 2 4 5 0 ∷ fields 21 1 9 6 0
-    ∷ fields 8 0 10 0 0 ∷ [])
+circuit = tableWith false circuitRecords
+
+-- the same lines with gaps in their ids, the last id the largest, in a list that holds a record more
+abbrev pub gaps : List ℕ
+gaps = filled false 72 (withIds circuitRecords (5 ∷ 9 ∷ 10 ∷ 40 ∷ 41 ∷ 50 ∷ 70 ∷ 71 ∷ 90 ∷ 100 ∷ 4294967295 ∷ []))
 
 -- its flat circuit's program: the sixth record masks the input
 abbrev pub program : List ℕ

@@ -13,12 +13,12 @@ ghost use Rattle.flattening.specs.Placed.{putFlat};
 ghost use Rattle.flattening.specs.Model.Cells.{Sound};
 ghost use Rattle.flattening.specs.Model.Rows.{Tame, rowsFor, rowAt, pairAt};
 
-// The record of a flat line goes to the place i.
+// The record of a flat line goes to the place i; its id is its number, from 1.
 pub fn put(target: &mut [u64], i: usize, rec: [u64; WORDS])
     requires { ⌜ i < held false (length (now target)) ⌝ }
     ensures { λ _. ⌜ now (target .exit) ≡ putFlat (now (target .entry)) i (rec ∷ []) ⌝ }
 {
-    records::put(false, target, i, rec);
+    records::put_line(target, i, rec, (i + 1) as u64);
 }
 
 // n records of the kind k and the sort line s, from the place p on: the record j has the words j of the three sources.

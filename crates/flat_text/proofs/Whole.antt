@@ -18,6 +18,7 @@ use Rattle.tables.specs.Kinds.{letters}
 use Rattle.tables.specs.Refusals.{numberOf}
 use Rattle.tables.specs.Lines.{wordsOf}
 use Rattle.tables.specs.Layout.{whole, room, recordsOf}
+use Rattle.tables.specs.Ids.{idsRight}
 use Rattle.tables.specs.Types.{noCtx}
 use Rattle.tables.specs.Tables.{lawful, checked}
 use Rattle.tables.specs.Answers.{ifAccepted}
@@ -43,7 +44,7 @@ flatOr (Done m) T n = writeText (flatRecords T n)
 flatOr (Refused r l) T n = refusalLine (numberOf r) l
 
 abbrev pub textOr : (len flatLen : ℕ) → Text → List ℕ
-textOr len flatLen (done rs) = flatOr (flattened (tableOf len (done rs)) (length rs) flatLen) (tableOf len (done rs)) (length rs)
+textOr len flatLen (done rs ds) = flatOr (flattened (tableOf len (done rs ds)) (length rs) flatLen) (tableOf len (done rs ds)) (length rs)
 textOr len flatLen (refused r l) = refusalLine (numberOf r) l
 
 unfoldable pub asked : (len flatLen : ℕ) → (s : List ℕ) → List ℕ
@@ -55,7 +56,7 @@ asked len flatLen s = textOr len flatLen (readText len s)
 pub flat-no : (t : List ℕ) (n len : ℕ) (r : Refusal) (l : ℕ) → flattened t n len ≡ Refused r l → (numberOf r ≤ 12) × (l ≡ 0)
 unfolding flattened checked
 flat-no t n len r l e =
-    go (whole false (length t) && whole false len) (whole false (length t)) (leb n (room false (length t)) && lawful false noCtx (recordsOf false t n))
+    go (whole false (length t) && whole false len) (whole false (length t)) (leb n (room false (length t)) && (lawful false noCtx (recordsOf false t n) && idsRight false t n))
     (leb (length (flatLines t n)) (room false len)) e
   where
     is : (q : Refusal) → numberOf q ≤ 12 → Refused q 0 ≡ Refused r l → (numberOf r ≤ 12) × (l ≡ 0)
@@ -140,7 +141,7 @@ module _ (len flatLen outLen : ℕ) (few : room false flatLen < 10 ^ 4) (ample :
   all-printed s = go (readText len s) refl
     where
       go : (x : Text) → readText len s ≡ x → afterReading flatLen outLen (textAnswer x) (tableOf len x) ≡ textOr len flatLen x
-      go (done rs) e = flat-whole (tableOf len (done rs)) (length rs)
+      go (done rs ds) e = flat-whole (tableOf len (done rs ds)) (length rs)
       go (refused r l) e = let f = text-no len s r l e in refusal-whole outLen (numberOf r) l some (omega (arith, f .0)) (f .1)
 
   -- and never as refused by 21
@@ -153,18 +154,18 @@ module _ (len flatLen outLen : ℕ) (few : room false flatLen < 10 ^ 4) (ample :
       flat T n (Refused r l) e q = other-line (numberOf r) l k (flat-no T n flatLen r l e .0) q
 
       go : (x : Text) → readText len s ≡ x → textOr len flatLen x ≡ refusalLine 21 k → ⊥
-      go (done rs) e q = flat (tableOf len (done rs)) (length rs) (flattened (tableOf len (done rs)) (length rs) flatLen) refl q
+      go (done rs ds) e q = flat (tableOf len (done rs ds)) (length rs) (flattened (tableOf len (done rs ds)) (length rs) flatLen) refl q
       go (refused r l) e q = let f = text-no len s r l e in other-line (numberOf r) l k (omega (arith, f .0)) q
 
--- the flat program's sizes: two tables of 1,600 records each, and an output list of 65,536 bytes
-pub flat-program : (s : List ℕ) → printed 8000 8000 65536 s ≡ asked 8000 8000 s
-flat-program = all-printed 8000 8000 65536 (lit< tt) (lit≤ tt) (lit≤ tt)
+-- the flat program's sizes: two tables of 1,300 records each, and an output list of 65,536 bytes
+pub flat-program : (s : List ℕ) → printed 7800 7800 65536 s ≡ asked 7800 7800 s
+flat-program = all-printed 7800 7800 65536 (lit< tt) (lit≤ tt) (lit≤ tt)
 
-pub flat-program-room : (s : List ℕ) (k : ℕ) → printed 8000 8000 65536 s ≡ refusalLine 21 k → ⊥
-flat-program-room = never-short 8000 8000 65536 (lit< tt) (lit≤ tt) (lit≤ tt)
+pub flat-program-room : (s : List ℕ) (k : ℕ) → printed 7800 7800 65536 s ≡ refusalLine 21 k → ⊥
+flat-program-room = never-short 7800 7800 65536 (lit< tt) (lit≤ tt) (lit≤ tt)
 
 -- where reading and flattening are done, what is printed is the whole flat text
-pub flat-text-whole : (s : List ℕ) (rs : List (List ℕ)) (m : ℕ) → readText 8000 s ≡ done rs → flattened (tableOf 8000 (done rs)) (length rs) 8000 ≡ Done m
-    → printed 8000 8000 65536 s ≡ writeText (flatRecords (tableOf 8000 (done rs)) (length rs))
+pub flat-text-whole : (s : List ℕ) (rs : List (List ℕ)) (ds : List ℕ) (m : ℕ) → readText 7800 s ≡ done rs ds → flattened (tableOf 7800 (done rs ds)) (length rs) 7800 ≡ Done m
+    → printed 7800 7800 65536 s ≡ writeText (flatRecords (tableOf 7800 (done rs ds)) (length rs))
 unfolding asked
-flat-text-whole s rs m e f = flat-program s ∙ (ap (textOr 8000 8000) e ∙ ap (λ (a : Answer). flatOr a (tableOf 8000 (done rs)) (length rs)) f)
+flat-text-whole s rs ds m e f = flat-program s ∙ (ap (textOr 7800 7800) e ∙ ap (λ (a : Answer). flatOr a (tableOf 7800 (done rs ds)) (length rs)) f)

@@ -14,17 +14,18 @@ use Rattle.tables.specs.Pick.{pick}
 use Rattle.tables.specs.Lines.{Line, Expr, fields, wordsOf, initOrNextKind, equalityKind}
 use Rattle.tables.specs.Types.{tyAt, given}
 use Rattle.tables.specs.Rules.{valueIndex}
+use Rattle.tables.specs.Layout.{from}
 use Rattle.tables.proofs.Facts.{IsWord, OkValue, Ok}
+use Rattle.tables.proofs.Ids.{from-at, length-from}
 use Rattle.circuits.specs.Layout.{typeAt}
 use Rattle.circuits.specs.Meaning.{Frame, cellsAt}
 use Rattle.flattening.specs.declared.Source.{Source}
-use Rattle.flattening.specs.Flat.{from, Info, infoAt, linesAt, lineAt, chunk, chunkRead, chunkWrite, valueLines, equalityLines, joinKind, joinLines, writeLines, readChain}
+use Rattle.flattening.specs.Flat.{Info, infoAt, linesAt, lineAt, chunk, chunkRead, chunkWrite, valueLines, equalityLines, joinKind, joinLines, writeLines, readChain}
 use Rattle.flattening.specs.Model.Cells.{Held, oldOf, cellIn}
 use Rattle.flattening.specs.Model.Rows.{sourceAt, rowsFor, rowAt, pairAt, stepping, still, of, runDown, ofDown, joinRecords, readRecords, writeRecords}
 use Rattle.flattening.specs.Model.Lines.{deepIn, wideIn, Notes, sortLine, wordLine, bitIn, conIn, sizeIn, small, givenFrom, lineRecords}
 use Rattle.flattening.specs.Model.Fits.{Neat}
 use Rattle.flattening.proofs.Walk.{holds-length}
-use Rattle.flattening.proofs.CellLaws.{from-at, length-from}
 use Rattle.flattening.proofs.Rel.{Inv, KnownRel, word-small}
 use Rattle.flattening.proofs.Laying.{size-two, join-some}
 use Rattle.flattening.proofs.Rowing.{rows-ext, rows-more, const-records, state-records, init-next-records, ite-records, equality-records, join-records, writePair, write-records, soFar, readPair, read-records}

@@ -8,8 +8,9 @@ use native.Mathlib.Omega.{arith}
 use lib.ListN.{length, getD, replicate}
 use Rattle.tables.specs.Lines.{Line, bitvec, array, input, state, value, initOrNext, signal, output, unknown, const, unary, binary, equality, ite, read, write, wordsOf, kindIn}
 use Rattle.tables.specs.Types.{Ctx, tyAt, given, grow}
+use Rattle.tables.specs.Layout.{from}
 use Rattle.tables.proofs.Facts.{Ok, AllOk}
-use Rattle.flattening.specs.Flat.{from, Info, noInfo, infoAt, linesAt, lineAt, chunk, chunkRead, chunkWrite, constLines, iteLines, equalityLines, joinLines, writeLines, readChain, initOrNextLines, valueLines, flattenFrom, flatten}
+use Rattle.flattening.specs.Flat.{Info, noInfo, infoAt, linesAt, lineAt, chunk, chunkRead, chunkWrite, constLines, iteLines, equalityLines, joinLines, writeLines, readChain, initOrNextLines, valueLines, flattenFrom, flatten}
 
 -- a line that is no array sort
 abbrev pub Plain : Line → Type 0

@@ -11,23 +11,13 @@ use lib.Dec.{T, eqb, eqb→eq, eqb-refl}
 use lib.Pow.{pow-pos}
 use lib.ListN.{length, getD, set, take, replicate}
 use lib.Seq.{drop-cons}
+use Rattle.tables.specs.Layout.{from}
+use Rattle.tables.proofs.Ids.{from-at}
 use Rattle.words.specs.Word.{bit}
 use Rattle.circuits.specs.Cells.{ifNonzero, eqOrNeq, sameCells, maskWords, part}
 use Rattle.circuits.specs.Meaning.{Frame, stateWords}
-use Rattle.flattening.specs.Flat.{from}
 use Rattle.flattening.proofs.Walk.{Word, Holds, none, more, Small}
 use Rattle.flattening.proofs.Chains.{hit, writes, picks, chooses, equalityValues, joinValue, joinVals}
-
--- ---- numbers in a row
-
-pub length-from : (b n : ℕ) → length (from b n) ≡ n
-length-from b zero = refl
-length-from b (suc n) = ap suc (length-from (suc b) n)
-
-pub from-at : (b n j : ℕ) → j < n → getD (from b n) j 0 ≡ b + j
-from-at b zero j h = absurd (omega arith)
-from-at b (suc n) zero h = omega arith
-from-at b (suc n) (suc j) h = from-at (suc b) n j (omega arith) ∙ omega arith
 
 -- ---- is the index the constant
 

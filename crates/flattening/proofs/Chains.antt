@@ -15,10 +15,11 @@ use Rattle.tables.specs.Types.{isFixed, given}
 use Rattle.tables.specs.Rules.{fitsBinary}
 use Rattle.tables.proofs.Facts.{AllOk, Ok}
 use Rattle.tables.specs.Types.{tyAt}
+use Rattle.tables.specs.Layout.{from}
 use Rattle.circuits.specs.Cells.{ifNonzero, eqOrNeq, sameCells}
 use Rattle.circuits.specs.Layout.{typeAt}
 use Rattle.circuits.specs.Meaning.{Frame}
-use Rattle.flattening.specs.Flat.{from, constLines, iteLines, equalityLines, joinKind, joinLines, writeLines, writeCells, readChain}
+use Rattle.flattening.specs.Flat.{constLines, iteLines, equalityLines, joinKind, joinLines, writeLines, writeCells, readChain}
 use Rattle.flattening.proofs.Walk.{join, Even, Ext, ext-trans, SortAt, Word, Holds, none, more, holds-at, sort-ext, word-ext, sort-ok, word-ok, Grew, grew-refl, grew-trans, quiet, Small, ev1, evs, len1, ext-line, new-val, grew-line}
 
 -- ---- what the chains compute

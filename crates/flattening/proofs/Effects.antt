@@ -14,11 +14,12 @@ use Rattle.tables.specs.Pick.{pick, among, alike}
 use Rattle.tables.specs.Lines.{Line, state, initOrNext}
 use Rattle.tables.specs.Types.{givenBy}
 use Rattle.tables.specs.Rules.{valueIndex}
+use Rattle.tables.specs.Layout.{from}
 use Rattle.tables.proofs.Facts.{OkValue, AllOk}
 use Rattle.circuits.specs.Cells.{maskWords, part, put}
 use Rattle.circuits.specs.Layout.{typeAt, placeAt, size}
 use Rattle.circuits.specs.Meaning.{Frame, stateCells, givenWords}
-use Rattle.flattening.specs.Flat.{from, initOrNextLines}
+use Rattle.flattening.specs.Flat.{initOrNextLines}
 use Rattle.flattening.proofs.Walk.{Even, Ext, ext-refl, ext-trans, SortAt, Word, Holds, StateAt, States, none, more, sort-ext, word-ext, word-val, word-ok, state-ext, ev1, evs, len1, ext-line, new-type, new-place, new-word, gave-same}
 use Rattle.flattening.proofs.CellLaws.{taken, lows-taken, state-lows}
 use Rattle.flattening.proofs.Stores.{stored-none, stored-more, length-stored}

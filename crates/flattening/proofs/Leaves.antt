@@ -1,4 +1,5 @@
--- What flattening leaves for an accepted table: the flat table with the count answered is accepted, has no record of kind 2, and runs as the circuit does. Assumes nothing.
+-- What flattening leaves for an accepted table: the flat table with the count answered is accepted, its lines are numbered 1, 2, 3, none has kind 2, and it runs as the
+-- circuit does. Assumes nothing.
 use Prim.Native.Nat.{ℕ, _≤_, _<_}
 use mathlib.Core.Path.{_≡_, refl, sym, ap, ap₂, _∙_, subst, subst⁻¹}
 use mathlib.Core.Logic.{_≢_}
@@ -17,7 +18,7 @@ use Rattle.tables.specs.declared.Answer.{Answer}
 use Rattle.tables.specs.declared.Answer.the-variants.{Done, Refused}
 use Rattle.tables.specs.Pick.{pick}
 use Rattle.tables.specs.Lines.{Line, wordsOf, kindIn}
-use Rattle.tables.specs.Layout.{whole, held, room, recordAt, recordsOf, linesOf}
+use Rattle.tables.specs.Layout.{whole, held, room, recordAt, recordsOf, linesOf, idsOf, from}
 use Rattle.tables.specs.Types.{noCtx}
 use Rattle.tables.specs.Tables.{checked}
 use Rattle.tables.proofs.Kept.{both}
@@ -32,7 +33,7 @@ use Rattle.flattening.specs.Placed.{flatFilled}
 use Rattle.flattening.specs.Answers.{flattened, flatLeft}
 use Rattle.flattening.proofs.Alike.{flat-ok, SameCounts, counts-alike, runs-alike}
 use Rattle.flattening.proofs.Arrayless.{flat-plain, no-kind-two}
-use Rattle.flattening.proofs.Placing.{length-flat-filled, records-flat, accepted-flat, lines-flat}
+use Rattle.flattening.proofs.Placing.{length-flat-filled, records-flat, accepted-flat, lines-flat, ids-flat}
 
 not-done : (r : Refusal) (m : ℕ) → Refused r 0 ≡ Done m → ⊥
 not-done r m e = let z : _≡_ {A = ℕ} 0 1 = cc in omega arith
@@ -99,6 +100,10 @@ module _ (t : List ℕ) (n len m : ℕ) (e : flattened t n len ≡ Done m) where
   -- and its lines are the flat circuit's
   pub flat-lines : linesOf false (flatLeft t n len) m ≡ flatten (linesOf false t n)
   flat-lines = ap₂ (λ (x : List ℕ) (k : ℕ). linesOf false x k) left (sym (a .count)) ∙ lines-flat F len fits okF
+
+  -- numbered 1, 2, 3
+  pub flat-ids : idsOf (flatLeft t n len) m ≡ from 1 m
+  flat-ids = ap₂ (λ (x : List ℕ) (k : ℕ). idsOf x k) left (sym (a .count)) ∙ (ids-flat F len fits ∙ ap (from 1) (a .count))
 
   -- none of its records has kind 2
   pub flat-kinds : (i : ℕ) → i < m → kindIn (recordAt false (flatLeft t n len) i) ≢ 2

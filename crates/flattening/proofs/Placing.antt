@@ -9,12 +9,14 @@ use native.Mathlib.Omega.{arith}
 use lib.ListN.{length, replicate, length-append}
 use Rattle.tables.specs.declared.Checked.the-variants.{Accepted}
 use Rattle.tables.specs.Lines.{Line, fields, wordsOf}
-use Rattle.tables.specs.Layout.{whole, held, recordsOf, linesOf, recorded}
+use Rattle.tables.specs.Layout.{whole, held, recordsOf, linesOf, idsOf, withId, withIds, from, numbered, recorded, putAll, filled}
 use Rattle.tables.specs.Types.{noCtx}
 use Rattle.tables.specs.Tables.{checked}
 use Rattle.tables.proofs.Facts.{AllOk}
 use Rattle.tables.proofs.Places.{put-append, length-put, filled-none, length-filled, put-filled}
-use Rattle.tables.proofs.Encoding.{records-lines, lines-accepted, lines-back}
+use Rattle.tables.proofs.Ids.{length-from, length-with, from-with, length-numbered, ids-with}
+use Rattle.tables.proofs.Complete.{lines-sized}
+use Rattle.tables.proofs.Encoding.{length-words, records-lines, lines-accepted, lines-back}
 use Rattle.flattening.specs.declared.Source.{Source}
 use Rattle.flattening.specs.Placed.{putFlat, flatFilled}
 use Rattle.flattening.specs.Model.Cells.{Held}
@@ -26,17 +28,25 @@ pub flat-none : (t : List ℕ) (i : ℕ) → t ≡ putFlat t i []
 unfolding putFlat
 flat-none t i = refl
 
-pub flat-one : (t : List ℕ) (i : ℕ) (r : List ℕ) → recorded false t i r ≡ putFlat t i (r ∷ [])
+pub flat-one : (t : List ℕ) (i : ℕ) (r : List ℕ) (d : ℕ) → d ≡ i + 1 → recorded false t i (withId r d) ≡ putFlat t i (r ∷ [])
 unfolding putFlat
-flat-one t i r = refl
+flat-one t i r d e = let q : d ≡ suc i = omega arith in ap (λ (n : ℕ). recorded false t i (withId r n)) q
+
+-- the rows of records from the place i on
+abbrev rowsAt : ℕ → List (List ℕ) → List (List ℕ)
+rowsAt i rs = withIds rs (from (suc i) (length rs))
+
+length-rows-at : (i : ℕ) (rs : List (List ℕ)) → length (rowsAt i rs) ≡ length rs
+length-rows-at i rs = length-with rs (from (suc i) (length rs)) (sym (length-from (suc i) (length rs)))
 
 pub flat-append : (t : List ℕ) (i : ℕ) (rs : List (List ℕ)) (k : ℕ) (ss : List (List ℕ)) → k ≡ i + length rs → putFlat (putFlat t i rs) k ss ≡ putFlat t i (rs ++ ss)
 unfolding putFlat
-flat-append t i rs k ss q = put-append false t i rs k ss q
+flat-append t i rs k ss q =
+    put-append false t i (rowsAt i rs) k (rowsAt k ss) (omega (arith, length-rows-at i rs)) ∙ ap (putAll false t i) (from-with (suc i) rs (suc k) ss (omega arith))
 
 pub length-flat : (t : List ℕ) (i : ℕ) (rs : List (List ℕ)) → length (putFlat t i rs) ≡ length t
 unfolding putFlat
-length-flat t i rs = length-put false t i rs
+length-flat t i rs = length-put false t i (rowsAt i rs)
 
 -- ---- a list that holds these records and zeros
 
@@ -46,11 +56,12 @@ flat-empty len = sym (filled-none false len)
 
 pub length-flat-filled : (len : ℕ) (rs : List (List ℕ)) → length (flatFilled len rs) ≡ len
 unfolding flatFilled
-length-flat-filled len rs = length-filled false len rs
+length-flat-filled len rs = length-filled false len (numbered false rs)
 
 pub flat-filled : (len : ℕ) (rs : List (List ℕ)) (k : ℕ) (ss : List (List ℕ)) → k ≡ length rs → putFlat (flatFilled len rs) k ss ≡ flatFilled len (rs ++ ss)
 unfolding putFlat flatFilled
-flat-filled len rs k ss q = put-filled false len rs k ss q
+flat-filled len rs k ss q =
+    put-filled false len (numbered false rs) k (rowsAt k ss) (omega (arith, length-numbered false rs)) ∙ ap (filled false len) (from-with 1 rs (suc k) ss (omega arith))
 
 -- the records of lines
 module _ (ls : List Line) (len : ℕ) (fits : length ls ≤ held false len) where
@@ -65,6 +76,15 @@ module _ (ls : List Line) (len : ℕ) (fits : length ls ≤ held false len) wher
   pub lines-flat : AllOk false noCtx ls → linesOf false (flatFilled len (map wordsOf ls)) (length ls) ≡ ls
   unfolding flatFilled
   lines-flat k = lines-back false ls len fits k
+
+  -- their ids are 1, 2, 3
+  pub ids-flat : idsOf (flatFilled len (map wordsOf ls)) (length ls) ≡ from 1 (length ls)
+  unfolding flatFilled
+  ids-flat =
+      let rs = map wordsOf ls in
+      let e = length-words ls in
+      ap (idsOf (filled false len (numbered false rs))) (sym e)
+      ∙ (ids-with len rs (from 1 (length rs)) (lines-sized ls) (sym (length-from 1 (length rs))) (omega arith) ∙ ap (from 1) e)
 
 -- ---- rows of records
 

@@ -16,10 +16,11 @@ use Rattle.tables.specs.declared.Ty.{Ty}
 use Rattle.tables.specs.Pick.{pick, among}
 use Rattle.tables.specs.Lines.{Line, wordsOf, firstIn, secondIn, thirdIn}
 use Rattle.tables.specs.Types.{ty, noTy, isFixed, fixedExpr, givenBy, given}
+use Rattle.tables.specs.Layout.{from}
 use Rattle.tables.proofs.Facts.{IsWord}
 use Rattle.circuits.specs.Layout.{typeAt, placeAt, size, lineTypeIn, placeOf}
 use Rattle.circuits.specs.Meaning.{Frame, cellsAt, wordAt, cellsOf}
-use Rattle.flattening.specs.Flat.{from, Info, noInfo, infoAt, linesAt, lineAt, valueInfo}
+use Rattle.flattening.specs.Flat.{Info, noInfo, infoAt, linesAt, lineAt, valueInfo}
 use Rattle.flattening.proofs.Walk as W
 use Rattle.flattening.proofs.Walk.{Even, Ext, SortAt, Word, Holds, States, Small, Alike, alike-trans, alike-sym, sort-ext, holds-ext, word-weak, holds-weak, states-ext, ev1, ext-line, length-snoc, Grew, quiet, gives, quiet-gives, gave-same, grew-line, len1, new-type, new-place, new-cells, holds-at}
 use Rattle.flattening.proofs.CellLaws.{small-at}

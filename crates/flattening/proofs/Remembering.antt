@@ -14,15 +14,16 @@ use Rattle.tables.specs.declared.Ty.{Ty}
 use Rattle.tables.specs.Pick.{pick}
 use Rattle.tables.specs.Lines.{Line, Expr}
 use Rattle.tables.specs.Types.{noTy, isFixed, tyAt, given}
+use Rattle.tables.specs.Layout.{from}
 use Rattle.tables.proofs.Facts.{IsWord, Ok}
+use Rattle.tables.proofs.Ids.{from-at, length-from}
 use Rattle.circuits.specs.Layout.{typeAt, lineTypeIn}
 use Rattle.circuits.specs.Meaning.{Frame, cellsAt}
 use Rattle.flattening.specs.declared.Made.{Made}
-use Rattle.flattening.specs.Flat.{from, Info, noInfo, infoAt, linesAt, lineAt, valueInfo, chunk, chunkRead, chunkWrite, writeCells}
+use Rattle.flattening.specs.Flat.{Info, noInfo, infoAt, linesAt, lineAt, valueInfo, chunk, chunkRead, chunkWrite, writeCells}
 use Rattle.flattening.specs.Model.Cells.{cellIn}
 use Rattle.flattening.specs.Model.Lines.{deepIn, Notes, wordLine, bitIn, conIn, sizeIn, small, madeAs, flatCount, flatMade}
 use Rattle.flattening.specs.Model.Fits.{Neat}
-use Rattle.flattening.proofs.CellLaws.{from-at, length-from}
 use Rattle.flattening.proofs.Rel.{Inv, KnownRel, no-sort, word-small}
 use Rattle.flattening.proofs.SimStates.{held-below}
 use Rattle.flattening.proofs.Laying.{size-two, read-con, read-any, read-any-count, write-con, write-any, write-any-count}

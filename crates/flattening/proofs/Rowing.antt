@@ -6,7 +6,8 @@ use mathlib.Core.List.{List, [], _∷_, _++_, append-assoc, append-nil, map}
 use native.Mathlib.Omega.{arith}
 use lib.ListN.{length, getD, replicate}
 use Rattle.tables.specs.Lines.{Line, fields, wordsOf, initOrNextKind, equalityKind}
-use Rattle.flattening.specs.Flat.{from, constLines, initOrNextLines, iteLines, equalityLines, joinKind, joinLines, writeLines, readChain}
+use Rattle.tables.specs.Layout.{from}
+use Rattle.flattening.specs.Flat.{constLines, initOrNextLines, iteLines, equalityLines, joinKind, joinLines, writeLines, readChain}
 use Rattle.flattening.specs.Model.Rows.{rowsFor}
 
 pub rows-ext : (n : ℕ) (g h : ℕ → List (List ℕ)) → ((j : ℕ) → j < n → g j ≡ h j) → rowsFor n g ≡ rowsFor n h

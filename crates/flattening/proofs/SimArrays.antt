@@ -11,15 +11,17 @@ use Rattle.words.specs.Word.{bit}
 use Rattle.tables.specs.declared.Ty.{Ty}
 use Rattle.tables.specs.Lines.{value, equality, ite, read, write}
 use Rattle.tables.specs.Types.{isFixed, tyAt, given}
+use Rattle.tables.specs.Layout.{from}
 use Rattle.tables.proofs.Facts.{Ok}
+use Rattle.tables.proofs.Ids.{length-from}
 use Rattle.circuits.specs.Cells.{eqOrNeq, sameCells}
 use Rattle.circuits.specs.Layout.{typeAt, placeAt}
 use Rattle.circuits.specs.Meaning.{Frame, cellsAt, wordAt}
-use Rattle.flattening.specs.Flat.{from, Info, infoAt, linesAt, lineAt, valueInfo, chunk, equalityLines, joinLines, readChain, writeCells, chunkRead, chunkWrite}
+use Rattle.flattening.specs.Flat.{Info, infoAt, linesAt, lineAt, valueInfo, chunk, equalityLines, joinLines, readChain, writeCells, chunkRead, chunkWrite}
 use Rattle.flattening.proofs.Walk as W
 use Rattle.flattening.proofs.Walk.{both, holds-weak, Even, SortAt, Word, Holds, Small, ext-refl, sort-ext, holds-head, holds-tail, holds-length, holds-at, ok-append, evs, evs-append, len-all, Grew, grew-refl, grew-trans}
 use Rattle.flattening.proofs.Chains.{Ends, writes, picks, equalityValues, lastLine, run-ites, run-cmps, run-joins, run-writes, run-reads}
-use Rattle.flattening.proofs.CellLaws.{length-from, chooses-choose, choose-has, writes-set, picks-get, joins-agree, small-at, small-set, small-bit, holds-set}
+use Rattle.flattening.proofs.CellLaws.{chooses-choose, choose-has, writes-set, picks-get, joins-agree, small-at, small-set, small-bit, holds-set}
 use Rattle.flattening.proofs.Rel.{SortRel, KnownRel, ValRel, Inv, sortrel-ext, val-rel, word-rel, word-for, word-small, cells-for, extend-quiet}
 use Rattle.flattening.proofs.SimWords.{Keeps}
 

@@ -17,14 +17,16 @@ use Rattle.tables.specs.Pick.{pick, among, alike}
 use Rattle.tables.specs.Lines.{state, initOrNext}
 use Rattle.tables.specs.Types.{isFixed, tyAt, given, givenBy}
 use Rattle.tables.specs.Rules.{valueIndex}
+use Rattle.tables.specs.Layout.{from}
 use Rattle.tables.proofs.Kept.{no-yes}
 use Rattle.tables.proofs.Facts.{Ok, OkValue}
+use Rattle.tables.proofs.Ids.{from-at, length-from}
 use Rattle.circuits.specs.Cells.{part, put}
 use Rattle.circuits.specs.Layout.{typeAt, placeAt, size}
 use Rattle.circuits.specs.Meaning.{Frame, cellsAt, wordAt, stateCells, givenWords}
-use Rattle.flattening.specs.Flat.{from, Info, noInfo, infoAt, linesAt, lineAt, valueInfo, chunk, valueLines, initOrNextLines}
+use Rattle.flattening.specs.Flat.{Info, noInfo, infoAt, linesAt, lineAt, valueInfo, chunk, valueLines, initOrNextLines}
 use Rattle.flattening.proofs.Walk.{Holds, States, Small, none, more, ext-refl, holds-length, states-room, ev1, evs, holds-at}
-use Rattle.flattening.proofs.CellLaws.{from-at, length-from, taken, lows-taken, state-lows, length-taken, small-taken, holds-replicate}
+use Rattle.flattening.proofs.CellLaws.{taken, lows-taken, state-lows, length-taken, small-taken, holds-replicate}
 use Rattle.flattening.proofs.Stores.{length-stored}
 use Rattle.flattening.proofs.Effects.{Fresh, Under, Inits, Gives, among-append, run-states, run-gives, gave-init-next}
 use Rattle.flattening.proofs.Rel.{SortRel, ValRel, Inv, sortrel-ext, sort-of-value, rel-none, word-for, cells-for, extend, same-given}

@@ -13,14 +13,16 @@ use Rattle.words.specs.Circuit.{circ}
 use Rattle.tables.specs.declared.Ty.{Ty}
 use Rattle.tables.specs.Lines.{Line, bitvec, array, input, value, signal, output, const, unary, binary}
 use Rattle.tables.specs.Types.{isFixed, tyAt, given}
+use Rattle.tables.specs.Layout.{from}
 use Rattle.tables.proofs.Facts.{Ok, AllOk}
+use Rattle.tables.proofs.Ids.{length-from}
 use Rattle.circuits.specs.Cells.{ifNonzero}
 use Rattle.circuits.specs.Layout.{typeAt}
 use Rattle.circuits.specs.Meaning.{Frame, Signal, signalByte, wordAt}
-use Rattle.flattening.specs.Flat.{from, Info, noInfo, Chunk, infoAt, lineAt, bitvecInfo, arrayInfo, valueInfo, chunk, constLines}
+use Rattle.flattening.specs.Flat.{Info, noInfo, Chunk, infoAt, lineAt, bitvecInfo, arrayInfo, valueInfo, chunk, constLines}
 use Rattle.flattening.proofs.Walk.{both, join, Even, SortAt, ext-refl, ext-trans, sort-ext, word-val, sort-ok, word-ok, ev1, evs, ext-line, new-type, new-word, new-val, len1, gave-same, grew-trans, grew-line}
 use Rattle.flattening.proofs.Chains.{Run, run-consts}
-use Rattle.flattening.proofs.CellLaws.{length-from, small-from}
+use Rattle.flattening.proofs.CellLaws.{small-from}
 use Rattle.flattening.proofs.Rel.{Inv, sortrel-ext, rel-none, rel-sort, word-rel, word-of, word-small, extend, extend-quiet, same-given}
 use Rattle.flattening.proofs.Fitting.{one-lt, two-lt}
 

@@ -9,10 +9,10 @@ use Rattle.tables.specs.declared.Checked.the-variants.{Accepted}
 use Rattle.tables.specs.declared.Answer.the-variants.{Done, Refused}
 use Rattle.tables.specs.Kinds.{rowOf}
 use Rattle.tables.specs.Lines.{Line, fields, wordsOf, bitvec, array, input, state, value, initOrNext, signal, output, const, binary, equality, ite, read, write}
-use Rattle.tables.specs.Layout.{filledBy, wordsFor}
+use Rattle.tables.specs.Layout.{filledBy, idsOf, from, wordsFor}
 use Rattle.tables.specs.Rules.{suits, fault}
 use Rattle.tables.specs.Tables.{checked}
-use Rattle.circuits.specs.Examples.{circuit}
+use Rattle.circuits.specs.Examples.{circuit, gaps}
 use Rattle.flattening.specs.Flat.{flatten, flatRecords}
 use Rattle.flattening.specs.Placed.{flatFilled}
 use Rattle.flattening.specs.Answers.{flattened, flatLeft}
@@ -60,6 +60,19 @@ count-answer = refl
 flat-accepted : checked false (flatFilled (wordsFor false 19) flat) 19 ≡ Accepted
 unfolding checked fault suits rowOf flatFilled filledBy
 flat-accepted = refl
+
+-- ids with gaps leave the same flat table, whose ids are 1 to 19
+gaps-answer : flattened gaps 11 120 ≡ Done 19
+unfolding flattened checked fault suits rowOf flatten filledBy
+gaps-answer = refl
+
+gaps-target : flatLeft gaps 11 120 ≡ flatLeft circuit 11 120
+unfolding flatLeft flattened checked fault suits rowOf flatRecords flatten flatFilled filledBy
+gaps-target = refl
+
+gaps-ids : idsOf (flatLeft gaps 11 120) 19 ≡ from 1 19
+unfolding flatLeft flattened checked fault suits rowOf flatRecords flatten flatFilled filledBy
+gaps-ids = refl
 
 -- ---- constant indexes, an init, array eq, neq and ite, an output
 

@@ -6,7 +6,7 @@ use mathlib.Core.List.{List, [], _∷_, _++_, map}
 use mathlib.Core.Option.{Option, none, some}
 use lib.ListN.{length, getD, set, replicate}
 use Rattle.tables.specs.Lines.{Line, Expr, wordsOf}
-use Rattle.tables.specs.Layout.{linesOf}
+use Rattle.tables.specs.Layout.{linesOf, from}
 
 -- Of a sort: its width (an array's elements'), the number of cells of its values, the flat sort line of one cell; of an array sort besides the new width-1 sort line and
 -- the flat lines of the index constants. A value has all that from its sort, and the flat line of each of its cells; and its number where the line is a constant.
@@ -32,11 +32,6 @@ linesAt I a = infoAt I a .cells
 -- the flat line of a word
 abbrev pub lineAt : List Info → ℕ → ℕ
 lineAt I a = getD (linesAt I a) 0 0
-
--- the n numbers from b on
-abbrev pub from : ℕ → ℕ → List ℕ
-from b zero = []
-from b (suc n) = b ∷ from (suc b) n
 
 -- ---- the lines for each cell
 

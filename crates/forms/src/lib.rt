@@ -11,7 +11,7 @@ ghost use mathlib.Core.Path.{_≡_};
 ghost use Prim.Native.Nat.{_≤_, _+_};
 ghost use lib.ListN.{getD};
 ghost use Rattle.texts.specs.Forms.{extra, formRow, kindOf, sorted as sortedOf, sortWord};
-ghost use Rattle.tables.specs.Kinds.{rowOf, wordOf};
+ghost use Rattle.tables.specs.Kinds.{rows, rowOf, wordOf};
 ghost use Rattle.texts.specs.Split.{sameBytes};
 ghost use Rattle.texts.specs.Reading.{findIn};
 
@@ -31,16 +31,16 @@ fn others() -> [[u8; 16]; 5]
     EXTRA
 }
 
-// The row of the form f.
-pub fn row(f: usize) -> [u8; 16]
-    requires { ⌜ (1 ≤ f) × (f ≤ 60) ⌝ }
+// The row of the form f; kinds are the rows of all kinds.
+pub fn row(kinds: &[[u8; 16]; 55], f: usize) -> [u8; 16]
+    requires { ⌜ (now kinds ≡ rows) × ((1 ≤ f) × (f ≤ 60)) ⌝ }
     ensures { λ r. ⌜ r ≡ formRow f ⌝ }
 {
     if 55 < f {
         let t = others();
         return t[f - 56];
     }
-    kinds::row(f as u64)
+    kinds::row_of(kinds, f as u64)
 }
 
 // The kind of a form.
@@ -53,15 +53,15 @@ pub fn kind_of(f: usize) -> u64
     3
 }
 
-// The row of the kind of the form f, whose own row is at hand.
-pub fn kind_row(f: usize, row: [u8; 16]) -> [u8; 16]
-    requires { ⌜ (1 ≤ f) × (row ≡ formRow f) ⌝ }
+// The row of the kind of the form f, whose own row is at hand; kinds are the rows of all kinds.
+pub fn kind_row(kinds: &[[u8; 16]; 55], f: usize, row: [u8; 16]) -> [u8; 16]
+    requires { ⌜ (now kinds ≡ rows) × ((1 ≤ f) × (row ≡ formRow f)) ⌝ }
     ensures { λ r. ⌜ r ≡ rowOf (kindOf f) ⌝ }
 {
     if f <= 55 {
         return row;
     }
-    kinds::row(3)
+    kinds::row_of(kinds, 3)
 }
 
 // 1 where a line has a sort, else 0.
@@ -112,16 +112,15 @@ fn is_sort(t: &[u8]) -> bool
     t[3] == b't'
 }
 
-// The first of n kinds from k on that has the word t, or 0.
-fn find_kind(t: &[u8], k: usize, n: usize) -> usize
-    requires { ⌜ (1 ≤ k) × (k + n ≤ 56) ⌝ }
+// The first of n kinds from k on that has the word t, or 0; kinds are the rows of all kinds.
+fn find_kind(kinds: &[[u8; 16]; 55], t: &[u8], k: usize, n: usize) -> usize
+    requires { ⌜ (now kinds ≡ rows) × ((1 ≤ k) × (k + n ≤ 56)) ⌝ }
     ensures { λ r. ⌜ r ≡ findIn k n (now (t .entry)) ⌝ }
 {
-    let rows = kinds::all();
     let e = k + n;
     let mut j = k;
     while j < e {
-        let r = rows[j - 1];
+        let r = kinds[j - 1];
         if is_word(t, r) {
             return j;
         }
@@ -146,11 +145,12 @@ fn find_other(t: &[u8]) -> usize
     0
 }
 
-// The form other than a sort's that has the word t, or 0.
-fn find(t: &[u8]) -> usize
+// The form other than a sort's that has the word t, or 0; kinds are the rows of all kinds.
+fn find(kinds: &[[u8; 16]; 55], t: &[u8]) -> usize
+    requires { ⌜ now kinds ≡ rows ⌝ }
     ensures { λ r. ⌜ r ≡ findIn 3 58 (now (t .entry)) ⌝ }
 {
-    let f = find_kind(t, 3, 53);
+    let f = find_kind(kinds, t, 3, 53);
     if f != 0 {
         return f;
     }

@@ -1,5 +1,6 @@
 // Names: the extra token of a line, as a part of the text.
 use forms::heads;
+use records::kinds;
 use texts::Part;
 ghost use mathlib.Core.Path.{_≡_};
 ghost use Prim.Native.Nat.{_≤_, _<_, _-_};
@@ -53,12 +54,13 @@ fn part(l: &[u8]) -> Part
           × ((take (r .to - r .from) (drop (r .from) (now (l .entry))) ≡ lineName (tokensIn (now (l .entry))))
           × (r .from < r .to → r .to ≡ tokensEnd (now (l .entry))))) ⌝ }
 {
+    let kinds = kinds::all();
     let i = pass(l, 0, 1);
-    let w = heads::word(l, i);
+    let w = heads::word(&kinds, l, i);
     if w.form == 0 {
         return Part { from: 0, to: 0 };
     }
-    let row = forms::row(w.form);
+    let row = forms::row(&kinds, w.form);
     let s = forms::sorted(row);
     let c = row[12] as usize;
     let p = pass(l, w.at, s + c);

@@ -1,4 +1,4 @@
--- Peeks at the first step of the request's circuit, from the start words 3 and 12, on the row 1; computed. Assumes nothing.
+-- Peeks at the first step of the request's circuit, from the start words 3 and 12, on the row 1, and of two other tables; computed. Assumes nothing.
 use mathlib.Core.Path.{_≡_, refl}
 use mathlib.Core.Bool.{false}
 use mathlib.Core.List.{[], _∷_}
@@ -12,7 +12,7 @@ use Rattle.circuits.specs.Cells.{put}
 use Rattle.circuits.specs.Layout.{layout}
 use Rattle.circuits.specs.Meaning.{step}
 use Rattle.circuits.specs.Run.{start}
-use Rattle.circuits.specs.Examples.{circuit}
+use Rattle.circuits.specs.Examples.{circuit, gaps}
 use Rattle.peeks.specs.declared.Peeked.the-variants.{Value, Refused}
 use Rattle.peeks.specs.Peek.{stepZero, peekAt, peeked}
 
@@ -47,6 +47,15 @@ peek-sort = refl
 peek-next : peeked circuit 11 8 0 (3 ∷ 12 ∷ []) (1 ∷ []) ≡ Refused NoSuchCell
 unfolding peeked checked fault suits kindRow layout peekAt stepZero start step put filledBy
 peek-next = refl
+
+-- a line is its record's place, and not its id: with gaps in the ids the read on line 9 has the id 90
+peek-place : peeked gaps 11 9 0 (2 ∷ 6 ∷ []) (1 ∷ []) ≡ Value 6
+unfolding peeked checked fault suits kindRow layout peekAt stepZero start step put filledBy
+peek-place = refl
+
+peek-id : peeked gaps 11 90 0 (2 ∷ 6 ∷ []) (1 ∷ []) ≡ Refused NoSuchCell
+unfolding peeked checked fault suits kindRow layout peekAt stepZero start step put filledBy
+peek-id = refl
 
 -- an array state with an init: its word stands in every cell
 peek-init :

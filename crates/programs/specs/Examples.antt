@@ -88,6 +88,19 @@ short-outcome : translates requestFlat 19 (wordsFor true 16) ≡ outcome 12 0 0 
 unfolding translates programLeft translated filledBy checked fault suits rowOf translate
 short-outcome = refl
 
+-- six words a record of the flat circuit, five of the program
+flat-words : length requestFlat ≡ 114
+unfolding filledBy
+flat-words = refl
+
+program-words : translated requestFlat 19 85 ≡ Done 17
+unfolding translated filledBy checked fault suits rowOf translate
+program-words = refl
+
+uneven-words : translated requestFlat 19 84 ≡ Refused NotATable 0
+unfolding translated filledBy
+uneven-words = refl
+
 -- 1 comes before 11, 11 before 19, and 19 before 12
 uneven-answer : translated requestFlat 20 (wordsFor true 17 - 1) ≡ Refused NotATable 0
 unfolding translated filledBy

@@ -1,6 +1,7 @@
 // Reading a text into a table.
 mod lines; // the lines of a text
 
+use records::kinds;
 use records::notes::BYTES;
 use tables::Answer;
 use tables::Refusal;
@@ -21,6 +22,7 @@ pub fn read(text: &[u8], table: &mut [u64]) -> Answer
     if 65536 < text.len() {
         return Answer::Refused(Refusal::TextTooLong, 0);
     }
+    let kinds = kinds::all();
     let mut notes = [[0u8; BYTES]; 16385];
-    lines::read_lines(text, table, &mut notes)
+    lines::read_lines(text, table, &kinds, &mut notes)
 }

@@ -6,24 +6,49 @@ use tables::Refusal;
 use tables::WORDS;
 use texts::Readout;
 ghost use mathlib.Core.Path.{_≡_};
-ghost use mathlib.Core.Bool.{false};
+ghost use mathlib.Core.Bool.{true, false};
 ghost use mathlib.Core.List.{[], _∷_};
 ghost use Prim.Native.Nat.{ℕ, _≤_, _+_, _<_};
 ghost use lib.ListN.{length, replicate};
 ghost use Rattle.tables.specs.Model.Notes.{lookIn, givenIn, noted, Shows};
 ghost use Rattle.texts.specs.Split.{tokens as tokensIn};
-ghost use Rattle.texts.specs.Reading.{linesRead, outcomeOf};
+ghost use Rattle.texts.specs.Reading.{lineId, linesRead, outcomeOf};
 ghost use Rattle.texts.specs.Model.Stages.{stagedLine};
-ghost use Rattle.texts.specs.Model.Structs.{asRead};
+ghost use Rattle.texts.specs.Model.Structs.{asRead, withNumber};
+ghost use Rattle.tables.specs.Kinds.{rows};
 ghost use Rattle.tables.specs.Lines.{kindIn, firstIn};
-ghost use Rattle.tables.specs.Layout.{room as roomOf, recorded};
+ghost use Rattle.tables.specs.Layout.{held, room as roomOf, idsOf, withId, recorded};
+ghost use Rattle.tables.specs.Ids.{rising};
 ghost use Rattle.tables.specs.Answers.{told};
 ghost use Rattle.tables.specs.Types.{noCtx};
 
-// A line, after n records, with room for `room` of them.
-fn read_line(l: &[u8], n: usize, room: usize, notes: &[[u8; BYTES]]) -> Readout
-    requires { ⌜ (n ≤ 16384) × ((a : ℕ) → lookIn (now notes) a .w ≤ 64) ⌝ }
-    ensures { λ r. ⌜ r ≡ asRead (stagedLine (lookIn (now (notes .entry))) (givenIn (now (notes .entry))) room n (tokensIn (now (l .entry)))) ⌝ }
+// What a line gives, with its id.
+fn numbered(r: Readout, id: u64) -> Readout
+    ensures { λ x. ⌜ x ≡ withNumber r id ⌝ }
+{
+    let code = r.code;
+    let rec = r.rec;
+    Readout {
+        what: r.what,
+        code: code,
+        rec: rec,
+        id: id,
+    }
+}
+
+// A line, after n records of the table, with room for `room` of them; kinds are the rows of all kinds.
+fn read_line(
+    l: &[u8],
+    kinds: &[[u8; 16]; 55],
+    table: &[u64],
+    n: usize,
+    room: usize,
+    notes: &[[u8; BYTES]],
+) -> Readout
+    requires { ⌜ (now kinds ≡ rows) × ((n ≤ held false (length (now table))) × ((rising 0 (idsOf (now table) n) ≡ true) × ((a : ℕ) → lookIn (now notes) a .w ≤ 64))) ⌝ }
+    ensures { λ r. ⌜ (r
+        ≡ asRead (r .id) (stagedLine (lookIn (now (notes .entry))) (givenIn (now (notes .entry))) (idsOf (now (table .entry)) n) room (tokensIn (now (l .entry)))))
+        × (r .what ≡ 0 → r .id ≡ lineId (tokensIn (now (l .entry)))) ⌝ }
 {
     let a = tokens::skip(l, 0);
     if a == l.len() {
@@ -31,37 +56,46 @@ fn read_line(l: &[u8], n: usize, room: usize, notes: &[[u8; BYTES]]) -> Readout
             what: 1,
             code: Refusal::NotATable,
             rec: [0; WORDS],
+            id: 0,
         };
     }
     let z = tokens::find_byte(l, a, 32);
-    let id = (n + 1) as u64;
-    if !heads::is_id(&l[a..z], id) {
+    let last = ids::last(table, n);
+    let id = heads::next_id(&l[a..z], last);
+    if id == 0 {
         return stages::refuse(Refusal::WrongId);
     }
     if room <= n {
         return stages::refuse(Refusal::NoRecordLeft);
     }
-    let w = heads::word(l, z);
+    let w = heads::word(kinds, l, z);
     if w.form == 0 {
         return stages::refuse(Refusal::UnknownWord);
     }
-    stages::rest(l, w.form, w.at, notes)
+    let r = stages::rest(l, kinds, w.form, w.at, table, n, notes);
+    numbered(r, id)
 }
 
 // The record of the line n + 1 goes to the table, and the line is noted.
-fn take(table: &mut [u64], n: usize, rec: [u64; WORDS], notes: &mut [[u8; BYTES]])
+fn take(table: &mut [u64], n: usize, rec: [u64; WORDS], id: u64, notes: &mut [[u8; BYTES]])
     requires { ⌜ (n < roomOf false (length (now table))) × (kindIn rec ≡ 1 → firstIn rec ≤ 64) ⌝ }
-    ensures { λ _. ⌜ (now (table .exit) ≡ recorded false (now (table .entry)) n rec)
+    ensures { λ _. ⌜ (now (table .exit) ≡ recorded false (now (table .entry)) n (withId rec id))
         × (now (notes .exit) ≡ noted false rec (n + 1) (now (notes .entry))) ⌝ }
 {
-    records::put(false, table, n, rec);
-    let id = (n + 1) as u64;
-    checks::note(false, rec, id, notes);
+    records::put_line(table, n, rec, id);
+    let place = (n + 1) as u64;
+    checks::note(false, rec, place, notes);
 }
 
-// The lines of a text, into a table of zeros.
-pub fn read_lines(text: &[u8], table: &mut [u64], notes: &mut [[u8; BYTES]]) -> Answer
-    requires { ⌜ (length (now text) ≤ 65536) × ((now table ≡ replicate (length (now table)) 0) × ((length (now notes) ≡ 16385) × Shows (now notes) noCtx)) ⌝ }
+// The lines of a text, into a table of zeros; kinds are the rows of all kinds.
+pub fn read_lines(
+    text: &[u8],
+    table: &mut [u64],
+    kinds: &[[u8; 16]; 55],
+    notes: &mut [[u8; BYTES]],
+) -> Answer
+    requires { ⌜ (length (now text) ≤ 65536) × ((now table ≡ replicate (length (now table)) 0) × ((length (now notes) ≡ 16385)
+        × (Shows (now notes) noCtx × (now kinds ≡ rows)))) ⌝ }
     ensures { λ r. ⌜ told r (now (table .exit) ∷ [])
         ≡ outcomeOf (length (now (table .entry))) (linesRead (length (now (table .entry))) (now (text .entry))) ⌝ }
 {
@@ -72,7 +106,7 @@ pub fn read_lines(text: &[u8], table: &mut [u64], notes: &mut [[u8; BYTES]]) -> 
     while i < text.len() {
         let e = tokens::find_byte(text, i, 10);
         let z = tokens::cut(text, i, e);
-        let r = read_line(&text[i..z], n, room, notes);
+        let r = read_line(&text[i..z], kinds, table, n, room, notes);
         i = tokens::after(e, text.len());
         if r.what == 2 {
             let code = r.code;
@@ -82,7 +116,8 @@ pub fn read_lines(text: &[u8], table: &mut [u64], notes: &mut [[u8; BYTES]]) -> 
         line += 1;
         if r.what == 0 {
             let rec = r.rec;
-            take(table, n, rec, notes);
+            let id = r.id;
+            take(table, n, rec, id, notes);
             n += 1;
             continue;
         }

@@ -1,13 +1,13 @@
--- What the code of `record` and `put` works out is what the layout says: with the layout's own files, the only ones that know it. Assumes nothing.
+-- What the code of `record`, `id` and `put` works out is what the layout says: with the layout's own files, the only ones that know it. Assumes nothing.
 use Prim.Native.Nat.{ℕ, _+_, _*_, _<_}
 use mathlib.Core.Path.{_≡_, sym, ap, _∙_}
-use mathlib.Core.Bool.{Bool}
+use mathlib.Core.Bool.{Bool, false}
 use mathlib.Core.List.{List, [], _∷_}
 use native.Mathlib.Omega.{arith}
 use native.Mathlib.Numerals.{add-one}
 use lib.ListN.{length, getD, set, take}
 use lib.Seq.{take-suc, take-all, length-take-le}
-use Rattle.tables.specs.Layout.{recordSize, held, stepOf, wordsFrom, setWords, recordAt, recorded}
+use Rattle.tables.specs.Layout.{recordSize, held, stepOf, wordsFrom, setWords, recordAt, withId, recorded}
 use Rattle.tables.proofs.Layouts.{placed, words-in}
 use Rattle.tables.proofs.Spread.{set-more}
 
@@ -33,3 +33,14 @@ set-next t r n j h =
 -- all of them
 pub row-put : (p : Bool) (t r : List ℕ) (s i : ℕ) → s ≡ recordSize p → length r ≡ 5 → setWords (λ (k : ℕ). s * i + k) t 0 (take 5 r) ≡ recorded p t i r
 row-put p t r s i e l = ap (λ (n : ℕ). setWords (λ (k : ℕ). n * i + k) t 0 (take 5 r)) e ∙ ap (recorded p t i) (take-all 5 r (omega arith))
+
+-- ---- the id of a circuit's record stands behind them
+
+pub id-inside : (t : List ℕ) (h i : ℕ) → (i < held false (length t)) × (h ≡ stepOf false (length t)) → h * i + 5 < length t
+id-inside t h i q = omega (arith, ap (λ (n : ℕ). n * i) (q .1), placed false .inside (length t) i 5 (q .0) (omega arith))
+
+pub row-id : (t r : List ℕ) (s i d : ℕ) → s ≡ recordSize false → length r ≡ 5 → set (recorded false t i r) (s * i + 5) d ≡ recorded false t i (withId r d)
+row-id t r s i d e l =
+    let at : ℕ → ℕ = λ (k : ℕ). recordSize false * i + k in
+    let q : 5 ≡ 0 + length r = omega arith in
+    ap (λ (n : ℕ). set (recorded false t i r) (n * i + 5) d) e ∙ (ap (λ (k : ℕ). set (setWords at t 0 r) (at k) d) q ∙ set-more at t 0 r d)

@@ -1,4 +1,4 @@
-// What stands behind the word of a line: the refusals 6 to 10 in their order. The notes hold what is known of the lines so far.
+// What stands behind the word of a line: the refusals 6 to 10 in their order. The table holds the records so far, with their ids, and the notes what is known of their lines.
 use forms::operands;
 use records::notes;
 use records::notes::BYTES;
@@ -7,36 +7,42 @@ use tables::WORDS;
 use texts::Readout;
 use texts::Taken;
 ghost use mathlib.Core.Path.{_≡_};
+ghost use mathlib.Core.Bool.{true, false};
 ghost use Prim.Native.Nat.{_-_, _^_, _≤_, ℕ};
-ghost use lib.ListN.{drop};
+ghost use lib.ListN.{length, drop};
+ghost use Rattle.texts.specs.Operands.{resolved};
 ghost use Rattle.texts.specs.Reading.{no, settled};
-ghost use Rattle.texts.specs.Model.Stages.{ruled as ruledBy, judged, large as largeOf, ended, takenIn};
+ghost use Rattle.texts.specs.Model.Stages.{ruled as ruledBy, judged, concluded, large as largeOf, ended, takenIn};
 ghost use Rattle.texts.specs.Model.Structs.{asRead, asTook};
-ghost use Rattle.tables.specs.Kinds.{rowOf};
+ghost use Rattle.tables.specs.Kinds.{rows, rowOf};
 ghost use Rattle.tables.specs.Lines.{kindIn};
+ghost use Rattle.tables.specs.Layout.{held, idsOf};
+ghost use Rattle.tables.specs.Ids.{rising};
 ghost use Rattle.tables.specs.Model.Notes.{lookIn, givenIn};
 ghost use Rattle.texts.specs.Split.{tokens as tokensIn};
 
 // A refusal.
 pub fn refuse(r: Refusal) -> Readout
-    ensures { λ x. ⌜ x ≡ asRead (no r) ⌝ }
+    ensures { λ x. ⌜ x ≡ asRead 0 (no r) ⌝ }
 {
     Readout {
         what: 2,
         code: r,
         rec: [0; WORDS],
+        id: 0,
     }
 }
 
 // 9, 10, or the record.
 fn ruled(a: u64, rec: [u64; WORDS]) -> Readout
-    ensures { λ x. ⌜ x ≡ asRead (ruledBy a rec) ⌝ }
+    ensures { λ x. ⌜ x ≡ asRead 0 (ruledBy a rec) ⌝ }
 {
     if a == 0 {
         return Readout {
             what: 0,
             code: Refusal::NotATable,
             rec: rec,
+            id: 0,
         };
     }
     if a == 9 {
@@ -76,7 +82,7 @@ fn settle(w: u8, f: usize, rec: [u64; WORDS]) -> [u64; WORDS]
 // 8, 9 and 10. The row is that of the record's kind.
 fn judge(row: [u8; 16], f: usize, len: usize, rec: [u64; WORDS], notes: &[[u8; BYTES]]) -> Readout
     requires { ⌜ row ≡ rowOf (kindIn rec) ⌝ }
-    ensures { λ r. ⌜ r ≡ asRead (judged (lookIn (now (notes .entry))) (givenIn (now (notes .entry))) f len rec) ⌝ }
+    ensures { λ r. ⌜ r ≡ asRead 0 (judged (lookIn (now (notes .entry))) (givenIn (now (notes .entry))) f len rec) ⌝ }
 {
     let a = rules::fault(false, row, rec, notes);
     if a == 8 {
@@ -92,6 +98,26 @@ fn judge(row: [u8; 16], f: usize, len: usize, rec: [u64; WORDS], notes: &[[u8; B
     ruled(a, rec)
 }
 
+// The places of the lines that a record names, the value of one and ones, and what follows. The row is that of the record's kind.
+fn conclude(
+    row: [u8; 16],
+    f: usize,
+    rec: [u64; WORDS],
+    len: usize,
+    table: &[u64],
+    n: usize,
+    notes: &[[u8; BYTES]],
+) -> Readout
+    requires { ⌜ (row ≡ rowOf (kindIn rec)) × (((a : ℕ) → lookIn (now notes) a .w ≤ 64)
+        × ((n ≤ held false (length (now table))) × (rising 0 (idsOf (now table) n) ≡ true))) ⌝ }
+    ensures { λ r. ⌜ r ≡ asRead 0 (concluded (lookIn (now (notes .entry))) (givenIn (now (notes .entry))) f len (resolved (idsOf (now (table .entry)) n) rec)) ⌝ }
+{
+    let p = ids::resolve(row, rec, table, n);
+    let w = notes::look(notes, p[1]).w;
+    let t = settle(w, f, p);
+    judge(row, f, len, t, notes)
+}
+
 // 7, and what follows.
 fn large(
     row: [u8; 16],
@@ -99,29 +125,39 @@ fn large(
     rec: [u64; WORDS],
     big: bool,
     len: usize,
+    table: &[u64],
+    n: usize,
     notes: &[[u8; BYTES]],
 ) -> Readout
-    requires { ⌜ (row ≡ rowOf (kindIn rec)) × ((a : ℕ) → lookIn (now notes) a .w ≤ 64) ⌝ }
-    ensures { λ r. ⌜ r ≡ asRead (largeOf (lookIn (now (notes .entry))) (givenIn (now (notes .entry))) f rec big len) ⌝ }
+    requires { ⌜ (row ≡ rowOf (kindIn rec)) × (((a : ℕ) → lookIn (now notes) a .w ≤ 64)
+        × ((n ≤ held false (length (now table))) × (rising 0 (idsOf (now table) n) ≡ true))) ⌝ }
+    ensures { λ r. ⌜ r ≡ asRead 0 (largeOf (lookIn (now (notes .entry))) (givenIn (now (notes .entry))) (idsOf (now (table .entry)) n) f rec big len) ⌝ }
 {
     if big {
         return refuse(Refusal::NumberTooLarge);
     }
-    let w = notes::look(notes, rec[1]).w;
-    let t = settle(w, f, rec);
     if f == 1 {
         if !widths::is_width(rec[2]) {
             return refuse(Refusal::NumberTooLarge);
         }
-        return judge(row, f, len, t, notes);
     }
-    judge(row, f, len, t, notes)
+    conclude(row, f, rec, len, table, n, notes)
 }
 
 // What stands behind the numbers, 6, and what follows.
-fn finish(l: &[u8], row: [u8; 16], f: usize, t: Taken, notes: &[[u8; BYTES]]) -> Readout
-    requires { do ⌜ (t .at ≤ (← ⟦l.len()⟧)) × ((row ≡ rowOf (kindIn (t .rec))) × ((a : ℕ) → lookIn (now notes) a .w ≤ 64)) ⌝ }
-    ensures { λ r. ⌜ r ≡ asRead (ended (lookIn (now (notes .entry))) (givenIn (now (notes .entry))) f (asTook (now (l .entry)) t)) ⌝ }
+fn finish(
+    l: &[u8],
+    row: [u8; 16],
+    f: usize,
+    t: Taken,
+    table: &[u64],
+    n: usize,
+    notes: &[[u8; BYTES]],
+) -> Readout
+    requires { do
+      ⌜ (t .at ≤ (← ⟦l.len()⟧)) × ((row ≡ rowOf (kindIn (t .rec))) × (((a : ℕ) → lookIn (now notes) a .w ≤ 64)
+          × ((n ≤ held false (length (now table))) × (rising 0 (idsOf (now table) n) ≡ true)))) ⌝ }
+    ensures { λ r. ⌜ r ≡ asRead 0 (ended (lookIn (now (notes .entry))) (givenIn (now (notes .entry))) (idsOf (now (table .entry)) n) f (asTook (now (l .entry)) t)) ⌝ }
 {
     if !t.ok {
         return refuse(Refusal::BadOperand);
@@ -130,19 +166,29 @@ fn finish(l: &[u8], row: [u8; 16], f: usize, t: Taken, notes: &[[u8; BYTES]]) ->
         return refuse(Refusal::BadOperand);
     }
     let rec = t.rec;
-    large(row, f, rec, t.big, t.len, notes)
+    large(row, f, rec, t.big, t.len, table, n, notes)
 }
 
-// The line behind its word, whose form is f.
-pub fn rest(l: &[u8], f: usize, at: usize, notes: &[[u8; BYTES]]) -> Readout
-    requires { do ⌜ (at ≤ (← ⟦l.len()⟧)) × ((1 ≤ f) × ((f ≤ 60) × ((a : ℕ) → lookIn (now notes) a .w ≤ 64))) ⌝ }
-    ensures { λ r. ⌜ r ≡ asRead (ended (lookIn (now (notes .entry))) (givenIn (now (notes .entry))) f (takenIn f (tokensIn (drop at (now (l .entry)))))) ⌝ }
+// The line behind its word, whose form is f; kinds are the rows of all kinds, and the table holds the n records so far.
+pub fn rest(
+    l: &[u8],
+    kinds: &[[u8; 16]; 55],
+    f: usize,
+    at: usize,
+    table: &[u64],
+    n: usize,
+    notes: &[[u8; BYTES]],
+) -> Readout
+    requires { do
+      ⌜ (now kinds ≡ rows) × ((at ≤ (← ⟦l.len()⟧)) × ((1 ≤ f) × ((f ≤ 60) × (((a : ℕ) → lookIn (now notes) a .w ≤ 64)
+          × ((n ≤ held false (length (now table))) × (rising 0 (idsOf (now table) n) ≡ true)))))) ⌝ }
+    ensures { λ r. ⌜ r ≡ asRead 0 (ended (lookIn (now (notes .entry))) (givenIn (now (notes .entry))) (idsOf (now (table .entry)) n) f (takenIn f (tokensIn (drop at (now (l .entry)))))) ⌝ }
 {
-    let row = forms::row(f);
+    let row = forms::row(kinds, f);
     let s = forms::sorted(row);
     let c = row[12] as usize;
     let k = forms::kind_of(f);
     let t = operands::operands(l, at, f, s + c, 2 - s, records::of(k, 0, 0, 0, 0));
-    let own = forms::kind_row(f, row);
-    finish(l, own, f, t, notes)
+    let own = forms::kind_row(kinds, f, row);
+    finish(l, own, f, t, table, n, notes)
 }

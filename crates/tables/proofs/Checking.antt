@@ -1,7 +1,7 @@
 -- The answers of the check of a table, and the notes it starts from. Assumes nothing.
 use Prim.Native.Nat.{ℕ, zero, suc, _≤_, _<_}
 use mathlib.Core.Path.{_≡_, refl, sym, ap, _∙_, subst}
-use mathlib.Core.Bool.{Bool, true, false}
+use mathlib.Core.Bool.{Bool, true, false, _&&_}
 use mathlib.Core.List.{List}
 use native.Mathlib.Omega.{arith}
 use lib.Dec.{eqb}
@@ -11,6 +11,7 @@ use Rattle.tables.specs.declared.Refusal.{Refusal}
 use Rattle.tables.specs.declared.Refusal.the-variants.{NotATable}
 use Rattle.tables.specs.declared.Checked.the-variants.{Accepted, Refused}
 use Rattle.tables.specs.Layout.{whole, held, room, recordsOf}
+use Rattle.tables.specs.Ids.{idsRight}
 use Rattle.tables.specs.Types.{ty, noTy, noCtx, tyAt, given}
 use Rattle.tables.specs.Tables.{lawful, broken, checked}
 use Rattle.tables.specs.Model.Notes.{blank, noteAt, markIn, givenIn, Shows, Fresh}
@@ -28,9 +29,17 @@ module _ (p : Bool) (t : List ℕ) (n : ℕ) where
   unfolding checked
   unlawful e h l = rw (e, le-leb n (room p (length t)) h, sym l)
 
-  pub is-lawful : whole p (length t) ≡ true → n ≤ room p (length t) → true ≡ lawful p noCtx (recordsOf p t n) → Accepted ≡ checked p t n
+  pub ids-wrong : whole p (length t) ≡ true → n ≤ room p (length t) → false ≡ idsRight p t n → Refused (broken p) ≡ checked p t n
   unfolding checked
-  is-lawful e h l = rw (e, le-leb n (room p (length t)) h, sym l)
+  ids-wrong e h l = rw (e, le-leb n (room p (length t)) h, sym l, and-no (lawful p noCtx (recordsOf p t n)))
+    where
+      and-no : (b : Bool) → (b && false) ≡ false
+      and-no true = refl
+      and-no false = refl
+
+  pub is-lawful : whole p (length t) ≡ true → n ≤ room p (length t) → true ≡ lawful p noCtx (recordsOf p t n) → true ≡ idsRight p t n → Accepted ≡ checked p t n
+  unfolding checked
+  is-lawful e h l d = rw (e, le-leb n (room p (length t)) h, sym l, sym d)
 
 pub not-accepted : (r : Refusal) → Refused r ≡ Accepted → ⊥
 not-accepted r e = let z : _≡_ {A = ℕ} 0 1 = cc in omega arith

@@ -7,13 +7,15 @@ use native.Mathlib.Omega.{arith}
 use lib.ListN.{length}
 use Rattle.tables.specs.declared.Checked.the-variants.{Accepted}
 use Rattle.tables.specs.Lines.{Line, lineOf, wordsOf}
-use Rattle.tables.specs.Layout.{whole, held, room, recordsOf, linesOf, filled}
+use Rattle.tables.specs.Layout.{whole, held, room, recordsOf, linesOf, numbered, filled}
+use Rattle.tables.specs.Ids.{idsRight}
 use Rattle.tables.specs.Types.{Ctx, tyAt, given, grow, noCtx}
 use Rattle.tables.specs.Tables.{formed, keeps, lawful, checked}
 use Rattle.tables.proofs.Kept.{both}
 use Rattle.tables.proofs.Formed.{words-back}
 use Rattle.tables.proofs.Checking.{is-lawful, roomy}
-use Rattle.tables.proofs.Places.{Sized, records-sized, length-filled, records-filled}
+use Rattle.tables.proofs.Places.{Sized, records-sized, length-filled}
+use Rattle.tables.proofs.Ids.{records-filled, ids-filled}
 use Rattle.tables.proofs.Facts.{AllOk}
 use Rattle.tables.proofs.Sound.{accepted-lawful, accepted-room}
 use Rattle.tables.proofs.Complete.{lines-sized, all-again, all-kept}
@@ -36,19 +38,26 @@ pub length-words : (ls : List Line) → length (map wordsOf ls) ≡ length ls
 length-words [] = refl
 length-words (l ∷ ls) = ap suc (length-words ls)
 
--- a list that holds the records of lines
+-- a list that holds the records of lines, a circuit's numbered 1, 2, 3
 module _ (p : Bool) (ls : List Line) (len : ℕ) (fits : length ls ≤ held p len) where
-  pub records-lines : recordsOf p (filled p len (map wordsOf ls)) (length ls) ≡ map wordsOf ls
-  records-lines =
-      ap (recordsOf p (filled p len (map wordsOf ls))) (sym (length-words ls)) ∙ records-filled p len (map wordsOf ls) (lines-sized ls) (omega (arith, length-words ls))
+  abbrev table : List ℕ
+  table = filled p len (numbered p (map wordsOf ls))
+
+  there : length (map wordsOf ls) ≤ held p len
+  there = omega (arith, length-words ls)
+
+  pub records-lines : recordsOf p (filled p len (numbered p (map wordsOf ls))) (length ls) ≡ map wordsOf ls
+  records-lines = ap (recordsOf p table) (sym (length-words ls)) ∙ records-filled p len (map wordsOf ls) (lines-sized ls) there
 
   -- where they break no rule it is an accepted table
-  pub lines-accepted : AllOk p noCtx ls → length ls ≤ 16384 → whole p len ≡ true → checked p (filled p len (map wordsOf ls)) (length ls) ≡ Accepted
+  pub lines-accepted : AllOk p noCtx ls → length ls ≤ 16384 → whole p len ≡ true → checked p (filled p len (numbered p (map wordsOf ls))) (length ls) ≡ Accepted
   lines-accepted k few w =
-      let e : length (filled p len (map wordsOf ls)) ≡ len = length-filled p len (map wordsOf ls) in
+      let e : length table ≡ len = length-filled p len (numbered p (map wordsOf ls)) in
+      let q = ids-filled p len (map wordsOf ls) (lines-sized ls) there (omega (arith, length-words ls)) in
       sym
-      (is-lawful p (filled p len (map wordsOf ls)) (length ls) (ap (whole p) e ∙ w) (omega (arith, ap (room p) e)) (sym (ap (lawful p noCtx) records-lines ∙ all-kept p noCtx ls k)))
+      (is-lawful p table (length ls) (ap (whole p) e ∙ w) (omega (arith, ap (room p) e)) (sym (ap (lawful p noCtx) records-lines ∙ all-kept p noCtx ls k))
+      (sym (ap (idsRight p table) (sym (length-words ls)) ∙ q)))
 
   -- and they are read back from it
-  pub lines-back : AllOk p noCtx ls → linesOf p (filled p len (map wordsOf ls)) (length ls) ≡ ls
+  pub lines-back : AllOk p noCtx ls → linesOf p (filled p len (numbered p (map wordsOf ls))) (length ls) ≡ ls
   lines-back k = ap (map lineOf) records-lines ∙ all-again p noCtx ls k

@@ -8,6 +8,7 @@ pub mod Layouts
 pub mod Spread
 pub mod Putting
 pub mod Places
+pub mod Ids
 pub mod Formed
 pub mod Showing
 pub mod Contexts

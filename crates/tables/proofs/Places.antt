@@ -70,13 +70,6 @@ records-sized p t n = go 0 n
 pub length-recorded : (p : Bool) (t : List ℕ) (i : ℕ) (r : List ℕ) → length (recorded p t i r) ≡ length t
 length-recorded p t i r = laws.length-row (placing p) t i r
 
-pub recorded-same : (p : Bool) (t : List ℕ) (i : ℕ) (r : List ℕ) → i < held p (length t) → length r ≡ recordWords → recordAt p (recorded p t i r) i ≡ r
-recorded-same p t i r h e = laws.row-same (placed p) (words-in p) t i r h e
-
-pub recorded-other : (p : Bool) (t : List ℕ) (i : ℕ) (r : List ℕ) (k : ℕ) → i < held p (length t) → k < held p (length t) → (k ≡ i → ⊥) → length r ≡ recordWords
-    → recordAt p (recorded p t i r) k ≡ recordAt p t k
-recorded-other p t i r k h l n e = laws.row-other (placed p) (words-in p) t i k r h l n e
-
 pub put-append : (p : Bool) (t : List ℕ) (i : ℕ) (rs : List (List ℕ)) (k : ℕ) (ss : List (List ℕ)) → k ≡ i + length rs → putAll p (putAll p t i rs) k ss ≡ putAll p t i (rs ++ ss)
 put-append p t i rs k ss q = ap (λ (n : ℕ). putAll p (putAll p t i rs) n ss) q ∙ laws.put-append (placing p) t i rs ss
 
@@ -102,6 +95,3 @@ put-filled p len rs k ss q = put-append p (replicate len 0) 0 rs k ss (omega ari
 
 pub record-filled : (p : Bool) (len : ℕ) (rs : List (List ℕ)) (k : ℕ) (r : List ℕ) → k ≡ length rs → recorded p (filled p len rs) k r ≡ filled p len (rs ++ (r ∷ []))
 record-filled p len rs k r q = put-filled p len rs k (r ∷ []) q
-
-pub records-filled : (p : Bool) (len : ℕ) (rs : List (List ℕ)) → Sized rs → length rs ≤ held p len → recordsOf p (filled p len rs) (length rs) ≡ rs
-records-filled p len rs z h = laws.rows-filled (placed p) (words-in p) len rs h z

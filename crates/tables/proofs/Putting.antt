@@ -2,10 +2,9 @@
 use Prim.Native.Nat.{ℕ, zero, suc, _+_, _<_, _≤_}
 use mathlib.Core.Path.{_≡_, refl, ap, ap₂, sym, _∙_}
 use mathlib.Core.Bool.{Bool}
-use mathlib.Core.List.{List, [], _∷_, _++_}
+use mathlib.Core.List.{List, [], _∷_, _++_, map}
 use native.Mathlib.Omega.{arith}
 use lib.ListN.{length, getD, take, replicate, length-replicate}
-use lib.Seq.{take-all}
 use Rattle.tables.specs.Layout.{Placing, recordSize, held, wordsFrom, rowBy, rowsFrom, rowSet, putRows, filledBy}
 use Rattle.tables.proofs.Layouts.{Sound}
 use Rattle.tables.proofs.Spread.{Spread, length-set-words, words-other, words-same}
@@ -53,12 +52,13 @@ take-rows f m t i (suc k) (suc n) h = ap (λ (l : List (List ℕ)). rowBy f m t 
 
 -- ---- what is put is read again
 
--- every row has m words
+-- every row has w words
 abbrev pub SizedBy : ℕ → List (List ℕ) → Type 0
-SizedBy m [] = Unit {0}
-SizedBy m (x ∷ xs) = (length x ≡ m) × SizedBy m xs
+SizedBy w [] = Unit {0}
+SizedBy w (x ∷ xs) = (length x ≡ w) × SizedBy w xs
 
-module _ {p : Bool} {f : Placing} (s : Sound p f) {m : ℕ} (few : m ≤ recordSize p) where
+-- the first m words of rows that have w
+module _ {p : Bool} {f : Placing} (s : Sound p f) {m w : ℕ} (part : m ≤ w) (few : w ≤ recordSize p) where
   spread : (len i : ℕ) → i < held p len → Spread (f len i) (recordSize p) len
   spread len i h =
       record {
@@ -66,25 +66,25 @@ module _ {p : Bool} {f : Placing} (s : Sound p f) {m : ℕ} (few : m ≤ recordS
         apart = λ j l a b e. s .apart len i j i l h h a b e .1;
       }
 
-  pub row-same : (t : List ℕ) (i : ℕ) (x : List ℕ) → i < held p (length t) → length x ≡ m → rowBy f m (rowSet f t i x) i ≡ x
+  row-same : (t : List ℕ) (i : ℕ) (x : List ℕ) → i < held p (length t) → length x ≡ w → rowBy f m (rowSet f t i x) i ≡ take m x
   row-same t i x h e =
       ap (λ (len : ℕ). wordsFrom (f len i) (rowSet f t i x) 0 m) (length-row f t i x)
-      ∙ words-same (spread (length t) i h) t 0 m x refl (omega arith) (omega arith) ∙ take-all m x (omega arith)
+      ∙ words-same (spread (length t) i h) t 0 m x refl (omega arith) (omega arith)
 
-  pub row-other : (t : List ℕ) (i k : ℕ) (x : List ℕ) → i < held p (length t) → k < held p (length t) → (k ≡ i → ⊥) → length x ≡ m
+  row-other : (t : List ℕ) (i k : ℕ) (x : List ℕ) → i < held p (length t) → k < held p (length t) → (k ≡ i → ⊥) → length x ≡ w
       → rowBy f m (rowSet f t i x) k ≡ rowBy f m t k
   row-other t i k x h hk n e =
       ap (λ (len : ℕ). wordsFrom (f len k) (rowSet f t i x) 0 m) (length-row f t i x)
       ∙ words-other (f (length t) i) (f (length t) k) t x 0 m (λ a b u v q. n (s .apart (length t) k a i b hk h (omega arith) (omega arith) q .0))
 
-  put-other : (t : List ℕ) (i : ℕ) (xs : List (List ℕ)) (k : ℕ) → k < i → i + length xs ≤ held p (length t) → SizedBy m xs → rowBy f m (putRows f t i xs) k ≡ rowBy f m t k
+  put-other : (t : List ℕ) (i : ℕ) (xs : List (List ℕ)) (k : ℕ) → k < i → i + length xs ≤ held p (length t) → SizedBy w xs → rowBy f m (putRows f t i xs) k ≡ rowBy f m t k
   put-other t i [] k b h z = refl
   put-other t i (x ∷ xs) k b h z =
       let u : List ℕ = rowSet f t i x in
       let q : held p (length t) ≡ held p (length u) = ap (held p) (sym (length-row f t i x)) in
       put-other u (suc i) xs k (omega arith) (omega (arith, q)) (z .1) ∙ row-other t i k x (omega arith) (omega arith) (λ e. omega arith) (z .0)
 
-  put-rows : (t : List ℕ) (i : ℕ) (xs : List (List ℕ)) → i + length xs ≤ held p (length t) → SizedBy m xs → rowsFrom f m (putRows f t i xs) i (length xs) ≡ xs
+  put-rows : (t : List ℕ) (i : ℕ) (xs : List (List ℕ)) → i + length xs ≤ held p (length t) → SizedBy w xs → rowsFrom f m (putRows f t i xs) i (length xs) ≡ map (take m) xs
   put-rows t i [] h z = refl
   put-rows t i (x ∷ xs) h z =
       let u : List ℕ = rowSet f t i x in
@@ -93,7 +93,7 @@ module _ {p : Bool} {f : Placing} (s : Sound p f) {m : ℕ} (few : m ≤ recordS
       (put-other u (suc i) xs i (omega arith) (omega (arith, q)) (z .1) ∙ row-same t i x (omega arith) (z .0))
       (put-rows u (suc i) xs (omega (arith, q)) (z .1))
 
-  pub rows-filled : (len : ℕ) (xs : List (List ℕ)) → length xs ≤ held p len → SizedBy m xs → rowsFrom f m (filledBy f len xs) 0 (length xs) ≡ xs
+  pub rows-filled : (len : ℕ) (xs : List (List ℕ)) → length xs ≤ held p len → SizedBy w xs → rowsFrom f m (filledBy f len xs) 0 (length xs) ≡ map (take m) xs
   unfolding filledBy
   rows-filled len xs h z =
       let q : held p len ≡ held p (length {A = ℕ} (replicate len 0)) = ap (held p) (sym (length-replicate len 0)) in put-rows (replicate len 0) 0 xs (omega (arith, q)) z

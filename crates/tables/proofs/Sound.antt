@@ -16,7 +16,8 @@ use Rattle.tables.specs.Kinds.{rowOf, sortClass, firstClass, secondClass
 use Rattle.tables.specs.Lines.{Line, Shape, isBitvec, isArray as arrayShape, isConst, isInput, isState as stateShape, isOutput, isUnary, isBinary, isIte, isRead, isWrite, isUnknown, isInitOrNext, isSignal, isEquality, initOrNextKind, shapeOf, build, lineOf, kindIn, sortIn, firstIn, secondIn, thirdIn}
 use Rattle.tables.specs.Types.{isSort, isValue, isFixed, isWord, isArray, isWordSort, isArraySort, sortAt, Ctx, tyAt, given, grow, noCtx}
 use Rattle.tables.specs.Rules.{suits, classes, fits, sameSort, onceRules, fault}
-use Rattle.tables.specs.Layout.{whole, room, recordsOf, linesOf}
+use Rattle.tables.specs.Layout.{whole, room as roomOf, recordsOf, linesOf}
+use Rattle.tables.specs.Ids.{idsRight}
 use Rattle.tables.specs.Tables.{known, unused, tidy, formed, keeps, lawful, broken, checked}
 use Rattle.tables.proofs.Every.{at-each}
 use Rattle.tables.proofs.Shapes.{KindOf, kind-of, range}
@@ -271,25 +272,31 @@ pub all-sound : (p : Bool) (c : Ctx) (rs : List (List ℕ)) → lawful p c rs �
 all-sound p c [] h = tt
 all-sound p c (r ∷ rs) h = let e = both (keeps p (tyAt c) (given c) r) _ h in (sound p (tyAt c) (given c) r (e .0), all-sound p (grow p c (lineOf r)) rs (e .1))
 
-pub accepted-lawful : (p : Bool) (t : List ℕ) (n : ℕ) → checked p t n ≡ Accepted → lawful p noCtx (recordsOf p t n) ≡ true
+-- what an accepted table keeps
+pub record Admitted (p : Bool) (t : List ℕ) (n : ℕ) : Type 0 where
+  pub table : whole p (length t) ≡ true
+  pub room : n ≤ roomOf p (length t)
+  pub law : lawful p noCtx (recordsOf p t n) ≡ true
+  pub ids : idsRight p t n ≡ true
+
+pub accepted-table : (p : Bool) (t : List ℕ) (n : ℕ) → checked p t n ≡ Accepted → Admitted p t n
 unfolding checked
-accepted-lawful p t n e = go (whole p (length t)) (leb n (room p (length t)) && lawful p noCtx (recordsOf p t n)) refl refl e
+accepted-table p t n e = go (whole p (length t)) (leb n (roomOf p (length t)) && (lawful p noCtx (recordsOf p t n) && idsRight p t n)) refl refl e
   where
-    go : (a b : Bool) → whole p (length t) ≡ a → (leb n (room p (length t)) && lawful p noCtx (recordsOf p t n)) ≡ b
-        → pick a (pick b Accepted (Refused (broken p))) (Refused NotATable) ≡ Accepted → lawful p noCtx (recordsOf p t n) ≡ true
-    go true true q r z = both (leb n (room p (length t))) _ r .1
+    go : (a b : Bool) → whole p (length t) ≡ a → (leb n (roomOf p (length t)) && (lawful p noCtx (recordsOf p t n) && idsRight p t n)) ≡ b
+        → pick a (pick b Accepted (Refused (broken p))) (Refused NotATable) ≡ Accepted → Admitted p t n
+    go true true q r z =
+        let x = both (leb n (roomOf p (length t))) _ r in
+        let y = both (lawful p noCtx (recordsOf p t n)) _ (x .1) in
+        record { table = q; room = leb-true n (roomOf p (length t)) (x .0); law = y .0; ids = y .1 }
     go true false q r z = absurd (not-accepted (broken p) z)
     go false b q r z = absurd (not-accepted NotATable z)
 
-pub accepted-room : (p : Bool) (t : List ℕ) (n : ℕ) → checked p t n ≡ Accepted → (whole p (length t) ≡ true) × (n ≤ room p (length t))
-unfolding checked
-accepted-room p t n e = go (whole p (length t)) (leb n (room p (length t)) && lawful p noCtx (recordsOf p t n)) refl refl e
-  where
-    go : (a b : Bool) → whole p (length t) ≡ a → (leb n (room p (length t)) && lawful p noCtx (recordsOf p t n)) ≡ b
-        → pick a (pick b Accepted (Refused (broken p))) (Refused NotATable) ≡ Accepted → (whole p (length t) ≡ true) × (n ≤ room p (length t))
-    go true true q r z = (q, leb-true n (room p (length t)) (both (leb n (room p (length t))) _ r .0))
-    go true false q r z = absurd (not-accepted (broken p) z)
-    go false b q r z = absurd (not-accepted NotATable z)
+pub accepted-lawful : (p : Bool) (t : List ℕ) (n : ℕ) → checked p t n ≡ Accepted → lawful p noCtx (recordsOf p t n) ≡ true
+accepted-lawful p t n e = accepted-table p t n e .law
+
+pub accepted-room : (p : Bool) (t : List ℕ) (n : ℕ) → checked p t n ≡ Accepted → (whole p (length t) ≡ true) × (n ≤ roomOf p (length t))
+accepted-room p t n e = let k = accepted-table p t n e in (k .table, k .room)
 
 pub accepted-ok : (p : Bool) (t : List ℕ) (n : ℕ) → checked p t n ≡ Accepted → AllOk p noCtx (linesOf p t n)
 accepted-ok p t n e = all-sound p noCtx (recordsOf p t n) (accepted-lawful p t n e)

@@ -7,7 +7,7 @@ use Rattle.tables.specs.declared.Checked.the-variants.{Accepted, Refused
 use Rattle.tables.specs.declared.Refusal.the-variants.{NotATable, BadTable, BadProgram}
 use Rattle.tables.specs.Kinds.{rowOf}
 use Rattle.tables.specs.Lines.{fields, lineOf}
-use Rattle.tables.specs.Layout.{filledBy, recordsOf, filled, tableWith}
+use Rattle.tables.specs.Layout.{held, filledBy, recordsOf, withIds, filled, wordsFor, tableWith}
 use Rattle.tables.specs.Types.{tyAt, given, context}
 use Rattle.tables.specs.Rules.{suits, fault}
 use Rattle.tables.specs.Tables.{checked}
@@ -52,10 +52,25 @@ programs : checked true (tableWith true (fields 4 3 0 0 0 ∷ fields 56 3 1 0 0 
 unfolding checked fault suits rowOf filledBy
 programs = refl
 
--- records lie one behind the other, and words past them are 0
-laid : filled false 15 (fields 1 0 8 0 0 ∷ fields 4 1 0 0 0 ∷ []) ≡ 1 ∷ 0 ∷ 8 ∷ 0 ∷ 0 ∷ 4 ∷ 1 ∷ 0 ∷ 0 ∷ 0 ∷ 0 ∷ 0 ∷ 0 ∷ 0 ∷ 0 ∷ []
+-- records lie one behind the other, a circuit's with their ids behind them, and words past them are 0
+laid : filled false 18 (withIds (fields 1 0 8 0 0 ∷ fields 4 1 0 0 0 ∷ []) (5 ∷ 9 ∷ [])) ≡ 1 ∷ 0 ∷ 8 ∷ 0 ∷ 0 ∷ 5 ∷ 4 ∷ 1 ∷ 0 ∷ 0 ∷ 0 ∷ 9 ∷ 0 ∷ 0 ∷ 0 ∷ 0 ∷ 0 ∷ 0 ∷ []
 unfolding filledBy
 laid = refl
 
 read-back : recordsOf true (4 ∷ 3 ∷ 0 ∷ 0 ∷ 0 ∷ 56 ∷ 3 ∷ 1 ∷ 0 ∷ 0 ∷ []) 2 ≡ fields 4 3 0 0 0 ∷ fields 56 3 1 0 0 ∷ []
 read-back = refl
+
+-- 1 sort bitvec 1, 2 input 1 with these ids
+abbrev ofIds : List ℕ → List ℕ
+ofIds ds = filled false (wordsFor false 2) (withIds (fields 1 0 1 0 0 ∷ fields 4 1 0 0 0 ∷ []) ds)
+
+-- ids with a gap, up to the largest; equal ids; falling ones; 0; one too large; equal ids of which one counts
+ids : checked false (ofIds (5 ∷ 4294967295 ∷ [])) 2 ∷ checked false (ofIds (5 ∷ 5 ∷ [])) 2 ∷ checked false (ofIds (5 ∷ 4 ∷ [])) 2
+    ∷ checked false (ofIds (0 ∷ 1 ∷ [])) 2 ∷ checked false (ofIds (5 ∷ 4294967296 ∷ [])) 2 ∷ checked false (ofIds (5 ∷ 5 ∷ [])) 1 ∷ []
+    ≡ Accepted ∷ Refused BadTable ∷ Refused BadTable ∷ Refused BadTable ∷ Refused BadTable ∷ Accepted ∷ []
+unfolding checked fault suits rowOf filledBy
+ids = refl
+
+-- 30 words are five records of a circuit and six of a program
+sizes : held false 30 ∷ held true 30 ∷ [] ≡ 5 ∷ 6 ∷ []
+sizes = refl

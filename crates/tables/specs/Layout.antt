@@ -1,9 +1,10 @@
 -- How records lie in a list of words: nothing outside this file, the laws of `proofs/Layouts` and the code of `records` knows it. The flag p says that the list is a
--- program's, else it is a circuit's. A record that is handed about is its five words: kind, sort line (in a program the width) and three operands. Records and words are counted from 0 here.
+-- program's, else it is a circuit's. A record that is handed about is its five words: kind, sort line (in a program the width) and three operands. In a circuit's list a sixth
+-- word stands behind them, the line's id as written. Records and words are counted from 0 here.
 -- Assumes nothing.
 use Prim.Native.Nat.{ℕ, zero, suc, _+_, _*_, _/_, _%_, min}
 use mathlib.Core.Bool.{Bool, true, false}
-use mathlib.Core.List.{List, [], _∷_, map}
+use mathlib.Core.List.{List, [], _∷_, _++_, map}
 use lib.Dec.{eqb}
 use lib.ListN.{length, getD, set, replicate}
 use Rattle.tables.specs.Lines.{Line, lineOf}
@@ -15,7 +16,7 @@ abbrev pub recordWords : ℕ
 recordWords = 5
 
 abbrev pub recordSize : Bool → ℕ
-recordSize false = 5
+recordSize false = 6
 recordSize true = 5
 
 -- a list that holds no whole number of records is no table
@@ -88,20 +89,49 @@ recordsOf p t n = rowsFrom (placing p) recordWords t 0 n
 abbrev pub linesOf : Bool → List ℕ → (n : ℕ) → List Line
 linesOf p t n = map lineOf (recordsOf p t n)
 
--- a list with the record r at the place i, and with the records rs from i on
-abbrev pub recorded : Bool → List ℕ → (i : ℕ) → (r : List ℕ) → List ℕ
-recorded p t i r = rowSet (placing p) t i r
+-- the id of the record i of a circuit's list, and those of its first n records
+abbrev pub idAt : List ℕ → (i : ℕ) → ℕ
+idAt t i = getD t (placing false (length t) i recordWords) 0
 
-abbrev pub putAll : Bool → List ℕ → (i : ℕ) → (rs : List (List ℕ)) → List ℕ
-putAll p t i rs = putRows (placing p) t i rs
+abbrev pub idsFrom : List ℕ → (i n : ℕ) → List ℕ
+idsFrom t i zero = []
+idsFrom t i (suc n) = idAt t i ∷ idsFrom t (suc i) n
 
--- a list of len words that holds the records rs, and zeros past them
-abbrev pub filled : Bool → (len : ℕ) → (rs : List (List ℕ)) → List ℕ
-filled p len rs = filledBy (placing p) len rs
+abbrev pub idsOf : List ℕ → (n : ℕ) → List ℕ
+idsOf t n = idsFrom t 0 n
 
--- the words of a list that holds n records and no more, and such a list
+-- the row of a record is all its words in a list: in a program's its five, in a circuit's an id behind them
+abbrev pub withId : List ℕ → (d : ℕ) → List ℕ
+withId r d = r ++ (d ∷ [])
+
+abbrev pub withIds : List (List ℕ) → (ds : List ℕ) → List (List ℕ)
+withIds (r ∷ rs) (d ∷ ds) = withId r d ∷ withIds rs ds
+withIds (r ∷ rs) [] = []
+withIds [] ds = []
+
+-- n numbers from i on, and the rows of records that are numbered so: 1, 2, 3
+abbrev pub from : (i n : ℕ) → List ℕ
+from i zero = []
+from i (suc n) = i ∷ from (suc i) n
+
+abbrev pub numbered : Bool → (rs : List (List ℕ)) → List (List ℕ)
+numbered false rs = withIds rs (from 1 (length rs))
+numbered true rs = rs
+
+-- a list with the row x at the place i, and with the rows xs from i on
+abbrev pub recorded : Bool → List ℕ → (i : ℕ) → (x : List ℕ) → List ℕ
+recorded p t i x = rowSet (placing p) t i x
+
+abbrev pub putAll : Bool → List ℕ → (i : ℕ) → (xs : List (List ℕ)) → List ℕ
+putAll p t i xs = putRows (placing p) t i xs
+
+-- a list of len words that holds the rows xs, and zeros past them
+abbrev pub filled : Bool → (len : ℕ) → (xs : List (List ℕ)) → List ℕ
+filled p len xs = filledBy (placing p) len xs
+
+-- the words of a list that holds n records and no more, and such a list of the records rs, numbered 1, 2, 3
 abbrev pub wordsFor : Bool → (n : ℕ) → ℕ
 wordsFor p n = recordSize p * n
 
 abbrev pub tableWith : Bool → (rs : List (List ℕ)) → List ℕ
-tableWith p rs = filled p (wordsFor p (length rs)) rs
+tableWith p rs = filled p (wordsFor p (length rs)) (numbered p rs)

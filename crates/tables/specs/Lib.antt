@@ -2,6 +2,7 @@ pub mod Pick
 pub mod Kinds
 pub mod Lines
 pub mod Layout
+pub mod Ids
 pub mod Types
 pub mod Cone
 pub mod Rules

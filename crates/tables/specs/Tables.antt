@@ -13,6 +13,7 @@ use Rattle.tables.specs.Pick.{pick, inside, all}
 use Rattle.tables.specs.Kinds.{rowOf, sortClass, firstClass, secondClass, thirdClass}
 use Rattle.tables.specs.Lines.{lineOf, kindIn, sortIn, firstIn, secondIn, thirdIn}
 use Rattle.tables.specs.Layout.{whole, room, recordsOf}
+use Rattle.tables.specs.Ids.{idsRight}
 use Rattle.tables.specs.Types.{Ctx, tyAt, given, grow, noCtx}
 use Rattle.tables.specs.Rules.{fault}
 
@@ -42,7 +43,7 @@ abbrev pub lawful : Bool → Ctx → List (List ℕ) → Bool
 lawful p c [] = true
 lawful p c (r ∷ rs) = keeps p (tyAt c) (given c) r && lawful p (grow p c (lineOf r)) rs
 
--- what is answered where the count exceeds the table or 16,384, or a record breaks a rule: 11, for a program 20
+-- what is answered where the count exceeds the table or 16,384, a record breaks a rule, or an id of a circuit does not rise: 11, for a program 20
 abbrev pub broken : Bool → Refusal
 broken false = BadTable
 broken true = BadProgram
@@ -50,5 +51,5 @@ broken true = BadProgram
 unfoldable pub checked : Bool → List ℕ → ℕ → Checked
 checked p t n =
     pick (whole p (length t))
-    (pick (leb n (room p (length t)) && lawful p noCtx (recordsOf p t n)) Accepted (Refused (broken p)))
+    (pick (leb n (room p (length t)) && (lawful p noCtx (recordsOf p t n) && idsRight p t n)) Accepted (Refused (broken p)))
     (Refused NotATable)

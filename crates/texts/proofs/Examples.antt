@@ -8,16 +8,17 @@ use mathlib.Core.List.{List, [], _∷_, map}
 use native.Mathlib.Omega.{arith}
 use lib.Dec.{T, leb, leb→le}
 use lib.ListN.{length, take, drop}
-use Rattle.tables.specs.declared.Refusal.the-variants.{WrongId, NoRecordLeft, UnknownWord, BadOperand, NumberTooLarge, WrongClass, Misfit, InitOrNext}
+use Rattle.tables.specs.declared.Refusal.the-variants.{NotATable, WrongId, NoRecordLeft, UnknownWord, BadOperand, NumberTooLarge, WrongClass, Misfit, InitOrNext}
 use Rattle.tables.specs.declared.Checked.the-variants.{Accepted}
 use Rattle.tables.specs.Kinds.{rowOf}
 use Rattle.tables.specs.Lines.{fields}
-use Rattle.tables.specs.Layout.{recordsOf, filledBy, wordsFor, tableWith}
+use Rattle.tables.specs.Layout.{recordsOf, filledBy, from, wordsFor, tableWith}
 use Rattle.tables.specs.Rules.{suits, fault}
 use Rattle.tables.specs.Tables.{checked}
 use Rattle.texts.specs.Forms.{formRow}
 use Rattle.texts.specs.Split.{split, upTo, tokens}
 use Rattle.texts.specs.Decimal.{digit, allIn, valueFrom, valued, scanned, decimal, digitsIn, digits, digitsF}
+use Rattle.texts.specs.Operands.{resolved}
 use Rattle.texts.specs.Reading.{findIn, wordIn, settled, lowest, readLine, readLines, readText, Text, done, refused}
 use Rattle.texts.specs.Writing.{writeFrom, writeText}
 use Rattle.texts.specs.Naming.{lineFrom, nameOf, namePlace}
@@ -37,8 +38,8 @@ records =
     fields 1 0 1 0 0 ∷ fields 1 0 3 0 0 ∷ fields 2 0 1 2 0 ∷ fields 5 3 0 0 0 ∷ fields 4 1 0 0 0 ∷ fields 3 2 5 0 0 ∷ fields 55 3 4 5 6 ∷ fields 7 3 4 7 0 ∷ fields 54 2 4 5 0 ∷ fields 21 1 9 6 0
     ∷ fields 8 0 10 0 0 ∷ []
 
-pub sample-read : readText (wordsFor false 20) (bytes sample) ≡ done records
-unfolding bytes readText readLines readLine lowest settled wordIn findIn formRow rowOf fault suits split upTo tokens decimal scanned valued digitsIn allIn valueFrom digit
+pub sample-read : readText (wordsFor false 20) (bytes sample) ≡ done records (from 1 11)
+unfolding bytes readText readLines readLine lowest settled resolved wordIn findIn formRow rowOf fault suits split upTo tokens decimal scanned valued digitsIn allIn valueFrom digit
 sample-read = refl
 
 pub sample-written : writeText records ≡ bytes sample
@@ -57,8 +58,21 @@ sample-short : T (leb (length (writeText (recordsOf false table 11))) 65536)
 unfolding writeText writeFrom digits digitsF rowOf filledBy
 sample-short = tt
 
-pub sample-trip : readText (wordsFor false 20) (writeText (recordsOf false table 11)) ≡ done (recordsOf false table 11)
+pub sample-trip : readText (wordsFor false 20) (writeText (recordsOf false table 11)) ≡ done (recordsOf false table 11) (from 1 11)
 sample-trip = round-trip table 11 (wordsFor false 20) sample-accepted (leb→le (length (writeText (recordsOf false table 11))) 65536 sample-short) refl (leb→le 11 20 tt)
+
+-- ---- the same circuit with gaps in its ids: the same records; written, it is the text above
+
+abbrev gaps : String
+gaps = "5 sort bitvec 1\n9 sort bitvec 3\n10 sort array 5 9\n40 state 10\n41 input 5\n50 constd 9 5\n70 write 10 40 41 50\n71 next 10 40 70 store\n90 read 9 40 41\n100 eq 5 90 50\n4294967295 bad 100\n"
+
+pub gaps-read : readText 72 (bytes gaps) ≡ done records (5 ∷ 9 ∷ 10 ∷ 40 ∷ 41 ∷ 50 ∷ 70 ∷ 71 ∷ 90 ∷ 100 ∷ 4294967295 ∷ [])
+unfolding bytes readText readLines readLine lowest settled resolved wordIn findIn formRow rowOf fault suits split upTo tokens decimal scanned valued digitsIn allIn valueFrom digit
+gaps-read = refl
+
+pub gaps-named : map (nameOf (bytes gaps)) (71 ∷ 8 ∷ []) ≡ bytes "store" ∷ [] ∷ []
+unfolding bytes nameOf lineFrom wordIn findIn formRow rowOf split upTo tokens decimal scanned valued allIn valueFrom digit
+gaps-named = refl
 
 -- ---- a text for each refusal, with its text line; there is room for five records
 
@@ -76,8 +90,34 @@ pub refusals : answers (
     ∷ "1 sort bitvec 1\n2 state 1\n3 next 1 2 2\n4 next 1 2 2\n"
     ∷ [])
     ≡ refused WrongId 3 ∷ refused NoRecordLeft 7 ∷ refused UnknownWord 2 ∷ refused BadOperand 3 ∷ refused NumberTooLarge 1 ∷ refused WrongClass 3 ∷ refused Misfit 2 ∷ refused InitOrNext 4 ∷ []
-unfolding answers bytes readText readLines readLine lowest settled wordIn findIn formRow rowOf fault suits split upTo tokens decimal scanned valued digitsIn allIn valueFrom digit
+unfolding answers bytes readText readLines readLine lowest settled resolved wordIn findIn formRow rowOf fault suits split upTo tokens decimal scanned valued digitsIn allIn valueFrom digit
 refusals = refl
+
+-- ids: an equal one, a lower one, one too large, one above 2 ^ 64 - 1, 0; an operand that names a hole, its own line, a later line, no line as large as a number may be; one that
+-- is no number of 64 bits; a wrong id in a line that has no record left
+pub wrong-ids : map (λ s. readText (wordsFor false 2) (bytes s)) (
+    "5 sort bitvec 1\n5 input 5\n"
+    ∷ "5 sort bitvec 1\n4 input 5\n"
+    ∷ "5 sort bitvec 1\n4294967296 input 5\n"
+    ∷ "5 sort bitvec 1\n18446744073709551616 input 5\n"
+    ∷ "0 sort bitvec 1\n"
+    ∷ "5 sort bitvec 1\n6 input 1\n"
+    ∷ "5 sort bitvec 1\n6 input 6\n"
+    ∷ "5 sort bitvec 1\n6 input 7\n7 input 5\n"
+    ∷ "5 sort bitvec 1\n6 input 18446744073709551615\n"
+    ∷ "5 sort bitvec 1\n6 input 18446744073709551616\n"
+    ∷ "5 sort bitvec 1\n6 input 5\n6 input 5\n"
+    ∷ [])
+    ≡ refused WrongId 2 ∷ refused WrongId 2 ∷ refused WrongId 2 ∷ refused WrongId 2 ∷ refused WrongId 1 ∷ refused WrongClass 2 ∷ refused WrongClass 2 ∷ refused WrongClass 2
+    ∷ refused WrongClass 2 ∷ refused NumberTooLarge 2 ∷ refused WrongId 3 ∷ []
+unfolding bytes readText readLines readLine lowest settled resolved wordIn findIn formRow rowOf fault suits split upTo tokens decimal scanned valued digitsIn allIn valueFrom digit
+wrong-ids = refl
+
+-- a list of 10 words is no table of a circuit; one of 6 holds one record, one of 12 two
+pub lengths : map (λ len. readText len (bytes "5 sort bitvec 1\n6 input 5\n")) (10 ∷ 6 ∷ 12 ∷ [])
+    ≡ refused NotATable 0 ∷ refused NoRecordLeft 2 ∷ done (fields 1 0 1 0 0 ∷ fields 4 1 0 0 0 ∷ []) (5 ∷ 6 ∷ []) ∷ []
+unfolding bytes readText readLines readLine lowest settled resolved wordIn findIn formRow rowOf fault suits split upTo tokens decimal scanned valued digitsIn allIn valueFrom digit
+lengths = refl
 
 -- ---- names
 

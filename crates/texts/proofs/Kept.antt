@@ -1,5 +1,5 @@
 -- A record that reading gives keeps the rules: its kind is known, the words that its line does not use are 0, and 8, 9 and 10 do not hold of it. Assumes nothing.
-use Prim.Native.Nat.{ℕ, zero, suc, _+_, _-_, _≤_, _<_}
+use Prim.Native.Nat.{ℕ, zero, suc, _+_, _-_, _^_, _≤_, _<_}
 use mathlib.Core.Path.{_≡_, refl, sym, ap, _∙_, subst}
 use mathlib.Core.Bool.{Bool, true, false, not, _&&_, _||_}
 use mathlib.Core.List.{List, [], _∷_}
@@ -12,15 +12,19 @@ use borrow.Author.Tests.{eqb-true, eqb-false, eq-eqb, ltb-true, leb-true}
 use Rattle.tables.specs.declared.Ty.{Ty}
 use Rattle.tables.specs.Pick.{pick, all, inside}
 use Rattle.tables.specs.Kinds.{rowOf, sortClass, firstClass, secondClass, thirdClass}
-use Rattle.tables.specs.Lines.{kindIn, sortIn, firstIn, secondIn, thirdIn}
+use Rattle.tables.specs.Lines.{fields, kindIn, sortIn, firstIn, secondIn, thirdIn}
 use Rattle.tables.specs.Layout.{recordWords}
 use Rattle.tables.specs.Rules.{fault}
 use Rattle.tables.specs.Tables.{known, unused, tidy, formed, keeps}
+use Rattle.tables.specs.Ids.{follows}
 use Rattle.tables.proofs.Every.{every, at-each}
+use Rattle.tables.proofs.Places.{fields-of}
 use Rattle.texts.specs.declared.Num.{Num}
 use Rattle.texts.specs.declared.Num.the-variants.{Bad, Big, Is}
 use Rattle.texts.specs.Forms.{formRow, kindOf, firstOf, numbersOf}
-use Rattle.texts.specs.Reading.{Word, word, unknown, wordIn, formOf, behind, numbersFrom, placed, numberTokens, numbersIn, fresh, writtenRecord, settled, recordIn, refusals, got, lowest, readLine}
+use Rattle.texts.specs.Decimal.{decimal}
+use Rattle.texts.specs.Operands.{meant, resolved}
+use Rattle.texts.specs.Reading.{Word, word, unknown, wordIn, formOf, behind, numbersFrom, placed, numberTokens, numbersIn, lastOf, fresh, writtenRecord, settled, recordIn, isNext, valueOf, lineId, refusals, got, lowest, readLine}
 use Rattle.texts.proofs.Words.{InForms, word-forms}
 use Rattle.texts.proofs.Steps.{settled-one, settled-ones, settled-other, settled-kind}
 use Rattle.texts.proofs.Lowest.{NoneHolds, got-none}
@@ -129,14 +133,6 @@ module _ (w f : ℕ) (one-up : 1 ≤ f) (most : f ≤ 60) (rec : List ℕ) (l : 
       go false true x y = ap (λ (r : List ℕ). getD r p 0) (settled-ones w f rec (eqb-true f 60 y)) ∙ getD-set-other rec 2 p _ 0 n
       go false false x y = ap (λ (r : List ℕ). getD r p 0) (settled-other w f rec (eqb-false f 59 x) (eqb-false f 60 y))
 
-  settled-length : length (settled w f rec) ≡ recordWords
-  settled-length = go (eqb f 59) (eqb f 60) refl refl
-    where
-      go : (a b : Bool) → eqb f 59 ≡ a → eqb f 60 ≡ b → length (settled w f rec) ≡ recordWords
-      go true b x y = ap length (settled-one w f rec (eqb-true f 59 x)) ∙ (length-set rec 2 _ ∙ l .same-length)
-      go false true x y = ap length (settled-ones w f rec (eqb-true f 60 y)) ∙ (length-set rec 2 _ ∙ l .same-length)
-      go false false x y = ap length (settled-other w f rec (eqb-false f 59 x) (eqb-false f 60 y)) ∙ l .same-length
-
   -- a place that is not the value's
   zero-place : (p : ℕ) → (p ≡ 2 → ⊥) → getD (fresh (kindOf f)) p 0 ≡ 0 → T (beyond (firstOf (formRow f)) (numbersOf (formRow f)) p) → getD (settled w f rec) p 0 ≡ 0
   zero-place p n z h = settled-place p n ∙ (l .same-place p (outside-of j m p h) ∙ z)
@@ -176,6 +172,65 @@ module _ (w f : ℕ) (one-up : 1 ≤ f) (most : f ≤ 60) (rec : List ℕ) (l : 
           go true t o = eq-eqb (firstIn (settled w f rec)) 0 (zero-value (leb-true f 58 (yes (leb f 58) t)) o)
           go false t o = refl
 
+-- ---- places for ids: a word that the line does not use stays
+
+unused-meant : (k : ℕ) (ds : List ℕ) (v : ℕ) → unused k (meant k ds v) ≡ unused k v
+unused-meant k ds v = go (eqb k 0) refl
+  where
+    go : (q : Bool) → eqb k 0 ≡ q → unused k (meant k ds v) ≡ unused k v
+    go true e = rw e refl
+    go false e = rw e refl
+
+formed-resolved : (ds : List ℕ) (k s a b c : ℕ) → formed false (fields k s a b c) ≡ true → formed false (resolved ds (fields k s a b c)) ≡ true
+unfolding resolved
+formed-resolved ds k s a b c h =
+    rw (unused-meant (sortClass (rowOf k)) ds s, unused-meant (firstClass (rowOf k)) ds a, unused-meant (secondClass (rowOf k)) ds b, unused-meant (thirdClass (rowOf k)) ds c) h
+
+-- and where a value is put
+formed-value : (ds : List ℕ) (k s a b c v : ℕ) → formed false (fields k s v b c) ≡ true → formed false (set (resolved ds (fields k s a b c)) 2 v) ≡ true
+unfolding resolved
+formed-value ds k s a b c v h = rw (unused-meant (sortClass (rowOf k)) ds s, unused-meant (secondClass (rowOf k)) ds b, unused-meant (thirdClass (rowOf k)) ds c) h
+
+module _ (w f : ℕ) (ds : List ℕ) (k s a b c : ℕ) where
+  abbrev Formed : List ℕ → Type 0
+  Formed y = formed false y ≡ true
+
+  abbrev words : List ℕ
+  words = fields k s a b c
+
+  with-value : (v : ℕ) → settled w f words ≡ set words 2 v → settled w f (resolved ds words) ≡ set (resolved ds words) 2 v → Formed (settled w f words) → Formed (settled w f (resolved ds words))
+  with-value v p q g = subst Formed (sym q) (formed-value ds k s a b c v (subst Formed p g))
+
+  settled-fields : Formed (settled w f words) → Formed (settled w f (resolved ds words))
+  settled-fields g = go (eqb f 59) (eqb f 60) refl refl
+    where
+      go : (p q : Bool) → eqb f 59 ≡ p → eqb f 60 ≡ q → Formed (settled w f (resolved ds words))
+      go true q ep eq = let n = eqb-true f 59 ep in with-value 1 (settled-one w f words n) (settled-one w f (resolved ds words) n) g
+      go false true ep eq = let n = eqb-true f 60 eq in with-value (2 ^ w - 1) (settled-ones w f words n) (settled-ones w f (resolved ds words) n) g
+      go false false ep eq =
+          let x = eqb-false f 59 ep in
+          let y = eqb-false f 60 eq in
+          subst Formed (sym (settled-other w f (resolved ds words) x y)) (formed-resolved ds k s a b c (subst Formed (settled-other w f words x y) g))
+
+settled-formed : (w f : ℕ) (ds r : List ℕ) → length r ≡ recordWords → formed false (settled w f r) ≡ true → formed false (settled w f (resolved ds r)) ≡ true
+settled-formed w f ds r l h =
+    let e = fields-of r l in
+    subst (λ (x : List ℕ). formed false (settled w f (resolved ds x)) ≡ true) (sym e)
+    (settled-fields w f ds (kindIn r) (sortIn r) (firstIn r) (secondIn r) (thirdIn r) (subst (λ (x : List ℕ). formed false (settled w f x) ≡ true) e h))
+
+resolved-length : (ds r : List ℕ) → length (resolved ds r) ≡ recordWords
+unfolding resolved
+resolved-length ds r = refl
+
+value-length : (w f : ℕ) (r : List ℕ) → length (settled w f r) ≡ length r
+unfolding settled
+value-length w f r = go (eqb f 59) (eqb f 60) refl refl
+  where
+    go : (p q : Bool) → eqb f 59 ≡ p → eqb f 60 ≡ q → length (settled w f r) ≡ length r
+    go true q ep eq = rw (ep, settled) (length-set r 2 1)
+    go false true ep eq = rw (ep, eq, settled) (length-set r 2 (2 ^ w - 1))
+    go false false ep eq = rw (ep, eq, settled) refl
+
 first-low : (r : List ℕ) → 1 ≤ firstOf r
 first-low r = go (eqb (sortClass r) 0)
   where
@@ -201,44 +256,59 @@ module _ (L : ℕ → Ty) (G : Bool → ℕ → Bool) where
       go true e = refl
       go false e = absurd (eqb-false _ 10 z (last-rule L G rec (eqb-false _ 0 e) (eqb-false _ 8 x) (eqb-false _ 9 y)))
 
-  -- of a word that is known
-  module _ (m n : ℕ) (t : List ℕ) (w : Word) (forms : InForms w) (r : List ℕ)
-      (e : lowest (refusals L G m n t (formOf w) (behind w)) (recordIn L (formOf w) (behind w)) ≡ got r) where
-    none : NoneHolds (refusals L G m n t (formOf w) (behind w))
-    none = got-none (refusals L G m n t (formOf w) (behind w)) (recordIn L (formOf w) (behind w)) r e .0
+  module _ (m : ℕ) (ds : List ℕ) where
+    -- of a word that is known
+    module _ (t : List ℕ) (w : Word) (forms : InForms w) (r : List ℕ)
+        (e : lowest (refusals L G m ds t (formOf w) (behind w)) (recordIn L ds (formOf w) (behind w)) ≡ got r) where
+      none : NoneHolds (refusals L G m ds t (formOf w) (behind w))
+      none = got-none (refusals L G m ds t (formOf w) (behind w)) (recordIn L ds (formOf w) (behind w)) r e .0
 
-    is-record : recordIn L (formOf w) (behind w) ≡ r
-    is-record = got-none (refusals L G m n t (formOf w) (behind w)) (recordIn L (formOf w) (behind w)) r e .1
+      is-record : recordIn L ds (formOf w) (behind w) ≡ r
+      is-record = got-none (refusals L G m ds t (formOf w) (behind w)) (recordIn L ds (formOf w) (behind w)) r e .1
 
-    line-room : n < m
-    line-room = ltb-true n m (not-not (ltb n m) (none .1 .0))
+      line-id : isNext (decimal t) (lastOf 0 ds) ≡ true
+      line-id = not-not (isNext (decimal t) (lastOf 0 ds)) (none .0)
 
-    in-forms : (v : Word) → InForms v → eqb (formOf v) 0 ≡ false → (1 ≤ formOf v) × (formOf v ≤ 60)
-    in-forms unknown h k = let z : _≡_ {A = ℕ} 0 1 = cc in absurd (omega arith)
-    in-forms (word f ts) h k = h
+      line-room : length ds < m
+      line-room = ltb-true (length ds) m (not-not (ltb (length ds) m) (none .1 .0))
 
-    line-keeps : (keeps false L G r ≡ true) × (length r ≡ recordWords)
-    line-keeps =
-        let f : ℕ = formOf w in
-        let x : List ℕ = writtenRecord f (behind w) in
-        let b = in-forms w forms (none .1 .1 .0) in
-        let l = left-written f (behind w) in
-        let h = none .1 .1 .1 .1 .1 in
-        let k = no-fault (recordIn L f (behind w)) (h .0) (first-not _ _ (h .1 .0)) (h .1 .1 .0) in
-        subst (λ (y : List ℕ). (keeps false L G y ≡ true) × (length y ≡ recordWords)) is-record (
-          both-true (formed false (recordIn L f (behind w))) _ (taken-formed (L (sortIn x) .w) f (b .0) (b .1) x l (first-low (formRow f))) k,
-          settled-length (L (sortIn x) .w) f (b .0) (b .1) x l (first-low (formRow f)),
-        )
+      in-forms : (v : Word) → InForms v → eqb (formOf v) 0 ≡ false → (1 ≤ formOf v) × (formOf v ≤ 60)
+      in-forms unknown h k = let z : _≡_ {A = ℕ} 0 1 = cc in absurd (omega arith)
+      in-forms (word f ts) h k = h
 
-  module _ (m n : ℕ) where
-    -- a line that gives a record has an id and a word
-    first-token : (ts : List (List ℕ)) (rec : List ℕ) → readLine L G m n ts ≡ got rec → ((keeps false L G rec ≡ true) × (length rec ≡ recordWords)) × (n < m)
+      line-keeps : (keeps false L G r ≡ true) × (length r ≡ recordWords)
+      line-keeps =
+          let f : ℕ = formOf w in
+          let x : List ℕ = writtenRecord f (behind w) in
+          let b = in-forms w forms (none .1 .1 .0) in
+          let l = left-written f (behind w) in
+          let h = none .1 .1 .1 .1 .1 in
+          let k = no-fault (recordIn L ds f (behind w)) (h .0) (first-not _ _ (h .1 .0)) (h .1 .1 .0) in
+          let v = L (sortIn (resolved ds x)) .w in
+          let g = settled-formed v f ds x (l .same-length) (taken-formed v f (b .0) (b .1) x l (first-low (formRow f))) in
+          subst (λ (y : List ℕ). (keeps false L G y ≡ true) × (length y ≡ recordWords)) is-record
+          (both-true (formed false (recordIn L ds f (behind w))) _ g k, value-length v f (resolved ds x) ∙ resolved-length ds x)
+
+    -- a line that gives a record has an id and a word: its record keeps the rules, there is room for it, and its id follows
+    pub record Gives (ts : List (List ℕ)) (rec : List ℕ) : Type 0 where
+      pub rules : keeps false L G rec ≡ true
+      pub sized : length rec ≡ recordWords
+      pub left : length ds < m
+      pub next : follows (lastOf 0 ds) (lineId ts) ≡ true
+
+    next-value : (x : Num) (l : ℕ) → isNext x l ≡ true → follows l (valueOf x) ≡ true
+    next-value Bad l h = let z : _≡_ {A = ℕ} 0 1 = cc in absurd (omega arith)
+    next-value Big l h = let z : _≡_ {A = ℕ} 0 1 = cc in absurd (omega arith)
+    next-value (Is v) l h = h
+
+    pub got-gives : (ts : List (List ℕ)) (rec : List ℕ) → readLine L G m ds ts ≡ got rec → Gives ts rec
     unfolding readLine
-    first-token [] rec e = let z : _≡_ {A = ℕ} 0 1 = cc in absurd (omega arith)
-    first-token (t ∷ ts) rec e = (line-keeps m n t (wordIn ts) (word-forms ts) rec e, line-room m n t (wordIn ts) (word-forms ts) rec e)
-
-    pub got-keeps : (ts : List (List ℕ)) (rec : List ℕ) → readLine L G m n ts ≡ got rec → (keeps false L G rec ≡ true) × (length rec ≡ recordWords)
-    got-keeps ts rec e = first-token ts rec e .0
-
-    pub got-room : (ts : List (List ℕ)) (rec : List ℕ) → readLine L G m n ts ≡ got rec → n < m
-    got-room ts rec e = first-token ts rec e .1
+    got-gives [] rec e = let z : _≡_ {A = ℕ} 0 1 = cc in absurd (omega arith)
+    got-gives (t ∷ ts) rec e =
+        let k = line-keeps t (wordIn ts) (word-forms ts) rec e in
+        record {
+          rules = k .0;
+          sized = k .1;
+          left = line-room t (wordIn ts) (word-forms ts) rec e;
+          next = next-value (decimal t) (lastOf 0 ds) (line-id t (wordIn ts) (word-forms ts) rec e);
+        }

@@ -4,10 +4,13 @@ pub mod Words
 pub mod Scan
 pub mod Places
 pub mod Steps
+pub mod Resolving
 pub mod Lowest
 pub mod Staged
 pub mod Kept
+pub mod Readouts
 pub mod Reached
+pub mod InOrder
 pub mod Bounded
 pub mod Round
 pub mod Examples

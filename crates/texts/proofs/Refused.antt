@@ -15,7 +15,7 @@ use Rattle.tables.specs.Lines.{lineOf}
 use Rattle.tables.specs.Layout.{whole, room}
 use Rattle.tables.specs.Types.{Ctx, noCtx, tyAt, given, grow}
 use Rattle.texts.specs.Split.{glue, split}
-use Rattle.texts.specs.Reading.{formOf, behind, wordIn, recordIn, refusals, Reply, skip, no, got, lowest, lineTokens, readLine, refused, readLines, readText}
+use Rattle.texts.specs.Reading.{formOf, behind, wordIn, recordIn, refusals, Reply, skip, no, got, lowest, lineId, lineTokens, readLine, refused, readLines, readText}
 use Rattle.texts.proofs.Lowest.{holds, passes}
 use Rattle.texts.proofs.Reached.{step-got, step-skip, step-no, text-1, text-2, text-lines}
 
@@ -37,11 +37,11 @@ lowest-no (x ∷ xs) rec r h e = go (x .1) refl (lowest-no xs rec r (h .1))
         subst (λ (y : Refusal). numberOf y ≤ 10) w (h .0)
     go false q f = f (sym (passes (x .0) (x .1) xs rec q) ∙ e)
 
-line-no : (L : ℕ → Ty) (G : Bool → ℕ → Bool) (m n : ℕ) (ts : List (List ℕ)) (r : Refusal) → readLine L G m n ts ≡ no r → numberOf r ≤ 10
+line-no : (L : ℕ → Ty) (G : Bool → ℕ → Bool) (m : ℕ) (ds : List ℕ) (ts : List (List ℕ)) (r : Refusal) → readLine L G m ds ts ≡ no r → numberOf r ≤ 10
 unfolding readLine
-line-no L G m n [] r e = let w : _≡_ {A = ℕ} 0 1 = cc in absurd (omega arith)
-line-no L G m n (t ∷ ts) r e =
-    lowest-no (refusals L G m n t (formOf (wordIn ts)) (behind (wordIn ts))) (recordIn L (formOf (wordIn ts)) (behind (wordIn ts))) r
+line-no L G m ds [] r e = let w : _≡_ {A = ℕ} 0 1 = cc in absurd (omega arith)
+line-no L G m ds (t ∷ ts) r e =
+    lowest-no (refusals L G m ds t (formOf (wordIn ts)) (behind (wordIn ts))) (recordIn L ds (formOf (wordIn ts)) (behind (wordIn ts))) r
     (lit≤ tt, (lit≤ tt, (lit≤ tt, (lit≤ tt, (lit≤ tt, (lit≤ tt, (lit≤ tt, (lit≤ tt, tt)))))))) e
 
 -- ---- the line
@@ -59,24 +59,24 @@ split-lines b (c ∷ s) = go (eqb c b) (split b s) (split-lines b s)
     go true ls h = omega arith
     go false ls h = omega (arith, glued ls)
 
-lines-no : (m l : ℕ) (c : Ctx) (rs xs : List (List ℕ)) (r : Refusal) (k : ℕ) → readLines m l c rs xs ≡ refused r k → (numberOf r ≤ 10) × (k < l + length xs)
+lines-no : (m l : ℕ) (c : Ctx) (rs : List (List ℕ)) (ds : List ℕ) (xs : List (List ℕ)) (r : Refusal) (k : ℕ) → readLines m l c rs ds xs ≡ refused r k → (numberOf r ≤ 10) × (k < l + length xs)
 unfolding readLines
-lines-no m l c rs [] r k e = let w : _≡_ {A = ℕ} 0 1 = cc in absurd (omega arith)
-lines-no m l c rs (x ∷ xs) r k e =
-    go (readLine (tyAt c) (given c) m (length rs) (lineTokens x)) refl (lines-no m (suc l) c rs xs r k) (λ q. lines-no m (suc l) (grow false c (lineOf q)) (rs ++ (q ∷ [])) xs r k)
+lines-no m l c rs ds [] r k e = let w : _≡_ {A = ℕ} 0 1 = cc in absurd (omega arith)
+lines-no m l c rs ds (x ∷ xs) r k e =
+    go (readLine (tyAt c) (given c) m ds (lineTokens x)) refl (lines-no m (suc l) c rs ds xs r k) (λ q. lines-no m (suc l) (grow false c (lineOf q)) (rs ++ (q ∷ [])) (ds ++ (lineId (lineTokens x) ∷ [])) xs r k)
   where
     on : (numberOf r ≤ 10) × (k < suc l + length xs) → (numberOf r ≤ 10) × (k < l + length (x ∷ xs))
     on h = (h .0, omega (arith, h .1))
 
-    go : (y : Reply) → readLine (tyAt c) (given c) m (length rs) (lineTokens x) ≡ y → (readLines m (suc l) c rs xs ≡ refused r k → (numberOf r ≤ 10) × (k < suc l + length xs))
-        → ((q : List ℕ) → readLines m (suc l) (grow false c (lineOf q)) (rs ++ (q ∷ [])) xs ≡ refused r k → (numberOf r ≤ 10) × (k < suc l + length xs)) → (numberOf r ≤ 10) × (k < l + length (x ∷ xs))
-    go skip h f g = on (f (sym (step-skip m l c rs x xs h) ∙ e))
-    go (got q) h f g = on (g q (sym (step-got m l c rs x xs q h) ∙ e))
+    go : (y : Reply) → readLine (tyAt c) (given c) m ds (lineTokens x) ≡ y → (readLines m (suc l) c rs ds xs ≡ refused r k → (numberOf r ≤ 10) × (k < suc l + length xs))
+        → ((q : List ℕ) → readLines m (suc l) (grow false c (lineOf q)) (rs ++ (q ∷ [])) (ds ++ (lineId (lineTokens x) ∷ [])) xs ≡ refused r k → (numberOf r ≤ 10) × (k < suc l + length xs)) → (numberOf r ≤ 10) × (k < l + length (x ∷ xs))
+    go skip h f g = on (f (sym (step-skip m l c rs ds x xs h) ∙ e))
+    go (got q) h f g = on (g q (sym (step-got m l c rs ds x xs q h) ∙ e))
     go (no q) h f g =
-        let z : refused q l ≡ refused r k = sym (step-no m l c rs x xs q h) ∙ e in
+        let z : refused q l ≡ refused r k = sym (step-no m l c rs ds x xs q h) ∙ e in
         let w : q ≡ r = cc in
         let v : l ≡ k = cc in
-        (subst (λ (y : Refusal). numberOf y ≤ 10) w (line-no (tyAt c) (given c) m (length rs) (lineTokens x) q h), omega arith)
+        (subst (λ (y : Refusal). numberOf y ≤ 10) w (line-no (tyAt c) (given c) m ds (lineTokens x) q h), omega arith)
 
 -- a text has at most 65,537 lines where reading looks at them
 pub text-no : (len : ℕ) (s : List ℕ) (r : Refusal) (l : ℕ) → readText len s ≡ refused r l → (numberOf r ≤ 10) × (l ≤ 65537)
@@ -94,5 +94,5 @@ text-no len s r l e = go (whole false len) (leb (length s) 65536) refl refl
     go true false h k = is TextTooLong (lit≤ tt) (text-2 len s h (leb-false (length s) 65536 k))
     go true true h k =
         let j = leb-true (length s) 65536 k in
-        let x = lines-no (room false len) 1 noCtx [] (split 10 s) r l (sym (text-lines len s h j) ∙ e) in
+        let x = lines-no (room false len) 1 noCtx [] [] (split 10 s) r l (sym (text-lines len s h j) ∙ e) in
         (x .0, omega (arith, x .1, split-lines 10 s))

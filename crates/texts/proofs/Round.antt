@@ -1,4 +1,4 @@
--- The round trip: an accepted table, written as text and read again, gives the same records and the same count. Assumes nothing.
+-- The round trip: an accepted table, written as text and read again, gives the same records and the same count, with the ids 1, 2, 3. Assumes nothing.
 use Prim.Native.Nat.{ℕ, zero, suc, _+_, _-_, _^_, _≤_, _<_}
 use mathlib.Core.Path.{_≡_, refl, sym, ap, ap₂, _∙_, subst}
 use mathlib.Core.Bool.{Bool, true, false, _&&_, _||_, not}
@@ -8,7 +8,7 @@ use lib.Dec.{T, eqb, leb, ltb, eqb→eq, leb→le}
 use lib.ListN.{length, take, drop, getD, set, drop-of-length-le, length-append}
 use lib.Seq.{take-all}
 use mir.Facts.{and-yes}
-use borrow.Author.Tests.{eqb-true, eq-eqb, ne-eqb, lt-ltb, le-ltb, ltb-true}
+use borrow.Author.Tests.{eqb-true, ne-eqb, lt-ltb, le-leb, le-ltb, ltb-true}
 use Rattle.tables.specs.declared.Ty.{Ty}
 use Rattle.tables.specs.declared.Refusal.the-variants.{TextBuffer}
 use Rattle.tables.specs.declared.Checked.{Checked}
@@ -16,7 +16,8 @@ use Rattle.tables.specs.declared.Checked.the-variants.{Accepted, Refused}
 use Rattle.tables.specs.Pick.{pick, inside}
 use Rattle.tables.specs.Kinds.{rowOf, sortClass, operandCount, firstClass, secondClass, thirdClass}
 use Rattle.tables.specs.Lines.{isBitvec, shapeOf, lineOf, fields, kindIn, sortIn, firstIn, secondIn, thirdIn}
-use Rattle.tables.specs.Layout.{recordWords, whole, room, recordsOf}
+use Rattle.tables.specs.Layout.{recordWords, whole, room, recordsOf, from}
+use Rattle.tables.specs.Ids.{mostId}
 use Rattle.tables.specs.Types.{Ctx, noCtx, tyAt, given, grow}
 use Rattle.tables.specs.Rules.{fault}
 use Rattle.tables.specs.Tables.{known, unused, formed, keeps, lawful, checked}
@@ -27,13 +28,15 @@ use Rattle.tables.proofs.Answers.{passed}
 use Rattle.tables.proofs.Kept.{both}
 use Rattle.tables.proofs.Checking.{roomy}
 use Rattle.tables.proofs.Places.{fields-of, fields-eq, length-records}
+use Rattle.tables.proofs.Ids.{length-from, from-append}
 use Rattle.tables.proofs.Sound.{accepted-room, accepted-lawful}
 use Rattle.texts.specs.declared.Num.{Num}
 use Rattle.texts.specs.declared.Num.the-variants.{Is}
 use Rattle.texts.specs.Forms.{formRow, kindOf, firstOf, numbersOf}
 use Rattle.texts.specs.Split.{split, join}
-use Rattle.texts.specs.Decimal.{digits}
-use Rattle.texts.specs.Reading.{Word, word, wordIn, formOf, behind, numberAt, numbersFrom, anyBad, anyBig, placed, numberTokens, extraTokens, numbersIn, fresh, writtenRecord, settled, recordIn, misfit, refusals, got, lowest, readLine, done, lineTokens, readLines, readText}
+use Rattle.texts.specs.Decimal.{decimal, digits}
+use Rattle.texts.specs.Operands.{resolved}
+use Rattle.texts.specs.Reading.{Word, word, wordIn, formOf, behind, numberAt, numbersFrom, anyBad, anyBig, placed, lastOf, numberTokens, extraTokens, numbersIn, fresh, writtenRecord, settled, recordIn, isNext, valueOf, lineId, misfit, refusals, got, lowest, readLine, done, lineTokens, readLines, readText}
 use Rattle.texts.specs.Writing.{numbers, kindTokens, tokensOf, writeFrom, writeText, wrote, refuse, fitted, writeTable}
 use Rattle.texts.proofs.Splitting.{Toks, toks-append, tokens-join, lines-join}
 use Rattle.texts.proofs.Decimals.{digits-tok, decimal-digits}
@@ -41,6 +44,7 @@ use Rattle.texts.proofs.Words.{word-found, word-toks, row-kind, kind-lo
 use Rattle.texts.proofs.Scan.{number-other}
 use Rattle.texts.proofs.Steps.{settled-other}
 use Rattle.texts.proofs.Lowest.{NoneHolds, none-holds}
+use Rattle.texts.proofs.InOrder.{last-from, Numbered, resolved-same, Counted, counted-none, counted-more, numbered-lines}
 use Rattle.texts.proofs.Bounded.{Good, good-lawful}
 use Rattle.texts.proofs.Reached.{step-got, lines-end, text-lines}
 
@@ -210,62 +214,78 @@ module _ (L : ℕ → Ty) (G : Bool → ℕ → Bool) (r : List ℕ) (sized : le
       ∙ (ap (λ (k : ℕ). placed (firstOf row) (values (numbersOf row) (firstOf row) r) (fresh k)) (kind-low (kindIn r) most)
       ∙ (placed-values (numbersOf row) (firstOf row) r (fresh (kindIn r)) ∙ copied-back r sized well)))
 
-  record-same : recordIn L (kindIn r) printed ≡ r
-  record-same = ap (λ (x : List ℕ). settled (L (sortIn x) .w) (kindIn r) x) written-same ∙ settled-same (L (sortIn r) .w)
+  -- after n lines, which are numbered 1, 2, 3
+  module _ (n : ℕ) (lines : Numbered L n) (few : n < 16384) where
+    abbrev ids : List ℕ
+    ids = from 1 n
 
-  -- none of the rules 8, 9 and 10 is broken
-  other-fault : (x : ℕ) → (x ≡ 0 → ⊥) → eqb (fault false L G (recordIn L (kindIn r) printed)) x ≡ false
-  other-fault x h = ne-eqb _ x (λ e. h (sym e ∙ (ap (fault false L G) record-same ∙ free)))
+    record-same : recordIn L ids (kindIn r) printed ≡ r
+    record-same =
+        ap (λ (x : List ℕ). settled (L (sortIn x) .w) (kindIn r) x) (ap (resolved ids) written-same ∙ resolved-same L G n r lines sized kp) ∙ settled-same (L (sortIn r) .w)
 
-  -- 6 and 7
-  operands-fit : (ltb (length printed) (numbersOf (formRow (kindIn r))) || (anyBad (numbersIn (kindIn r) printed) || leb 2 (length (extraTokens (kindIn r) printed)))) ≡ false
-  operands-fit =
-      let a : numbersOf (formRow (kindIn r)) ≤ length printed = omega (arith, ap numbersOf own-row, length-numbers (numbersOf row) (firstOf row) r) in
-      rw (le-ltb (length printed) (numbersOf (formRow (kindIn r))) a, ap anyBad are-values ∙ none-bad (numbersOf row) (firstOf row) r) (ap (λ (x : List (List ℕ)). leb 2 (length x)) none-left)
+    -- none of the rules 8, 9 and 10 is broken
+    other-fault : (x : ℕ) → (x ≡ 0 → ⊥) → eqb (fault false L G (recordIn L ids (kindIn r) printed)) x ≡ false
+    other-fault x h = ne-eqb _ x (λ e. h (sym e ∙ (ap (fault false L G) record-same ∙ free)))
 
-  numbers-fit : (anyBig (numbersIn (kindIn r) printed) || (eqb (kindIn r) 1 && not (inside 1 64 (firstIn (recordIn L (kindIn r) printed))))) ≡ false
-  numbers-fit = rw (ap anyBig are-values ∙ none-big (numbersOf row) (firstOf row) r) (go (eqb (kindIn r) 1) refl)
-    where
-      go : (q : Bool) → eqb (kindIn r) 1 ≡ q → (q && not (inside 1 64 (firstIn (recordIn L (kindIn r) printed)))) ≡ false
-      go true e = ap (λ (x : List ℕ). not (inside 1 64 (firstIn x))) record-same ∙ ap not (width-fits (eqb-true (kindIn r) 1 e))
-      go false e = refl
+    -- 3
+    next-id : isNext (decimal (digits (suc n))) (lastOf 0 ids) ≡ true
+    next-id =
+        let e : lastOf 0 ids ≡ n = last-from 0 n ∙ omega arith in
+        ap₂ isNext (decimal-digits (suc n) (omega arith)) e ∙ rw (lt-ltb n (suc n) (omega arith), le-leb (suc n) mostId (omega arith)) refl
 
-  none-refused : (m n : ℕ) → n < m → suc n < 2 ^ 64 → NoneHolds (refusals L G m n (digits (suc n)) (kindIn r) printed)
-  none-refused m n h s = (
-    rw (decimal-digits (suc n) s) (ap not (eq-eqb (suc n) (suc n) refl)),
-    (
-      ap not (lt-ltb n m h),
+    -- 6 and 7
+    operands-fit : (ltb (length printed) (numbersOf (formRow (kindIn r))) || (anyBad (numbersIn (kindIn r) printed) || leb 2 (length (extraTokens (kindIn r) printed)))) ≡ false
+    operands-fit =
+        let a : numbersOf (formRow (kindIn r)) ≤ length printed = omega (arith, ap numbersOf own-row, length-numbers (numbersOf row) (firstOf row) r) in
+        rw (le-ltb (length printed) (numbersOf (formRow (kindIn r))) a, ap anyBad are-values ∙ none-bad (numbersOf row) (firstOf row) r) (ap (λ (x : List (List ℕ)). leb 2 (length x)) none-left)
+
+    numbers-fit : (anyBig (numbersIn (kindIn r) printed) || (eqb (kindIn r) 1 && not (inside 1 64 (firstIn (writtenRecord (kindIn r) printed))))) ≡ false
+    numbers-fit = rw (ap anyBig are-values ∙ none-big (numbersOf row) (firstOf row) r) (go (eqb (kindIn r) 1) refl)
+      where
+        go : (q : Bool) → eqb (kindIn r) 1 ≡ q → (q && not (inside 1 64 (firstIn (writtenRecord (kindIn r) printed)))) ≡ false
+        go true e = ap (λ (x : List ℕ). not (inside 1 64 (firstIn x))) written-same ∙ ap not (width-fits (eqb-true (kindIn r) 1 e))
+        go false e = refl
+
+    none-refused : (m : ℕ) → n < m → NoneHolds (refusals L G m ids (digits (suc n)) (kindIn r) printed)
+    none-refused m h = (
+      ap not next-id,
       (
-        ne-eqb (kindIn r) 0 (λ e. omega (arith, least)),
-        (operands-fit, (numbers-fit, (other-fault 8 (λ e. omega arith), (no-misfit, (other-fault 10 (λ e. omega arith), tt))))),
+        ap not (lt-ltb (length ids) m (omega (arith, length-from 1 n))),
+        (
+          ne-eqb (kindIn r) 0 (λ e. omega (arith, least)),
+          (operands-fit, (numbers-fit, (other-fault 8 (λ e. omega arith), (no-misfit, (other-fault 10 (λ e. omega arith), tt))))),
+        ),
       ),
-    ),
-  )
-    where
-      no-misfit : misfit L G m n (digits (suc n)) (kindIn r) printed ≡ false
-      no-misfit = rw (other-fault 9 (λ e. omega arith), ne-eqb (kindIn r) 56 (λ e. omega (arith, most))) refl
+    )
+      where
+        no-misfit : misfit L G m ids (digits (suc n)) (kindIn r) printed ≡ false
+        no-misfit = rw (other-fault 9 (λ e. omega arith), ne-eqb (kindIn r) 56 (λ e. omega (arith, most))) refl
 
-  pub line-read : (m n : ℕ) → n < m → suc n < 2 ^ 64 → readLine L G m n (tokensOf (suc n) r) ≡ got r
-  unfolding readLine
-  line-read m n h s =
-      ap (λ (w : Word). lowest (refusals L G m n (digits (suc n)) (formOf w) (behind w)) (recordIn L (formOf w) (behind w))) (kind-word (kindIn r) least most printed)
-      ∙ (none-holds (refusals L G m n (digits (suc n)) (kindIn r) printed) (recordIn L (kindIn r) printed) (none-refused m n h s) ∙ ap got record-same)
+    pub line-read : (m : ℕ) → n < m → readLine L G m ids (tokensOf (suc n) r) ≡ got r
+    unfolding readLine
+    line-read m h =
+        ap (λ (w : Word). lowest (refusals L G m ids (digits (suc n)) (formOf w) (behind w)) (recordIn L ids (formOf w) (behind w))) (kind-word (kindIn r) least most printed)
+        ∙ (none-holds (refusals L G m ids (digits (suc n)) (kindIn r) printed) (recordIn L ids (kindIn r) printed) (none-refused m h) ∙ ap got record-same)
 
 -- ---- the lines, the text
 
-lines-read : (m l n : ℕ) (c : Ctx) (es rs : List (List ℕ)) → n ≡ length es → n + length rs ≤ m → m ≤ 16384 → Good rs → lawful false c rs ≡ true
-    → readLines m l c es (split 10 (writeFrom (suc n) rs)) ≡ done (es ++ rs)
+lines-read : (m l n : ℕ) (c : Ctx) (es rs : List (List ℕ)) → Counted c n → n + length rs ≤ m → m ≤ 16384 → Good rs → lawful false c rs ≡ true
+    → readLines m l c es (from 1 n) (split 10 (writeFrom (suc n) rs)) ≡ done (es ++ rs) (from 1 (n + length rs))
 unfolding writeFrom
-lines-read m l n c es [] q h b g w = lines-end m l c es ∙ rw (append-nil es) refl
+lines-read m l n c es [] q h b g w = let z : n ≡ n + 0 = omega arith in lines-end m l c es (from 1 n) ∙ ap₂ (λ (x : List (List ℕ)) (k : ℕ). done x (from 1 k)) (sym (append-nil es)) z
 lines-read m l n c es (r ∷ rs) q h b g w =
     let k = both (keeps false (tyAt c) (given c) r) _ w in
     let ts = line-toks (tyAt c) (given c) r (g .0 .0) (g .0 .1) (k .0) (suc n) in
     let j : lineTokens (join (tokensOf (suc n) r)) ≡ tokensOf (suc n) r = tokens-join (digits (suc n)) _ (ts .0) (ts .1) in
-    let big : suc n < 2 ^ 64 = omega arith in
-    ap (readLines m l c es) (lines-join (tokensOf (suc n) r) (writeFrom (suc (suc n)) rs) ts)
-    ∙ (step-got m l c es (join (tokensOf (suc n) r)) (split 10 (writeFrom (suc (suc n)) rs)) r (rw (j, sym q) (line-read (tyAt c) (given c) r (g .0 .0) (g .0 .1) (k .0) m n (omega arith) big))
-    ∙ (lines-read m (suc l) (suc n) (grow false c (lineOf r)) (es ++ (r ∷ [])) rs (omega (arith, length-append es (r ∷ []))) (omega arith) b (g .1) (k .1)
-    ∙ ap done (append-assoc es (r ∷ []) rs)))
+    let id : lineId (lineTokens (join (tokensOf (suc n) r))) ≡ suc n = ap lineId j ∙ ap valueOf (decimal-digits (suc n) (omega arith)) in
+    let more : from 1 n ++ (suc n ∷ []) ≡ from 1 (suc n) = (let z : n + 1 ≡ suc n = omega arith in let y : suc n ≡ 1 + n = omega arith in ap (λ (x : ℕ). from 1 n ++ (x ∷ [])) y ∙ (sym (from-append 1 n 1) ∙ ap (from 1) z)) in
+    let all : suc n + length rs ≡ n + suc (length rs) = omega arith in
+    ap (readLines m l c es (from 1 n)) (lines-join (tokensOf (suc n) r) (writeFrom (suc (suc n)) rs) ts)
+    ∙ (step-got m l c es (from 1 n) (join (tokensOf (suc n) r)) (split 10 (writeFrom (suc (suc n)) rs)) r
+    (rw j (line-read (tyAt c) (given c) r (g .0 .0) (g .0 .1) (k .0) n (numbered-lines c n q) (omega arith) m (omega arith)))
+    ∙ (ap (λ (ds : List ℕ). readLines m (suc l) (grow false c (lineOf r)) (es ++ (r ∷ [])) ds (split 10 (writeFrom (suc (suc n)) rs))) (ap (λ (d : ℕ). from 1 n ++ (d ∷ [])) id ∙ more)
+    ∙ (lines-read m (suc l) (suc n) (grow false c (lineOf r)) (es ++ (r ∷ [])) rs (counted-more c n (lineOf r) q) (omega arith) b (g .1) (k .1)
+    ∙ ap₂ (λ (x : List (List ℕ)) (i : ℕ). done x (from 1 i)) (append-assoc es (r ∷ []) rs) all)))
 
 -- what is known of an accepted table
 pub record Held (t : List ℕ) (n : ℕ) : Type 0 where
@@ -275,26 +295,29 @@ pub record Held (t : List ℕ) (n : ℕ) : Type 0 where
 pub held : (t : List ℕ) (n : ℕ) → checked false t n ≡ Accepted → Held t n
 held t n e = record { fits = accepted-room false t n e .1; law = accepted-lawful false t n e }
 
--- For every accepted table and count whose written text has at most 65,536 bytes: reading that text into any table with room gives the same records and the same count.
+-- For every accepted table and count whose written text has at most 65,536 bytes: reading that text into any table with room gives the same records and the same count, and
+-- the ids 1, 2, 3.
 pub round-trip : (t : List ℕ) (n len : ℕ) → checked false t n ≡ Accepted → length (writeText (recordsOf false t n)) ≤ 65536 → whole false len ≡ true → n ≤ room false len
-    → readText len (writeText (recordsOf false t n)) ≡ done (recordsOf false t n)
+    → readText len (writeText (recordsOf false t n)) ≡ done (recordsOf false t n) (from 1 n)
 unfolding writeText
 round-trip t n len a b d l =
     let k = held t n a in
     let rs : List (List ℕ) = recordsOf false t n in
+    let all : 0 + length rs ≡ n = omega (arith, length-records false t n) in
     text-lines len (writeFrom 1 rs) d b
-    ∙ lines-read (room false len) 1 0 noCtx [] rs refl (omega (arith, length-records false t n)) (omega arith) (good-lawful t n (roomy false (length t) n (k .fits) .0) (k .law)) (k .law)
+    ∙ (lines-read (room false len) 1 0 noCtx [] rs counted-none (omega (arith, length-records false t n)) (omega arith) (good-lawful t n (roomy false (length t) n (k .fits) .0) (k .law)) (k .law)
+    ∙ ap (λ (i : ℕ). done rs (from 1 i)) all)
 
 -- what writing leaves, reading takes
 pub written-read : (t : List ℕ) (n size len : ℕ) (s : List ℕ) → writeTable t n size ≡ wrote s → length s ≤ 65536 → whole false len ≡ true → n ≤ room false len
-    → readText len s ≡ done (recordsOf false t n)
+    → readText len s ≡ done (recordsOf false t n) (from 1 n)
 unfolding writeTable
 written-read t n size len s e b d l = go (checked false t n) refl (leb (length (writeText (recordsOf false t n))) size) refl
   where
-    go : (x : Checked) → checked false t n ≡ x → (y : Bool) → leb (length (writeText (recordsOf false t n))) size ≡ y → readText len s ≡ done (recordsOf false t n)
+    go : (x : Checked) → checked false t n ≡ x → (y : Bool) → leb (length (writeText (recordsOf false t n))) size ≡ y → readText len s ≡ done (recordsOf false t n) (from 1 n)
     go Accepted p true q =
         let z : wrote (writeText (recordsOf false t n)) ≡ wrote s = sym (rw (p, q, fitted) refl) ∙ e in
         let v : writeText (recordsOf false t n) ≡ s = cc in
-        subst (λ (u : List ℕ). readText len u ≡ done (recordsOf false t n)) v (round-trip t n len p (subst (λ (u : List ℕ). length u ≤ 65536) (sym v) b) d l)
+        subst (λ (u : List ℕ). readText len u ≡ done (recordsOf false t n) (from 1 n)) v (round-trip t n len p (subst (λ (u : List ℕ). length u ≤ 65536) (sym v) b) d l)
     go Accepted p false q = let z : refuse TextBuffer ≡ wrote s = sym (rw (p, q, fitted) refl) ∙ e in let y : _≡_ {A = ℕ} 0 1 = cc in absurd (omega arith)
     go (Refused r) p y q = let z : refuse r ≡ wrote s = sym (rw p refl) ∙ e in let y : _≡_ {A = ℕ} 0 1 = cc in absurd (omega arith)

@@ -19,11 +19,12 @@ use Rattle.texts.specs.declared.Num.{Num}
 use Rattle.texts.specs.declared.Num.the-variants.{Bad, Big, Is}
 use Rattle.texts.specs.Forms.{formRow, kindOf, firstOf, numbersOf}
 use Rattle.texts.specs.Decimal.{decimal}
-use Rattle.texts.specs.Reading.{Word, word, unknown, wordIn, formOf, behind, numberAt, numbersFrom, anyBad, anyBig, placed, lastOf, numberTokens, extraTokens, numbersIn, fresh, writtenRecord, settled, recordIn, isId, lowest, readLine}
-use Rattle.texts.specs.Model.Stages.{Took, operands, takenIn, judged, large, ended, worded, stagedLine}
+use Rattle.texts.specs.Operands.{resolved}
+use Rattle.texts.specs.Reading.{Word, word, unknown, wordIn, formOf, behind, numberAt, numbersFrom, anyBad, anyBig, placed, lastOf, numberTokens, extraTokens, numbersIn, fresh, writtenRecord, settled, placedRecord, recordIn, isNext, lowest, readLine}
+use Rattle.texts.specs.Model.Stages.{Took, operands, takenIn, judged, concluded, large, ended, worded, stagedLine}
 use Rattle.texts.specs.Model.Structs.{tookAt, several}
 use Rattle.texts.proofs.Words.{InForms, word-forms}
-use Rattle.texts.proofs.Steps.{ruled-got, ruled-9, ruled-10, settled-other, large-big, large-wide, large-fits, large-other, ended-bad, ended-many, ended-few}
+use Rattle.texts.proofs.Steps.{ruled-got, ruled-9, ruled-10, large-big, large-wide, large-fits, large-other, ended-bad, ended-many, ended-few}
 use Rattle.texts.proofs.Lowest.{holds, passes}
 
 -- ---- numbers taken one after the other, and all at once
@@ -112,94 +113,94 @@ module _ (L : ℕ → Ty) (G : Bool → ℕ → Bool) where
           let t = last-rule rec (eqb-false _ 0 ez) (eqb-false _ 8 ep) (eqb-false _ 9 er) in
           rw (ep, judged, lowest) (rw (eq, er, eq-eqb (fault false L G rec) 10 t) (ruled-10 (fault false L G rec) rec (eqb-false _ 0 ez) (eqb-false _ 9 er)))
 
-  -- ---- 7
-
-  large-first : (f : ℕ) (rec : List ℕ) (big : Bool) (len : ℕ)
-      → large L G f rec big len
-      ≡ lowest ((NumberTooLarge, big || (eqb f 1 && not (inside 1 64 (firstIn (settled (L (sortIn rec) .w) f rec))))) ∷ judgements f len (settled (L (sortIn rec) .w) f rec)) (settled (L (sortIn rec) .w) f rec)
-  large-first f rec true len = large-big L G f rec len true refl ∙ sym (holds _ _ _ _ refl)
-  large-first f rec false len = go (eqb f 1) (inside 1 64 (firstIn rec)) refl refl
-    where
-      same : f ≡ 1 → settled (L (sortIn rec) .w) f rec ≡ rec
-      same e = settled-other (L (sortIn rec) .w) f rec (λ x. omega arith) (λ x. omega arith)
-
-      go : (p q : Bool) → eqb f 1 ≡ p → inside 1 64 (firstIn rec) ≡ q
-          → large L G f rec false len
-          ≡ lowest ((NumberTooLarge, eqb f 1 && not (inside 1 64 (firstIn (settled (L (sortIn rec) .w) f rec)))) ∷ judgements f len (settled (L (sortIn rec) .w) f rec)) (settled (L (sortIn rec) .w) f rec)
-      go false q ep eq = large-other L G f rec len false refl (eqb-false f 1 ep) ∙ (judged-first f len (settled (L (sortIn rec) .w) f rec) ∙ sym (passes _ _ _ _ (rw ep refl)))
-      go true false ep eq =
-          let e = eqb-true f 1 ep in
-          large-wide L G f rec len false refl e eq ∙ sym (holds _ _ _ _ (rw (ep, ap (λ (x : List ℕ). inside 1 64 (firstIn x)) (same e) ∙ eq) refl))
-      go true true ep eq =
-          let e = eqb-true f 1 ep in
-          large-fits L G f rec len false refl e eq
-          ∙ (judged-first f len (settled (L (sortIn rec) .w) f rec) ∙ sym (passes _ _ _ _ (rw (ep, ap (λ (x : List ℕ). inside 1 64 (firstIn x)) (same e) ∙ eq) refl)))
-
-  -- ---- 6
+  concluded-first : (f len : ℕ) (rec : List ℕ) → concluded L G f len rec ≡ lowest (judgements f len (settled (L (sortIn rec) .w) f rec)) (settled (L (sortIn rec) .w) f rec)
+  unfolding concluded
+  concluded-first f len rec = judged-first f len (settled (L (sortIn rec) .w) f rec)
 
   several-two : (ts : List (List ℕ)) → leb 2 (length ts) ≡ several ts
   several-two [] = refl
   several-two (x ∷ []) = refl
   several-two (x ∷ y ∷ r) = le-leb 2 (length (x ∷ y ∷ r)) (omega arith)
 
-  module _ (f : ℕ) (ts : List (List ℕ)) where
-    abbrev less : Bool
-    less = ltb (length ts) (numbersOf (formRow f))
+  -- after lines whose ids are ds
+  module _ (ds : List ℕ) where
+    -- ---- 7
 
-    abbrev unfit : Bool
-    unfit = less || (anyBad (numbersIn f ts) || leb 2 (length (extraTokens f ts)))
-
-    abbrev digits : ℕ
-    digits = length (lastOf [] (numberTokens f ts))
-
-    taken-once : takenIn f ts ≡ at-once less (firstOf (formRow f)) (numbersIn f ts) (fresh (kindOf f)) false digits (extraTokens f ts)
-    taken-once =
-        taken-at f (numbersOf (formRow f)) (firstOf (formRow f)) (fresh (kindOf f)) false 0 ts
-        ∙ ap (λ (len : ℕ). at-once less (firstOf (formRow f)) (numbersIn f ts) (fresh (kindOf f)) false len (extraTokens f ts)) (last-length [] (numberTokens f ts))
-
-    -- what is left after the refusals 3 to 6
-    abbrev laterTests : List (Refusal × Bool)
-    laterTests =
-        (NumberTooLarge, anyBig (numbersIn f ts) || (eqb f 1 && not (inside 1 64 (firstIn (recordIn L f ts))))) ∷ judgements f digits (recordIn L f ts)
-
-    ended-first : ended L G f (takenIn f ts) ≡ lowest ((BadOperand, unfit) ∷ laterTests) (recordIn L f ts)
-    ended-first = ap (ended L G f) taken-once ∙ go less (anyBad (numbersIn f ts)) (several (extraTokens f ts)) refl refl refl
+    large-first : (f : ℕ) (rec : List ℕ) (big : Bool) (len : ℕ)
+        → large L G ds f rec big len
+        ≡ lowest ((NumberTooLarge, big || (eqb f 1 && not (inside 1 64 (firstIn rec)))) ∷ judgements f len (settled (L (sortIn (resolved ds rec)) .w) f (resolved ds rec)))
+        (settled (L (sortIn (resolved ds rec)) .w) f (resolved ds rec))
+    large-first f rec true len = large-big L G f rec len ds true refl ∙ sym (holds _ _ _ _ refl)
+    large-first f rec false len = go (eqb f 1) (inside 1 64 (firstIn rec)) refl refl
       where
-        go : (p q r : Bool) → ltb (length ts) (numbersOf (formRow f)) ≡ p → anyBad (numbersIn f ts) ≡ q → several (extraTokens f ts) ≡ r
-            → ended L G f (at-once less (firstOf (formRow f)) (numbersIn f ts) (fresh (kindOf f)) false digits (extraTokens f ts))
-            ≡ lowest ((BadOperand, unfit) ∷ laterTests) (recordIn L f ts)
-        go true q r ep eq er =
-            let k : not (less || anyBad (numbersIn f ts)) ≡ false = rw ep refl in
-            let h : unfit ≡ true = rw ep refl in
-            ended-bad L G f (writtenRecord f ts) digits _ _ (extraTokens f ts) k ∙ sym (holds _ _ _ _ h)
-        go false true r ep eq er =
-            let k : not (less || anyBad (numbersIn f ts)) ≡ false = rw (ep, eq) refl in
-            let h : unfit ≡ true = rw (ep, eq) refl in
-            ended-bad L G f (writtenRecord f ts) digits _ _ (extraTokens f ts) k ∙ sym (holds _ _ _ _ h)
-        go false false true ep eq er =
-            let k : not (less || anyBad (numbersIn f ts)) ≡ true = rw (ep, eq) refl in
-            let h : unfit ≡ true = rw (ep, eq) (several-two (extraTokens f ts) ∙ er) in
-            ended-many L G f (writtenRecord f ts) digits _ _ (extraTokens f ts) k er ∙ sym (holds _ _ _ _ h)
-        go false false false ep eq er =
-            let k : not (less || anyBad (numbersIn f ts)) ≡ true = rw (ep, eq) refl in
-            let h : unfit ≡ false = rw (ep, eq) (several-two (extraTokens f ts) ∙ er) in
-            ended-few L G f (writtenRecord f ts) digits _ _ (extraTokens f ts) k er ∙ (large-first f (writtenRecord f ts) (anyBig (numbersIn f ts)) digits ∙ sym (passes _ _ _ _ h))
+        go : (p q : Bool) → eqb f 1 ≡ p → inside 1 64 (firstIn rec) ≡ q
+            → large L G ds f rec false len
+            ≡ lowest ((NumberTooLarge, eqb f 1 && not (inside 1 64 (firstIn rec))) ∷ judgements f len (settled (L (sortIn (resolved ds rec)) .w) f (resolved ds rec)))
+            (settled (L (sortIn (resolved ds rec)) .w) f (resolved ds rec))
+        go false q ep eq = large-other L G f rec len ds false refl (eqb-false f 1 ep) ∙ (concluded-first f len (resolved ds rec) ∙ sym (passes _ _ _ _ (rw ep refl)))
+        go true false ep eq = large-wide L G f rec len ds false refl (eqb-true f 1 ep) eq ∙ sym (holds _ _ _ _ (rw (ep, eq) refl))
+        go true true ep eq = large-fits L G f rec len ds false refl (eqb-true f 1 ep) eq ∙ (concluded-first f len (resolved ds rec) ∙ sym (passes _ _ _ _ (rw (ep, eq) refl)))
 
-  -- ---- 5
+    -- ---- 6
 
-  worded-first : (w : Word) → InForms w
-      → worded L G w ≡ lowest ((UnknownWord, eqb (formOf w) 0) ∷ (BadOperand, unfit (formOf w) (behind w)) ∷ laterTests (formOf w) (behind w)) (recordIn L (formOf w) (behind w))
-  worded-first unknown h = sym (holds _ _ _ _ refl)
-  worded-first (word f ts) h = ended-first f ts ∙ sym (passes _ _ _ _ (ne-eqb f 0 (λ e. omega (arith, h .0))))
+    module _ (f : ℕ) (ts : List (List ℕ)) where
+      abbrev less : Bool
+      less = ltb (length ts) (numbersOf (formRow f))
 
-  -- ---- 3 and 4: all of a line
+      abbrev unfit : Bool
+      unfit = less || (anyBad (numbersIn f ts) || leb 2 (length (extraTokens f ts)))
 
-  pub staged : (m n : ℕ) (ts : List (List ℕ)) → stagedLine L G m n ts ≡ readLine L G m n ts
-  unfolding stagedLine readLine
-  staged m n [] = refl
-  staged m n (t ∷ ts) = go (isId (decimal t) (suc n)) (ltb n m) refl refl
-    where
-      go : (p q : Bool) → isId (decimal t) (suc n) ≡ p → ltb n m ≡ q → stagedLine L G m n (t ∷ ts) ≡ readLine L G m n (t ∷ ts)
-      go false q ep eq = rw (ep, stagedLine) (sym (holds _ _ _ _ refl))
-      go true false ep eq = rw (ep, eq, stagedLine) (sym (passes _ _ _ _ refl ∙ holds _ _ _ _ refl))
-      go true true ep eq = rw (ep, eq, stagedLine) (worded-first (wordIn ts) (word-forms ts) ∙ sym (passes _ _ _ _ refl ∙ passes _ _ _ _ refl))
+      abbrev digits : ℕ
+      digits = length (lastOf [] (numberTokens f ts))
+
+      taken-once : takenIn f ts ≡ at-once less (firstOf (formRow f)) (numbersIn f ts) (fresh (kindOf f)) false digits (extraTokens f ts)
+      taken-once =
+          taken-at f (numbersOf (formRow f)) (firstOf (formRow f)) (fresh (kindOf f)) false 0 ts
+          ∙ ap (λ (len : ℕ). at-once less (firstOf (formRow f)) (numbersIn f ts) (fresh (kindOf f)) false len (extraTokens f ts)) (last-length [] (numberTokens f ts))
+
+      -- what is left after the refusals 3 to 6
+      abbrev laterTests : List (Refusal × Bool)
+      laterTests =
+          (NumberTooLarge, anyBig (numbersIn f ts) || (eqb f 1 && not (inside 1 64 (firstIn (writtenRecord f ts))))) ∷ judgements f digits (recordIn L ds f ts)
+
+      ended-first : ended L G ds f (takenIn f ts) ≡ lowest ((BadOperand, unfit) ∷ laterTests) (recordIn L ds f ts)
+      ended-first = ap (ended L G ds f) taken-once ∙ go less (anyBad (numbersIn f ts)) (several (extraTokens f ts)) refl refl refl
+        where
+          go : (p q r : Bool) → ltb (length ts) (numbersOf (formRow f)) ≡ p → anyBad (numbersIn f ts) ≡ q → several (extraTokens f ts) ≡ r
+              → ended L G ds f (at-once less (firstOf (formRow f)) (numbersIn f ts) (fresh (kindOf f)) false digits (extraTokens f ts))
+              ≡ lowest ((BadOperand, unfit) ∷ laterTests) (recordIn L ds f ts)
+          go true q r ep eq er =
+              let k : not (less || anyBad (numbersIn f ts)) ≡ false = rw ep refl in
+              let h : unfit ≡ true = rw ep refl in
+              ended-bad L G f (writtenRecord f ts) digits ds _ _ (extraTokens f ts) k ∙ sym (holds _ _ _ _ h)
+          go false true r ep eq er =
+              let k : not (less || anyBad (numbersIn f ts)) ≡ false = rw (ep, eq) refl in
+              let h : unfit ≡ true = rw (ep, eq) refl in
+              ended-bad L G f (writtenRecord f ts) digits ds _ _ (extraTokens f ts) k ∙ sym (holds _ _ _ _ h)
+          go false false true ep eq er =
+              let k : not (less || anyBad (numbersIn f ts)) ≡ true = rw (ep, eq) refl in
+              let h : unfit ≡ true = rw (ep, eq) (several-two (extraTokens f ts) ∙ er) in
+              ended-many L G f (writtenRecord f ts) digits ds _ _ (extraTokens f ts) k er ∙ sym (holds _ _ _ _ h)
+          go false false false ep eq er =
+              let k : not (less || anyBad (numbersIn f ts)) ≡ true = rw (ep, eq) refl in
+              let h : unfit ≡ false = rw (ep, eq) (several-two (extraTokens f ts) ∙ er) in
+              ended-few L G f (writtenRecord f ts) digits ds _ _ (extraTokens f ts) k er ∙ (large-first f (writtenRecord f ts) (anyBig (numbersIn f ts)) digits ∙ sym (passes _ _ _ _ h))
+
+    -- ---- 5
+
+    worded-first : (w : Word) → InForms w
+        → worded L G ds w ≡ lowest ((UnknownWord, eqb (formOf w) 0) ∷ (BadOperand, unfit (formOf w) (behind w)) ∷ laterTests (formOf w) (behind w)) (recordIn L ds (formOf w) (behind w))
+    worded-first unknown h = sym (holds _ _ _ _ refl)
+    worded-first (word f ts) h = ended-first f ts ∙ sym (passes _ _ _ _ (ne-eqb f 0 (λ e. omega (arith, h .0))))
+
+    -- ---- 3 and 4: all of a line
+
+    pub staged : (m : ℕ) (ts : List (List ℕ)) → stagedLine L G ds m ts ≡ readLine L G m ds ts
+    unfolding stagedLine readLine
+    staged m [] = refl
+    staged m (t ∷ ts) = go (isNext (decimal t) (lastOf 0 ds)) (ltb (length ds) m) refl refl
+      where
+        go : (p q : Bool) → isNext (decimal t) (lastOf 0 ds) ≡ p → ltb (length ds) m ≡ q → stagedLine L G ds m (t ∷ ts) ≡ readLine L G m ds (t ∷ ts)
+        go false q ep eq = rw (ep, stagedLine) (sym (holds _ _ _ _ refl))
+        go true false ep eq = rw (ep, eq, stagedLine) (sym (passes _ _ _ _ refl ∙ holds _ _ _ _ refl))
+        go true true ep eq = rw (ep, eq, stagedLine) (worded-first (wordIn ts) (word-forms ts) ∙ sym (passes _ _ _ _ refl ∙ passes _ _ _ _ refl))

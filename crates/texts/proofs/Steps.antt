@@ -5,21 +5,25 @@ use mathlib.Core.List.{List, [], _∷_}
 use Prim.Native.Nat.{ℕ, zero, suc, _+_, _-_, _^_, _≤_, _<_}
 use native.Mathlib.Omega.{arith}
 use native.Mathlib.Numerals.{add-one}
-use lib.Dec.{eqb}
+use lib.Dec.{eqb, leb, ltb}
 use lib.ListN.{length, drop, getD, set}
-use borrow.Author.Tests.{eq-eqb, ne-eqb, lt-ltb, le-ltb}
+use borrow.Author.Tests.{ltb-true, eq-eqb, ne-eqb, lt-ltb, le-ltb}
 use Rattle.tables.specs.declared.Ty.{Ty}
 use Rattle.tables.specs.declared.Refusal.the-variants.{WrongId, NoRecordLeft, UnknownWord, BadOperand, NumberTooLarge, WrongClass, Misfit, InitOrNext}
 use Rattle.tables.specs.Pick.{inside}
 use Rattle.tables.specs.Lines.{kindIn, sortIn, firstIn}
 use Rattle.tables.specs.Rules.{fault}
+use Rattle.tables.specs.Ids.{mostId, follows}
+use Rattle.tables.proofs.Kept.{both}
+use Rattle.texts.specs.declared.Num.{Num}
 use Rattle.texts.specs.declared.Num.the-variants.{Bad, Big, Is}
 use Rattle.tables.specs.Kinds.{operandCount}
 use Rattle.texts.specs.Forms.{formRow, kindOf, sorted, firstOf, numbersOf}
 use Rattle.texts.specs.Split.{tokens}
 use Rattle.texts.specs.Decimal.{decimal}
-use Rattle.texts.specs.Reading.{wordIn, numberAt, fresh, settled, no, got, skip, isId}
-use Rattle.texts.specs.Model.Stages.{Took, took, malformed, operands, takenIn, ruled, judged, large, ended, worded, stagedLine}
+use Rattle.texts.specs.Operands.{resolved}
+use Rattle.texts.specs.Reading.{wordIn, numberAt, fresh, settled, no, got, skip, isNext, valueOf, lastOf}
+use Rattle.texts.specs.Model.Stages.{Took, took, malformed, operands, takenIn, ruled, judged, concluded, large, ended, worded, stagedLine}
 use Rattle.texts.specs.declared.Readout.{Readout}
 use Rattle.texts.specs.declared.Taken.{Taken}
 use Rattle.texts.specs.declared.Form.{Form}
@@ -111,119 +115,133 @@ module _ (L : ℕ → Ty) (G : Bool → ℕ → Bool) (f : ℕ) (rec : List ℕ)
   unfolding judged
   judged-other h k = rw (ne-eqb (fault false L G rec) 8 h, judged) (rw (ne-eqb f 56 k) refl)
 
-  pub then-judged : {t : List ℕ} {w : ℕ} {x : Readout} → x ≡ asRead (judged L G f len t) → t ≡ settled w f rec → w ≡ L (sortIn rec) .w
-      → x ≡ asRead (judged L G f len (settled (L (sortIn rec) .w) f rec))
-  then-judged a b c = a ∙ ap (λ (r : List ℕ). asRead (judged L G f len r)) (b ∙ ap (λ (v : ℕ). settled v f rec) c)
+  pub is-concluded : {t : List ℕ} {w : ℕ} {x : Readout} → x ≡ asRead 0 (judged L G f len t) → t ≡ settled w f rec → w ≡ L (sortIn rec) .w → x ≡ asRead 0 (concluded L G f len rec)
+  unfolding concluded
+  is-concluded a b c = a ∙ ap (λ (r : List ℕ). asRead 0 (judged L G f len r)) (b ∙ ap (λ (v : ℕ). settled v f rec) c)
 
-  pub large-big : (b : Bool) → b ≡ true → large L G f rec b len ≡ no NumberTooLarge
-  unfolding large
-  large-big b h = rw h refl
+  module _ (ds : List ℕ) where
+    pub large-big : (b : Bool) → b ≡ true → large L G ds f rec b len ≡ no NumberTooLarge
+    unfolding large
+    large-big b h = rw h refl
 
-  pub large-wide : (b : Bool) → b ≡ false → f ≡ 1 → inside 1 64 (firstIn rec) ≡ false → large L G f rec b len ≡ no NumberTooLarge
-  unfolding large
-  large-wide b z h k = rw z (rw (eq-eqb f 1 h, k, large) refl)
+    pub large-wide : (b : Bool) → b ≡ false → f ≡ 1 → inside 1 64 (firstIn rec) ≡ false → large L G ds f rec b len ≡ no NumberTooLarge
+    unfolding large
+    large-wide b z h k = rw z (rw (eq-eqb f 1 h, k, large) refl)
 
-  pub large-fits : (b : Bool) → b ≡ false → f ≡ 1 → inside 1 64 (firstIn rec) ≡ true → large L G f rec b len ≡ judged L G f len (settled (L (sortIn rec) .w) f rec)
-  unfolding large
-  large-fits b z h k = rw z (rw (eq-eqb f 1 h, k, large) refl)
+    pub large-fits : (b : Bool) → b ≡ false → f ≡ 1 → inside 1 64 (firstIn rec) ≡ true → large L G ds f rec b len ≡ concluded L G f len (resolved ds rec)
+    unfolding large
+    large-fits b z h k = rw z (rw (eq-eqb f 1 h, k, large) refl)
 
-  pub large-other : (b : Bool) → b ≡ false → (f ≡ 1 → ⊥) → large L G f rec b len ≡ judged L G f len (settled (L (sortIn rec) .w) f rec)
-  unfolding large
-  large-other b z h = rw z (rw (ne-eqb f 1 h, large) refl)
+    pub large-other : (b : Bool) → b ≡ false → (f ≡ 1 → ⊥) → large L G ds f rec b len ≡ concluded L G f len (resolved ds rec)
+    unfolding large
+    large-other b z h = rw z (rw (ne-eqb f 1 h, large) refl)
 
-  module _ (b ok : Bool) (ts : List (List ℕ)) where
-    pub ended-bad : ok ≡ false → ended L G f (tookAt ok rec b len ts) ≡ no BadOperand
-    ended-bad h = rw h refl
+    module _ (b ok : Bool) (ts : List (List ℕ)) where
+      pub ended-bad : ok ≡ false → ended L G ds f (tookAt ok rec b len ts) ≡ no BadOperand
+      ended-bad h = rw h refl
 
-    pub ended-many : ok ≡ true → several ts ≡ true → ended L G f (tookAt ok rec b len ts) ≡ no BadOperand
-    ended-many h k = rw h (go ts k)
-      where
-        go : (ts : List (List ℕ)) → several ts ≡ true → ended L G f (took rec b len ts) ≡ no BadOperand
-        go [] k = let z : _≡_ {A = ℕ} 0 1 = cc in absurd (omega arith)
-        go (x ∷ []) k = let z : _≡_ {A = ℕ} 0 1 = cc in absurd (omega arith)
-        go (x ∷ y ∷ r) k = refl
+      pub ended-many : ok ≡ true → several ts ≡ true → ended L G ds f (tookAt ok rec b len ts) ≡ no BadOperand
+      ended-many h k = rw h (go ts k)
+        where
+          go : (ts : List (List ℕ)) → several ts ≡ true → ended L G ds f (took rec b len ts) ≡ no BadOperand
+          go [] k = let z : _≡_ {A = ℕ} 0 1 = cc in absurd (omega arith)
+          go (x ∷ []) k = let z : _≡_ {A = ℕ} 0 1 = cc in absurd (omega arith)
+          go (x ∷ y ∷ r) k = refl
 
-    pub ended-few : ok ≡ true → several ts ≡ false → ended L G f (tookAt ok rec b len ts) ≡ large L G f rec b len
-    ended-few h k = rw h (go ts k)
-      where
-        go : (ts : List (List ℕ)) → several ts ≡ false → ended L G f (took rec b len ts) ≡ large L G f rec b len
-        go [] k = refl
-        go (x ∷ []) k = refl
-        go (x ∷ y ∷ r) k = let z : _≡_ {A = ℕ} 0 1 = cc in absurd (omega arith)
+      pub ended-few : ok ≡ true → several ts ≡ false → ended L G ds f (tookAt ok rec b len ts) ≡ large L G ds f rec b len
+      ended-few h k = rw h (go ts k)
+        where
+          go : (ts : List (List ℕ)) → several ts ≡ false → ended L G ds f (took rec b len ts) ≡ large L G ds f rec b len
+          go [] k = refl
+          go (x ∷ []) k = refl
+          go (x ∷ y ∷ r) k = let z : _≡_ {A = ℕ} 0 1 = cc in absurd (omega arith)
 
 -- the stage that a Taken stands for
-module _ (L : ℕ → Ty) (G : Bool → ℕ → Bool) (f : ℕ) (l : List ℕ) (t : Taken) {x : Readout} where
-  pub taken-bad : x ≡ asRead (no BadOperand) → t .ok ≡ false → x ≡ asRead (ended L G f (asTook l t))
-  taken-bad e h = e ∙ ap asRead (sym (ended-bad L G f (t .rec) (t .len) (t .big) (t .ok) (tokens (drop (t .at) l)) h))
+module _ (L : ℕ → Ty) (G : Bool → ℕ → Bool) (ds : List ℕ) (f : ℕ) (l : List ℕ) (t : Taken) {x : Readout} where
+  pub taken-bad : x ≡ asRead 0 (no BadOperand) → t .ok ≡ false → x ≡ asRead 0 (ended L G ds f (asTook l t))
+  taken-bad e h = e ∙ ap (asRead 0) (sym (ended-bad L G f (t .rec) (t .len) ds (t .big) (t .ok) (tokens (drop (t .at) l)) h))
 
-  pub taken-many : x ≡ asRead (no BadOperand) → t .ok ≡ true → several (tokens (drop (t .at) l)) ≡ true → x ≡ asRead (ended L G f (asTook l t))
-  taken-many e h k = e ∙ ap asRead (sym (ended-many L G f (t .rec) (t .len) (t .big) (t .ok) (tokens (drop (t .at) l)) h k))
+  pub taken-many : x ≡ asRead 0 (no BadOperand) → t .ok ≡ true → several (tokens (drop (t .at) l)) ≡ true → x ≡ asRead 0 (ended L G ds f (asTook l t))
+  taken-many e h k = e ∙ ap (asRead 0) (sym (ended-many L G f (t .rec) (t .len) ds (t .big) (t .ok) (tokens (drop (t .at) l)) h k))
 
-  pub taken-few : x ≡ asRead (large L G f (t .rec) (t .big) (t .len)) → t .ok ≡ true → several (tokens (drop (t .at) l)) ≡ false → x ≡ asRead (ended L G f (asTook l t))
-  taken-few e h k = e ∙ ap asRead (sym (ended-few L G f (t .rec) (t .len) (t .big) (t .ok) (tokens (drop (t .at) l)) h k))
+  pub taken-few : x ≡ asRead 0 (large L G ds f (t .rec) (t .big) (t .len)) → t .ok ≡ true → several (tokens (drop (t .at) l)) ≡ false → x ≡ asRead 0 (ended L G ds f (asTook l t))
+  taken-few e h k = e ∙ ap (asRead 0) (sym (ended-few L G f (t .rec) (t .len) ds (t .big) (t .ok) (tokens (drop (t .at) l)) h k))
 
   -- the numbers were taken from a line of the form f, whose row is row
-  pub taken-from : (row start : List ℕ) (k s i : ℕ) → x ≡ asRead (ended L G f (asTook l t)) → operands f (s + operandCount row) (2 - s) start false 0 (tokens (drop i l)) ≡ asTook l t
-      → start ≡ fresh k → s ≡ sorted row → row ≡ formRow f → k ≡ kindOf f → x ≡ asRead (ended L G f (takenIn f (tokens (drop i l))))
+  pub taken-from : (row start : List ℕ) (k s i : ℕ) → x ≡ asRead 0 (ended L G ds f (asTook l t)) → operands f (s + operandCount row) (2 - s) start false 0 (tokens (drop i l)) ≡ asTook l t
+      → start ≡ fresh k → s ≡ sorted row → row ≡ formRow f → k ≡ kindOf f → x ≡ asRead 0 (ended L G ds f (takenIn f (tokens (drop i l))))
   taken-from row start k s i e o eb es er ek =
       let ts : List (List ℕ) = tokens (drop i l) in
       e
-      ∙ ap (λ (u : Took). asRead (ended L G f u))
+      ∙ ap (λ (u : Took). asRead 0 (ended L G ds f u))
       (sym o
       ∙ (ap (λ (r : List ℕ). operands f (s + operandCount row) (2 - s) r false 0 ts) eb
       ∙ (ap (λ (m : ℕ). operands f (m + operandCount row) (2 - m) (fresh k) false 0 ts) es
       ∙ (ap (λ (r : List ℕ). operands f (sorted r + operandCount r) (2 - sorted r) (fresh k) false 0 ts) er
       ∙ ap (λ (m : ℕ). operands f (numbersOf (formRow f)) (firstOf (formRow f)) (fresh m) false 0 ts) ek))))
 
+-- ---- the id
+
+-- r is the id that a token gives a line; 0 where it gives none
+abbrev pub NextId : Num → (last r : ℕ) → Type 0
+NextId n last r = (r ≡ 0 → isNext n last ≡ false) × ((r ≡ 0 → ⊥) → (isNext n last ≡ true) × (r ≡ valueOf n))
+
+module _ (n : Num) (last : ℕ) where
+  pub next-none : isNext n last ≡ false → NextId n last 0
+  next-none h = (λ z. h, λ z. absurd (z refl))
+
+  pub next-is : (v : ℕ) → n ≡ Is v → follows last v ≡ true → NextId n last v
+  next-is v e h = (λ z. absurd (omega (arith, ltb-true last v (both (ltb last v) (leb v mostId) h .0))), λ z. (ap (λ (x : Num). isNext x last) e ∙ h, ap valueOf (sym e)))
+
 -- ---- lines
 
-module _ (L : ℕ → Ty) (G : Bool → ℕ → Bool) (m n : ℕ) where
-  pub line-skip : stagedLine L G m n [] ≡ skip
+module _ (L : ℕ → Ty) (G : Bool → ℕ → Bool) (ds : List ℕ) (m : ℕ) where
+  pub line-skip : stagedLine L G ds m [] ≡ skip
   unfolding stagedLine
   line-skip = refl
 
   module _ (t : List ℕ) (ts : List (List ℕ)) where
-    pub line-3 : isId (decimal t) (n + 1) ≡ false → stagedLine L G m n (t ∷ ts) ≡ no WrongId
+    pub line-3 : isNext (decimal t) (lastOf 0 ds) ≡ false → stagedLine L G ds m (t ∷ ts) ≡ no WrongId
     unfolding stagedLine
-    line-3 h = rw (rw add-one at h, stagedLine) refl
+    line-3 h = rw (h, stagedLine) refl
 
-    pub line-4 : isId (decimal t) (n + 1) ≡ true → m ≤ n → stagedLine L G m n (t ∷ ts) ≡ no NoRecordLeft
+    pub line-4 : isNext (decimal t) (lastOf 0 ds) ≡ true → m ≤ length ds → stagedLine L G ds m (t ∷ ts) ≡ no NoRecordLeft
     unfolding stagedLine
-    line-4 h k = rw (rw add-one at h, le-ltb n m k, stagedLine) refl
+    line-4 h k = rw (h, le-ltb (length ds) m k, stagedLine) refl
 
-    pub line-word : isId (decimal t) (n + 1) ≡ true → n < m → stagedLine L G m n (t ∷ ts) ≡ worded L G (wordIn ts)
+    pub line-word : isNext (decimal t) (lastOf 0 ds) ≡ true → length ds < m → stagedLine L G ds m (t ∷ ts) ≡ worded L G ds (wordIn ts)
     unfolding stagedLine
-    line-word h k = rw (rw add-one at h, lt-ltb n m k, stagedLine) refl
+    line-word h k = rw (h, lt-ltb (length ds) m k, stagedLine) refl
 
-module _ (L : ℕ → Ty) (G : Bool → ℕ → Bool) (l : List ℕ) (f z : ℕ) where
-  pub word-no : f ≡ 0 → worded L G (wordWith l f z) ≡ no UnknownWord
+module _ (L : ℕ → Ty) (G : Bool → ℕ → Bool) (ds : List ℕ) (l : List ℕ) (f z : ℕ) where
+  pub word-no : f ≡ 0 → worded L G ds (wordWith l f z) ≡ no UnknownWord
   word-no h = rw h refl
 
-  pub word-form : (f ≡ 0 → ⊥) → worded L G (wordWith l f z) ≡ ended L G f (takenIn f (tokens (drop z l)))
+  pub word-form : (f ≡ 0 → ⊥) → worded L G ds (wordWith l f z) ≡ ended L G ds f (takenIn f (tokens (drop z l)))
   word-form h = go f h
     where
-      go : (f : ℕ) → (f ≡ 0 → ⊥) → worded L G (wordWith l f z) ≡ ended L G f (takenIn f (tokens (drop z l)))
+      go : (f : ℕ) → (f ≡ 0 → ⊥) → worded L G ds (wordWith l f z) ≡ ended L G ds f (takenIn f (tokens (drop z l)))
       go zero h = absurd (h refl)
       go (suc f) h = refl
 
 -- a line whose tokens are known
-module _ (L : ℕ → Ty) (G : Bool → ℕ → Bool) (m n : ℕ) (l : List ℕ) {x : Readout} where
-  pub read-skip : tokens l ≡ [] → x ≡ asRead skip → x ≡ asRead (stagedLine L G m n (tokens l))
-  read-skip e h = h ∙ ap asRead (sym (ap (stagedLine L G m n) e ∙ line-skip L G m n))
+module _ (L : ℕ → Ty) (G : Bool → ℕ → Bool) (ds : List ℕ) (m : ℕ) (l : List ℕ) (d : ℕ) {x : Readout} where
+  pub read-skip : tokens l ≡ [] → x ≡ asRead d skip → x ≡ asRead d (stagedLine L G ds m (tokens l))
+  read-skip e h = h ∙ ap (asRead d) (sym (ap (stagedLine L G ds m) e ∙ line-skip L G ds m))
 
   module _ (t : List ℕ) (z : ℕ) (e : tokens l ≡ t ∷ tokens (drop z l)) where
-    pub read-3 : isId (decimal t) (n + 1) ≡ false → x ≡ asRead (no WrongId) → x ≡ asRead (stagedLine L G m n (tokens l))
-    read-3 a h = h ∙ ap asRead (sym (ap (stagedLine L G m n) e ∙ line-3 L G m n t (tokens (drop z l)) a))
+    pub read-3 : isNext (decimal t) (lastOf 0 ds) ≡ false → x ≡ asRead d (no WrongId) → x ≡ asRead d (stagedLine L G ds m (tokens l))
+    read-3 a h = h ∙ ap (asRead d) (sym (ap (stagedLine L G ds m) e ∙ line-3 L G ds m t (tokens (drop z l)) a))
 
-    pub read-4 : isId (decimal t) (n + 1) ≡ true → m ≤ n → x ≡ asRead (no NoRecordLeft) → x ≡ asRead (stagedLine L G m n (tokens l))
-    read-4 a b h = h ∙ ap asRead (sym (ap (stagedLine L G m n) e ∙ line-4 L G m n t (tokens (drop z l)) a b))
+    pub read-4 : isNext (decimal t) (lastOf 0 ds) ≡ true → m ≤ length ds → x ≡ asRead d (no NoRecordLeft) → x ≡ asRead d (stagedLine L G ds m (tokens l))
+    read-4 a b h = h ∙ ap (asRead d) (sym (ap (stagedLine L G ds m) e ∙ line-4 L G ds m t (tokens (drop z l)) a b))
 
-    pub read-5 : isId (decimal t) (n + 1) ≡ true → n < m → (w : Form) → wordIn (tokens (drop z l)) ≡ asWord l w → w .form ≡ 0 → x ≡ asRead (no UnknownWord)
-        → x ≡ asRead (stagedLine L G m n (tokens l))
+    pub read-5 : isNext (decimal t) (lastOf 0 ds) ≡ true → length ds < m → (w : Form) → wordIn (tokens (drop z l)) ≡ asWord l w → w .form ≡ 0 → x ≡ asRead d (no UnknownWord)
+        → x ≡ asRead d (stagedLine L G ds m (tokens l))
     read-5 a b w k q h =
-        h ∙ ap asRead (sym (ap (stagedLine L G m n) e ∙ (line-word L G m n t (tokens (drop z l)) a b ∙ (ap (worded L G) k ∙ word-no L G l (w .form) (w .at) q))))
+        h ∙ ap (asRead d) (sym (ap (stagedLine L G ds m) e ∙ (line-word L G ds m t (tokens (drop z l)) a b ∙ (ap (worded L G ds) k ∙ word-no L G ds l (w .form) (w .at) q))))
 
-    pub read-on : isId (decimal t) (n + 1) ≡ true → n < m → (w : Form) → wordIn (tokens (drop z l)) ≡ asWord l w → (w .form ≡ 0 → ⊥)
-        → x ≡ asRead (ended L G (w .form) (takenIn (w .form) (tokens (drop (w .at) l)))) → x ≡ asRead (stagedLine L G m n (tokens l))
+    pub read-on : isNext (decimal t) (lastOf 0 ds) ≡ true → length ds < m → (w : Form) → wordIn (tokens (drop z l)) ≡ asWord l w → (w .form ≡ 0 → ⊥)
+        → x ≡ asRead d (ended L G ds (w .form) (takenIn (w .form) (tokens (drop (w .at) l)))) → x ≡ asRead d (stagedLine L G ds m (tokens l))
     read-on a b w k q h =
-        h ∙ ap asRead (sym (ap (stagedLine L G m n) e ∙ (line-word L G m n t (tokens (drop z l)) a b ∙ (ap (worded L G) k ∙ word-form L G l (w .form) (w .at) q))))
+        h ∙ ap (asRead d) (sym (ap (stagedLine L G ds m) e ∙ (line-word L G ds m t (tokens (drop z l)) a b ∙ (ap (worded L G ds) k ∙ word-form L G ds l (w .form) (w .at) q))))

@@ -3,10 +3,13 @@
 use Prim.Native.Nat.{ℕ, _+_}
 use mathlib.Core.Bool.{Bool, true, false}
 use mathlib.Core.List.{List, [], _∷_}
+use lib.Dec.{eqb}
 use lib.ListN.{length, drop}
+use Rattle.texts.specs.declared.Num.{Num}
+use Rattle.texts.specs.declared.Num.the-variants.{Bad, Big, Is}
 use Rattle.texts.specs.Split.{split, upTo}
 use Rattle.texts.specs.Decimal.{decimal}
-use Rattle.texts.specs.Reading.{Word, word, unknown, wordIn, extraTokens, isId, lastOf, lineTokens}
+use Rattle.texts.specs.Reading.{Word, word, unknown, wordIn, extraTokens, lastOf, lineTokens}
 
 -- a line or a token, as a part of the text: its place, where it starts, counted from the text's first byte, and its bytes
 pub record Located : Type 0 where
@@ -17,6 +20,12 @@ abbrev pub located : ℕ → List ℕ → Located
 located i x = record { place = i; content = x }
 
 -- ---- the line
+
+-- a token is the number n
+abbrev pub isId : Num → ℕ → Bool
+isId Bad n = false
+isId Big n = false
+isId (Is v) n = eqb v n
 
 -- the line's id is the number n
 abbrev pub leads : ℕ → List (List ℕ) → Bool

@@ -15,13 +15,15 @@ use Rattle.tables.specs.Kinds.{wordOf}
 use Rattle.tables.specs.Lines.{lineOf, fields, sortIn, firstIn}
 use Rattle.tables.specs.Types.{Ctx, noCtx, tyAt, given, grow}
 use Rattle.tables.specs.Rules.{fault}
-use Rattle.tables.specs.Layout.{whole, room, filled}
+use Rattle.tables.specs.Layout.{whole, room, withIds, filled}
+use Rattle.tables.specs.Ids.{follows}
 use Rattle.tables.specs.Answers.{Outcome, told}
 use Rattle.texts.specs.declared.Num.{Num}
 use Rattle.texts.specs.declared.Num.the-variants.{Bad, Big, Is}
 use Rattle.texts.specs.Forms.{formRow, kindOf, firstOf, numbersOf, sortWord}
 use Rattle.texts.specs.Split.{split, upTo, tokens, sameBytes}
 use Rattle.texts.specs.Decimal.{decimal, digitsIn}
+use Rattle.texts.specs.Operands.{resolved}
 
 -- ---- the word
 
@@ -92,7 +94,7 @@ placed j (Bad ∷ ns) rec = placed (suc j) ns rec
 placed j (Big ∷ ns) rec = placed (suc j) ns rec
 placed j (Is v ∷ ns) rec = placed (suc j) ns (set rec j v)
 
--- the last of some tokens, or t where there is none
+-- the last of a list, or t where it is empty
 abbrev pub lastOf : {A : Type 0} → A → List A → A
 lastOf t [] = t
 lastOf t (u ∷ ts) = lastOf u ts
@@ -120,29 +122,45 @@ writtenRecord f ts = placed (firstOf (formRow f)) (numbersIn f ts) (fresh (kindO
 unfoldable pub settled : (w f : ℕ) → List ℕ → List ℕ
 settled w f rec = elim (eqb f 59) [ true ↦ set rec 2 1 | false ↦ elim (eqb f 60) [ true ↦ set rec 2 (2 ^ w - 1) | false ↦ rec ] ]
 
+-- with the places of the lines that it names, after lines whose ids are ds
+abbrev pub placedRecord : List ℕ → ℕ → List (List ℕ) → List ℕ
+placedRecord ds f ts = resolved ds (writtenRecord f ts)
+
 -- the line's record, after lines whose types are L
-abbrev pub recordIn : (ℕ → Ty) → ℕ → List (List ℕ) → List ℕ
-recordIn L f ts = settled (L (sortIn (writtenRecord f ts)) .w) f (writtenRecord f ts)
+abbrev pub recordIn : (ℕ → Ty) → (ds : List ℕ) → ℕ → List (List ℕ) → List ℕ
+recordIn L ds f ts = settled (L (sortIn (placedRecord ds f ts)) .w) f (placedRecord ds f ts)
+
+-- ---- the id
+
+-- a token may be the id of a line behind one whose id is last
+abbrev pub isNext : Num → (last : ℕ) → Bool
+isNext Bad last = false
+isNext Big last = false
+isNext (Is v) last = follows last v
+
+-- the id of a line, by its first token
+abbrev pub valueOf : Num → ℕ
+valueOf Bad = 0
+valueOf Big = 0
+valueOf (Is v) = v
+
+abbrev pub lineId : List (List ℕ) → ℕ
+lineId [] = 0
+lineId (t ∷ ts) = valueOf (decimal t)
 
 -- ---- the refusals of a line
 
--- a token is the number n
-abbrev pub isId : Num → ℕ → Bool
-isId Bad n = false
-isId Big n = false
-isId (Is v) n = eqb v n
-
--- A line after n others, with room for m records: L has the types of those lines, and G says which states have had an init or a next. The line's first token is t, f is
--- the form of its word, 0 where that is unknown or missing, and ts are the tokens behind the word. Where a test has no meaning, as that of an unknown word's numbers, an
--- earlier one holds.
-module _ (L : ℕ → Ty) (G : Bool → ℕ → Bool) (m n : ℕ) (t : List ℕ) (f : ℕ) (ts : List (List ℕ)) where
-  -- 3: the id is not the next number
+-- A line after others that have the ids ds, with room for m records: L has the types of those lines, and G says which states have had an init or a next. The line's first
+-- token is t, f is the form of its word, 0 where that is unknown or missing, and ts are the tokens behind the word. Where a test has no meaning, as that of an unknown
+-- word's numbers, an earlier one holds.
+module _ (L : ℕ → Ty) (G : Bool → ℕ → Bool) (m : ℕ) (ds : List ℕ) (t : List ℕ) (f : ℕ) (ts : List (List ℕ)) where
+  -- 3: the id is no number, not above the id before, or above 4,294,967,295
   abbrev pub wrongId : Bool
-  wrongId = not (isId (decimal t) (suc n))
+  wrongId = not (isNext (decimal t) (lastOf 0 ds))
 
   -- 4: no record is left
   abbrev pub noRecordLeft : Bool
-  noRecordLeft = not (ltb n m)
+  noRecordLeft = not (ltb (length ds) m)
 
   -- 5: the word is unknown or missing
   abbrev pub unknownWord : Bool
@@ -154,19 +172,19 @@ module _ (L : ℕ → Ty) (G : Bool → ℕ → Bool) (m n : ℕ) (t : List ℕ)
 
   -- 7: a number is above 2 ^ 64 - 1, a const above 64 or a consth above 16 digits, or a bitvec width not 1 to 64
   abbrev pub numberTooLarge : Bool
-  numberTooLarge = anyBig (numbersIn f ts) || (eqb f 1 && not (inside 1 64 (firstIn (recordIn L f ts))))
+  numberTooLarge = anyBig (numbersIn f ts) || (eqb f 1 && not (inside 1 64 (firstIn (writtenRecord f ts))))
 
   -- 8: an operand is not an earlier line of the right class
   abbrev pub wrongClass : Bool
-  wrongClass = eqb (fault false L G (recordIn L f ts)) 8
+  wrongClass = eqb (fault false L G (recordIn L ds f ts)) 8
 
   -- 9: sorts, widths, bounds or a constant misfit; a const token, the last of its numbers, has as many digits as its width
   abbrev pub misfit : Bool
-  misfit = eqb (fault false L G (recordIn L f ts)) 9 || (eqb f 56 && not (eqb (length (lastOf [] (numberTokens f ts))) (L (sortIn (recordIn L f ts)) .w)))
+  misfit = eqb (fault false L G (recordIn L ds f ts)) 9 || (eqb f 56 && not (eqb (length (lastOf [] (numberTokens f ts))) (L (sortIn (recordIn L ds f ts)) .w)))
 
   -- 10: a second init or next of a state, or the init rule
   abbrev pub initOrNext : Bool
-  initOrNext = eqb (fault false L G (recordIn L f ts)) 10
+  initOrNext = eqb (fault false L G (recordIn L ds f ts)) 10
 
   -- all of them, lowest number first
   abbrev pub refusals : List (Refusal × Bool)
@@ -198,30 +216,30 @@ lowest (x ∷ xs) rec = elim (x .1) [ true ↦ no (x .0) | false ↦ lowest xs r
 abbrev pub lineTokens : List ℕ → List (List ℕ)
 lineTokens l = tokens (upTo 59 l)
 
-unfoldable pub readLine : (ℕ → Ty) → (Bool → ℕ → Bool) → (m n : ℕ) → List (List ℕ) → Reply
-readLine L G m n [] = skip
-readLine L G m n (t ∷ ts) = lowest (refusals L G m n t (formOf (wordIn ts)) (behind (wordIn ts))) (recordIn L (formOf (wordIn ts)) (behind (wordIn ts)))
+unfoldable pub readLine : (ℕ → Ty) → (Bool → ℕ → Bool) → (m : ℕ) (ds : List ℕ) → List (List ℕ) → Reply
+readLine L G m ds [] = skip
+readLine L G m ds (t ∷ ts) = lowest (refusals L G m ds t (formOf (wordIn ts)) (behind (wordIn ts))) (recordIn L ds (formOf (wordIn ts)) (behind (wordIn ts)))
 
 -- ---- a text
 
--- the records; or a refusal with the number of its text line
+-- the records and their ids; or a refusal with the number of its text line
 pub data Text : Type 0 where
-  done : (rs : List (List ℕ)) → Text
+  done : (rs : List (List ℕ)) (ds : List ℕ) → Text
   refused : (r : Refusal) (l : ℕ) → Text
 
--- the lines from the line l on, after the records rs, whose context is c
-unfoldable pub readLines : (m l : ℕ) (c : Ctx) (rs : List (List ℕ)) → List (List ℕ) → Text
-readLines m l c rs [] = done rs
-readLines m l c rs (x ∷ xs) =
-    elim (readLine (tyAt c) (given c) m (length rs) (lineTokens x)) [
-      | skip ↦ readLines m (suc l) c rs xs
+-- the lines from the line l on, after the records rs with the ids ds, whose context is c
+unfoldable pub readLines : (m l : ℕ) (c : Ctx) (rs : List (List ℕ)) (ds : List ℕ) → List (List ℕ) → Text
+readLines m l c rs ds [] = done rs ds
+readLines m l c rs ds (x ∷ xs) =
+    elim (readLine (tyAt c) (given c) m ds (lineTokens x)) [
+      | skip ↦ readLines m (suc l) c rs ds xs
       | no r ↦ refused r l
-      | got rec ↦ readLines m (suc l) (grow false c (lineOf rec)) (rs ++ (rec ∷ [])) xs
+      | got rec ↦ readLines m (suc l) (grow false c (lineOf rec)) (rs ++ (rec ∷ [])) (ds ++ (lineId (lineTokens x) ∷ [])) xs
     ]
 
 -- all lines of the text s, into a table of len words
 abbrev pub linesRead : (len : ℕ) → List ℕ → Text
-linesRead len s = readLines (room false len) 1 noCtx [] (split 10 s)
+linesRead len s = readLines (room false len) 1 noCtx [] [] (split 10 s)
 
 -- the text s read into a table of len words: 1, 2, and then line by line
 unfoldable pub readText : (len : ℕ) → List ℕ → Text
@@ -233,11 +251,11 @@ readText len s =
 
 -- what is answered, and the words of the table afterwards: zero past the records, and zero after a refusal
 abbrev pub textAnswer : Text → Answer
-textAnswer (done rs) = Done (length rs)
+textAnswer (done rs ds) = Done (length rs)
 textAnswer (refused r l) = Refused r l
 
 abbrev pub tableOf : (len : ℕ) → Text → List ℕ
-tableOf len (done rs) = filled false len rs
+tableOf len (done rs ds) = filled false len (withIds rs ds)
 tableOf len (refused r l) = replicate len 0
 
 abbrev pub outcomeOf : (len : ℕ) → Text → Outcome

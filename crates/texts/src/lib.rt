@@ -24,11 +24,12 @@ pub struct Taken {
     pub rec: [u64; WORDS],
 }
 
-// What a line gives: 0 and its record, 1 for a blank line, 2 and its refusal.
+// What a line gives: 0, its record and its id, 1 for a blank line, 2 and its refusal.
 pub struct Readout {
     pub what: u64,
     pub code: Refusal,
     pub rec: [u64; WORDS],
+    pub id: u64,
 }
 
 // A part of a text: from a place up to another.

@@ -1,9 +1,9 @@
 //! A seeded generator: valid circuits as tables and as texts, and what is wrong with texts, tables and lists.
 #![allow(dead_code)]
 
-use crate::independent::kinds::{row, KINDS};
+use crate::independent::kinds::{row, Place, KINDS};
 use crate::independent::rules::{ones, Lines, Sort};
-use crate::independent::Record;
+use crate::independent::{ids, records, size as record_size, Record, MOST_ID};
 
 /// Numbers from a seed (splitmix64).
 pub struct Random(u64);
@@ -336,6 +336,45 @@ impl Builder<'_> {
     }
 }
 
+/// Ids for so many lines: 1, 2, 3 half of the time, else with gaps.
+pub fn rising_ids(random: &mut Random, n: usize) -> Vec<u64> {
+    let most = MOST_ID - n as u64;
+    match random.below(10) {
+        0..=4 => (1..=n as u64).collect(),
+        5 => {
+            // One hole.
+            let hole = random.below(n + 1) as u64;
+            (1..=n as u64).map(|i| if i > hole { i + 1 } else { i }).collect()
+        }
+        6 => {
+            // A first id above 1, up to the largest that leaves room; then no holes.
+            let first = random.pick(&[2, 3, 10, 1000, 1 << 31, most, most + 1]);
+            (0..n as u64).map(|i| first + i).collect()
+        }
+        7 => (1..=n as u64).map(|i| 1000 + 3 * i).collect(),
+        8 => {
+            let rise = |id: &mut u64, _| {
+                *id += 1 + random.next() % 4;
+                Some(*id)
+            };
+            (0..n).scan(0, rise).collect()
+        }
+        _ => {
+            // Anywhere, often up to the last.
+            let mut ids: Vec<u64> = (0..n).map(|_| 1 + random.next() % MOST_ID).collect();
+            if n > 0 && random.one_in(2) {
+                ids[0] = MOST_ID;
+            }
+            ids.sort_unstable();
+            if ids.windows(2).all(|pair| pair[0] < pair[1]) {
+                ids
+            } else {
+                (0..n as u64).map(|i| most + 1 + i).collect()
+            }
+        }
+    }
+}
+
 /// A valid circuit.
 pub fn circuit(random: &mut Random, size: Size) -> Lines {
     let mut b = Builder { random, lines: Lines::default(), arrays: size.arrays };
@@ -349,7 +388,8 @@ pub fn circuit(random: &mut Random, size: Size) -> Lines {
             _ => b.word_line(),
         }
     }
-    b.lines
+    let ids = rising_ids(b.random, b.lines.records.len());
+    Lines { ids, ..b.lines }
 }
 
 pub fn size(random: &mut Random) -> Size {
@@ -370,7 +410,7 @@ pub fn text(random: &mut Random, lines: &Lines) -> Vec<u8> {
         while style > 0 && random.one_in(9) {
             text.extend(random.pick(&[&b"\n"[..], b"; a comment\n", b"   \n", b"  ;\n", b";;1 2 3\n"]));
         }
-        let mut tokens = tokens(i + 1, r);
+        let mut tokens = tokens(&lines.ids, i, r);
         if r[0] == 3 {
             constant_form(random, &mut tokens, r[2], lines.sort(r[1]).width());
         }
@@ -402,15 +442,24 @@ pub fn text(random: &mut Random, lines: &Lines) -> Vec<u8> {
     text
 }
 
-fn tokens(id: usize, r: &Record) -> Vec<Vec<u8>> {
+/// The tokens of record i, from 0. A place that no record has is printed as it is.
+fn tokens(ids: &[u64], i: usize, r: &Record) -> Vec<Vec<u8>> {
     let kind = row(r[0]);
-    let mut tokens: Vec<Vec<u8>> = vec![id.to_string().into_bytes()];
+    let mut tokens: Vec<Vec<u8>> = vec![ids[i].to_string().into_bytes()];
     tokens.extend(kind.word.split(' ').map(|w| w.as_bytes().to_vec()));
-    if kind.sort.is_some() {
-        tokens.push(r[1].to_string().into_bytes());
-    }
-    tokens.extend(r[2..2 + kind.operands.len()].iter().map(|x| x.to_string().into_bytes()));
+    let places = kind.sort.iter().chain(kind.operands);
+    let words = &r[if kind.sort.is_some() { 1 } else { 2 }..];
+    tokens.extend(places.zip(words).map(|(&place, &x)| {
+        let named = usize::try_from(x).ok().and_then(|x| ids.get(x.wrapping_sub(1)));
+        let x = named.filter(|_| place != Place::Number).unwrap_or(&x);
+        x.to_string().into_bytes()
+    }));
     tokens
+}
+
+/// The tokens of all records.
+fn all_tokens(records: &[Record], ids: &[u64]) -> Vec<Vec<Vec<u8>>> {
+    records.iter().enumerate().map(|(i, r)| tokens(ids, i, r)).collect()
 }
 
 fn constant_form(random: &mut Random, tokens: &mut Vec<Vec<u8>>, value: u64, w: u64) {
@@ -486,13 +535,17 @@ pub const STRANGE: &[&[u8]] = &[
 /// A text that most often is refused: one or two faults in a valid one.
 pub fn damaged_text(random: &mut Random, lines: &Lines) -> Vec<u8> {
     let mut lines = lines.clone();
+    if random.one_in(6) {
+        return text_with_wrong_ids(random, &lines);
+    }
     if random.one_in(2) {
         // A fault of the records, in valid syntax.
-        let mut words = lines.records.concat();
+        let mut words = lines.words();
         damage_records(random, &mut words, false);
-        if words.chunks_exact(5).all(|r| (1..=55).contains(&r[0])) {
-            let records: Vec<Record> = words.chunks_exact(5).map(|r| r.try_into().unwrap()).collect();
-            let mut printed: Vec<Vec<Vec<u8>>> = records.iter().enumerate().map(|(i, r)| tokens(i + 1, r)).collect();
+        let n = words.len() / record_size(false);
+        let records = records(&words, n, false);
+        if records.iter().all(|r| (1..=55).contains(&r[0])) {
+            let mut printed = all_tokens(&records, &ids(&words, n));
             for line in &mut printed {
                 if line[1] == b"constd" && random.one_in(4) {
                     line[1] = random.pick(&[&b"const"[..], b"consth"]).to_vec();
@@ -504,6 +557,7 @@ pub fn damaged_text(random: &mut Random, lines: &Lines) -> Vec<u8> {
     let n = lines.records.len();
     if n > 0 && random.one_in(2) {
         lines.records.truncate(1 + random.below(n));
+        lines.ids.truncate(lines.records.len());
     }
     let mut text = text(random, &lines);
     for _ in 0..1 + random.below(2) {
@@ -511,6 +565,68 @@ pub fn damaged_text(random: &mut Random, lines: &Lines) -> Vec<u8> {
     }
     text
 }
+
+/// An id that a line after `last` may not have, or seldom one that it may.
+fn wrong_id(random: &mut Random, last: u64) -> Vec<u8> {
+    let id = match random.below(9) {
+        0 | 1 => last,
+        2 => last.saturating_sub(1),
+        3 => random.next() % (last + 1),
+        4 => 0,
+        5 => MOST_ID,
+        6 => random.pick(&[MOST_ID + 1, MOST_ID + 2, (MOST_ID + 1) + last + 1, u64::MAX]),
+        _ => last + 1,
+    };
+    let many = random.pick(&["18446744073709551616", "18446744073709551617", "36893488147419103232"]);
+    match random.below(8) {
+        0 => many.to_string(),
+        1 => format!("{}{id}", random.pick(&["0", "+", "-", "00"])),
+        2 => format!("{id}{}", random.pick(&["\r", "\t", "x", "."])),
+        _ => id.to_string(),
+    }
+    .into_bytes()
+}
+
+/// A number that names no earlier line of the line `at`, from 0, or seldom one that does.
+fn wrong_operand(random: &mut Random, ids: &[u64], at: usize) -> Vec<u8> {
+    let holes: Vec<u64> = ids[..at].iter().map(|id| id + 1).filter(|id| !ids.contains(id)).collect();
+    let id = match random.below(8) {
+        0..=2 if !holes.is_empty() => random.pick(&holes),
+        3 => ids[at],
+        4 => ids[at + random.below(ids.len() - at)],
+        5 => 0,
+        6 => random.pick(&[u64::MAX, MOST_ID, MOST_ID + 1, at as u64, at as u64 + 1]),
+        // Right modulo 2^32.
+        7 => ids[random.below(at + 1)] + MOST_ID + 1,
+        _ => ids[at],
+    };
+    if random.one_in(12) {
+        return b"18446744073709551616".to_vec();
+    }
+    id.to_string().into_bytes()
+}
+
+/// A valid text but for the ids of some lines or of some operands.
+fn text_with_wrong_ids(random: &mut Random, lines: &Lines) -> Vec<u8> {
+    let (mut printed, ids) = (all_tokens(&lines.records, &lines.ids), &lines.ids);
+    for _ in 0..if ids.is_empty() { 0 } else { 1 + random.below(2) } {
+        let at = random.below(ids.len());
+        let kind = row(lines.records[at][0]);
+        // The tokens of the id, the sort and the operands.
+        let first = 1 + kind.word.split(' ').count();
+        let places = kind.sort.iter().chain(kind.operands).enumerate();
+        let named: Vec<usize> = places.filter(|(_, &place)| place != Place::Number).map(|(i, _)| first + i).collect();
+        if named.is_empty() || random.one_in(2) {
+            printed[at][0] = wrong_id(random, if at == 0 { 0 } else { ids[at - 1] });
+        } else {
+            printed[at][random.pick(&named)] = wrong_operand(random, ids, at);
+        }
+    }
+    join(&printed)
+}
+
+/// Ids that a text of small vocabulary has again and again, some of which no right text has.
+pub const ODD_IDS: &[u64] = &[0, 1, 2, 3, 20, MOST_ID, MOST_ID + 1, u64::MAX];
 
 /// Lines of a few tokens from a small vocabulary: ids that come again, words without operands, names of all sorts.
 pub fn babble(random: &mut Random) -> Vec<u8> {
@@ -539,8 +655,8 @@ pub fn babble(random: &mut Random) -> Vec<u8> {
         "output",
     ];
     let mut text = Vec::new();
-    for line in 0..random.below(12) {
-        let id = if random.one_in(2) { line + 1 } else { random.below(4) };
+    for line in 0..random.below(12) as u64 {
+        let id = if random.one_in(2) { line + 1 } else { random.pick(ODD_IDS) };
         text.extend(if random.one_in(9) { b"01".to_vec() } else { id.to_string().into_bytes() });
         text.extend(random.pick(&[&b" "[..], b" ", b"  ", b";", b"\t"]));
         text.extend(random.pick(WORDS).bytes());
@@ -554,6 +670,11 @@ pub fn babble(random: &mut Random) -> Vec<u8> {
         text.pop();
     }
     text
+}
+
+/// The text of a circuit with its own ids, as writing prints one with the ids 1, 2, 3.
+pub fn plain_text(lines: &Lines) -> Vec<u8> {
+    join(&all_tokens(&lines.records, &lines.ids))
 }
 
 fn join(lines: &[Vec<Vec<u8>>]) -> Vec<u8> {
@@ -611,18 +732,47 @@ fn rejoin(lines: &[Vec<Vec<u8>>]) -> Vec<u8> {
     joined.join(&b'\n')
 }
 
+/// Adds a record to a list, in a circuit's with an id above the last or, seldom, with another.
+fn extend(random: &mut Random, table: &mut Vec<u64>, record: Record, program: bool) {
+    let last = if program { 0 } else { table.last().copied().unwrap_or(0) };
+    table.extend(record);
+    if !program {
+        table.push(last.wrapping_add(u64::from(!random.one_in(9))));
+    }
+}
+
+/// The id of a circuit's record is broken, or seldom is not.
+fn damage_id(random: &mut Random, table: &mut [u64], record: usize) {
+    let size = record_size(false);
+    let at = size * record + 5;
+    let last = if record == 0 { 0 } else { table[at - size] };
+    let other = size * random.below(table.len() / size) + 5;
+    match random.below(9) {
+        0 | 1 => table[at] = last,
+        2 => table[at] = last.saturating_sub(1),
+        3 => table[at] = 0,
+        4 => table[at] = MOST_ID + 1,
+        5 => table[at] = MOST_ID,
+        6 => table[at] = table[at].wrapping_add(MOST_ID + 1),
+        7 => table.swap(at, other),
+        _ => table[at] = random.word(),
+    }
+}
+
 /// Faults of a table's or a program's records; some are none.
 pub fn damage_records(random: &mut Random, table: &mut Vec<u64>, program: bool) {
-    let n = table.len() / 5;
+    let size = record_size(program);
+    let n = table.len() / size;
     if n == 0 {
         let kind = random.word() % 60;
-        table.extend([kind, 0, 1, 0, 0]);
+        extend(random, table, [kind, 0, 1, 0, 0], program);
         return;
     }
     for _ in 0..1 + random.below(2) {
-        let (at, other) = (5 * random.below(n), 5 * random.below(n));
+        let (record, other) = (random.below(n), size * random.below(n));
+        let at = size * record;
         let word = at + 1 + random.below(4);
-        match random.below(14) {
+        match random.below(if program { 14 } else { 16 }) {
             0 => table[at] = random.pick(&[0, 1, 2, 3, 53, 54, 55, 56, 57, 255, 256, 311, u64::MAX]),
             1 => table[at] = 1 + random.next() % 56,
             2..=4 => table[word] = 1 + random.next() % n as u64,
@@ -634,15 +784,16 @@ pub fn damage_records(random: &mut Random, table: &mut Vec<u64>, program: bool) 
             10 => (0..5).for_each(|i| table.swap(at + i, other + i)),
             11 => {
                 // A record once more: a second init or next.
-                let again: Vec<u64> = table[at..at + 5].to_vec();
-                table.extend(again);
+                let again: Record = table[at..at + 5].try_into().unwrap();
+                extend(random, table, again, program);
             }
             12 => late_init(random, table, program),
+            14 | 15 => damage_id(random, table, record),
             _ => {
                 // Among inits and nexts only.
-                let held: Vec<usize> = (0..n).filter(|i| matches!(table[5 * i], 6 | 7)).collect();
+                let held: Vec<usize> = (0..n).filter(|i| matches!(table[size * i], 6 | 7)).collect();
                 if !held.is_empty() {
-                    let at = 5 * random.pick(&held);
+                    let at = size * random.pick(&held);
                     table[at + random.pick(&[2, 3])] = 1 + random.next() % n as u64;
                 }
             }
@@ -654,7 +805,7 @@ pub fn damage_records(random: &mut Random, table: &mut Vec<u64>, program: bool) 
 fn late_init(random: &mut Random, table: &mut Vec<u64>, program: bool) {
     let check = crate::independent::rules::check_table;
     let check_program = crate::independent::rules::check_program;
-    let n = table.len() / 5;
+    let n = table.len() / record_size(program);
     let Some(lines) = (if program { check_program(table, n) } else { check(table, n) }) else { return };
     let states: Vec<usize> = (0..n).filter(|&i| lines.lines[i].kind == 5).collect();
     if states.is_empty() {
@@ -666,7 +817,8 @@ fn late_init(random: &mut Random, table: &mut Vec<u64>, program: bool) {
         (0..n).filter(|&i| lines.lines[i].kind > 2 && lines.lines[i].sort == Some(Sort::Word(w))).collect();
     if !values.is_empty() {
         let value = random.pick(&values);
-        table.extend([6, lines.records[state][1], state as u64 + 1, value as u64 + 1, 0]);
+        let record = [6, lines.records[state][1], state as u64 + 1, value as u64 + 1, 0];
+        extend(random, table, record, program);
     }
 }
 
@@ -682,15 +834,25 @@ pub fn length(random: &mut Random, exact: usize) -> usize {
 }
 
 /// A length of a list of records, from the records that it should hold.
-pub fn table_length(random: &mut Random, exact: usize) -> usize {
-    match random.below(12) {
-        0 => 5 * exact + 1 + random.below(4),
-        1 => (5 * exact).saturating_sub(1),
-        2 => 5 * exact.saturating_sub(1),
-        3 => 5 * (exact + random.below(30)),
-        4 => 5 * random.below(exact + 1),
-        5 => 5 * (exact + 1),
-        _ => 5 * exact,
+pub fn table_length(random: &mut Random, exact: usize, program: bool) -> usize {
+    let (size, other) = (record_size(program), record_size(!program));
+    match random.below(14) {
+        0 => size * exact + 1 + random.below(size - 1),
+        1 => (size * exact).saturating_sub(1),
+        2 => size * exact.saturating_sub(1),
+        3 => size * (exact + random.below(30)),
+        4 => size * random.below(exact + 1),
+        5 => size * (exact + 1),
+        6 | 7 => {
+            // A length of the other lists, and none of these.
+            let length = other * (size * (exact + random.below(3)) / other + 1);
+            if length % size == 0 {
+                length + other
+            } else {
+                length
+            }
+        }
+        _ => size * exact,
     }
 }
 
@@ -700,7 +862,10 @@ pub fn count(random: &mut Random, exact: usize) -> usize {
         0 => exact + 1,
         1 => exact.saturating_sub(1),
         2 => random.below(exact + 1),
-        3 => random.pick(&[16_384, 16_385, usize::MAX, usize::MAX / 5, usize::MAX / 5 + 2, 1 << 32, 1 << 63]),
+        3 => {
+            let (fifth, sixth) = (usize::MAX / 5, usize::MAX / 6);
+            random.pick(&[16_384, 16_385, usize::MAX, fifth, fifth + 2, sixth, sixth + 1, sixth + 2, 1 << 32, 1 << 63])
+        }
         _ => exact,
     }
 }
@@ -726,7 +891,7 @@ pub fn wild_program(random: &mut Random, lines: &Lines) -> Vec<Record> {
             copy[1] = lines.sort(r[1]).width();
         }
         for (i, place) in kind.operands.iter().enumerate() {
-            if *place != crate::independent::kinds::Place::Number {
+            if *place != Place::Number {
                 copy[2 + i] = number[r[2 + i] as usize - 1];
             }
         }

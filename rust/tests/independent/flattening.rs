@@ -2,7 +2,7 @@
 
 use super::kinds::{row, Place};
 use super::rules::{check_table, Lines, Sort};
-use super::{room, store, Record, MOST_RECORDS};
+use super::{is_whole, numbered, room, store, Record};
 
 /// What the flat circuit has for a line of the circuit.
 #[derive(Clone, Default)]
@@ -157,12 +157,12 @@ pub fn flat_records(lines: &Lines, most: usize) -> Option<Vec<Record>> {
 pub fn flatten(table: &[u64], count: usize, target: &mut [u64], answer: &mut [u64]) -> u64 {
     target.fill(0);
     answer.fill(0);
-    if answer.len() != 3 || table.len() % 5 != 0 || target.len() % 5 != 0 {
+    if answer.len() != 3 || !is_whole(table, false) || !is_whole(target, false) {
         return 1;
     }
     let Some(lines) = check_table(table, count) else { return 11 };
-    let Some(flat) = flat_records(&lines, room(target).min(MOST_RECORDS)) else { return 12 };
-    store(&flat, target);
+    let Some(flat) = flat_records(&lines, room(target, false)) else { return 12 };
+    store(&numbered(&flat), target);
     answer[0] = flat.len() as u64;
     0
 }

@@ -23,24 +23,53 @@ pub use translating::translate;
 /// Kind, sort line (in a program: width), three operands.
 pub type Record = [u64; 5];
 
+/// The greatest id that a line may have.
+pub const MOST_ID: u64 = 4_294_967_295;
 /// At most this many records count.
 pub const MOST_RECORDS: usize = 16_384;
 pub const MOST_TEXT: usize = 65_536;
 pub const MOST_STEPS: usize = 4_096;
 
-/// The counted records of a table.
-pub fn records(table: &[u64], count: usize) -> Vec<Record> {
-    table.chunks_exact(5).take(count).map(|c| c.try_into().unwrap()).collect()
-}
-
-/// Puts records at the front of a cleared list.
-pub fn store(records: &[Record], target: &mut [u64]) {
-    for (i, r) in records.iter().enumerate() {
-        target[5 * i..5 * i + 5].copy_from_slice(r);
+/// Words of a record in a list: in a circuit's the id as written stands behind the five, in a program's nothing does.
+pub fn size(program: bool) -> usize {
+    if program {
+        5
+    } else {
+        6
     }
 }
 
+/// The counted records of a list.
+pub fn records(list: &[u64], count: usize, program: bool) -> Vec<Record> {
+    list.chunks_exact(size(program)).take(count).map(|c| c[..5].try_into().unwrap()).collect()
+}
+
+/// The ids of the counted records of a circuit's list.
+pub fn ids(table: &[u64], count: usize) -> Vec<u64> {
+    table.chunks_exact(size(false)).take(count).map(|c| c[5]).collect()
+}
+
+/// A circuit's list of some records with their ids.
+pub fn table(records: &[Record], ids: &[u64]) -> Vec<u64> {
+    records.iter().zip(ids).flat_map(|(&[kind, sort, a, b, c], &id)| [kind, sort, a, b, c, id]).collect()
+}
+
+/// A circuit's list of some records, with the ids 1, 2, 3.
+pub fn numbered(records: &[Record]) -> Vec<u64> {
+    table(records, &(1..=records.len() as u64).collect::<Vec<u64>>())
+}
+
+/// Puts words at the front of a cleared list.
+pub fn store(words: &[u64], target: &mut [u64]) {
+    target[..words.len()].copy_from_slice(words);
+}
+
+/// Whether a list may hold records.
+pub fn is_whole(list: &[u64], program: bool) -> bool {
+    list.len() % size(program) == 0
+}
+
 /// How many records a list lent for them can hold.
-pub fn room(table: &[u64]) -> usize {
-    (table.len() / 5).min(MOST_RECORDS)
+pub fn room(list: &[u64], program: bool) -> usize {
+    (list.len() / size(program)).min(MOST_RECORDS)
 }

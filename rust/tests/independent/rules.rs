@@ -1,8 +1,8 @@
 //! The rules for tables and programs: 8 (classes), 9 (widths and bounds),
-//! 10 (second init or next, the init rule), and the checks 11 and 20.
+//! 10 (second init or next, the init rule), the ids, and the checks 11 and 20.
 
 use super::kinds::{is_value, row, Place};
-use super::{Record, MOST_RECORDS};
+use super::{ids, records, room, Record, MOST_ID};
 
 #[derive(Clone, Copy, PartialEq, Eq, Debug)]
 pub enum Sort {
@@ -45,11 +45,13 @@ pub struct Line {
     pub next: bool,
 }
 
-/// The lines so far. Line n stands at n - 1.
+/// The lines so far. Line n stands at n - 1: lines are told by their places, whatever their ids are.
 #[derive(Clone, Default)]
 pub struct Lines {
     pub lines: Vec<Line>,
     pub records: Vec<Record>,
+    /// The ids as written, rising. A program's are of no use.
+    pub ids: Vec<u64>,
     /// The sort words are widths, as in programs.
     pub program: bool,
 }
@@ -57,6 +59,25 @@ pub struct Lines {
 impl Lines {
     pub fn line(&self, number: u64) -> Option<&Line> {
         self.lines.get(usize::try_from(number.checked_sub(1)?).ok()?)
+    }
+
+    /// Whether a line may have this id: above the one before, and not too large.
+    pub fn id_fits(&self, id: u64) -> bool {
+        self.ids.last().copied().unwrap_or(0) < id && id <= MOST_ID
+    }
+
+    /// The place of the line with an id; 0 where there is none.
+    pub fn place(&self, id: u64) -> u64 {
+        self.ids.binary_search(&id).map_or(0, |i| i as u64 + 1)
+    }
+
+    /// The words of the lines in a circuit's list, or in a program's.
+    pub fn words(&self) -> Vec<u64> {
+        if self.program {
+            self.records.concat()
+        } else {
+            super::table(&self.records, &self.ids)
+        }
     }
 
     /// The sort of a sort line or value line that is known to exist.
@@ -141,8 +162,13 @@ impl Lines {
         }
     }
 
-    /// Adds a line that breaks no rule.
+    /// Adds a line that breaks no rule, with the next number as its id.
     pub fn add(&mut self, r: Record) {
+        self.add_as(r, self.ids.last().copied().unwrap_or(0) + 1);
+    }
+
+    /// Adds a line that breaks no rule.
+    pub fn add_as(&mut self, r: Record, id: u64) {
         let sort = match r[0] {
             1 => Some(Sort::Word(r[2])),
             2 => Some(Sort::Array(self.sort(r[2]).width(), self.sort(r[3]).width())),
@@ -160,6 +186,7 @@ impl Lines {
         }
         self.lines.push(Line { kind: r[0], sort, fixed, init: false, next: false });
         self.records.push(r);
+        self.ids.push(id);
     }
 
     fn accepts(&self, r: &Record) -> bool {
@@ -180,16 +207,17 @@ impl Lines {
     }
 }
 
-fn check(table: &[u64], count: usize, program: bool) -> Option<Lines> {
-    if count > table.len() / 5 || count > MOST_RECORDS {
+fn check(list: &[u64], count: usize, program: bool) -> Option<Lines> {
+    if count > room(list, program) {
         return None;
     }
     let mut lines = Lines { program, ..Lines::default() };
-    for r in super::records(table, count) {
-        if !lines.accepts(&r) {
+    let ids = if program { (1..=count as u64).collect() } else { ids(list, count) };
+    for (r, id) in records(list, count, program).into_iter().zip(ids) {
+        if !lines.id_fits(id) || !lines.accepts(&r) {
             return None;
         }
-        lines.add(r);
+        lines.add_as(r, id);
     }
     Some(lines)
 }

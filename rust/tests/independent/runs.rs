@@ -2,7 +2,7 @@
 
 use super::kinds::{is_value, row, Place};
 use super::rules::{check_program, check_table, ones, Lines};
-use super::{meaning, words, MOST_STEPS};
+use super::{is_whole, meaning, words, MOST_STEPS};
 
 /// A step, from 0, and a bad line's place among the bad lines, from 1.
 pub type FirstBad = Option<(u64, u64)>;
@@ -173,7 +173,7 @@ fn run(
     signals.fill(0);
     work.fill(0);
     answer.fill(0);
-    if answer.len() != 3 || table.len() % 5 != 0 {
+    if answer.len() != 3 || !is_whole(table, program) {
         return 1;
     }
     let lines = match if program { check_program(table, count) } else { check_table(table, count) } {
@@ -232,7 +232,7 @@ pub fn run_program(
     run(true, table, count, steps, starts, inputs, signals, work, answer)
 }
 
-/// answer[0] is the value of a line's cell at step 0.
+/// answer[0] is the value of a line's cell at step 0; the line is told by its record's place.
 pub fn peek(
     table: &[u64],
     count: usize,
@@ -243,7 +243,7 @@ pub fn peek(
     answer: &mut [u64],
 ) -> u64 {
     answer.fill(0);
-    if answer.len() != 3 || table.len() % 5 != 0 {
+    if answer.len() != 3 || !is_whole(table, false) {
         return 1;
     }
     let Some(lines) = check_table(table, count) else { return 11 };

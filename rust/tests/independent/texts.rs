@@ -2,7 +2,7 @@
 
 use super::kinds::{row, Place, KINDS};
 use super::rules::{check_table, ones, Lines, Sort};
-use super::{room, store, Record, MOST_TEXT};
+use super::{is_whole, room, store, Record, MOST_TEXT};
 
 /// The lines of a text, each with its number from 1 and its tokens.
 fn lines(text: &[u8]) -> impl Iterator<Item = (u64, Vec<&[u8]>)> {
@@ -95,11 +95,12 @@ fn digits_number(token: &[u8], base: u32, most: usize) -> Number {
     }
 }
 
-/// The record of a line, or the refusal's number.
-fn record(tokens: &[&[u8]], lines: &Lines, room: usize) -> Result<Record, u64> {
-    if tokens[0] != (lines.lines.len() + 1).to_string().as_bytes() {
-        return Err(3);
-    }
+/// The record of a line and its id, or the refusal's number.
+fn record(tokens: &[&[u8]], lines: &Lines, room: usize) -> Result<(Record, u64), u64> {
+    let id = match number(tokens[0]) {
+        Number::Is(id) if lines.id_fits(id) => id,
+        _ => return Err(3),
+    };
     if lines.lines.len() >= room {
         return Err(4);
     }
@@ -130,6 +131,10 @@ fn record(tokens: &[&[u8]], lines: &Lines, room: usize) -> Result<Record, u64> {
     if form.kind == 1 && !(1..=64).contains(&r[2]) {
         return Err(7);
     }
+    // Tokens name ids, the record holds places.
+    for i in (0..places.len()).filter(|&i| places[i] != Place::Number) {
+        r[first + i] = lines.place(r[first + i]);
+    }
     if !lines.classes_fit(&r) {
         return Err(8);
     }
@@ -148,39 +153,39 @@ fn record(tokens: &[&[u8]], lines: &Lines, room: usize) -> Result<Record, u64> {
     if !lines.states_fit(&r) {
         return Err(10);
     }
-    Ok(r)
+    Ok((r, id))
 }
 
 /// answer[0] is the count, or the text line with 3 to 10.
 pub fn read(text: &[u8], table: &mut [u64], answer: &mut [u64]) -> u64 {
     table.fill(0);
     answer.fill(0);
-    if answer.len() != 3 || table.len() % 5 != 0 {
+    if answer.len() != 3 || !is_whole(table, false) {
         return 1;
     }
     if text.len() > MOST_TEXT {
         return 2;
     }
-    let room = room(table);
+    let room = room(table, false);
     let mut known = Lines::default();
     for (number, tokens) in lines(text) {
         if tokens.is_empty() {
             continue;
         }
         match record(&tokens, &known, room) {
-            Ok(r) => known.add(r),
+            Ok((r, id)) => known.add_as(r, id),
             Err(refusal) => {
                 answer[0] = number;
                 return refusal;
             }
         }
     }
-    store(&known.records, table);
+    store(&known.words(), table);
     answer[0] = known.records.len() as u64;
     0
 }
 
-/// The text of some records.
+/// The text of some records, numbered 1, 2, 3.
 pub fn print(records: &[Record]) -> Vec<u8> {
     use std::io::Write;
     let mut text = Vec::new();
@@ -202,7 +207,7 @@ pub fn print(records: &[Record]) -> Vec<u8> {
 pub fn write(table: &[u64], count: usize, text: &mut [u8], answer: &mut [u64]) -> u64 {
     text.fill(0);
     answer.fill(0);
-    if answer.len() != 3 || table.len() % 5 != 0 {
+    if answer.len() != 3 || !is_whole(table, false) {
         return 1;
     }
     let Some(lines) = check_table(table, count) else { return 11 };
@@ -215,7 +220,7 @@ pub fn write(table: &[u64], count: usize, text: &mut [u8], answer: &mut [u64]) -
     0
 }
 
-/// The name in the first line with this id: where it starts in the text, and its length.
+/// The name in the first line with this id as written: where it starts in the text, and its length.
 pub fn find_name(text: &[u8], id: u64) -> Option<(usize, usize)> {
     let wanted = id.to_string();
     let (_, tokens) = lines(text).find(|(_, t)| t.first().is_some_and(|t| *t == wanted.as_bytes()))?;

@@ -2,7 +2,7 @@
 
 use super::kinds::{is_value, row, Place};
 use super::rules::{check_table, Lines};
-use super::{room, store, Record};
+use super::{is_whole, room, store, Record};
 
 /// For each line, whether bits above its width may be set.
 fn loose_lines(lines: &Lines) -> Vec<bool> {
@@ -78,7 +78,7 @@ pub fn program_records(lines: &Lines) -> Vec<Record> {
 pub fn translate(table: &[u64], count: usize, target: &mut [u64], answer: &mut [u64]) -> u64 {
     target.fill(0);
     answer.fill(0);
-    if answer.len() != 3 || table.len() % 5 != 0 || target.len() % 5 != 0 {
+    if answer.len() != 3 || !is_whole(table, false) || !is_whole(target, true) {
         return 1;
     }
     let Some(lines) = check_table(table, count) else { return 11 };
@@ -86,10 +86,10 @@ pub fn translate(table: &[u64], count: usize, target: &mut [u64], answer: &mut [
         return 19;
     }
     let program = program_records(&lines);
-    if program.len() > room(target) {
+    if program.len() > room(target, true) {
         return 12;
     }
-    store(&program, target);
+    store(&program.concat(), target);
     answer[0] = program.len() as u64;
     0
 }

@@ -6,7 +6,7 @@ use mathlib.Core.Path.{_≡_, refl, sym, ap, _∙_, subst}
 use mathlib.Core.Bool.{true, false}
 use mathlib.Core.List.{List}
 use lib.ListN.{getD}
-use Rattle.tables.specs.Kinds.{rows as kindRows, wordOf}
+use Rattle.tables.specs.Kinds.{wordOf}
 use Rattle.texts.specs.Split.{sameBytes}
 use Rattle.texts.specs.Forms.{formRow}
 use Rattle.texts.specs.Reading.{findIn}
@@ -15,19 +15,16 @@ use Rattle.forms.proofs.find_kind.Statement.{statement}
 use Rattle.forms.proofs.find_kind.Tie as tie
 
 abbrev Inv-loop : tie.InvT-loop
-Inv-loop t k n rows e j₀ j = (k ≤ j) × ((j ≤ e) × ((e ≡ k + n) × ((rows ≡ kindRows) × (findIn k n t ≡ findIn j (e - j) t))))
+Inv-loop kinds t k n e j₀ j = (k ≤ j) × ((j ≤ e) × ((e ≡ k + n) × (findIn k n t ≡ findIn j (e - j) t)))
 
 abbrev μ-loop : tie.MeasureT-loop
-μ-loop t k n rows e j₀ j = e - j
-
-all-requires : tie.Need-all-requires Inv-loop μ-loop
-all-requires c κs = tt
+μ-loop kinds t k n e j₀ j = e - j
 
 add-e : tie.Need-add-e Inv-loop μ-loop
 add-e c = search needs
 
 loop-holds : tie.Need-loop-holds Inv-loop μ-loop
-loop-holds c = (search needs, (search needs, (search needs, (c .all .ensures, ap (λ (m : ℕ). findIn (c .before .before .args .k) m (c .before .before .args .t .now)) (omega arith)))))
+loop-holds c = (search needs, (search needs, (search needs, ap (λ (m : ℕ). findIn (c .before .args .k) m (c .before .args .t .now)) (omega arith))))
 
 sub-r : tie.Need-sub-r Inv-loop μ-loop
 sub-r c = search needs
@@ -35,22 +32,22 @@ sub-r c = search needs
 mul-r : tie.Need-mul-r Inv-loop μ-loop
 mul-r c = search needs
 
-array-copy-out-r : tie.Need-array-copy-out-r Inv-loop μ-loop
-array-copy-out-r c = search needs
+element-copy-out-r : tie.Need-element-copy-out-r Inv-loop μ-loop
+element-copy-out-r c = search needs
 
 is-word-requires : tie.Need-is-word-requires Inv-loop μ-loop
-is-word-requires c κs = subst (λ (r : List ℕ). getD r 0 0 ≤ 10) (sym (listed-kind _ (c .before .before .loop .j) (c .before .before .loop .inv .1 .1 .1 .0) (omega arith))) (row-shape (c .before .before .loop .j) (omega arith) (omega arith) .0)
+is-word-requires c κs = subst (λ (r : List ℕ). getD r 0 0 ≤ 10) (sym (listed-kind _ (c .before .before .loop .j) (c .before .before .before .before .pre .0) (omega arith))) (row-shape (c .before .before .loop .j) (omega arith) (omega arith) .0)
 
 returns : tie.Need-returns Inv-loop μ-loop
 returns c =
     let v = c .before .before .before .before .loop .inv in
-    let start = c .before .before .before .before .before .before .before in
+    let start = c .before .before .before .before .before .before in
     let t : List ℕ = start .args .t .now in
     let j : ℕ = c .before .before .before .before .loop .j in
     let e : ℕ = start .args .k + start .args .n in
-    let r = listed-kind _ j (v .1 .1 .1 .0) (omega arith) in
+    let r = listed-kind _ j (start .pre .0) (omega arith) in
     let h : sameBytes t (wordOf (formRow j)) ≡ true = ap (λ (r : List ℕ). sameBytes t (wordOf r)) (sym r) ∙ (sym (c .before .is-word .ensures) ∙ c .if1 .taken) in
-    sym (v .1 .1 .1 .1 ∙ find-hit j e t (c .before .before .before .loop-test .taken) h)
+    sym (v .1 .1 .1 ∙ find-hit j e t (c .before .before .before .loop-test .taken) h)
 
 add-j : tie.Need-add-j Inv-loop μ-loop
 add-j c = search needs
@@ -61,16 +58,16 @@ loop-less c = search needs
 loop-again : tie.Need-loop-again Inv-loop μ-loop
 loop-again c =
     let v = c .before .before .before .before .loop .inv in
-    let start = c .before .before .before .before .before .before .before in
+    let start = c .before .before .before .before .before .before in
     let t : List ℕ = start .args .t .now in
     let j : ℕ = c .before .before .before .before .loop .j in
     let e : ℕ = start .args .k + start .args .n in
-    let r = listed-kind _ j (v .1 .1 .1 .0) (omega arith) in
+    let r = listed-kind _ j (start .pre .0) (omega arith) in
     let h : sameBytes t (wordOf (formRow j)) ≡ false = ap (λ (r : List ℕ). sameBytes t (wordOf r)) (sym r) ∙ (sym (c .before .is-word .ensures) ∙ c .if1 .left) in
-    (omega arith, (omega arith, (refl, (v .1 .1 .1 .0, v .1 .1 .1 .1 ∙ find-miss j e t (c .before .before .before .loop-test .taken) h))))
+    (omega arith, (omega arith, (refl, v .1 .1 .1 ∙ find-miss j e t (c .before .before .before .loop-test .taken) h)))
 
 returns-2 : tie.Need-returns-2 Inv-loop μ-loop
-returns-2 c = sym (c .before .loop .inv .1 .1 .1 .1 ∙ find-done (c .before .loop .j) (c .before .before .before .before .args .k + c .before .before .before .before .args .n) (c .before .before .before .before .args .t .now) (c .loop-test .left))
+returns-2 c = let s = c .before .before .before .args in sym (c .before .loop .inv .1 .1 .1 ∙ find-done (c .before .loop .j) (s .k + s .n) (s .t .now) (c .loop-test .left))
 
 pub find-kind-spec : {M : Type 1} → statement M
 find-kind-spec =
@@ -78,12 +75,11 @@ find-kind-spec =
     (tie.spec
     Inv-loop
     μ-loop
-    all-requires
     add-e
     loop-holds
     sub-r
     mul-r
-    array-copy-out-r
+    element-copy-out-r
     is-word-requires
     returns
     add-j

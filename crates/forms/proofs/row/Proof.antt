@@ -23,11 +23,11 @@ array-copy-out-result c = search needs
 returns : tie.Need-returns
 returns c = ap (λ (t : List (List ℕ)). getD t (c .before .before .before .args .f - 56) []) (c .before .others .ensures) ∙ sym (row-extra (c .before .before .before .args .f) (c .before .before .if1 .taken))
 
-row-requires : tie.Need-row-requires
-row-requires c κs = search needs
+row-of-requires : tie.Need-row-of-requires
+row-of-requires c κs = search needs
 
 returns-2 : tie.Need-returns-2
-returns-2 c = c .row .ensures ∙ sym (row-kind (c .before .before .args .f) (c .before .if1 .left))
+returns-2 c = c .row-of .ensures ∙ sym (row-kind (c .before .before .args .f) (c .before .if1 .left))
 
 pub row-spec : {M : Type 1} → statement M
 row-spec =
@@ -38,5 +38,5 @@ row-spec =
     mul-result
     array-copy-out-result
     returns
-    row-requires
+    row-of-requires
     returns-2)

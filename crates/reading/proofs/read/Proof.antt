@@ -33,18 +33,27 @@ returns-2 : tie.Need-returns-2
 returns-2 c = let s = c .before .before .before .before .before .before .before .before .before .args in let len = length (s .table .now) in
     out-text len (s .text .now) (out-refused len (text-2 len (s .text .now) (ap (whole false) (sym (c .before .before .before .before .before .clear .kept .0)) ∙ (sym (c .before .before .is-table .ensures) ∙ not-false _ (c .before .if1 .left))) (c .if2 .taken)) (c .before .before .before .before .before .clear .ensures))
 
+all-requires : tie.Need-all-requires
+all-requires c κs = tt
+
 slice-aggregate-read-lines : tie.Need-slice-aggregate-read-lines
 slice-aggregate-read-lines c = search needs
 
 read-lines-requires : tie.Need-read-lines-requires
-read-lines-requires c κs = (c .before .before .if2 .left, (c .before .before .before .before .before .before .before .clear .ensures ∙ ap (λ (n : ℕ). replicate {A = ℕ} n 0) (sym (c .before .before .before .before .before .before .before .clear .kept .0)), (length-replicate 16385 blank, shows-none (fresh 0 16385 (λ h. omega arith)))))
+read-lines-requires c κs =
+    let k = c .before .before .before .before .before .before .before .before .before .clear in
+    let zeros = k .ensures ∙ ap (λ (n : ℕ). replicate {A = ℕ} n 0) (sym (k .kept .0)) in
+    (c .before .before .before .before .if2 .left, (zeros, (length-replicate 16385 blank, (shows-none (fresh 0 16385 (λ h. omega arith)), c .before .before .before .all .ensures))))
 
 same-length-3 : tie.Need-same-length-3
-same-length-3 c = c .before .before .before .read-lines .kept .1 .0 ∙ c .before .before .before .before .before .before .before .before .before .before .before .clear .kept .0
+same-length-3 c = c .before .before .before .read-lines .kept .1 .0 ∙ c .before .before .before .before .before .before .before .before .before .before .before .before .before .clear .kept .0
 
 returns-3 : tie.Need-returns-3
-returns-3 c = let s = c .before .before .before .before .before .before .before .before .before .before .before .before .before .before .before .args in
-    out-lines (length (s .table .now)) (length (c .before .before .before .before .before .before .before .before .before .before .before .clear .last .0)) (s .text .now) (c .before .before .before .before .before .before .before .before .before .before .before .clear .kept .0) (sym (c .before .before .before .before .before .before .before .before .is-table .ensures) ∙ not-false _ (c .before .before .before .before .before .before .before .if1 .left)) (c .before .before .before .before .before .before .if2 .left) (c .before .before .before .read-lines .ensures)
+returns-3 c =
+    let s = c .before .before .before .before .before .before .before .before .before .before .before .before .before .before .before .before .before .args in
+    let k = c .before .before .before .before .before .before .before .before .before .before .before .before .before .clear in
+    let whole = sym (c .before .before .before .before .before .before .before .before .before .before .is-table .ensures) ∙ not-false _ (c .before .before .before .before .before .before .before .before .before .if1 .left) in
+    out-lines (length (s .table .now)) (length (k .last .0)) (s .text .now) (k .kept .0) whole (c .before .before .before .before .before .before .before .before .if2 .left) (c .before .before .before .read-lines .ensures)
 
 pub read-spec : {M : Type 1} → statement M
 read-spec =
@@ -56,6 +65,7 @@ read-spec =
     returns
     same-length-2
     returns-2
+    all-requires
     slice-aggregate-read-lines
     read-lines-requires
     same-length-3

@@ -6,6 +6,7 @@ use mathlib.Core.List.{List}
 use Rattle.tables.specs.Kinds.{rowOf, operandCount}
 use Rattle.tables.specs.Lines.{kindIn}
 use Rattle.tables.specs.Model.Notes.{lookIn, givenIn}
+use Rattle.tables.specs.Layout.{idsOf}
 use Rattle.texts.proofs.Words.{row-shape, sorted-most}
 use Rattle.texts.proofs.Steps.{taken-from}
 use borrow.Author.Needs.{needs}
@@ -13,7 +14,7 @@ use Rattle.stages.proofs.rest.Statement.{statement}
 use Rattle.stages.proofs.rest.Tie as tie
 
 row-requires : tie.Need-row-requires
-row-requires c κs = (c .before .pre .1 .0, c .before .pre .1 .1 .0)
+row-requires c κs = (c .before .before .pre .0, (c .before .before .pre .1 .1 .0, c .before .before .pre .1 .1 .1 .0))
 
 sorted-requires : tie.Need-sorted-requires
 sorted-requires c κs = tt
@@ -28,27 +29,29 @@ kind-of-requires : tie.Need-kind-of-requires
 kind-of-requires c κs = tt
 
 add-operands : tie.Need-add-operands
-add-operands c = let g = subst (λ (r : List ℕ). operandCount r ≤ 3) (sym (c .before .before .row .ensures)) (row-shape (c .before .before .before .before .args .f) (omega arith) (omega arith) .1) in omega (arith, c .before .sorted .ensures, sorted-most (c .before .before .row .result))
+add-operands c = let g = subst (λ (r : List ℕ). operandCount r ≤ 3) (sym (c .before .before .row .ensures)) (row-shape (c .before .before .before .before .before .args .f) (omega arith) (omega arith) .1) in omega (arith, c .before .sorted .ensures, sorted-most (c .before .before .row .result))
 
 sub-operands : tie.Need-sub-operands
-sub-operands c = let g = subst (λ (r : List ℕ). operandCount r ≤ 3) (sym (c .before .before .row .ensures)) (row-shape (c .before .before .before .before .args .f) (omega arith) (omega arith) .1) in omega (arith, c .before .sorted .ensures, sorted-most (c .before .before .row .result))
+sub-operands c = let g = subst (λ (r : List ℕ). operandCount r ≤ 3) (sym (c .before .before .row .ensures)) (row-shape (c .before .before .before .before .before .args .f) (omega arith) (omega arith) .1) in omega (arith, c .before .sorted .ensures, sorted-most (c .before .before .row .result))
 
 of-requires : tie.Need-of-requires
 of-requires c κs = tt
 
 operands-requires : tie.Need-operands-requires
-operands-requires c κs = let g = subst (λ (r : List ℕ). operandCount r ≤ 3) (sym (c .before .before .before .row .ensures)) (row-shape (c .before .before .before .before .before .args .f) (omega arith) (omega arith) .1) in
+operands-requires c κs = let g = subst (λ (r : List ℕ). operandCount r ≤ 3) (sym (c .before .before .before .row .ensures)) (row-shape (c .before .before .before .before .before .before .args .f) (omega arith) (omega arith) .1) in
     let h = sorted-most (c .before .before .before .row .result) in
-    (c .before .before .before .before .before .pre .0, (omega (arith, c .before .before .sorted .ensures), omega (arith, c .before .before .sorted .ensures)))
+    (c .before .before .before .before .before .before .pre .1 .0, (omega (arith, c .before .before .sorted .ensures), omega (arith, c .before .before .sorted .ensures)))
 
 kind-row-requires : tie.Need-kind-row-requires
-kind-row-requires c κs = (c .before .before .before .before .before .before .pre .1 .0, c .before .before .before .before .row .ensures)
+kind-row-requires c κs =
+    let s = c .before .before .before .before .before .before .before .pre in (s .0, (s .1 .1 .0, c .before .before .before .before .row .ensures))
 
 finish-requires : tie.Need-finish-requires
-finish-requires c κs = (c .before .operands .ensures .0, (c .kind-row .ensures ∙ ap rowOf (sym (c .before .operands .ensures .1 .0 ∙ (ap kindIn (c .before .before .of .ensures) ∙ c .before .before .before .kind-of .ensures))), c .before .before .before .before .before .before .before .pre .1 .1 .1))
+finish-requires c κs = (c .before .operands .ensures .0, (c .kind-row .ensures ∙ ap rowOf (sym (c .before .operands .ensures .1 .0 ∙ (ap kindIn (c .before .before .of .ensures) ∙ c .before .before .before .kind-of .ensures))), c .before .before .before .before .before .before .before .before .pre .1 .1 .1 .1))
 
 returns : tie.Need-returns
-returns c = taken-from (lookIn (c .before .before .before .before .before .before .before .before .args .notes .now)) (givenIn (c .before .before .before .before .before .before .before .before .args .notes .now)) (c .before .before .before .before .before .before .before .before .args .f) (c .before .before .before .before .before .before .before .before .args .l .now) (c .before .before .operands .result) (c .before .before .before .before .before .before .row .result) (c .before .before .before .of .result) (c .before .before .before .before .kind-of .result) (c .before .before .before .before .before .sorted .result) (c .before .before .before .before .before .before .before .before .args .at) (c .finish .ensures) (c .before .before .operands .ensures .1 .1) (c .before .before .before .of .ensures) (c .before .before .before .before .before .sorted .ensures) (c .before .before .before .before .before .before .row .ensures) (c .before .before .before .before .kind-of .ensures)
+returns c = let s = c .before .before .before .before .before .before .before .before .before .args in
+    taken-from (lookIn (s .notes .now)) (givenIn (s .notes .now)) (idsOf (s .table .now) (s .n)) (s .f) (s .l .now) (c .before .before .operands .result) (c .before .before .before .before .before .before .row .result) (c .before .before .before .of .result) (c .before .before .before .before .kind-of .result) (c .before .before .before .before .before .sorted .result) (s .at) (c .finish .ensures) (c .before .before .operands .ensures .1 .1) (c .before .before .before .of .ensures) (c .before .before .before .before .before .sorted .ensures) (c .before .before .before .before .before .before .row .ensures) (c .before .before .before .before .kind-of .ensures)
 
 pub rest-spec : {M : Type 1} → statement M
 rest-spec =

@@ -12,7 +12,8 @@ use Rattle.tables.specs.Rules.{fault}
 use Rattle.texts.specs.declared.Num.the-variants.{Bad, Big, Is}
 use Rattle.texts.specs.Forms.{formRow, kindOf, firstOf, numbersOf}
 use Rattle.texts.specs.Decimal.{decimal}
-use Rattle.texts.specs.Reading.{Word, word, unknown, wordIn, numberAt, fresh, settled, isId, Reply, skip, no, got}
+use Rattle.texts.specs.Operands.{resolved}
+use Rattle.texts.specs.Reading.{Word, word, unknown, wordIn, numberAt, fresh, settled, isNext, lastOf, Reply, skip, no, got}
 
 -- the record, whether a number was too large, how many bytes the last number has, and the tokens left
 pub data Took : Type 0 where
@@ -51,32 +52,34 @@ module _ (L : ℕ → Ty) (G : Bool → ℕ → Bool) where
             ]
       ]
 
-  -- 7
-  unfoldable pub large : (f : ℕ) → List ℕ → Bool → ℕ → Reply
-  large f rec true len = no NumberTooLarge
-  large f rec false len =
-      elim (eqb f 1 && not (inside 1 64 (firstIn rec))) [
-        | true ↦ no NumberTooLarge
-        | false ↦ judged f len (settled (L (sortIn rec) .w) f rec)
-      ]
+  -- the value of one and ones, and what follows
+  unfoldable pub concluded : (f len : ℕ) → List ℕ → Reply
+  concluded f len rec = judged f len (settled (L (sortIn rec) .w) f rec)
 
-  -- 6
-  abbrev pub ended : (f : ℕ) → Took → Reply
-  ended f malformed = no BadOperand
-  ended f (took rec big len []) = large f rec big len
-  ended f (took rec big len (x ∷ [])) = large f rec big len
-  ended f (took rec big len (x ∷ y ∷ r)) = no BadOperand
+  -- after lines whose ids are ds
+  module _ (ds : List ℕ) where
+    -- 7, and then the places of the lines that the record names
+    unfoldable pub large : (f : ℕ) → List ℕ → Bool → ℕ → Reply
+    large f rec true len = no NumberTooLarge
+    large f rec false len = elim (eqb f 1 && not (inside 1 64 (firstIn rec))) [ true ↦ no NumberTooLarge | false ↦ concluded f len (resolved ds rec) ]
 
-  -- 5
-  abbrev pub worded : Word → Reply
-  worded unknown = no UnknownWord
-  worded (word f ts) = ended f (takenIn f ts)
+    -- 6
+    abbrev pub ended : (f : ℕ) → Took → Reply
+    ended f malformed = no BadOperand
+    ended f (took rec big len []) = large f rec big len
+    ended f (took rec big len (x ∷ [])) = large f rec big len
+    ended f (took rec big len (x ∷ y ∷ r)) = no BadOperand
 
-  -- 3 and 4
-  unfoldable pub stagedLine : (m n : ℕ) → List (List ℕ) → Reply
-  stagedLine m n [] = skip
-  stagedLine m n (t ∷ ts) =
-      elim (isId (decimal t) (suc n)) [
-        | false ↦ no WrongId
-        | true ↦ elim (ltb n m) [ true ↦ worded (wordIn ts) | false ↦ no NoRecordLeft ]
-      ]
+    -- 5
+    abbrev pub worded : Word → Reply
+    worded unknown = no UnknownWord
+    worded (word f ts) = ended f (takenIn f ts)
+
+    -- 3 and 4
+    unfoldable pub stagedLine : (m : ℕ) → List (List ℕ) → Reply
+    stagedLine m [] = skip
+    stagedLine m (t ∷ ts) =
+        elim (isNext (decimal t) (lastOf 0 ds)) [
+          | false ↦ no WrongId
+          | true ↦ elim (ltb (length ds) m) [ true ↦ worded (wordIn ts) | false ↦ no NoRecordLeft ]
+        ]

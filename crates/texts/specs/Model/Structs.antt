@@ -27,11 +27,15 @@ tookAt false rec big len ts = malformed
 abbrev pub asTook : List ℕ → Taken → Took
 asTook l t = tookAt (t .ok) (t .rec) (t .big) (t .len) (tokens (drop (t .at) l))
 
--- 0 and the record, 1 for a blank line, 2 and the refusal
-abbrev pub asRead : Reply → Readout
-asRead skip = record { what = 1; code = NotATable; rec = fields 0 0 0 0 0 }
-asRead (no r) = record { what = 2; code = r; rec = fields 0 0 0 0 0 }
-asRead (got rec) = record { what = 0; code = NotATable; rec = rec }
+-- 0 and the record, 1 for a blank line, 2 and the refusal; d is what stands for the id
+abbrev pub asRead : (d : ℕ) → Reply → Readout
+asRead d skip = record { what = 1; code = NotATable; rec = fields 0 0 0 0 0; id = d }
+asRead d (no r) = record { what = 2; code = r; rec = fields 0 0 0 0 0; id = d }
+asRead d (got rec) = record { what = 0; code = NotATable; rec = rec; id = d }
+
+-- the same with the id d
+abbrev pub withNumber : (r : Readout) → (d : ℕ) → Readout
+withNumber r d = record { what = r .what; code = r .code; rec = r .rec; id = d }
 
 -- two tokens or more
 abbrev pub several : List (List ℕ) → Bool

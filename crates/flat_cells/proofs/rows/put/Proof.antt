@@ -1,18 +1,24 @@
--- One record is put. Assumes nothing.
+-- One record is put, with its number. Assumes nothing.
 use borrow.Author.Needs.{needs}
-use mathlib.Core.Path.{_∙_}
+use Prim.Native.Nat.{_+_}
+use mathlib.Core.Path.{refl, _∙_}
 use Rattle.flattening.proofs.Placing.{flat-one}
 use Rattle.flat_cells.proofs.rows.put.Statement.{statement}
 use Rattle.flat_cells.proofs.rows.put.Tie as tie
 
-put-requires : tie.Need-put-requires
-put-requires c κs = search needs
+add-put-line : tie.Need-add-put-line
+add-put-line c = search needs
+
+put-line-requires : tie.Need-put-line-requires
+put-line-requires c κs = search needs
 
 same-length : tie.Need-same-length
 same-length c = search needs
 
 returns : tie.Need-returns
-returns c = let a = c .before .before .before .before .before .args in c .before .before .put .ensures ∙ flat-one (a .target .now) (a .i) (a .rec)
+returns c =
+    let a = c .before .before .before .before .before .args in
+    c .before .before .put-line .ensures ∙ flat-one (a .target .now) (a .i) (a .rec) (a .i + 1) refl
 
 pub put-spec : {M : Type 1} → statement M
-put-spec = tie.close (tie.spec put-requires same-length returns)
+put-spec = tie.close (tie.spec add-put-line put-line-requires same-length returns)

@@ -55,11 +55,19 @@ keep-line-requires c κs = let r = rec-ready (c .before .before .before .before 
     let s = c .before .before .before .before .before .before .before .before .before .before .before .loop .inv (c .before .before .before .before .before .before .before .before .before .before .before .before .before .before .before .before .pre) in
     (r .0, (r .1, (rec-low (c .before .before .before .before .before .before .before .before .before .before .before .before .before .before .before .before .pre) (c .before .before .before .before .before .before .before .before .before .before .before .loop .inv) (c .before .before .before .before .before .before .before .before .before .before .loop-test .taken) _ (c .before .before .before .before .before .before .before .before .before .«record» .ensures) (c .before .before .before .before .before .before .before .count-line .result) (c .before .before .before .before .before .before .before .before .before .before .before .before .room-of .result) (c .before .before .before .before .before .before .before .count-line .ensures) (c .before .before .before .before .before .before .before .before .before .before .before .before .room-of .ensures) (c .before .before .before .before .before .before .if1 .left) (c .before .before .before .line .result) (c .before .before .before .line .ensures), omega (arith, w .1, s .of-kept))))
 
+-- r stands behind the call of keep_line
 loop-less : tie.Need-loop-less Inv-loop μ-loop
-loop-less c = omega (arith, c .before .before .before .before .before .before .before .before .before .before .before .before .loop-test .taken)
+loop-less c = let r = c .before in omega (arith, r .before .before .before .before .before .before .before .before .before .before .before .loop-test .taken)
 
 loop-again : tie.Need-loop-again Inv-loop μ-loop
-loop-again c = rec-short (c .before .before .before .before .before .before .before .before .before .before .before .before .before .before .before .before .before .before .pre) (rec-next (c .before .before .before .before .before .before .before .before .before .before .before .before .before .before .before .before .before .before .pre) (c .before .before .before .before .before .before .before .before .before .before .before .before .before .loop .inv) (c .before .before .before .before .before .before .before .before .before .before .before .before .loop-test .taken) _ (c .before .before .before .before .before .before .before .before .before .before .before .«record» .ensures) (c .before .before .before .before .before .before .before .before .before .count-line .result) (c .before .before .before .before .before .before .before .before .before .before .before .before .before .before .room-of .result) (c .before .before .before .before .before .before .before .before .before .count-line .ensures) (c .before .before .before .before .before .before .before .before .before .before .before .before .before .before .room-of .ensures) (c .before .before .before .before .before .before .before .before .if1 .left) (c .before .before .before .before .before .line .result) (c .before .before .before .before .before .line .ensures)) (c .before .keep-line .ensures)
+loop-again c =
+    let r = c .before in
+    let made = r .before .before .before .before .line in
+    let count = r .before .before .before .before .before .before .before .before .count-line in
+    let room = r .before .before .before .before .before .before .before .before .before .before .before .before .before .room-of in
+    rec-short (r .before .before .before .before .before .before .before .before .before .before .before .before .before .before .before .before .before .pre)
+    (rec-next (r .before .before .before .before .before .before .before .before .before .before .before .before .before .before .before .before .before .pre) (r .before .before .before .before .before .before .before .before .before .before .before .before .loop .inv) (r .before .before .before .before .before .before .before .before .before .before .before .loop-test .taken) _ (r .before .before .before .before .before .before .before .before .before .before .«record» .ensures) (count .result) (room .result) (count .ensures) (room .ensures) (r .before .before .before .before .before .before .before .if1 .left) (made .result) (made .ensures))
+    (r .keep-line .ensures)
 
 same-length-3 : tie.Need-same-length-3 Inv-loop μ-loop
 same-length-3 c = same-kept (c .before .before .before .before .before .before .pre) (c .before .loop .inv)

@@ -1,7 +1,7 @@
 -- A token against the next id. Assumes nothing.
 use mathlib.Core.Path.{sym, ap, _∙_}
 use Rattle.texts.specs.declared.Num.{Num}
-use Rattle.texts.specs.Reading.{isId}
+use Rattle.texts.specs.Naming.{isId}
 use borrow.Author.Needs.{needs}
 use Rattle.forms.proofs.heads.is_id.Statement.{statement}
 use Rattle.forms.proofs.heads.is_id.Tie as tie

@@ -13,7 +13,7 @@ use Rattle.forms.proofs.heads.word.Statement.{statement}
 use Rattle.forms.proofs.heads.word.Tie as tie
 
 skip-requires : tie.Need-skip-requires
-skip-requires c κs = c .before .pre
+skip-requires c κs = c .before .pre .1
 
 returns : tie.Need-returns
 returns c =
@@ -93,7 +93,7 @@ part-find-end : tie.Need-part-find-end
 part-find-end c = c .before .before .before .find-byte .ensures .1 .0
 
 find-requires : tie.Need-find-requires
-find-requires c κs = tt
+find-requires c κs = search needs
 
 returns-4 : tie.Need-returns-4
 returns-4 c =

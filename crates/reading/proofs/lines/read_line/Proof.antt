@@ -1,66 +1,145 @@
 -- A line, refusal by refusal. Assumes nothing.
-use lib.ListN.{take, drop}
-use Prim.Native.Nat.{_-_, zero-le}
-use native.Mathlib.Omega.{arith}
-use mathlib.Core.Path.{_≡_, refl, sym, _∙_}
-use borrow.Author.Tests.{not-true, not-false}
-use Rattle.tables.specs.Model.Notes.{lookIn, givenIn}
-use Rattle.texts.proofs.Places.{no-token, next-token}
-use Rattle.texts.proofs.Steps.{read-skip, read-3, read-4, read-5, read-on}
 use borrow.Author.Needs.{needs}
+use Prim.Native.Nat.{ℕ, _-_, _≤_, _<_}
+use mathlib.Core.Path.{_≡_, refl, sym, ap, _∙_, subst}
+use mathlib.Core.Bool.{true, false}
+use native.Mathlib.Omega.{arith}
+use lib.ListN.{length, take, drop}
+use Rattle.tables.specs.declared.Refusal.the-variants.{WrongId, NoRecordLeft, UnknownWord}
+use Rattle.tables.specs.Layout.{idsOf}
+use Rattle.tables.specs.Model.Notes.{lookIn, givenIn}
+use Rattle.texts.specs.Split.{tokens}
+use Rattle.texts.specs.Decimal.{decimal}
+use Rattle.texts.specs.Reading.{isNext, lineId}
+use Rattle.texts.specs.Model.Stages.{stagedLine}
+use Rattle.texts.proofs.Places.{no-token, next-token}
+use Rattle.texts.proofs.Resolving.{ids-length}
+use Rattle.texts.proofs.Steps.{read-skip, read-3, read-4, read-5, read-on}
+use Rattle.texts.proofs.Readouts.{blank-line, refused-line, read-line}
 use Rattle.reading.proofs.lines.read_line.Statement.{statement}
 use Rattle.reading.proofs.lines.read_line.Tie as tie
 
 skip-requires : tie.Need-skip-requires
-skip-requires c κs = zero-le
+skip-requires c κs = search needs
 
 returns : tie.Need-returns
-returns c = read-skip (lookIn (c .before .before .before .args .notes .now)) (givenIn (c .before .before .before .args .notes .now)) (c .before .before .before .args .room) (c .before .before .before .args .n) (c .before .before .before .args .l .now) (sym (c .before .skip .ensures .1 .1 .0) ∙ no-token (c .before .before .before .args .l .now) (c .before .skip .result) (omega arith)) refl
+returns c =
+    let s = c .before .before .before .before .args in
+    let l = s .l .now in
+    let L = lookIn (s .notes .now) in
+    let G = givenIn (s .notes .now) in
+    let ids = idsOf (s .table .now) (s .n) in
+    let e = sym (c .before .skip .ensures .1 .1 .0) ∙ no-token l (c .before .skip .result) (omega arith) in
+    blank-line _ (stagedLine L G ids (s .room) (tokens l)) (lineId (tokens l)) refl (read-skip L G ids (s .room) l 0 e refl)
 
 find-byte-requires : tie.Need-find-byte-requires
-find-byte-requires c κs = c .before .skip .ensures .1 .0
+find-byte-requires c κs = search needs
 
-add-id : tie.Need-add-id
-add-id c = search needs
+last-requires : tie.Need-last-requires
+last-requires c κs = search needs
 
-sub-is-id : tie.Need-sub-is-id
-sub-is-id c = c .find-byte .ensures .0
+sub-next-id : tie.Need-sub-next-id
+sub-next-id c = search needs
 
-part-is-id-start : tie.Need-part-is-id-start
-part-is-id-start c = c .find-byte .ensures .0
+part-next-id-start : tie.Need-part-next-id-start
+part-next-id-start c = search needs
 
-part-is-id-end : tie.Need-part-is-id-end
-part-is-id-end c = c .find-byte .ensures .1 .0
+part-next-id-end : tie.Need-part-next-id-end
+part-next-id-end c = search needs
 
-is-id-requires : tie.Need-is-id-requires
-is-id-requires c κs = tt
+next-id-requires : tie.Need-next-id-requires
+next-id-requires c κs = search needs
 
 refuse-requires : tie.Need-refuse-requires
-refuse-requires c κs = tt
+refuse-requires c κs = search needs
 
 returns-2 : tie.Need-returns-2
-returns-2 c = read-3 (lookIn (c .before .before .before .before .before .before .before .before .args .notes .now)) (givenIn (c .before .before .before .before .before .before .before .before .args .notes .now)) (c .before .before .before .before .before .before .before .before .args .room) (c .before .before .before .before .before .before .before .before .args .n) (c .before .before .before .before .before .before .before .before .args .l .now) (take (c .before .before .before .before .find-byte .result - c .before .before .before .before .before .before .skip .result) (drop (c .before .before .before .before .before .before .skip .result) (c .before .before .before .before .before .before .before .before .args .l .now))) (c .before .before .before .before .find-byte .result) (sym (c .before .before .before .before .before .before .skip .ensures .1 .1 .0) ∙ next-token (c .before .before .before .before .before .before .before .before .args .l .now) (c .before .before .before .before .before .before .skip .result) (c .before .before .before .before .find-byte .result) (omega arith) (c .before .before .before .before .before .before .skip .ensures .1 .1 .1 (omega arith)) (c .before .before .before .before .find-byte .ensures .1 .1)) (sym (c .before .before .is-id .ensures) ∙ not-true _ (c .before .if2 .taken)) (c .refuse .ensures)
+returns-2 c =
+    let s = c .before .before .before .before .before .before .before .before .before .before .args in
+    let l = s .l .now in
+    let L = lookIn (s .notes .now) in
+    let G = givenIn (s .notes .now) in
+    let ids = idsOf (s .table .now) (s .n) in
+    let a = c .before .before .before .before .before .before .before .skip .result in
+    let z = c .before .before .before .before .before .find-byte .result in
+    let t = take (z - a) (drop a l) in
+    let e = sym (c .before .before .before .before .before .before .before .skip .ensures .1 .1 .0) ∙ next-token l a z (omega arith) (c .before .before .before .before .before .before .before .skip .ensures .1 .1 .1 (omega arith)) (c .before .before .before .before .before .find-byte .ensures .1 .1) in
+    let q = subst (λ (k : ℕ). isNext (decimal t) k ≡ false) (c .before .before .before .before .last .ensures) (c .before .before .next-id .ensures .0 (c .before .if2 .taken)) in
+    refused-line _ (stagedLine L G ids (s .room) (tokens l)) (lineId (tokens l)) WrongId (c .refuse .ensures) (read-3 L G ids (s .room) l 0 t z e q (c .refuse .ensures))
 
 refuse-requires-2 : tie.Need-refuse-requires-2
-refuse-requires-2 c κs = tt
+refuse-requires-2 c κs = search needs
 
 returns-3 : tie.Need-returns-3
-returns-3 c = read-4 (lookIn (c .before .before .before .before .before .before .before .before .before .args .notes .now)) (givenIn (c .before .before .before .before .before .before .before .before .before .args .notes .now)) (c .before .before .before .before .before .before .before .before .before .args .room) (c .before .before .before .before .before .before .before .before .before .args .n) (c .before .before .before .before .before .before .before .before .before .args .l .now) (take (c .before .before .before .before .before .find-byte .result - c .before .before .before .before .before .before .before .skip .result) (drop (c .before .before .before .before .before .before .before .skip .result) (c .before .before .before .before .before .before .before .before .before .args .l .now))) (c .before .before .before .before .before .find-byte .result) (sym (c .before .before .before .before .before .before .before .skip .ensures .1 .1 .0) ∙ next-token (c .before .before .before .before .before .before .before .before .before .args .l .now) (c .before .before .before .before .before .before .before .skip .result) (c .before .before .before .before .before .find-byte .result) (omega arith) (c .before .before .before .before .before .before .before .skip .ensures .1 .1 .1 (omega arith)) (c .before .before .before .before .before .find-byte .ensures .1 .1)) (sym (c .before .before .before .is-id .ensures) ∙ not-false _ (c .before .before .if2 .left)) (c .before .if3 .taken) (c .refuse2 .ensures)
+returns-3 c =
+    let s = c .before .before .before .before .before .before .before .before .before .before .before .args in
+    let l = s .l .now in
+    let L = lookIn (s .notes .now) in
+    let G = givenIn (s .notes .now) in
+    let ids = idsOf (s .table .now) (s .n) in
+    let a = c .before .before .before .before .before .before .before .before .skip .result in
+    let z = c .before .before .before .before .before .before .find-byte .result in
+    let t = take (z - a) (drop a l) in
+    let e = sym (c .before .before .before .before .before .before .before .before .skip .ensures .1 .1 .0) ∙ next-token l a z (omega arith) (c .before .before .before .before .before .before .before .before .skip .ensures .1 .1 .1 (omega arith)) (c .before .before .before .before .before .before .find-byte .ensures .1 .1) in
+    let q = subst (λ (k : ℕ). isNext (decimal t) k ≡ true) (c .before .before .before .before .before .last .ensures) (c .before .before .before .next-id .ensures .1 (c .before .before .if2 .left) .0) in
+    let full = subst (λ (k : ℕ). s .room ≤ k) (sym (ids-length (s .table .now) (s .n))) (c .before .if3 .taken) in
+    refused-line _ (stagedLine L G ids (s .room) (tokens l)) (lineId (tokens l)) NoRecordLeft (c .refuse2 .ensures) (read-4 L G ids (s .room) l 0 t z e q full (c .refuse2 .ensures))
 
 word-requires : tie.Need-word-requires
-word-requires c κs = c .before .before .before .before .find-byte .ensures .1 .0
+word-requires c κs = search needs
 
 refuse-requires-3 : tie.Need-refuse-requires-3
-refuse-requires-3 c κs = tt
+refuse-requires-3 c κs = search needs
 
 returns-4 : tie.Need-returns-4
-returns-4 c = read-5 (lookIn (c .before .before .before .before .before .before .before .before .before .before .before .before .args .notes .now)) (givenIn (c .before .before .before .before .before .before .before .before .before .before .before .before .args .notes .now)) (c .before .before .before .before .before .before .before .before .before .before .before .before .args .room) (c .before .before .before .before .before .before .before .before .before .before .before .before .args .n) (c .before .before .before .before .before .before .before .before .before .before .before .before .args .l .now) (take (c .before .before .before .before .before .before .before .before .find-byte .result - c .before .before .before .before .before .before .before .before .before .before .skip .result) (drop (c .before .before .before .before .before .before .before .before .before .before .skip .result) (c .before .before .before .before .before .before .before .before .before .before .before .before .args .l .now))) (c .before .before .before .before .before .before .before .before .find-byte .result) (sym (c .before .before .before .before .before .before .before .before .before .before .skip .ensures .1 .1 .0) ∙ next-token (c .before .before .before .before .before .before .before .before .before .before .before .before .args .l .now) (c .before .before .before .before .before .before .before .before .before .before .skip .result) (c .before .before .before .before .before .before .before .before .find-byte .result) (omega arith) (c .before .before .before .before .before .before .before .before .before .before .skip .ensures .1 .1 .1 (omega arith)) (c .before .before .before .before .before .before .before .before .find-byte .ensures .1 .1)) (sym (c .before .before .before .before .before .before .is-id .ensures) ∙ not-false _ (c .before .before .before .before .before .if2 .left)) (c .before .before .before .before .if3 .left) (c .before .before .before .word .result) (c .before .before .before .word .ensures .1 .1) (c .before .if4 .taken) (c .refuse3 .ensures)
+returns-4 c =
+    let s = c .before .before .before .before .before .before .before .before .before .before .before .before .before .before .args in
+    let l = s .l .now in
+    let L = lookIn (s .notes .now) in
+    let G = givenIn (s .notes .now) in
+    let ids = idsOf (s .table .now) (s .n) in
+    let a = c .before .before .before .before .before .before .before .before .before .before .before .skip .result in
+    let z = c .before .before .before .before .before .before .before .before .before .find-byte .result in
+    let t = take (z - a) (drop a l) in
+    let e = sym (c .before .before .before .before .before .before .before .before .before .before .before .skip .ensures .1 .1 .0) ∙ next-token l a z (omega arith) (c .before .before .before .before .before .before .before .before .before .before .before .skip .ensures .1 .1 .1 (omega arith)) (c .before .before .before .before .before .before .before .before .before .find-byte .ensures .1 .1) in
+    let q = subst (λ (k : ℕ). isNext (decimal t) k ≡ true) (c .before .before .before .before .before .before .before .before .last .ensures) (c .before .before .before .before .before .before .next-id .ensures .1 (c .before .before .before .before .before .if2 .left) .0) in
+    let left : s .n < s .room = omega arith in
+    let some = subst (λ (k : ℕ). k < s .room) (sym (ids-length (s .table .now) (s .n))) left in
+    let w = c .before .before .before .word in
+    refused-line _ (stagedLine L G ids (s .room) (tokens l)) (lineId (tokens l)) UnknownWord (c .refuse3 .ensures)
+    (read-5 L G ids (s .room) l 0 t z e q some (w .result) (w .ensures .1 .1) (c .before .if4 .taken) (c .refuse3 .ensures))
 
 rest-requires : tie.Need-rest-requires
-rest-requires c κs = let h : (c .before .before .word .result .form ≡ 0 → ⊥) = c .if4 .left in (c .before .before .word .ensures .0, (omega arith, (c .before .before .word .ensures .1 .0, c .before .before .before .before .before .before .before .before .before .before .before .pre .1)))
+rest-requires c κs =
+    let p = c .before .before .before .before .before .before .before .before .before .before .before .before .before .pre in
+    let w = c .before .before .word in
+    let h : (w .result .form ≡ 0 → ⊥) = c .if4 .left in
+    (p .0, (w .ensures .0, (omega arith, (w .ensures .1 .0, (p .1 .1 .1, (p .1 .0, p .1 .1 .0))))))
+
+numbered-requires : tie.Need-numbered-requires
+numbered-requires c κs = search needs
 
 returns-5 : tie.Need-returns-5
-returns-5 c = read-on (lookIn (c .before .before .before .before .before .before .before .before .before .before .before .before .args .notes .now)) (givenIn (c .before .before .before .before .before .before .before .before .before .before .before .before .args .notes .now)) (c .before .before .before .before .before .before .before .before .before .before .before .before .args .room) (c .before .before .before .before .before .before .before .before .before .before .before .before .args .n) (c .before .before .before .before .before .before .before .before .before .before .before .before .args .l .now) (take (c .before .before .before .before .before .before .before .before .find-byte .result - c .before .before .before .before .before .before .before .before .before .before .skip .result) (drop (c .before .before .before .before .before .before .before .before .before .before .skip .result) (c .before .before .before .before .before .before .before .before .before .before .before .before .args .l .now))) (c .before .before .before .before .before .before .before .before .find-byte .result) (sym (c .before .before .before .before .before .before .before .before .before .before .skip .ensures .1 .1 .0) ∙ next-token (c .before .before .before .before .before .before .before .before .before .before .before .before .args .l .now) (c .before .before .before .before .before .before .before .before .before .before .skip .result) (c .before .before .before .before .before .before .before .before .find-byte .result) (omega arith) (c .before .before .before .before .before .before .before .before .before .before .skip .ensures .1 .1 .1 (omega arith)) (c .before .before .before .before .before .before .before .before .find-byte .ensures .1 .1)) (sym (c .before .before .before .before .before .before .is-id .ensures) ∙ not-false _ (c .before .before .before .before .before .if2 .left)) (c .before .before .before .before .if3 .left) (c .before .before .before .word .result) (c .before .before .before .word .ensures .1 .1) (c .before .if4 .left) (c .rest .ensures)
+returns-5 c =
+    let s = c .before .before .before .before .before .before .before .before .before .before .before .before .before .before .before .args in
+    let l = s .l .now in
+    let L = lookIn (s .notes .now) in
+    let G = givenIn (s .notes .now) in
+    let ids = idsOf (s .table .now) (s .n) in
+    let a = c .before .before .before .before .before .before .before .before .before .before .before .before .skip .result in
+    let z = c .before .before .before .before .before .before .before .before .before .before .find-byte .result in
+    let t = take (z - a) (drop a l) in
+    let on : a < length l = omega (arith, c .before .before .before .before .before .before .before .before .before .before .before .before .skip .ensures .1 .0, c .before .before .before .before .before .before .before .before .before .before .before .if1 .left) in
+    let e = sym (c .before .before .before .before .before .before .before .before .before .before .before .before .skip .ensures .1 .1 .0) ∙ next-token l a z on (c .before .before .before .before .before .before .before .before .before .before .before .before .skip .ensures .1 .1 .1 on) (c .before .before .before .before .before .before .before .before .before .before .find-byte .ensures .1 .1) in
+    let i = c .before .before .before .before .before .before .before .next-id in
+    let p = i .ensures .1 (c .before .before .before .before .before .before .if2 .left) in
+    let q = subst (λ (k : ℕ). isNext (decimal t) k ≡ true) (c .before .before .before .before .before .before .before .before .before .last .ensures) (p .0) in
+    let left : s .n < s .room = omega (arith, c .before .before .before .before .before .if3 .left) in
+    let some = subst (λ (k : ℕ). k < s .room) (sym (ids-length (s .table .now) (s .n))) left in
+    let w = c .before .before .before .before .word in
+    let r = c .before .rest in
+    read-line _ (stagedLine L G ids (s .room) (tokens l)) (lineId (tokens l)) (r .result) (i .result) (c .numbered .ensures)
+    (read-on L G ids (s .room) l 0 t z e q some (w .result) (w .ensures .1 .1) (c .before .before .if4 .left) (r .ensures)) (p .1 ∙ sym (ap lineId e))
 
 pub read-line-spec : {M : Type 1} → statement M
 read-line-spec =
@@ -69,11 +148,11 @@ read-line-spec =
     skip-requires
     returns
     find-byte-requires
-    add-id
-    sub-is-id
-    part-is-id-start
-    part-is-id-end
-    is-id-requires
+    last-requires
+    sub-next-id
+    part-next-id-start
+    part-next-id-end
+    next-id-requires
     refuse-requires
     returns-2
     refuse-requires-2
@@ -82,4 +161,5 @@ read-line-spec =
     refuse-requires-3
     returns-4
     rest-requires
+    numbered-requires
     returns-5)

@@ -1,0 +1,93 @@
+// The ids of the lines read so far are the sixth words of their records: an id in the text is looked up in the table itself. Places count the records from 1.
+use records::kinds::NONE;
+use records::kinds::NUM;
+use tables::WORDS;
+ghost use mathlib.Core.Path.{_≡_};
+ghost use mathlib.Core.Bool.{true, false};
+ghost use Prim.Native.Nat.{_≤_};
+ghost use lib.ListN.{length};
+ghost use Rattle.tables.specs.Kinds.{rowOf};
+ghost use Rattle.tables.specs.Lines.{kindIn};
+ghost use Rattle.tables.specs.Layout.{held, stepOf, idsOf};
+ghost use Rattle.tables.specs.Ids.{rising};
+ghost use Rattle.texts.specs.Operands.{placeOf, meant as meantBy, resolved};
+ghost use Rattle.texts.specs.Reading.{lastOf};
+
+// The id of the last of n records; 0 where there is none.
+pub fn last(table: &[u64], n: usize) -> u64
+    requires { ⌜ n ≤ held false (length (now table)) ⌝ }
+    ensures { λ r. ⌜ r ≡ lastOf 0 (idsOf (now (table .entry)) n) ⌝ }
+{
+    if n == 0 {
+        return 0;
+    }
+    let h = records::step(false, table.len());
+    records::id(table, h, n - 1)
+}
+
+// The place of the record among the first n that has the id d, 0 where none has it: by halves. h is the list's step.
+fn search(table: &[u64], h: usize, n: usize, d: u64) -> u64
+    requires { ⌜ (n ≤ held false (length (now table))) × ((h ≡ stepOf false (length (now table))) × (rising 0 (idsOf (now table) n) ≡ true)) ⌝ }
+    ensures { λ r. ⌜ r ≡ placeOf (idsOf (now (table .entry)) n) d ⌝ }
+{
+    let mut lo: usize = 0;
+    let mut hi = n;
+    while lo < hi {
+        let m = lo + (hi - lo) / 2;
+        if records::id(table, h, m) < d {
+            lo = m + 1;
+        } else {
+            hi = m;
+        }
+    }
+    if lo == n {
+        return 0;
+    }
+    if records::id(table, h, lo) == d {
+        return lo as u64 + 1;
+    }
+    0
+}
+
+// The same, where the record is first looked for at the place d: there it stands in a table without gaps.
+fn place_of(table: &[u64], h: usize, n: usize, d: u64) -> u64
+    requires { ⌜ (n ≤ held false (length (now table))) × ((h ≡ stepOf false (length (now table))) × (rising 0 (idsOf (now table) n) ≡ true)) ⌝ }
+    ensures { λ r. ⌜ r ≡ placeOf (idsOf (now (table .entry)) n) d ⌝ }
+{
+    if 1 <= d {
+        let i = d - 1;
+        if i < n as u64 {
+            if records::id(table, h, i as usize) == d {
+                return d;
+            }
+        }
+    }
+    search(table, h, n, d)
+}
+
+// What the number v is in a place of the given class.
+fn meant(class: u8, table: &[u64], h: usize, n: usize, v: u64) -> u64
+    requires { ⌜ (n ≤ held false (length (now table))) × ((h ≡ stepOf false (length (now table))) × (rising 0 (idsOf (now table) n) ≡ true)) ⌝ }
+    ensures { λ r. ⌜ r ≡ meantBy class (idsOf (now (table .entry)) n) v ⌝ }
+{
+    if class == NONE {
+        return v;
+    }
+    if class == NUM {
+        return v;
+    }
+    place_of(table, h, n, v)
+}
+
+// A record as it is written, with the places of the lines that its numbers name, among the first n of the table. The row is that of the record's kind.
+pub fn resolve(row: [u8; 16], rec: [u64; WORDS], table: &[u64], n: usize) -> [u64; WORDS]
+    requires { ⌜ (row ≡ rowOf (kindIn rec)) × ((n ≤ held false (length (now table))) × (rising 0 (idsOf (now table) n) ≡ true)) ⌝ }
+    ensures { λ r. ⌜ r ≡ resolved (idsOf (now (table .entry)) n) rec ⌝ }
+{
+    let h = records::step(false, table.len());
+    let s = meant(row[11], table, h, n, rec[1]);
+    let a = meant(row[13], table, h, n, rec[2]);
+    let b = meant(row[14], table, h, n, rec[3]);
+    let c = meant(row[15], table, h, n, rec[4]);
+    [rec[0], s, a, b, c]
+}

@@ -1,0 +1,130 @@
+-- Ids and places: where an id stands among ids that rise, and what a record names. Assumes nothing.
+use Prim.Native.Nat.{ℕ, zero, suc, _+_, _<_, _≤_}
+use mathlib.Core.Path.{_≡_, refl, ap, _∙_}
+use mathlib.Core.Bool.{Bool, true, false}
+use mathlib.Core.List.{List, [], _∷_}
+use mathlib.Core.Logic.{⊎-elim}
+use native.Mathlib.Nat.{eq-or-lt-of-le}
+use native.Mathlib.Omega.{arith}
+use lib.Dec.{leb, ltb}
+use lib.ListN.{length, getD}
+use borrow.Author.Tests.{ltb-true, ltb-false, eq-eqb, ne-eqb}
+use Rattle.tables.specs.Kinds.{none, number, rowOf, sortClass, firstClass, secondClass, thirdClass}
+use Rattle.tables.specs.Lines.{fields, kindIn, sortIn, firstIn, secondIn, thirdIn}
+use Rattle.tables.specs.Layout.{idAt, idsFrom, idsOf}
+use Rattle.tables.specs.Ids.{mostId, follows, rising}
+use Rattle.tables.proofs.Kept.{both}
+use Rattle.texts.specs.Operands.{placeFrom, placeOf, meant, resolved}
+use Rattle.texts.specs.Reading.{lastOf}
+
+-- ---- the ids of a list's records, one by one
+
+from-length : (t : List ℕ) (i n : ℕ) → length (idsFrom t i n) ≡ n
+from-length t i zero = refl
+from-length t i (suc n) = ap suc (from-length t (suc i) n)
+
+pub ids-length : (t : List ℕ) (n : ℕ) → length (idsOf t n) ≡ n
+ids-length t n = from-length t 0 n
+
+from-at : (t : List ℕ) (i n j : ℕ) → j < n → getD (idsFrom t i n) j 0 ≡ idAt t (i + j)
+from-at t i zero j h = absurd (omega arith)
+from-at t i (suc n) zero h = let q : i ≡ i + 0 = omega arith in ap (idAt t) q
+from-at t i (suc n) (suc j) h = let q : suc i + j ≡ i + suc j = omega arith in from-at t (suc i) n j (omega arith) ∙ ap (idAt t) q
+
+pub ids-at : (t : List ℕ) (n j : ℕ) → j < n → getD (idsOf t n) j 0 ≡ idAt t j
+ids-at t n j h = let q : 0 + j ≡ j = omega arith in from-at t 0 n j h ∙ ap (idAt t) q
+
+pub last-at : (z : ℕ) (ds : List ℕ) (i : ℕ) → length ds ≡ suc i → lastOf z ds ≡ getD ds i 0
+last-at z [] i e = absurd (omega arith)
+last-at z (d ∷ []) zero e = refl
+last-at z (d ∷ []) (suc i) e = absurd (omega arith)
+last-at z (d ∷ f ∷ ds) zero e = absurd (omega arith)
+last-at z (d ∷ f ∷ ds) (suc i) e = last-at d (f ∷ ds) i (omega arith)
+
+-- ---- ids that rise
+
+after : (l d : ℕ) (ds : List ℕ) → rising l (d ∷ ds) ≡ true → (l < d) × (rising d ds ≡ true)
+after l d ds r = let p = both (follows l d) (rising d ds) r in (ltb-true l d (both (ltb l d) (leb d mostId) (p .0) .0), p .1)
+
+above : (l : ℕ) (ds : List ℕ) → rising l ds ≡ true → (i : ℕ) → i < length ds → l < getD ds i 0
+above l [] r i h = absurd (omega arith)
+above l (d ∷ ds) r zero h = after l d ds r .0
+above l (d ∷ ds) r (suc i) h = let p = after l d ds r in omega (arith, above d ds (p .1) i (omega arith))
+
+rises : (l : ℕ) (ds : List ℕ) → rising l ds ≡ true → (i j : ℕ) → i < j → j < length ds → getD ds i 0 < getD ds j 0
+rises l [] r i j h k = absurd (omega arith)
+rises l (d ∷ ds) r i zero h k = absurd (omega arith)
+rises l (d ∷ ds) r zero (suc j) h k = above d ds (after l d ds r .1) j (omega arith)
+rises l (d ∷ ds) r (suc i) (suc j) h k = rises d ds (after l d ds r .1) i j (omega arith) (omega arith)
+
+ordered : (l : ℕ) (ds : List ℕ) → rising l ds ≡ true → (i j : ℕ) → i ≤ j → j < length ds → getD ds i 0 ≤ getD ds j 0
+ordered l ds r i j h k = ⊎-elim (λ (e : i ≡ j). omega (arith, ap (λ (m : ℕ). getD ds m 0) e)) (λ (q : i < j). omega (arith, rises l ds r i j q k)) (eq-or-lt-of-le h)
+
+-- ---- the place of an id
+
+-- none of the first n ids is d
+abbrev Without : (ds : List ℕ) (n d : ℕ) → Type 0
+Without ds n d = (j : ℕ) → j < n → getD ds j 0 ≡ d → ⊥
+
+place-first : (b : ℕ) (ds : List ℕ) (d i : ℕ) → Without ds i d → i < length ds → getD ds i 0 ≡ d → placeFrom b ds d ≡ b + i
+place-first b [] d i w h e = absurd (omega arith)
+place-first b (f ∷ ds) d zero w h e = rw (eq-eqb f d e) (omega arith)
+place-first b (f ∷ ds) d (suc i) w h e =
+    rw (ne-eqb f d (w 0 (omega arith))) (place-first (suc b) ds d i (λ j k. w (suc j) (omega arith)) (omega arith) e ∙ omega arith)
+
+place-missing : (b : ℕ) (ds : List ℕ) (d : ℕ) → Without ds (length ds) d → placeFrom b ds d ≡ 0
+place-missing b [] d w = refl
+place-missing b (f ∷ ds) d w = rw (ne-eqb f d (w 0 (omega arith))) (place-missing (suc b) ds d (λ j k. w (suc j) (omega arith)))
+
+-- the ids before lo are below d, those from hi on are not
+abbrev pub Below : (ds : List ℕ) (lo d : ℕ) → Type 0
+Below ds lo d = (j : ℕ) → j < lo → getD ds j 0 < d
+
+abbrev pub NotBelow : (ds : List ℕ) (hi d : ℕ) → Type 0
+NotBelow ds hi d = (j : ℕ) → hi ≤ j → j < length ds → d ≤ getD ds j 0
+
+-- where the ids rise
+module _ (ds : List ℕ) (r : rising 0 ds ≡ true) (d : ℕ) where
+  -- so it is with one id more
+  pub below-on : (m : ℕ) → m < length ds → getD ds m 0 < d → Below ds (m + 1) d
+  below-on m h k j q = omega (arith, ordered 0 ds r j m (omega arith) h)
+
+  pub not-below-on : (m : ℕ) → d ≤ getD ds m 0 → NotBelow ds m d
+  not-below-on m k j q h = omega (arith, ordered 0 ds r m j q h)
+
+  -- an id that stands at i, which is counted from 0
+  pub place-at : (i : ℕ) → i < length ds → getD ds i 0 ≡ d → placeOf ds d ≡ 1 + i
+  place-at i h e = place-first 1 ds d i (λ j k x. omega (arith, rises 0 ds r j i k h)) h e
+
+  -- one that would stand at i, and does not
+  pub place-none : (i : ℕ) → Below ds i d → NotBelow ds i d → (i < length ds → getD ds i 0 ≡ d → ⊥) → placeOf ds d ≡ 0
+  place-none i b a n = place-missing 1 ds d (λ j h x. go j h x (ltb j i) refl)
+    where
+      go : (j : ℕ) → j < length ds → getD ds j 0 ≡ d → (t : Bool) → ltb j i ≡ t → ⊥
+      go j h x true q = omega (arith, b j (ltb-true j i q))
+      go j h x false q =
+          ⊎-elim
+          (λ (e : i ≡ j). n (omega arith) (ap (λ (m : ℕ). getD ds m 0) e ∙ x))
+          (λ (p : i < j). omega (arith, rises 0 ds r i j p h, a i (omega arith) (omega arith)))
+          (eq-or-lt-of-le (ltb-false j i q))
+
+-- ---- what a record's numbers mean, by their classes
+
+module _ (k : ℕ) (ds : List ℕ) (v : ℕ) where
+  pub meant-none : k ≡ none → v ≡ meant k ds v
+  meant-none e = rw (eq-eqb k none e) refl
+
+  pub meant-number : k ≡ number → v ≡ meant k ds v
+  meant-number e = rw e refl
+
+  pub meant-line : (k ≡ none → ⊥) → (k ≡ number → ⊥) → placeOf ds v ≡ meant k ds v
+  meant-line e f = rw (ne-eqb k none e, ne-eqb k number f) refl
+
+pub is-resolved : (ds r row : List ℕ) {s a b c : ℕ} → row ≡ rowOf (kindIn r) → s ≡ meant (sortClass row) ds (sortIn r) → a ≡ meant (firstClass row) ds (firstIn r)
+    → b ≡ meant (secondClass row) ds (secondIn r) → c ≡ meant (thirdClass row) ds (thirdIn r) → fields (kindIn r) s a b c ≡ resolved ds r
+unfolding resolved
+is-resolved ds r row e p q x y = rw (p, q, x, y, e) refl
+
+pub resolved-kind : (ds r : List ℕ) → kindIn (resolved ds r) ≡ kindIn r
+unfolding resolved
+resolved-kind ds r = refl
