@@ -3,14 +3,14 @@ use records::kinds::NONE;
 use records::kinds::NUM;
 use tables::WORDS;
 ghost use mathlib.Core.Path.{_≡_};
-ghost use mathlib.Core.Bool.{true, false};
+ghost use mathlib.Core.Bool.{false};
 ghost use Prim.Native.Nat.{_≤_};
 ghost use lib.ListN.{length};
 ghost use Rattle.tables.specs.Kinds.{rowOf};
 ghost use Rattle.tables.specs.Lines.{kindIn};
 ghost use Rattle.tables.specs.Layout.{held, stepOf, idsOf};
-ghost use Rattle.tables.specs.Ids.{rising};
-ghost use Rattle.texts.specs.Operands.{placeOf, meant as meantBy, resolved};
+ghost use Rattle.tables.specs.Model.Risen.{Risen};
+ghost use Rattle.texts.specs.Operands.{placeById, meant as meantBy, resolved};
 ghost use Rattle.texts.specs.Reading.{lastOf};
 
 // The id of the last of n records; 0 where there is none.
@@ -27,8 +27,8 @@ pub fn last(table: &[u64], n: usize) -> u64
 
 // The place of the record among the first n that has the id d, 0 where none has it: by halves. h is the list's step.
 fn search(table: &[u64], h: usize, n: usize, d: u64) -> u64
-    requires { ⌜ (n ≤ held false (length (now table))) × ((h ≡ stepOf false (length (now table))) × (rising 0 (idsOf (now table) n) ≡ true)) ⌝ }
-    ensures { λ r. ⌜ r ≡ placeOf (idsOf (now (table .entry)) n) d ⌝ }
+    requires { ⌜ (h ≡ stepOf false (length (now table))) × Risen (now table) n ⌝ }
+    ensures { λ r. ⌜ r ≡ placeById (idsOf (now (table .entry)) n) d ⌝ }
 {
     let mut lo: usize = 0;
     let mut hi = n;
@@ -51,8 +51,8 @@ fn search(table: &[u64], h: usize, n: usize, d: u64) -> u64
 
 // The same, where the record is first looked for at the place d: there it stands in a table without gaps.
 fn place_of(table: &[u64], h: usize, n: usize, d: u64) -> u64
-    requires { ⌜ (n ≤ held false (length (now table))) × ((h ≡ stepOf false (length (now table))) × (rising 0 (idsOf (now table) n) ≡ true)) ⌝ }
-    ensures { λ r. ⌜ r ≡ placeOf (idsOf (now (table .entry)) n) d ⌝ }
+    requires { ⌜ (h ≡ stepOf false (length (now table))) × Risen (now table) n ⌝ }
+    ensures { λ r. ⌜ r ≡ placeById (idsOf (now (table .entry)) n) d ⌝ }
 {
     if 1 <= d {
         let i = d - 1;
@@ -67,7 +67,7 @@ fn place_of(table: &[u64], h: usize, n: usize, d: u64) -> u64
 
 // What the number v is in a place of the given class.
 fn meant(class: u8, table: &[u64], h: usize, n: usize, v: u64) -> u64
-    requires { ⌜ (n ≤ held false (length (now table))) × ((h ≡ stepOf false (length (now table))) × (rising 0 (idsOf (now table) n) ≡ true)) ⌝ }
+    requires { ⌜ (h ≡ stepOf false (length (now table))) × Risen (now table) n ⌝ }
     ensures { λ r. ⌜ r ≡ meantBy class (idsOf (now (table .entry)) n) v ⌝ }
 {
     if class == NONE {
@@ -81,7 +81,7 @@ fn meant(class: u8, table: &[u64], h: usize, n: usize, v: u64) -> u64
 
 // A record as it is written, with the places of the lines that its numbers name, among the first n of the table. The row is that of the record's kind.
 pub fn resolve(row: [u8; 16], rec: [u64; WORDS], table: &[u64], n: usize) -> [u64; WORDS]
-    requires { ⌜ (row ≡ rowOf (kindIn rec)) × ((n ≤ held false (length (now table))) × (rising 0 (idsOf (now table) n) ≡ true)) ⌝ }
+    requires { ⌜ (row ≡ rowOf (kindIn rec)) × Risen (now table) n ⌝ }
     ensures { λ r. ⌜ r ≡ resolved (idsOf (now (table .entry)) n) rec ⌝ }
 {
     let h = records::step(false, table.len());

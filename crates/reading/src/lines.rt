@@ -6,7 +6,7 @@ use tables::Refusal;
 use tables::WORDS;
 use texts::Readout;
 ghost use mathlib.Core.Path.{_≡_};
-ghost use mathlib.Core.Bool.{true, false};
+ghost use mathlib.Core.Bool.{false};
 ghost use mathlib.Core.List.{[], _∷_};
 ghost use Prim.Native.Nat.{ℕ, _≤_, _+_, _<_};
 ghost use lib.ListN.{length, replicate};
@@ -17,8 +17,8 @@ ghost use Rattle.texts.specs.Model.Stages.{stagedLine};
 ghost use Rattle.texts.specs.Model.Structs.{asRead, withNumber};
 ghost use Rattle.tables.specs.Kinds.{rows};
 ghost use Rattle.tables.specs.Lines.{kindIn, firstIn};
-ghost use Rattle.tables.specs.Layout.{held, room as roomOf, idsOf, withId, recorded};
-ghost use Rattle.tables.specs.Ids.{rising};
+ghost use Rattle.tables.specs.Layout.{room as roomOf, idsOf, withId, recorded};
+ghost use Rattle.tables.specs.Model.Risen.{Risen};
 ghost use Rattle.tables.specs.Answers.{told};
 ghost use Rattle.tables.specs.Types.{noCtx};
 
@@ -45,7 +45,7 @@ fn read_line(
     room: usize,
     notes: &[[u8; BYTES]],
 ) -> Readout
-    requires { ⌜ (now kinds ≡ rows) × ((n ≤ held false (length (now table))) × ((rising 0 (idsOf (now table) n) ≡ true) × ((a : ℕ) → lookIn (now notes) a .w ≤ 64))) ⌝ }
+    requires { ⌜ (now kinds ≡ rows) × (Risen (now table) n × ((a : ℕ) → lookIn (now notes) a .w ≤ 64)) ⌝ }
     ensures { λ r. ⌜ (r
         ≡ asRead (r .id) (stagedLine (lookIn (now (notes .entry))) (givenIn (now (notes .entry))) (idsOf (now (table .entry)) n) room (tokensIn (now (l .entry)))))
         × (r .what ≡ 0 → r .id ≡ lineId (tokensIn (now (l .entry)))) ⌝ }

@@ -115,12 +115,3 @@ pub fn row_of(kinds: &[[u8; 16]; 55], k: u64) -> [u8; 16]
     let i = place(k);
     kinds[i]
 }
-
-// The row of a kind.
-pub fn row(k: u64) -> [u8; 16]
-    requires { ⌜ (1 ≤ k) × (k ≤ 56) ⌝ }
-    ensures { λ r. ⌜ r ≡ rowOf k ⌝ }
-{
-    let kinds = all();
-    row_of(&kinds, k)
-}

@@ -7,17 +7,16 @@ use tables::WORDS;
 use texts::Readout;
 use texts::Taken;
 ghost use mathlib.Core.Path.{_≡_};
-ghost use mathlib.Core.Bool.{true, false};
 ghost use Prim.Native.Nat.{_-_, _^_, _≤_, ℕ};
-ghost use lib.ListN.{length, drop};
+ghost use lib.ListN.{drop};
 ghost use Rattle.texts.specs.Operands.{resolved};
 ghost use Rattle.texts.specs.Reading.{no, settled};
 ghost use Rattle.texts.specs.Model.Stages.{ruled as ruledBy, judged, concluded, large as largeOf, ended, takenIn};
 ghost use Rattle.texts.specs.Model.Structs.{asRead, asTook};
 ghost use Rattle.tables.specs.Kinds.{rows, rowOf};
 ghost use Rattle.tables.specs.Lines.{kindIn};
-ghost use Rattle.tables.specs.Layout.{held, idsOf};
-ghost use Rattle.tables.specs.Ids.{rising};
+ghost use Rattle.tables.specs.Layout.{idsOf};
+ghost use Rattle.tables.specs.Model.Risen.{Risen};
 ghost use Rattle.tables.specs.Model.Notes.{lookIn, givenIn};
 ghost use Rattle.texts.specs.Split.{tokens as tokensIn};
 
@@ -108,8 +107,7 @@ fn conclude(
     n: usize,
     notes: &[[u8; BYTES]],
 ) -> Readout
-    requires { ⌜ (row ≡ rowOf (kindIn rec)) × (((a : ℕ) → lookIn (now notes) a .w ≤ 64)
-        × ((n ≤ held false (length (now table))) × (rising 0 (idsOf (now table) n) ≡ true))) ⌝ }
+    requires { ⌜ (row ≡ rowOf (kindIn rec)) × (((a : ℕ) → lookIn (now notes) a .w ≤ 64) × Risen (now table) n) ⌝ }
     ensures { λ r. ⌜ r ≡ asRead 0 (concluded (lookIn (now (notes .entry))) (givenIn (now (notes .entry))) f len (resolved (idsOf (now (table .entry)) n) rec)) ⌝ }
 {
     let p = ids::resolve(row, rec, table, n);
@@ -129,8 +127,7 @@ fn large(
     n: usize,
     notes: &[[u8; BYTES]],
 ) -> Readout
-    requires { ⌜ (row ≡ rowOf (kindIn rec)) × (((a : ℕ) → lookIn (now notes) a .w ≤ 64)
-        × ((n ≤ held false (length (now table))) × (rising 0 (idsOf (now table) n) ≡ true))) ⌝ }
+    requires { ⌜ (row ≡ rowOf (kindIn rec)) × (((a : ℕ) → lookIn (now notes) a .w ≤ 64) × Risen (now table) n) ⌝ }
     ensures { λ r. ⌜ r ≡ asRead 0 (largeOf (lookIn (now (notes .entry))) (givenIn (now (notes .entry))) (idsOf (now (table .entry)) n) f rec big len) ⌝ }
 {
     if big {
@@ -155,8 +152,7 @@ fn finish(
     notes: &[[u8; BYTES]],
 ) -> Readout
     requires { do
-      ⌜ (t .at ≤ (← ⟦l.len()⟧)) × ((row ≡ rowOf (kindIn (t .rec))) × (((a : ℕ) → lookIn (now notes) a .w ≤ 64)
-          × ((n ≤ held false (length (now table))) × (rising 0 (idsOf (now table) n) ≡ true)))) ⌝ }
+      ⌜ (t .at ≤ (← ⟦l.len()⟧)) × ((row ≡ rowOf (kindIn (t .rec))) × (((a : ℕ) → lookIn (now notes) a .w ≤ 64) × Risen (now table) n)) ⌝ }
     ensures { λ r. ⌜ r ≡ asRead 0 (ended (lookIn (now (notes .entry))) (givenIn (now (notes .entry))) (idsOf (now (table .entry)) n) f (asTook (now (l .entry)) t)) ⌝ }
 {
     if !t.ok {
@@ -180,8 +176,7 @@ pub fn rest(
     notes: &[[u8; BYTES]],
 ) -> Readout
     requires { do
-      ⌜ (now kinds ≡ rows) × ((at ≤ (← ⟦l.len()⟧)) × ((1 ≤ f) × ((f ≤ 60) × (((a : ℕ) → lookIn (now notes) a .w ≤ 64)
-          × ((n ≤ held false (length (now table))) × (rising 0 (idsOf (now table) n) ≡ true)))))) ⌝ }
+      ⌜ (now kinds ≡ rows) × ((at ≤ (← ⟦l.len()⟧)) × ((1 ≤ f) × ((f ≤ 60) × (((a : ℕ) → lookIn (now notes) a .w ≤ 64) × Risen (now table) n)))) ⌝ }
     ensures { λ r. ⌜ r ≡ asRead 0 (ended (lookIn (now (notes .entry))) (givenIn (now (notes .entry))) (idsOf (now (table .entry)) n) f (takenIn f (tokensIn (drop at (now (l .entry)))))) ⌝ }
 {
     let row = forms::row(kinds, f);

@@ -6,8 +6,7 @@ use mathlib.Core.List.{List, [], _∷_, _++_, map}
 use native.Mathlib.Omega.{arith}
 use lib.ListN.{length, getD, take, replicate, length-replicate}
 use Rattle.tables.specs.Lines.{lineOf, fields, kindIn, sortIn, firstIn, secondIn, thirdIn}
-use Rattle.tables.specs.Layout.{recordWords, held, placing, rowsFrom, filledBy, recordAt, recordsOf, linesOf, recorded, putAll, filled}
-use Rattle.tables.proofs.Layouts.{placed, words-in}
+use Rattle.tables.specs.Layout.{recordWords, placing, rowsFrom, filledBy, recordAt, recordsOf, linesOf, recorded, putAll, filled}
 use Rattle.tables.proofs.Spread.{length-words-from}
 use Rattle.tables.proofs.Putting as laws
 use Rattle.tables.proofs.Putting.{SizedBy}

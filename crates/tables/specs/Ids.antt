@@ -17,7 +17,7 @@ abbrev pub rising : (last : ℕ) → List ℕ → Bool
 rising last [] = true
 rising last (d ∷ ds) = follows last d && rising d ds
 
--- the ids of the first n records of a list
+-- the ids of the first n records of a list: a circuit's rise, a program has none
 abbrev pub idsRight : Bool → List ℕ → (n : ℕ) → Bool
 idsRight false t n = rising 0 (idsOf t n)
 idsRight true t n = true

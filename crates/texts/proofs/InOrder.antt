@@ -1,13 +1,13 @@
 -- The ids 1, 2, 3: each is the place of its line, so a record that keeps the rules stays as it is where its ids are replaced by places. Assumes nothing.
-use Prim.Native.Nat.{ℕ, zero, suc, _+_, _≤_, _<_}
+use Prim.Native.Nat.{ℕ, zero, suc, _+_, _-_, _≤_, _<_}
 use mathlib.Core.Path.{_≡_, refl, sym, ap, _∙_}
 use mathlib.Core.Bool.{Bool, true, false, _&&_, _||_}
 use mathlib.Core.List.{List}
 use native.Mathlib.Omega.{arith}
 use lib.Dec.{T, eqb, leb, leb→le}
-use lib.ListN.{length, length-append, List·getD-append}
+use lib.ListN.{length, getD, length-append, List·getD-append}
 use mir.Facts.{and-yes}
-use borrow.Author.Tests.{eqb-true, eqb-false, leb-true}
+use borrow.Author.Tests.{eqb-true, leb-true}
 use Rattle.tables.specs.declared.Ty.{Ty}
 use Rattle.tables.specs.Pick.{pick}
 use Rattle.tables.specs.Kinds.{rowOf, sortClass, firstClass, secondClass, thirdClass}
@@ -22,8 +22,10 @@ use Rattle.tables.proofs.Kept.{both, kept-fault}
 use Rattle.tables.proofs.Answers.{passed}
 use Rattle.tables.proofs.Places.{fields-of, fields-eq}
 use Rattle.tables.proofs.Showing.{earlier}
-use Rattle.texts.specs.Operands.{placeFrom, meant, resolved}
+use Rattle.tables.proofs.Ids.{length-from, from-at}
+use Rattle.texts.specs.Operands.{placeByIdFrom, meant, resolved}
 use Rattle.texts.specs.Reading.{lastOf}
+use Rattle.texts.proofs.Resolving.{place-first}
 
 -- ---- 1, 2, 3
 
@@ -31,13 +33,10 @@ pub last-from : (l n : ℕ) → lastOf l (from (suc l) n) ≡ l + n
 last-from l zero = omega arith
 last-from l (suc n) = last-from (suc l) n ∙ omega arith
 
-place-from : (b n v : ℕ) → b ≤ v → v < b + n → placeFrom b (from b n) v ≡ v
-place-from b zero v h l = absurd (omega arith)
-place-from b (suc n) v h l = go (eqb b v) refl (λ k. place-from (suc b) n v k (omega arith))
-  where
-    go : (q : Bool) → eqb b v ≡ q → (suc b ≤ v → placeFrom (suc b) (from (suc b) n) v ≡ v) → pick (eqb b v) b (placeFrom (suc b) (from (suc b) n) v) ≡ v
-    go true e f = rw e (eqb-true b v e)
-    go false e f = let d = eqb-false b v e in rw e (f (omega arith))
+place-from : (b n v : ℕ) → b ≤ v → v < b + n → placeByIdFrom b (from b n) v ≡ v
+place-from b n v h l =
+    let at : getD (from b n) (v - b) 0 ≡ v = from-at b n (v - b) (omega arith) ∙ omega arith in
+    place-first b (from b n) v (v - b) (λ j k e. omega (arith, from-at b n j (omega arith))) (omega (arith, length-from b n)) at ∙ omega arith
 
 -- ---- a number in a place
 
@@ -73,7 +72,7 @@ pub record Numbered (L : ℕ → Ty) (n : ℕ) : Type 0 where
 meant-same : (L : ℕ → Ty) (n : ℕ) → Numbered L n → (k v : ℕ) → k ≤ 8 → suits k (L v) ≡ true → meant k (from 1 n) v ≡ v
 meant-same L n N k v l h = go (eqb k 0 || eqb k 8) refl
   where
-    go : (q : Bool) → (eqb k 0 || eqb k 8) ≡ q → pick (eqb k 0 || eqb k 8) v (placeFrom 1 (from 1 n) v) ≡ v
+    go : (q : Bool) → (eqb k 0 || eqb k 8) ≡ q → pick (eqb k 0 || eqb k 8) v (placeByIdFrom 1 (from 1 n) v) ≡ v
     go true e = rw e refl
     go false e =
         let r = suits-role k (L v) l e h in

@@ -19,6 +19,7 @@ use Rattle.tables.specs.Layout.{whole, held, room, idsOf, withId, withIds, reco
 use Rattle.tables.specs.Ids.{follows, rising}
 use Rattle.tables.specs.Types.{noTy, lineType, Ctx, noCtx, tyAt, given, grow}
 use Rattle.tables.specs.Model.Notes.{lookIn, givenIn, Shows, noted}
+use Rattle.tables.specs.Model.Risen.{Risen}
 use Rattle.tables.specs.Tables.{formed, keeps}
 use Rattle.tables.specs.Rules.{fits, fault}
 use Rattle.tables.specs.Answers.{Outcome, told}
@@ -177,17 +178,18 @@ module _ {s table : List ℕ} {notes rs : List (List ℕ)} {ds : List ℕ} {len 
   pub table-size : length table ≡ len
   table-size = ap length (R .holds) ∙ length-filled false len (withIds rs ds)
 
-  -- the table holds the records so far, and their ids, which rise
-  pub there : n ≤ held false (length table)
-  there = subst (λ (k : ℕ). n ≤ held false k) (sym table-size) (roomy false len n (R .most) .1)
-
   has-ids : idsOf table n ≡ ds
   has-ids =
       let h = roomy false len n (R .most) .1 in
       ap₂ idsOf (R .holds) (R .size) ∙ ids-with len rs ds (R .sized) (sym (R .size) ∙ R .same) (subst (λ (k : ℕ). k ≤ held false len) (R .size) h)
 
-  pub risen : rising 0 (idsOf table n) ≡ true
-  risen = ap (rising 0) has-ids ∙ R .rise
+  -- the table holds the records so far, and their ids rise
+  pub risen : Risen table n
+  risen =
+      record {
+        there = subst (λ (k : ℕ). n ≤ held false k) (sym table-size) (roomy false len n (R .most) .1);
+        rise = ap (rising 0) has-ids ∙ R .rise;
+      }
 
   -- the widths noted
   pub narrow-noted : (a : ℕ) → lookIn notes a .w ≤ 64

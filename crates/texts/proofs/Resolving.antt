@@ -14,25 +14,25 @@ use Rattle.tables.specs.Lines.{fields, kindIn, sortIn, firstIn, secondIn, third
 use Rattle.tables.specs.Layout.{idAt, idsFrom, idsOf}
 use Rattle.tables.specs.Ids.{mostId, follows, rising}
 use Rattle.tables.proofs.Kept.{both}
-use Rattle.texts.specs.Operands.{placeFrom, placeOf, meant, resolved}
+use Rattle.texts.specs.Operands.{placeByIdFrom, placeById, meant, resolved}
 use Rattle.texts.specs.Reading.{lastOf}
 
 -- ---- the ids of a list's records, one by one
 
-from-length : (t : List ℕ) (i n : ℕ) → length (idsFrom t i n) ≡ n
-from-length t i zero = refl
-from-length t i (suc n) = ap suc (from-length t (suc i) n)
+length-ids-from : (t : List ℕ) (i n : ℕ) → length (idsFrom t i n) ≡ n
+length-ids-from t i zero = refl
+length-ids-from t i (suc n) = ap suc (length-ids-from t (suc i) n)
 
 pub ids-length : (t : List ℕ) (n : ℕ) → length (idsOf t n) ≡ n
-ids-length t n = from-length t 0 n
+ids-length t n = length-ids-from t 0 n
 
-from-at : (t : List ℕ) (i n j : ℕ) → j < n → getD (idsFrom t i n) j 0 ≡ idAt t (i + j)
-from-at t i zero j h = absurd (omega arith)
-from-at t i (suc n) zero h = let q : i ≡ i + 0 = omega arith in ap (idAt t) q
-from-at t i (suc n) (suc j) h = let q : suc i + j ≡ i + suc j = omega arith in from-at t (suc i) n j (omega arith) ∙ ap (idAt t) q
+ids-from-at : (t : List ℕ) (i n j : ℕ) → j < n → getD (idsFrom t i n) j 0 ≡ idAt t (i + j)
+ids-from-at t i zero j h = absurd (omega arith)
+ids-from-at t i (suc n) zero h = let q : i ≡ i + 0 = omega arith in ap (idAt t) q
+ids-from-at t i (suc n) (suc j) h = let q : suc i + j ≡ i + suc j = omega arith in ids-from-at t (suc i) n j (omega arith) ∙ ap (idAt t) q
 
 pub ids-at : (t : List ℕ) (n j : ℕ) → j < n → getD (idsOf t n) j 0 ≡ idAt t j
-ids-at t n j h = let q : 0 + j ≡ j = omega arith in from-at t 0 n j h ∙ ap (idAt t) q
+ids-at t n j h = let q : 0 + j ≡ j = omega arith in ids-from-at t 0 n j h ∙ ap (idAt t) q
 
 pub last-at : (z : ℕ) (ds : List ℕ) (i : ℕ) → length ds ≡ suc i → lastOf z ds ≡ getD ds i 0
 last-at z [] i e = absurd (omega arith)
@@ -63,41 +63,41 @@ ordered l ds r i j h k = ⊎-elim (λ (e : i ≡ j). omega (arith, ap (λ (m : �
 -- ---- the place of an id
 
 -- none of the first n ids is d
-abbrev Without : (ds : List ℕ) (n d : ℕ) → Type 0
+abbrev pub Without : (ds : List ℕ) (n d : ℕ) → Type 0
 Without ds n d = (j : ℕ) → j < n → getD ds j 0 ≡ d → ⊥
 
-place-first : (b : ℕ) (ds : List ℕ) (d i : ℕ) → Without ds i d → i < length ds → getD ds i 0 ≡ d → placeFrom b ds d ≡ b + i
+pub place-first : (b : ℕ) (ds : List ℕ) (d i : ℕ) → Without ds i d → i < length ds → getD ds i 0 ≡ d → placeByIdFrom b ds d ≡ b + i
 place-first b [] d i w h e = absurd (omega arith)
 place-first b (f ∷ ds) d zero w h e = rw (eq-eqb f d e) (omega arith)
 place-first b (f ∷ ds) d (suc i) w h e =
     rw (ne-eqb f d (w 0 (omega arith))) (place-first (suc b) ds d i (λ j k. w (suc j) (omega arith)) (omega arith) e ∙ omega arith)
 
-place-missing : (b : ℕ) (ds : List ℕ) (d : ℕ) → Without ds (length ds) d → placeFrom b ds d ≡ 0
+place-missing : (b : ℕ) (ds : List ℕ) (d : ℕ) → Without ds (length ds) d → placeByIdFrom b ds d ≡ 0
 place-missing b [] d w = refl
 place-missing b (f ∷ ds) d w = rw (ne-eqb f d (w 0 (omega arith))) (place-missing (suc b) ds d (λ j k. w (suc j) (omega arith)))
 
 -- the ids before lo are below d, those from hi on are not
-abbrev pub Below : (ds : List ℕ) (lo d : ℕ) → Type 0
-Below ds lo d = (j : ℕ) → j < lo → getD ds j 0 < d
+abbrev pub AllBelow : (ds : List ℕ) (lo d : ℕ) → Type 0
+AllBelow ds lo d = (j : ℕ) → j < lo → getD ds j 0 < d
 
-abbrev pub NotBelow : (ds : List ℕ) (hi d : ℕ) → Type 0
-NotBelow ds hi d = (j : ℕ) → hi ≤ j → j < length ds → d ≤ getD ds j 0
+abbrev pub NoneBelow : (ds : List ℕ) (hi d : ℕ) → Type 0
+NoneBelow ds hi d = (j : ℕ) → hi ≤ j → j < length ds → d ≤ getD ds j 0
 
 -- where the ids rise
 module _ (ds : List ℕ) (r : rising 0 ds ≡ true) (d : ℕ) where
   -- so it is with one id more
-  pub below-on : (m : ℕ) → m < length ds → getD ds m 0 < d → Below ds (m + 1) d
+  pub below-on : (m : ℕ) → m < length ds → getD ds m 0 < d → AllBelow ds (m + 1) d
   below-on m h k j q = omega (arith, ordered 0 ds r j m (omega arith) h)
 
-  pub not-below-on : (m : ℕ) → d ≤ getD ds m 0 → NotBelow ds m d
+  pub not-below-on : (m : ℕ) → d ≤ getD ds m 0 → NoneBelow ds m d
   not-below-on m k j q h = omega (arith, ordered 0 ds r m j q h)
 
   -- an id that stands at i, which is counted from 0
-  pub place-at : (i : ℕ) → i < length ds → getD ds i 0 ≡ d → placeOf ds d ≡ 1 + i
+  pub place-at : (i : ℕ) → i < length ds → getD ds i 0 ≡ d → placeById ds d ≡ 1 + i
   place-at i h e = place-first 1 ds d i (λ j k x. omega (arith, rises 0 ds r j i k h)) h e
 
   -- one that would stand at i, and does not
-  pub place-none : (i : ℕ) → Below ds i d → NotBelow ds i d → (i < length ds → getD ds i 0 ≡ d → ⊥) → placeOf ds d ≡ 0
+  pub place-none : (i : ℕ) → AllBelow ds i d → NoneBelow ds i d → (i < length ds → getD ds i 0 ≡ d → ⊥) → placeById ds d ≡ 0
   place-none i b a n = place-missing 1 ds d (λ j h x. go j h x (ltb j i) refl)
     where
       go : (j : ℕ) → j < length ds → getD ds j 0 ≡ d → (t : Bool) → ltb j i ≡ t → ⊥
@@ -117,7 +117,7 @@ module _ (k : ℕ) (ds : List ℕ) (v : ℕ) where
   pub meant-number : k ≡ number → v ≡ meant k ds v
   meant-number e = rw e refl
 
-  pub meant-line : (k ≡ none → ⊥) → (k ≡ number → ⊥) → placeOf ds v ≡ meant k ds v
+  pub meant-line : (k ≡ none → ⊥) → (k ≡ number → ⊥) → placeById ds v ≡ meant k ds v
   meant-line e f = rw (ne-eqb k none e, ne-eqb k number f) refl
 
 pub is-resolved : (ds r row : List ℕ) {s a b c : ℕ} → row ≡ rowOf (kindIn r) → s ≡ meant (sortClass row) ds (sortIn r) → a ≡ meant (firstClass row) ds (firstIn r)

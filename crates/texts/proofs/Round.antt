@@ -5,7 +5,7 @@ use mathlib.Core.Bool.{Bool, true, false, _&&_, _||_, not}
 use mathlib.Core.List.{List, [], _∷_, _++_, append-nil, append-assoc}
 use native.Mathlib.Omega.{arith}
 use lib.Dec.{T, eqb, leb, ltb, eqb→eq, leb→le}
-use lib.ListN.{length, take, drop, getD, set, drop-of-length-le, length-append}
+use lib.ListN.{length, take, drop, getD, set, drop-of-length-le}
 use lib.Seq.{take-all}
 use mir.Facts.{and-yes}
 use borrow.Author.Tests.{eqb-true, ne-eqb, lt-ltb, le-leb, le-ltb, ltb-true}

@@ -20,7 +20,7 @@ use Rattle.texts.specs.declared.Num.the-variants.{Bad, Big, Is}
 use Rattle.texts.specs.Forms.{formRow, kindOf, firstOf, numbersOf}
 use Rattle.texts.specs.Decimal.{decimal}
 use Rattle.texts.specs.Operands.{resolved}
-use Rattle.texts.specs.Reading.{Word, word, unknown, wordIn, formOf, behind, numberAt, numbersFrom, anyBad, anyBig, placed, lastOf, numberTokens, extraTokens, numbersIn, fresh, writtenRecord, settled, placedRecord, recordIn, isNext, lowest, readLine}
+use Rattle.texts.specs.Reading.{Word, word, unknown, wordIn, formOf, behind, numberAt, numbersFrom, anyBad, anyBig, placed, lastOf, numberTokens, extraTokens, numbersIn, fresh, writtenRecord, settled, recordIn, isNext, lowest, readLine}
 use Rattle.texts.specs.Model.Stages.{Took, operands, takenIn, judged, concluded, large, ended, worded, stagedLine}
 use Rattle.texts.specs.Model.Structs.{tookAt, several}
 use Rattle.texts.proofs.Words.{InForms, word-forms}

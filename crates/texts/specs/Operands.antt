@@ -8,16 +8,16 @@ use Rattle.tables.specs.Kinds.{none, number, rowOf, sortClass, firstClass, seco
 use Rattle.tables.specs.Lines.{fields, kindIn, sortIn, firstIn, secondIn, thirdIn}
 
 -- the place of the line that has the id d, among lines that have the ids ds and of which the first has the place n; 0, which is no line's place, where none has it
-abbrev pub placeFrom : (n : ℕ) → List ℕ → (d : ℕ) → ℕ
-placeFrom n [] d = 0
-placeFrom n (e ∷ ds) d = pick (eqb e d) n (placeFrom (suc n) ds d)
+abbrev pub placeByIdFrom : (n : ℕ) → List ℕ → (d : ℕ) → ℕ
+placeByIdFrom n [] d = 0
+placeByIdFrom n (e ∷ ds) d = pick (eqb e d) n (placeByIdFrom (suc n) ds d)
 
-abbrev pub placeOf : List ℕ → (d : ℕ) → ℕ
-placeOf ds d = placeFrom 1 ds d
+abbrev pub placeById : List ℕ → (d : ℕ) → ℕ
+placeById ds d = placeByIdFrom 1 ds d
 
 -- what the number v is in a place of the class k: the place of the line that it names; where the class is none or a plain number, v itself
 abbrev pub meant : (k : ℕ) → List ℕ → (v : ℕ) → ℕ
-meant k ds v = pick (eqb k none || eqb k number) v (placeOf ds v)
+meant k ds v = pick (eqb k none || eqb k number) v (placeById ds v)
 
 -- a record as it is written, with the places of the lines that its numbers name: the sort and the operands, each by its class in the row of the kind
 unfoldable pub resolved : List ℕ → (r : List ℕ) → List ℕ

@@ -15,7 +15,7 @@ id-requires c κs = search needs
 returns : tie.Need-returns
 returns c = let s = c .before .before .before .before .before .args in
     let t : List ℕ = s .table .now in
-    omega (arith, place-at (idsOf t (s .n)) (c .before .before .before .before .before .pre .1 .1) (s .d) (s .d - 1) (omega (arith, ids-length t (s .n))) (ids-at t (s .n) (s .d - 1) (omega arith) ∙ sym (c .before .id .ensures) ∙ c .if3 .taken))
+    omega (arith, place-at (idsOf t (s .n)) (c .before .before .before .before .before .pre .1 .rise) (s .d) (s .d - 1) (omega (arith, ids-length t (s .n))) (ids-at t (s .n) (s .d - 1) (omega arith) ∙ sym (c .before .id .ensures) ∙ c .if3 .taken))
 
 search-requires : tie.Need-search-requires
 search-requires c κs = search needs

@@ -114,7 +114,7 @@ rest-requires c κs =
     let p = c .before .before .before .before .before .before .before .before .before .before .before .before .before .pre in
     let w = c .before .before .word in
     let h : (w .result .form ≡ 0 → ⊥) = c .if4 .left in
-    (p .0, (w .ensures .0, (omega arith, (w .ensures .1 .0, (p .1 .1 .1, (p .1 .0, p .1 .1 .0))))))
+    (p .0, (w .ensures .0, (omega arith, (w .ensures .1 .0, (p .1 .1, p .1 .0)))))
 
 numbered-requires : tie.Need-numbered-requires
 numbered-requires c κs = search needs

@@ -9,7 +9,7 @@ use lib.ListN.{length, replicate}
 use Rattle.tables.specs.Lines.{lineOf}
 use Rattle.tables.specs.Layout.{room as roomOf}
 use Rattle.tables.specs.Types.{Ctx, noCtx, grow}
-use Rattle.texts.proofs.Reached.{Reached, table-size, there, risen, at-start, at-end, at-no, at-skip, at-got, narrow-noted, fits-record, sort-fits, out-refused, out-done}
+use Rattle.texts.proofs.Reached.{Reached, table-size, risen, at-start, at-end, at-no, at-skip, at-got, narrow-noted, fits-record, sort-fits, out-refused, out-done}
 use Rattle.reading.proofs.lines.read_lines.Statement.{statement}
 use Rattle.reading.proofs.lines.read_lines.Tie as tie
 
@@ -44,7 +44,7 @@ part-read-line-end c = le-trans (c .cut .ensures .1 .0) (c .before .find-byte .e
 read-line-requires : tie.Need-read-line-requires Inv-loop μ-loop
 read-line-requires c κs =
     let R = c .before .before .before .before .before .before .loop .inv .1 .1 .1 .1 in
-    (c .before .before .before .before .before .before .before .before .before .before .pre .1 .1 .1 .1, (there R, (risen R, narrow-noted R)))
+    (c .before .before .before .before .before .before .before .before .before .before .pre .1 .1 .1 .1, (risen R, narrow-noted R))
 
 after-requires : tie.Need-after-requires Inv-loop μ-loop
 after-requires c κs = tt
