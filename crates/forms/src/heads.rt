@@ -7,14 +7,13 @@ use texts::Form;
 use texts::Num;
 use tokens::numbers;
 ghost use mathlib.Core.Path.{_≡_};
-ghost use mathlib.Core.Bool.{true, false};
 ghost use Prim.Native.Nat.{_≤_};
 ghost use lib.ListN.{drop};
 ghost use Rattle.tables.specs.Kinds.{rows};
 ghost use Rattle.texts.specs.Split.{tokens as tokensIn};
-ghost use Rattle.texts.specs.Reading.{wordIn, isNext, valueOf};
+ghost use Rattle.texts.specs.Reading.{wordIn};
 ghost use Rattle.texts.specs.Naming.{isId};
-ghost use Rattle.texts.specs.Model.Structs.{asWord};
+ghost use Rattle.texts.specs.Model.Structs.{asWord, NextId};
 ghost use Rattle.texts.specs.Decimal.{decimal};
 
 // The line's word, from the place i on; kinds are the rows of all kinds.
@@ -54,9 +53,7 @@ pub fn is_id(t: &[u8], n: u64) -> bool
 
 // The token as the id of a line behind one whose id is last; 0 where it can be none.
 pub fn next_id(t: &[u8], last: u64) -> u64
-    ensures { λ r.
-        ⌜ (r ≡ 0 → isNext (decimal (now (t .entry))) last ≡ false)
-        × ((r ≡ 0 → ⊥) → (isNext (decimal (now (t .entry))) last ≡ true) × (r ≡ valueOf (decimal (now (t .entry))))) ⌝ }
+    ensures { λ r. ⌜ NextId (decimal (now (t .entry))) last r ⌝ }
 {
     let r = numbers::decimal(t);
     match r {

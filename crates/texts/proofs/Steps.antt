@@ -27,7 +27,7 @@ use Rattle.texts.specs.Model.Stages.{Took, took, malformed, operands, ta
 use Rattle.texts.specs.declared.Readout.{Readout}
 use Rattle.texts.specs.declared.Taken.{Taken}
 use Rattle.texts.specs.declared.Form.{Form}
-use Rattle.texts.specs.Model.Structs.{wordWith, asWord, tookAt, asTook, asRead, several}
+use Rattle.texts.specs.Model.Structs.{wordWith, asWord, tookAt, asTook, asRead, NextId, several}
 
 -- ---- operands
 
@@ -181,10 +181,6 @@ module _ (L : ℕ → Ty) (G : Bool → ℕ → Bool) (ds : List ℕ) (f : ℕ) 
       ∙ ap (λ (m : ℕ). operands f (numbersOf (formRow f)) (firstOf (formRow f)) (fresh m) false 0 ts) ek))))
 
 -- ---- the id
-
--- r is the id that a token gives a line; 0 where it gives none
-abbrev pub NextId : Num → (last r : ℕ) → Type 0
-NextId n last r = (r ≡ 0 → isNext n last ≡ false) × ((r ≡ 0 → ⊥) → (isNext n last ≡ true) × (r ≡ valueOf n))
 
 module _ (n : Num) (last : ℕ) where
   pub next-none : isNext n last ≡ false → NextId n last 0
