@@ -8,7 +8,7 @@ use mathlib.Core.List.{List, [], _∷_, map, map-append}
 use native.Mathlib.Omega.{arith}
 use native.Mathlib.Decide.{decLt}
 use lib.Dec.{eqb}
-use lib.ListN.{length, getD, set, replicate, length-append, length-replicate, length-set, List·getD-map, List·getD-eq-default}
+use lib.ListN.{length, getD, replicate, length-append, length-replicate, length-set, List·getD-map, List·getD-eq-default}
 use lib.Seq.{getD-at}
 use borrow.Author.Tests.{eqb-true, eqb-false, le-leb, lt-leb}
 use Rattle.tables.specs.Answers.{fitting, leftBy}

@@ -6,7 +6,7 @@ use mathlib.Core.Bool.{Bool, true, false}
 use mathlib.Core.List.{List, [], _∷_, _++_}
 use native.Mathlib.Omega.{arith}
 use lib.Dec.{eqb}
-use lib.ListN.{length, take, drop, getD, replicate, length-replicate, List·getD-append}
+use lib.ListN.{length, take, getD, replicate, length-replicate, List·getD-append}
 use lib.Seq.{drop-at, take-all, take-length, take-suc}
 use borrow.Author.Tests.{eq-eqb, ne-eqb}
 use Rattle.tables.specs.declared.Ty.{Ty}

@@ -1,4 +1,4 @@
--- A circuit, or a program, is a list of lines; a line is named by its number, from 1. A record of five words stands for a line: kind, sort line (in a program the width),
+-- A circuit, or a program, is a list of lines; a line is named by its number, which is its place, from 1. A record of five words stands for a line: kind, sort line (in a program the width),
 -- and three operands. Assumes nothing.
 use Prim.Native.Nat.{ℕ}
 use mathlib.Core.Bool.{Bool, true, false}

@@ -122,7 +122,7 @@ writtenRecord f ts = placed (firstOf (formRow f)) (numbersIn f ts) (fresh (kindO
 unfoldable pub settled : (w f : ℕ) → List ℕ → List ℕ
 settled w f rec = elim (eqb f 59) [ true ↦ set rec 2 1 | false ↦ elim (eqb f 60) [ true ↦ set rec 2 (2 ^ w - 1) | false ↦ rec ] ]
 
--- with the places of the lines that it names, after lines whose ids are ds
+-- the same with places for the ids that it names, after lines whose ids are ds
 abbrev pub placedRecord : List ℕ → ℕ → List (List ℕ) → List ℕ
 placedRecord ds f ts = resolved ds (writtenRecord f ts)
 
@@ -138,7 +138,7 @@ isNext Bad last = false
 isNext Big last = false
 isNext (Is v) last = follows last v
 
--- the id of a line, by its first token
+-- the value of a number, 0 where it has none; the id of a line is that of its first token
 abbrev pub valueOf : Num → ℕ
 valueOf Bad = 0
 valueOf Big = 0
@@ -174,7 +174,7 @@ module _ (L : ℕ → Ty) (G : Bool → ℕ → Bool) (m : ℕ) (ds : List ℕ) 
   abbrev pub numberTooLarge : Bool
   numberTooLarge = anyBig (numbersIn f ts) || (eqb f 1 && not (inside 1 64 (firstIn (writtenRecord f ts))))
 
-  -- 8: an operand is not an earlier line of the right class
+  -- 8: an operand does not name an earlier line of the right class
   abbrev pub wrongClass : Bool
   wrongClass = eqb (fault false L G (recordIn L ds f ts)) 8
 
