@@ -11,6 +11,7 @@ ghost use Rattle.flattening.specs.Answers.{flattens};
 ghost use Rattle.programs.specs.Answers.{translates};
 ghost use Rattle.circuits.specs.Answers.{runs};
 ghost use Rattle.peeks.specs.Peek.{peeks};
+ghost use Rattle.layouts.specs.Conversion.{converts};
 ghost use Rattle.answers.specs.Answers.{three, zeros, tells, answered, Named};
 
 // Reads a text into a table. The answer's first word is the number of records, or the text line of a refusal.
@@ -168,4 +169,80 @@ pub extern "C" fn gofeshan_name(text: &[u8], id: u64, answer: &mut [u64]) -> u64
     let to = p.to;
     answers::tell(answer, from as u64, (to - from) as u64, 0);
     0
+}
+
+// A conversion between the layouts. The answer's first word is the number of records in the target.
+fn convert(
+    columns: bool,
+    program: bool,
+    list: &[u64],
+    count: usize,
+    target: &mut [u64],
+    answer: &mut [u64],
+) -> u64
+    ensures { λ n. ⌜ tells n (now (answer .exit)) (now (target .exit) ∷ []) ≡ answered (now (answer .entry)) (now (target .entry) ∷ [])
+        (converts columns program (now (list .entry)) count (length (now (target .entry)))) ⌝ }
+{
+    if !answers::take(answer) {
+        records::clear(target);
+        return 1;
+    }
+    let r = layouts::convert(columns, program, list, count, target);
+    answers::tell_count(r, answer)
+}
+
+// A circuit whose records stand one behind the other goes to the target in columns.
+#[no_mangle]
+pub extern "C" fn gofeshan_circuit_to_columns(
+    records: &[u64],
+    count: usize,
+    target: &mut [u64],
+    answer: &mut [u64],
+) -> u64
+    ensures { λ n. ⌜ tells n (now (answer .exit)) (now (target .exit) ∷ []) ≡ answered (now (answer .entry)) (now (target .entry) ∷ [])
+        (converts true false (now (records .entry)) count (length (now (target .entry)))) ⌝ }
+{
+    convert(true, false, records, count, target, answer)
+}
+
+// A circuit in columns goes to the target, one record behind the other.
+#[no_mangle]
+pub extern "C" fn gofeshan_circuit_to_records(
+    table: &[u64],
+    count: usize,
+    target: &mut [u64],
+    answer: &mut [u64],
+) -> u64
+    ensures { λ n. ⌜ tells n (now (answer .exit)) (now (target .exit) ∷ []) ≡ answered (now (answer .entry)) (now (target .entry) ∷ [])
+        (converts false false (now (table .entry)) count (length (now (target .entry)))) ⌝ }
+{
+    convert(false, false, table, count, target, answer)
+}
+
+// A program whose records stand one behind the other goes to the target in columns.
+#[no_mangle]
+pub extern "C" fn gofeshan_program_to_columns(
+    records: &[u64],
+    count: usize,
+    target: &mut [u64],
+    answer: &mut [u64],
+) -> u64
+    ensures { λ n. ⌜ tells n (now (answer .exit)) (now (target .exit) ∷ []) ≡ answered (now (answer .entry)) (now (target .entry) ∷ [])
+        (converts true true (now (records .entry)) count (length (now (target .entry)))) ⌝ }
+{
+    convert(true, true, records, count, target, answer)
+}
+
+// A program in columns goes to the target, one record behind the other.
+#[no_mangle]
+pub extern "C" fn gofeshan_program_to_records(
+    table: &[u64],
+    count: usize,
+    target: &mut [u64],
+    answer: &mut [u64],
+) -> u64
+    ensures { λ n. ⌜ tells n (now (answer .exit)) (now (target .exit) ∷ []) ≡ answered (now (answer .entry)) (now (target .entry) ∷ [])
+        (converts false true (now (table .entry)) count (length (now (target .entry)))) ⌝ }
+{
+    convert(false, true, table, count, target, answer)
 }

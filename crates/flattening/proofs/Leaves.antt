@@ -10,7 +10,6 @@ use lib.Dec.{leb}
 use lib.ListN.{length, getD}
 use borrow.Author.Tests.{leb-true}
 use Rattle.tables.specs.Answers.{ifAccepted, leftBy}
-use Rattle.tables.specs.declared.Refusal.{Refusal}
 use Rattle.tables.specs.declared.Refusal.the-variants.{NotATable, TargetTooSmall}
 use Rattle.tables.specs.declared.Checked.{Checked}
 use Rattle.tables.specs.declared.Checked.the-variants.{Accepted, Refused as RefusedTable}
@@ -21,6 +20,7 @@ use Rattle.tables.specs.Lines.{Line, wordsOf, kindIn}
 use Rattle.tables.specs.Layout.{whole, held, room, recordAt, recordsOf, linesOf, idsOf, from}
 use Rattle.tables.specs.Types.{noCtx}
 use Rattle.tables.specs.Tables.{checked}
+use Rattle.tables.proofs.Outcomes.{not-done, done-count}
 use Rattle.tables.proofs.Kept.{both}
 use Rattle.tables.proofs.Facts.{AllOk}
 use Rattle.tables.proofs.Checking.{roomy}
@@ -34,12 +34,6 @@ use Rattle.flattening.specs.Answers.{flattened, flatLeft}
 use Rattle.flattening.proofs.Alike.{flat-ok, SameCounts, counts-alike, runs-alike}
 use Rattle.flattening.proofs.Arrayless.{flat-plain, no-kind-two}
 use Rattle.flattening.proofs.Placing.{length-flat-filled, records-flat, accepted-flat, lines-flat, ids-flat}
-
-not-done : (r : Refusal) (m : ℕ) → Refused r 0 ≡ Done m → ⊥
-not-done r m e = let z : _≡_ {A = ℕ} 0 1 = cc in omega arith
-
-done-count : (m n : ℕ) → Done m ≡ Done n → m ≡ n
-done-count m n e = cc
 
 -- what an answer other than a refusal says
 pub record Answered (t : List ℕ) (n len m : ℕ) : Type 0 where

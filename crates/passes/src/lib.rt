@@ -11,21 +11,20 @@ ghost use Rattle.programs.specs.Translation.{hasArray};
 ghost use Rattle.programs.specs.Answers.{programOf};
 ghost use Rattle.programs.specs.Model.Passes.{Zeroed, emittedTo, Prepared, Fitted, programIn};
 
-// A counted record is an array sort.
+// A counted record is an array sort. All kinds are looked at, so that the compiled code takes several of them at a time.
 pub fn has_array(table: &[u64], count: usize) -> bool
     requires { ⌜ checked false (now table) count ≡ Accepted ⌝ }
     ensures { λ r. ⌜ r ≡ hasArray (linesOf false (now (table .entry)) count) ⌝ }
 {
-    let h = records::step(false, table.len());
+    let mut found = false;
     let mut i: usize = 0;
     while i < count {
-        let rec = records::record(false, table, h, i);
-        if rec[0] == 2 {
-            return true;
+        if records::kind(false, table, i) == 2 {
+            found = true;
         }
         i += 1;
     }
-    false
+    found
 }
 
 // A mark at each line that has a needing use.

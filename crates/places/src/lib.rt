@@ -8,11 +8,11 @@ use tables::Checked;
 use tables::Ty;
 use tables::WORDS;
 ghost use mathlib.Core.Path.{_≡_};
-ghost use mathlib.Core.List.{_++_};
-ghost use Prim.Native.Nat.{_≤_, _+_, _<_};
+ghost use mathlib.Core.List.{List, _++_};
+ghost use Prim.Native.Nat.{ℕ, _≤_, _+_, _<_};
 ghost use lib.ListN.{length, set, take};
 ghost use Rattle.circuits.specs.Layout.{size, countsAfter, layout};
-ghost use Rattle.tables.specs.Lines.{lineOf};
+ghost use Rattle.tables.specs.Lines.{lineOf, kindIn};
 ghost use Rattle.circuits.specs.Model.Work.{laidAs};
 ghost use Rattle.circuits.specs.Model.Places.{ShowsAll};
 ghost use Rattle.circuits.specs.Model.Passes.{countsOf, totalsOf, Small, spotBy, Noted};
@@ -144,15 +144,15 @@ pub fn lay_out(
 }
 
 // A record's signal, if it has one, goes behind the g marks so far: 1 for a bad line, 0 for a constraint. Answers how many there are now.
-fn note_mark(rec: [u64; WORDS], g: usize, bad: &mut [u8]) -> usize
+fn note_mark(k: u64, g: usize, bad: &mut [u8]) -> usize
     requires { ⌜ g < length (now bad) ⌝ }
-    ensures { λ r. ⌜ (take r (now (bad .exit)) ≡ take g (now (bad .entry)) ++ badMark (lineOf rec)) × (r ≡ g + length (badMark (lineOf rec))) ⌝ }
+    ensures { λ r. ⌜ ((rec : List ℕ) → k ≡ kindIn rec → (take r (now (bad .exit)) ≡ take g (now (bad .entry)) ++ badMark (lineOf rec)) × (r ≡ g + length (badMark (lineOf rec)))) ⌝ }
 {
-    if rec[0] == 8 {
+    if k == 8 {
         bad[g] = 1;
         return g + 1;
     }
-    if rec[0] == 9 {
+    if k == 9 {
         bad[g] = 0;
         return g + 1;
     }
@@ -164,12 +164,10 @@ pub fn bad_marks(program: bool, table: &[u64], count: usize, bad: &mut [u8])
     requires { ⌜ (checked program (now table) count ≡ Checked.Accepted) × (length (now bad) ≡ 16385) ⌝ }
     ensures { λ _. ⌜ take (length (marks (linesOf program (now (table .entry)) count))) (now (bad .exit)) ≡ marks (linesOf program (now (table .entry)) count) ⌝ }
 {
-    let h = records::step(program, table.len());
     let mut i: usize = 0;
     let mut g: usize = 0;
     while i < count {
-        let rec = records::record(program, table, h, i);
-        g = note_mark(rec, g, bad);
+        g = note_mark(records::kind(program, table, i), g, bad);
         i += 1;
     }
 }

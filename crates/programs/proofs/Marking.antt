@@ -102,26 +102,29 @@ marking-end {t} {n} {i} {ms} M l = record { size = M .size; at = λ j h. sym (or
 
 -- ---- an array sort among the lines
 
--- none so far: the answer from the start is the answer from here
-pub record NoneYet (t : List ℕ) (n i : ℕ) : Type 0 where
+-- what the i kinds looked at say, or what the lines ahead say
+pub record Looked (t : List ℕ) (n i : ℕ) (found : Bool) : Type 0 where
   pub most : i ≤ n
-  pub at : hasArray (linesOf false t n) ≡ hasArray (drop i (linesOf false t n))
+  pub at : hasArray (linesOf false t n) ≡ (found || hasArray (drop i (linesOf false t n)))
 
-pub array-start : (t : List ℕ) (n : ℕ) → NoneYet t n 0
+pub array-start : (t : List ℕ) (n : ℕ) → Looked t n 0 false
 array-start t n = record { most = omega arith; at = refl }
 
-module _ {t : List ℕ} {n i : ℕ} (Y : NoneYet t n i) (e : checked false t n ≡ Accepted) where
+module _ {t : List ℕ} {n i : ℕ} {found : Bool} (Y : Looked t n i found) (e : checked false t n ≡ Accepted) where
+  abbrev ahead : Bool
+  ahead = hasArray (drop (i + 1) (linesOf false t n))
+
   here : (l : i < n) → arraySortLine (line-at t n i e l .line) ≡ eqb (kindIn (recordAt false t i)) 2
   here l = array-words (line-at t n i e l .line) (line-at t n i e l .kinded) ∙ ap (λ (y : List ℕ). eqb (kindIn y) 2) (line-at t n i e l .words)
 
-  from-here : (l : i < n) → hasArray (linesOf false t n) ≡ (eqb (kindIn (recordAt false t i)) 2 || hasArray (drop (i + 1) (linesOf false t n)))
-  from-here l = Y .at ∙ ap hasArray (line-at t n i e l .rest) ∙ ap (λ (b : Bool). b || hasArray (drop (i + 1) (linesOf false t n))) (here l)
+  from-here : (l : i < n) (b : Bool) → eqb (kindIn (recordAt false t i)) 2 ≡ b → hasArray (linesOf false t n) ≡ (found || (b || ahead))
+  from-here l b q = Y .at ∙ ap (λ (x : Bool). found || x) (ap hasArray (line-at t n i e l .rest) ∙ ap (λ (x : Bool). x || ahead) (here l ∙ q))
 
-  pub array-found : (r : List ℕ) → i < n → r ≡ recordAt false t i → kindIn r ≡ 2 → true ≡ hasArray (linesOf false t n)
-  array-found r l er k = sym (from-here l ∙ ap (λ (b : Bool). b || hasArray (drop (i + 1) (linesOf false t n))) (eq-eqb (kindIn (recordAt false t i)) 2 (ap kindIn (sym er) ∙ k)))
+  pub array-found : (k : ℕ) → i < n → k ≡ kindIn (recordAt false t i) → k ≡ 2 → Looked t n (i + 1) true
+  array-found k l q two = record { most = omega arith; at = from-here l true (eq-eqb (kindIn (recordAt false t i)) 2 (sym q ∙ two)) ∙ or-true found }
 
-  pub array-further : (r : List ℕ) → i < n → r ≡ recordAt false t i → (kindIn r ≡ 2 → ⊥) → NoneYet t n (i + 1)
-  array-further r l er k = record { most = omega arith; at = from-here l ∙ ap (λ (b : Bool). b || hasArray (drop (i + 1) (linesOf false t n))) (ne-eqb (kindIn (recordAt false t i)) 2 (λ z. k (ap kindIn er ∙ z))) }
+  pub array-further : (k : ℕ) → i < n → k ≡ kindIn (recordAt false t i) → (k ≡ 2 → ⊥) → Looked t n (i + 1) found
+  array-further k l q other = record { most = omega arith; at = from-here l false (ne-eqb (kindIn (recordAt false t i)) 2 (λ z. other (q ∙ z))) }
 
-pub array-none : {t : List ℕ} {n i : ℕ} → NoneYet t n i → n ≤ i → false ≡ hasArray (linesOf false t n)
-array-none {t} {n} {i} Y l = sym (Y .at ∙ ap hasArray (no-line t n i l))
+pub array-end : {t : List ℕ} {n i : ℕ} {found : Bool} → Looked t n i found → n ≤ i → found ≡ hasArray (linesOf false t n)
+array-end {t} {n} {i} {found} Y l = sym (Y .at ∙ (ap (λ (x : List Line). found || hasArray x) (no-line t n i l) ∙ or-false found))

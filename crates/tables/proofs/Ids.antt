@@ -7,10 +7,10 @@ use native.Mathlib.Omega.{arith}
 use lib.ListN.{length, getD, take, length-append}
 use lib.Seq.{take-all, take-append-seam}
 use borrow.Author.Tests.{lt-ltb, le-leb}
-use Rattle.tables.specs.Layout.{recordWords, recordSize, held, placing, rowBy, rowsFrom, idAt, idsFrom, idsOf, withId, withIds, from, numbered, recordsOf, filled}
+use Rattle.tables.specs.Layout.{Placing, recordWords, recordSize, held, placing, rowBy, rowsFrom, idAt, idsBy, idsFrom, idsOf, withId, withIds, from, numbered, recordsOf, filled}
 use Rattle.tables.specs.Ids.{mostId, follows, rising, idsRight}
 use Rattle.tables.proofs.Layouts.{placed, words-in}
-use Rattle.tables.proofs.Putting.{SizedBy, rows-filled}
+use Rattle.tables.proofs.Putting.{SizedBy, take-whole, rows-filled}
 use Rattle.tables.proofs.Places.{Sized}
 
 -- ---- numbers from b on
@@ -83,7 +83,7 @@ length-numbered false rs = length-with rs (from 1 (length rs)) (sym (length-from
 
 -- ---- and in a list
 
-abbrev six : ℕ
+abbrev pub six : ℕ
 six = recordSize false
 
 with-sized : (rs : List (List ℕ)) (ds : List ℕ) → Sized rs → SizedBy six (withIds rs ds)
@@ -105,7 +105,7 @@ take-rows [] ds z e = refl
 take-rows (r ∷ rs) [] z e = absurd (omega arith)
 take-rows (r ∷ rs) (d ∷ ds) z e = ap₂ (λ (x : List ℕ) (xs : List (List ℕ)). x ∷ xs) (take-row r d recordWords (z .0)) (take-rows rs ds (z .1) (omega arith))
 
-abbrev idIn : List ℕ → ℕ
+abbrev pub idIn : List ℕ → ℕ
 idIn x = getD x recordWords 0
 
 id-rows : (rs : List (List ℕ)) (ds : List ℕ) → Sized rs → length rs ≡ length ds → map idIn (map (take six) (withIds rs ds)) ≡ ds
@@ -116,9 +116,9 @@ id-rows (r ∷ rs) (d ∷ ds) z e =
     let l : length (withId r d) ≤ six = omega (arith, length-append r (d ∷ []), z .0) in
     ap₂ (λ (x : ℕ) (xs : List ℕ). x ∷ xs) (ap idIn (take-all six (withId r d) l) ∙ id-row r d recordWords (z .0)) (id-rows rs ds (z .1) (omega arith))
 
-ids-rows : (t : List ℕ) (i n : ℕ) → idsFrom t i n ≡ map idIn (rowsFrom (placing false) six t i n)
-ids-rows t i zero = refl
-ids-rows t i (suc n) = ap (λ (l : List ℕ). idIn (rowBy (placing false) six t i) ∷ l) (ids-rows t (suc i) n)
+pub ids-rows : (f : Placing) (t : List ℕ) (i n : ℕ) → idsBy f t i n ≡ map idIn (rowsFrom f six t i n)
+ids-rows f t i zero = refl
+ids-rows f t i (suc n) = ap (λ (l : List ℕ). idIn (rowBy f six t i) ∷ l) (ids-rows f t (suc i) n)
 
 -- a list that holds the records rs with the ids ds
 module _ (len : ℕ) (rs : List (List ℕ)) (ds : List ℕ) (z : Sized rs) (e : length rs ≡ length ds) (h : length rs ≤ held false len) where
@@ -133,17 +133,13 @@ module _ (len : ℕ) (rs : List (List ℕ)) (ds : List ℕ) (z : Sized rs) (e : 
   pub ids-with : idsOf (filled false len (withIds rs ds)) (length rs) ≡ ds
   ids-with =
       ap (idsOf (filled false len (withIds rs ds))) (sym (length-with rs ds e))
-      ∙ (ids-rows (filled false len (withIds rs ds)) 0 (length (withIds rs ds))
+      ∙ (ids-rows (placing false) (filled false len (withIds rs ds)) 0 (length (withIds rs ds))
       ∙ (ap (map idIn) (rows-filled (placed false) {m = six} (omega arith) (omega arith) len (withIds rs ds) fits (with-sized rs ds z)) ∙ id-rows rs ds z e))
 
 -- a list that holds the records rs, a circuit's with the ids 1, 2, 3
 pub records-filled : (p : Bool) (len : ℕ) (rs : List (List ℕ)) → Sized rs → length rs ≤ held p len → recordsOf p (filled p len (numbered p rs)) (length rs) ≡ rs
 records-filled false len rs z h = records-with len rs (from 1 (length rs)) z (sym (length-from 1 (length rs))) h
-records-filled true len rs z h = rows-filled (placed true) (words-in true) (omega arith) len rs h z ∙ whole-rows rs z
-  where
-    whole-rows : (rs : List (List ℕ)) → Sized rs → map (take recordWords) rs ≡ rs
-    whole-rows [] z = refl
-    whole-rows (r ∷ rs) z = ap₂ (λ (x : List ℕ) (xs : List (List ℕ)). x ∷ xs) (take-all recordWords r (omega (arith, z .0))) (whole-rows rs (z .1))
+records-filled true len rs z h = rows-filled (placed true) (words-in true) (omega arith) len rs h z ∙ take-whole recordWords rs z
 
 pub ids-filled : (p : Bool) (len : ℕ) (rs : List (List ℕ)) → Sized rs → length rs ≤ held p len → length rs ≤ 16384 → idsRight p (filled p len (numbered p rs)) (length rs) ≡ true
 ids-filled false len rs z h few = ap (rising 0) (ids-with len rs (from 1 (length rs)) z (sym (length-from 1 (length rs))) h) ∙ rising-from (length rs) few

@@ -2,9 +2,9 @@
 use Prim.Native.Nat.{ℕ, _+_, _*_, _/_, _%_, _<_, _≤_}
 use mathlib.Core.Path.{_≡_, sym, ap, _∙_}
 use mathlib.Core.Bool.{Bool, true, false}
-use native.Mathlib.Nat.{mul-suc, mul-le-mul-left, mul-div-le, mul-add-div, mul-add-mod-self-left, div-eq-of-lt, mod-eq-of-lt}
+use native.Mathlib.Nat.{mul-suc, mul-le-mul-left, mul-div-le, div-mul-le-self, mul-add-div, mul-add-mod-self-left, div-eq-of-lt, mod-eq-of-lt}
 use native.Mathlib.Omega.{arith}
-use Rattle.tables.specs.Layout.{Placing, recordWords, recordSize, held, byRow, placing}
+use Rattle.tables.specs.Layout.{Placing, recordWords, recordSize, held, byRow, byColumn, placingIn, placing}
 
 pub record Sound (p : Bool) (f : Placing) : Type 0 where
   pub inside : (len i j : ℕ) → i < held p len → j < recordSize p → f len i j < len
@@ -27,7 +27,7 @@ pair-apart h i j k l a b e = (
   sym (pair-second h i j a) ∙ (ap (λ (x : ℕ). x / h) e ∙ pair-second h k l b),
 )
 
--- ---- the layout in use
+-- ---- records one behind the other, and columns
 
 rows-sound : (p : Bool) → Sound p (byRow p)
 rows-sound p =
@@ -36,8 +36,20 @@ rows-sound p =
       apart = λ len i j k l a b c d e. let q = pair-apart (recordSize p) j i l k c d e in (q .1, q .0);
     }
 
+columns-sound : (p : Bool) → Sound p (byColumn p)
+columns-sound p =
+    record {
+      inside = λ len i j a b. omega (arith, pair-inside (held p len) (recordSize p) i j a b, div-mul-le-self len (recordSize p));
+      apart = λ len i j k l a b c d e. pair-apart (held p len) i j k l a b e;
+    }
+
+pub placed-in : (columns p : Bool) → Sound p (placingIn columns p)
+placed-in true = columns-sound
+placed-in false = rows-sound
+
+-- the layout in use
 pub placed : (p : Bool) → Sound p (placing p)
-placed = rows-sound
+placed = columns-sound
 
 -- a record that is handed about has its words in a list
 pub words-in : (p : Bool) → recordWords ≤ recordSize p

@@ -14,6 +14,7 @@ pub mod Showing
 pub mod Contexts
 pub mod Sofar
 pub mod Checking
+pub mod Past
 pub mod Facts
 pub mod Sound
 pub mod Complete

@@ -2,6 +2,7 @@
 use Prim.Native.Nat.{ℕ}
 use mathlib.Core.Path.{_≡_, refl, sym, ap, ap₂, _∙_}
 use mathlib.Core.List.{List, [], _∷_}
+use native.Mathlib.Omega.{arith}
 use lib.Dec.{eqb}
 use lib.ListN.{getD}
 use Rattle.tables.specs.declared.Refusal.{Refusal}
@@ -58,3 +59,11 @@ told-answer r a x y e = sym (answer-again r x) ∙ (ap answerIn e ∙ answer-aga
 
 pub told-left : (r a : Answer) (x y : List (List ℕ)) → told r x ≡ told a y → x ≡ y
 told-left r a x y e = sym (left-told r x) ∙ (ap (λ (o : Outcome). o .left) e ∙ left-told a y)
+
+-- ---- a count is no refusal, and one count is not another
+
+pub not-done : (r : Refusal) (m : ℕ) → Refused r 0 ≡ Done m → ⊥
+not-done r m e = let z : _≡_ {A = ℕ} 0 1 = cc in omega arith
+
+pub done-count : (m n : ℕ) → Done m ≡ Done n → m ≡ n
+done-count m n e = cc

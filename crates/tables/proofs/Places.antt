@@ -1,12 +1,12 @@
 -- Records in the layout in use: the laws that other files cite. Assumes nothing.
-use Prim.Native.Nat.{ℕ, zero, suc, _+_, _<_, _≤_}
+use Prim.Native.Nat.{ℕ, suc, _+_, _<_, _≤_}
 use mathlib.Core.Path.{_≡_, refl, ap, _∙_}
 use mathlib.Core.Bool.{Bool}
 use mathlib.Core.List.{List, [], _∷_, _++_, map}
 use native.Mathlib.Omega.{arith}
-use lib.ListN.{length, getD, take, replicate, length-replicate}
+use lib.ListN.{length, getD, take, replicate}
 use Rattle.tables.specs.Lines.{lineOf, fields, kindIn, sortIn, firstIn, secondIn, thirdIn}
-use Rattle.tables.specs.Layout.{recordWords, placing, rowsFrom, filledBy, recordAt, recordsOf, linesOf, recorded, putAll, filled}
+use Rattle.tables.specs.Layout.{recordWords, placing, recordAt, recordsOf, linesOf, recorded, putAll, filled}
 use Rattle.tables.proofs.Spread.{length-words-from}
 use Rattle.tables.proofs.Putting as laws
 use Rattle.tables.proofs.Putting.{SizedBy}
@@ -58,11 +58,7 @@ pub take-records : (p : Bool) (t : List ℕ) (i n : ℕ) → i ≤ n → take i 
 take-records p t i n h = laws.take-rows (placing p) recordWords t 0 i n h
 
 pub records-sized : (p : Bool) (t : List ℕ) (n : ℕ) → Sized (recordsOf p t n)
-records-sized p t n = go 0 n
-  where
-    go : (i m : ℕ) → Sized (rowsFrom (placing p) recordWords t i m)
-    go i zero = tt
-    go i (suc m) = (length-record p t i, go (suc i) m)
+records-sized p t n = laws.rows-sized (placing p) recordWords t 0 n
 
 -- ---- records are put, one after the other; the place k of what comes next is handed over with its equation
 
@@ -81,16 +77,13 @@ length-put p t i rs = laws.length-put (placing p) t i rs
 -- ---- a list that holds these records and zeros
 
 pub filled-none : (p : Bool) (len : ℕ) → filled p len [] ≡ replicate len 0
-unfolding filledBy
-filled-none p len = refl
+filled-none p len = laws.filled-none (placing p) len
 
 pub length-filled : (p : Bool) (len : ℕ) (rs : List (List ℕ)) → length (filled p len rs) ≡ len
-unfolding filledBy
-length-filled p len rs = length-put p (replicate len 0) 0 rs ∙ length-replicate len 0
+length-filled p len rs = laws.length-filled (placing p) len rs
 
 pub put-filled : (p : Bool) (len : ℕ) (rs : List (List ℕ)) (k : ℕ) (ss : List (List ℕ)) → k ≡ length rs → putAll p (filled p len rs) k ss ≡ filled p len (rs ++ ss)
-unfolding filledBy
-put-filled p len rs k ss q = put-append p (replicate len 0) 0 rs k ss (omega arith)
+put-filled p len rs k ss q = laws.put-filled (placing p) len rs k ss q
 
 pub record-filled : (p : Bool) (len : ℕ) (rs : List (List ℕ)) (k : ℕ) (r : List ℕ) → k ≡ length rs → recorded p (filled p len rs) k r ≡ filled p len (rs ++ (r ∷ []))
 record-filled p len rs k r q = put-filled p len rs k (r ∷ []) q

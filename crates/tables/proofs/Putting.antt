@@ -5,9 +5,10 @@ use mathlib.Core.Bool.{Bool}
 use mathlib.Core.List.{List, [], _∷_, _++_, map}
 use native.Mathlib.Omega.{arith}
 use lib.ListN.{length, getD, take, replicate, length-replicate}
+use lib.Seq.{take-all}
 use Rattle.tables.specs.Layout.{Placing, recordSize, held, wordsFrom, rowBy, rowsFrom, rowSet, putRows, filledBy}
 use Rattle.tables.proofs.Layouts.{Sound}
-use Rattle.tables.proofs.Spread.{Spread, length-set-words, words-other, words-same}
+use Rattle.tables.proofs.Spread.{Spread, length-set-words, words-other, words-same, length-words-from}
 
 -- ---- lengths, and rows one after the other: no fact is needed
 
@@ -50,12 +51,37 @@ take-rows f m t i zero n h = refl
 take-rows f m t i (suc k) zero h = absurd (omega arith)
 take-rows f m t i (suc k) (suc n) h = ap (λ (l : List (List ℕ)). rowBy f m t i ∷ l) (take-rows f m t (suc i) k n (omega arith))
 
--- ---- what is put is read again
+-- ---- a list that holds rows and zeros
 
--- every row has w words
+pub filled-none : (f : Placing) (len : ℕ) → filledBy f len [] ≡ replicate len 0
+unfolding filledBy
+filled-none f len = refl
+
+pub length-filled : (f : Placing) (len : ℕ) (xs : List (List ℕ)) → length (filledBy f len xs) ≡ len
+unfolding filledBy
+length-filled f len xs = length-put f (replicate len 0) 0 xs ∙ length-replicate len 0
+
+pub put-filled : (f : Placing) (len : ℕ) (xs : List (List ℕ)) (k : ℕ) (ys : List (List ℕ)) → k ≡ length xs → putRows f (filledBy f len xs) k ys ≡ filledBy f len (xs ++ ys)
+unfolding filledBy
+put-filled f len xs k ys q =
+    let z : k ≡ 0 + length xs = omega arith in
+    ap (λ (i : ℕ). putRows f (putRows f (replicate len 0) 0 xs) i ys) z ∙ put-append f (replicate len 0) 0 xs ys
+
+-- ---- rows of w words
+
 abbrev pub SizedBy : ℕ → List (List ℕ) → Type 0
 SizedBy w [] = Unit {0}
 SizedBy w (x ∷ xs) = (length x ≡ w) × SizedBy w xs
+
+pub rows-sized : (f : Placing) (w : ℕ) (t : List ℕ) (i n : ℕ) → SizedBy w (rowsFrom f w t i n)
+rows-sized f w t i zero = tt
+rows-sized f w t i (suc n) = (length-words-from (f (length t) i) t 0 w, rows-sized f w t (suc i) n)
+
+pub take-whole : (w : ℕ) (xs : List (List ℕ)) → SizedBy w xs → map (take w) xs ≡ xs
+take-whole w [] z = refl
+take-whole w (x ∷ xs) z = ap₂ (λ (y : List ℕ) (ys : List (List ℕ)). y ∷ ys) (take-all w x (omega (arith, z .0))) (take-whole w xs (z .1))
+
+-- ---- what is put is read again
 
 -- the first m words of rows that have w
 module _ {p : Bool} {f : Placing} (s : Sound p f) {m w : ℕ} (part : m ≤ w) (few : w ≤ recordSize p) where

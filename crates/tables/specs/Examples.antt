@@ -52,13 +52,18 @@ programs : checked true (tableWith true (fields 4 3 0 0 0 ∷ fields 56 3 1 0 0 
 unfolding checked fault suits rowOf filledBy
 programs = refl
 
--- records lie one behind the other, a circuit's with their ids behind them, and words past them are 0
-laid : filled false 18 (withIds (fields 1 0 8 0 0 ∷ fields 4 1 0 0 0 ∷ []) (5 ∷ 9 ∷ [])) ≡ 1 ∷ 0 ∷ 8 ∷ 0 ∷ 0 ∷ 5 ∷ 4 ∷ 1 ∷ 0 ∷ 0 ∷ 0 ∷ 9 ∷ 0 ∷ 0 ∷ 0 ∷ 0 ∷ 0 ∷ 0 ∷ []
+-- six columns, each as long as the number of records that the list holds, and zeros past the records; a program has five
+laid : filled false 24 (withIds (fields 1 0 1 0 0 ∷ fields 4 1 0 0 0 ∷ []) (5 ∷ 9 ∷ []))
+    ≡ 1 ∷ 4 ∷ 0 ∷ 0 ∷ 0 ∷ 1 ∷ 0 ∷ 0 ∷ 1 ∷ 0 ∷ 0 ∷ 0 ∷ 0 ∷ 0 ∷ 0 ∷ 0 ∷ 0 ∷ 0 ∷ 0 ∷ 0 ∷ 5 ∷ 9 ∷ 0 ∷ 0 ∷ []
 unfolding filledBy
 laid = refl
 
-read-back : recordsOf true (4 ∷ 3 ∷ 0 ∷ 0 ∷ 0 ∷ 56 ∷ 3 ∷ 1 ∷ 0 ∷ 0 ∷ []) 2 ≡ fields 4 3 0 0 0 ∷ fields 56 3 1 0 0 ∷ []
+read-back : recordsOf true (4 ∷ 56 ∷ 3 ∷ 3 ∷ 0 ∷ 1 ∷ 0 ∷ 0 ∷ 0 ∷ 0 ∷ []) 2 ≡ fields 4 3 0 0 0 ∷ fields 56 3 1 0 0 ∷ []
 read-back = refl
+
+-- in a longer list the same records stand elsewhere: it is not the shorter one with zeros behind it
+longer : recordsOf true (4 ∷ 56 ∷ 3 ∷ 3 ∷ 0 ∷ 1 ∷ 0 ∷ 0 ∷ 0 ∷ 0 ∷ 0 ∷ 0 ∷ 0 ∷ 0 ∷ 0 ∷ []) 2 ≡ fields 4 3 0 0 0 ∷ fields 56 0 0 0 0 ∷ []
+longer = refl
 
 -- 1 sort bitvec 1, 2 input 1 with these ids
 abbrev ofIds : List ℕ → List ℕ

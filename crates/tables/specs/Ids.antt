@@ -3,7 +3,7 @@ use Prim.Native.Nat.{ℕ}
 use mathlib.Core.Bool.{Bool, true, false, _&&_}
 use mathlib.Core.List.{List, [], _∷_}
 use lib.Dec.{leb, ltb}
-use Rattle.tables.specs.Layout.{idsOf}
+use Rattle.tables.specs.Layout.{Placing, placing, idsBy}
 
 abbrev pub mostId : ℕ
 mostId = 4294967295
@@ -17,7 +17,10 @@ abbrev pub rising : (last : ℕ) → List ℕ → Bool
 rising last [] = true
 rising last (d ∷ ds) = follows last d && rising d ds
 
--- the ids of the first n records of a list: a circuit's rise, a program has none
+-- the ids of the first n records of a list, by a layout: a circuit's rise, a program has none
+abbrev pub idsRightBy : Placing → Bool → List ℕ → (n : ℕ) → Bool
+idsRightBy f false t n = rising 0 (idsBy f t 0 n)
+idsRightBy f true t n = true
+
 abbrev pub idsRight : Bool → List ℕ → (n : ℕ) → Bool
-idsRight false t n = rising 0 (idsOf t n)
-idsRight true t n = true
+idsRight p t n = idsRightBy (placing p) p t n

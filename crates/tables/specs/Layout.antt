@@ -1,6 +1,6 @@
 -- How records lie in a list of words: nothing outside this file, the laws of `proofs/Layouts` and the code of `records` knows it. The flag p says that the list is a
--- program's, else it is a circuit's. A record that is handed about is its five words: kind, sort line (in a program the width) and three operands. In a circuit's list a sixth
--- word stands behind them, the line's id as written. Records and words are counted from 0 here.
+-- program's, else it is a circuit's. A record that is handed about is its five words: kind, sort line (in a program the width) and three operands. In a circuit's list a record
+-- has a sixth word, the line's id as written. Records and words are counted from 0 here.
 -- Assumes nothing.
 use Prim.Native.Nat.{ℕ, zero, suc, _+_, _*_, _/_, _%_, min}
 use mathlib.Core.Bool.{Bool, true, false}
@@ -39,12 +39,21 @@ Placing = (len i j : ℕ) → ℕ
 abbrev pub byRow : Bool → Placing
 byRow p len i j = recordSize p * i + j
 
--- the layout in use, and the number that a pass over a list of len words works out once for it
+-- one column behind the other: all kinds, all sort lines, and so on, each as long as the number of records that the list holds
+abbrev pub byColumn : Bool → Placing
+byColumn p len i j = held p len * j + i
+
+-- either layout: columns (true), or one record behind the other (false)
+abbrev pub placingIn : (columns : Bool) → Bool → Placing
+placingIn true = byColumn
+placingIn false = byRow
+
+-- the layout of tables and programs, and the number that a pass over a list of len words works out once for it
 abbrev pub placing : Bool → Placing
-placing = byRow
+placing = placingIn true
 
 abbrev pub stepOf : Bool → (len : ℕ) → ℕ
-stepOf p len = recordSize p
+stepOf p len = held p len
 
 -- ---- reading and writing, by a place function
 
@@ -73,6 +82,14 @@ abbrev pub putRows : Placing → List ℕ → (i : ℕ) → List (List ℕ) → 
 putRows f t i [] = t
 putRows f t i (x ∷ xs) = putRows f (rowSet f t i x) (suc i) xs
 
+-- the id of the record i of a circuit's list, the word behind the five that are handed about, and those of the n records from i on
+abbrev pub idBy : Placing → List ℕ → (i : ℕ) → ℕ
+idBy f t i = getD t (f (length t) i recordWords) 0
+
+abbrev pub idsBy : Placing → List ℕ → (i n : ℕ) → List ℕ
+idsBy f t i zero = []
+idsBy f t i (suc n) = idBy f t i ∷ idsBy f t (suc i) n
+
 -- zeros, with records put from the start
 unfoldable pub filledBy : Placing → (len : ℕ) → List (List ℕ) → List ℕ
 filledBy f len xs = putRows f (replicate len 0) 0 xs
@@ -91,16 +108,15 @@ linesOf p t n = map lineOf (recordsOf p t n)
 
 -- the id of the record i of a circuit's list, and those of its first n records
 abbrev pub idAt : List ℕ → (i : ℕ) → ℕ
-idAt t i = getD t (placing false (length t) i recordWords) 0
+idAt t i = idBy (placing false) t i
 
 abbrev pub idsFrom : List ℕ → (i n : ℕ) → List ℕ
-idsFrom t i zero = []
-idsFrom t i (suc n) = idAt t i ∷ idsFrom t (suc i) n
+idsFrom t i n = idsBy (placing false) t i n
 
 abbrev pub idsOf : List ℕ → (n : ℕ) → List ℕ
 idsOf t n = idsFrom t 0 n
 
--- the row of a record is all its words in a list: in a program's its five, in a circuit's an id behind them
+-- the row of a record is all its words: of a program's its five, of a circuit's an id behind them
 abbrev pub withId : List ℕ → (d : ℕ) → List ℕ
 withId r d = r ++ (d ∷ [])
 

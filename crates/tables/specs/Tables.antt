@@ -12,8 +12,8 @@ use Rattle.tables.specs.declared.Checked.the-variants.{Accepted, Refused
 use Rattle.tables.specs.Pick.{pick, inside, all}
 use Rattle.tables.specs.Kinds.{rowOf, sortClass, firstClass, secondClass, thirdClass}
 use Rattle.tables.specs.Lines.{lineOf, kindIn, sortIn, firstIn, secondIn, thirdIn}
-use Rattle.tables.specs.Layout.{whole, room, recordsOf}
-use Rattle.tables.specs.Ids.{idsRight}
+use Rattle.tables.specs.Layout.{Placing, recordWords, whole, room, placing, rowsFrom}
+use Rattle.tables.specs.Ids.{idsRightBy}
 use Rattle.tables.specs.Types.{Ctx, tyAt, given, grow, noCtx}
 use Rattle.tables.specs.Rules.{fault}
 
@@ -48,8 +48,12 @@ abbrev pub broken : Bool → Refusal
 broken false = BadTable
 broken true = BadProgram
 
-unfoldable pub checked : Bool → List ℕ → ℕ → Checked
-checked p t n =
+-- the check of a list that holds records by a layout, and that of a table
+abbrev pub checkedBy : Placing → Bool → List ℕ → ℕ → Checked
+checkedBy f p t n =
     pick (whole p (length t))
-    (pick (leb n (room p (length t)) && (lawful p noCtx (recordsOf p t n) && idsRight p t n)) Accepted (Refused (broken p)))
+    (pick (leb n (room p (length t)) && (lawful p noCtx (rowsFrom f recordWords t 0 n) && idsRightBy f p t n)) Accepted (Refused (broken p)))
     (Refused NotATable)
+
+unfoldable pub checked : Bool → List ℕ → ℕ → Checked
+checked p t n = checkedBy (placing p) p t n

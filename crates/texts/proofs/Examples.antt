@@ -2,7 +2,7 @@
 use Prim.Native.Nat.{ℕ}
 use Prim.Native.Char.{code}
 use Prim.Native.String.{String, [] as end, _∷_ as _then_}
-use mathlib.Core.Path.{_≡_, refl}
+use mathlib.Core.Path.{_≡_, refl, ap}
 use mathlib.Core.Bool.{false}
 use mathlib.Core.List.{List, [], _∷_, map}
 use native.Mathlib.Omega.{arith}
@@ -19,7 +19,7 @@ use Rattle.texts.specs.Forms.{formRow}
 use Rattle.texts.specs.Split.{split, upTo, tokens}
 use Rattle.texts.specs.Decimal.{digit, allIn, valueFrom, valued, scanned, decimal, digitsIn, digits, digitsF}
 use Rattle.texts.specs.Operands.{resolved}
-use Rattle.texts.specs.Reading.{findIn, wordIn, settled, lowest, readLine, readLines, readText, Text, done, refused}
+use Rattle.texts.specs.Reading.{findIn, wordIn, settled, lowest, readLine, readLines, readText, Text, done, refused, tableOf}
 use Rattle.texts.specs.Writing.{writeFrom, writeText}
 use Rattle.texts.specs.Naming.{lineFrom, nameOf, namePlace}
 use Rattle.texts.proofs.Round.{round-trip}
@@ -69,6 +69,17 @@ gaps = "5 sort bitvec 1\n9 sort bitvec 3\n10 sort array 5 9\n40 state 10\n41 inp
 pub gaps-read : readText 72 (bytes gaps) ≡ done records (5 ∷ 9 ∷ 10 ∷ 40 ∷ 41 ∷ 50 ∷ 70 ∷ 71 ∷ 90 ∷ 100 ∷ 4294967295 ∷ [])
 unfolding bytes readText readLines readLine lowest settled resolved wordIn findIn formRow rowOf fault suits split upTo tokens decimal scanned valued digitsIn allIn valueFrom digit
 gaps-read = refl
+
+-- in 72 words they are six columns of twelve, the sixth the ids
+pub gaps-columns : tableOf 72 (readText 72 (bytes gaps))
+    ≡ 1 ∷ 1 ∷ 2 ∷ 5 ∷ 4 ∷ 3 ∷ 55 ∷ 7 ∷ 54 ∷ 21 ∷ 8 ∷ 0
+    ∷ 0 ∷ 0 ∷ 0 ∷ 3 ∷ 1 ∷ 2 ∷ 3 ∷ 3 ∷ 2 ∷ 1 ∷ 0 ∷ 0
+    ∷ 1 ∷ 3 ∷ 1 ∷ 0 ∷ 0 ∷ 5 ∷ 4 ∷ 4 ∷ 4 ∷ 9 ∷ 10 ∷ 0
+    ∷ 0 ∷ 0 ∷ 2 ∷ 0 ∷ 0 ∷ 0 ∷ 5 ∷ 7 ∷ 5 ∷ 6 ∷ 0 ∷ 0
+    ∷ 0 ∷ 0 ∷ 0 ∷ 0 ∷ 0 ∷ 0 ∷ 6 ∷ 0 ∷ 0 ∷ 0 ∷ 0 ∷ 0
+    ∷ 5 ∷ 9 ∷ 10 ∷ 40 ∷ 41 ∷ 50 ∷ 70 ∷ 71 ∷ 90 ∷ 100 ∷ 4294967295 ∷ 0 ∷ []
+unfolding filledBy
+gaps-columns = ap (tableOf 72) gaps-read
 
 pub gaps-named : map (nameOf (bytes gaps)) (71 ∷ 8 ∷ []) ≡ bytes "store" ∷ [] ∷ []
 unfolding bytes nameOf lineFrom wordIn findIn formRow rowOf split upTo tokens decimal scanned valued allIn valueFrom digit

@@ -1,74 +1,82 @@
--- Five words from the place of the first. Assumes nothing.
+-- One word of each of the first five columns. Assumes nothing.
 use native.Mathlib.Omega.{arith}
-use Rattle.records.proofs.Rows.{row-inside, row-read}
+use Rattle.records.proofs.Columns.{row-inside, row-read}
 use Rattle.records.proofs.record.Statement.{statement}
 use Rattle.records.proofs.record.Tie as tie
 
-mul-at : tie.Need-mul-at
-mul-at c = omega (arith, row-inside (c .args .program) (c .args .table .now) (c .args .h) (c .args .i) (c .pre))
+mul-t5 : tie.Need-mul-t5
+mul-t5 c = let s = c in omega (arith, row-inside (s .args .program) (s .args .table .now) (s .args .h) (s .args .i) (s .pre))
 
-mul-t6 : tie.Need-mul-t6
-mul-t6 c = omega (arith, row-inside (c .args .program) (c .args .table .now) (c .args .h) (c .args .i) (c .pre))
+shared-slice-read-t7 : tie.Need-shared-slice-read-t7
+shared-slice-read-t7 c = let s = c .before in omega (arith, row-inside (s .args .program) (s .args .table .now) (s .args .h) (s .args .i) (s .pre))
 
-shared-slice-read-t8 : tie.Need-shared-slice-read-t8
-shared-slice-read-t8 c = omega (arith, row-inside (c .before .args .program) (c .before .args .table .now) (c .before .args .h) (c .before .args .i) (c .before .pre))
+add-t8 : tie.Need-add-t8
+add-t8 c = let s = c .before in omega (arith, row-inside (s .args .program) (s .args .table .now) (s .args .h) (s .args .i) (s .pre))
 
-add-t9 : tie.Need-add-t9
-add-t9 c = omega (arith, row-inside (c .before .args .program) (c .before .args .table .now) (c .before .args .h) (c .before .args .i) (c .before .pre))
+mul-t9 : tie.Need-mul-t9
+mul-t9 c = let s = c .before in omega (arith, row-inside (s .args .program) (s .args .table .now) (s .args .h) (s .args .i) (s .pre))
 
-mul-t10 : tie.Need-mul-t10
-mul-t10 c = omega (arith, row-inside (c .before .args .program) (c .before .args .table .now) (c .before .args .h) (c .before .args .i) (c .before .pre))
+shared-slice-read-t11 : tie.Need-shared-slice-read-t11
+shared-slice-read-t11 c = let s = c .before .before in omega (arith, row-inside (s .args .program) (s .args .table .now) (s .args .h) (s .args .i) (s .pre))
 
-shared-slice-read-t12 : tie.Need-shared-slice-read-t12
-shared-slice-read-t12 c = omega (arith, row-inside (c .before .before .args .program) (c .before .before .args .table .now) (c .before .before .args .h) (c .before .before .args .i) (c .before .before .pre))
+mul-t12 : tie.Need-mul-t12
+mul-t12 c = let s = c .before .before in omega (arith, row-inside (s .args .program) (s .args .table .now) (s .args .h) (s .args .i) (s .pre))
 
 add-t13 : tie.Need-add-t13
-add-t13 c = omega (arith, row-inside (c .before .before .args .program) (c .before .before .args .table .now) (c .before .before .args .h) (c .before .before .args .i) (c .before .before .pre))
+add-t13 c = let s = c .before .before in omega (arith, row-inside (s .args .program) (s .args .table .now) (s .args .h) (s .args .i) (s .pre))
 
 mul-t14 : tie.Need-mul-t14
-mul-t14 c = omega (arith, row-inside (c .before .before .args .program) (c .before .before .args .table .now) (c .before .before .args .h) (c .before .before .args .i) (c .before .before .pre))
+mul-t14 c = let s = c .before .before in omega (arith, row-inside (s .args .program) (s .args .table .now) (s .args .h) (s .args .i) (s .pre))
 
 shared-slice-read-t16 : tie.Need-shared-slice-read-t16
-shared-slice-read-t16 c = omega (arith, row-inside (c .before .before .before .args .program) (c .before .before .before .args .table .now) (c .before .before .before .args .h) (c .before .before .before .args .i) (c .before .before .before .pre))
+shared-slice-read-t16 c = let s = c .before .before .before in omega (arith, row-inside (s .args .program) (s .args .table .now) (s .args .h) (s .args .i) (s .pre))
 
-add-t17 : tie.Need-add-t17
-add-t17 c = omega (arith, row-inside (c .before .before .before .args .program) (c .before .before .before .args .table .now) (c .before .before .before .args .h) (c .before .before .before .args .i) (c .before .before .before .pre))
+mul-t17 : tie.Need-mul-t17
+mul-t17 c = let s = c .before .before .before in omega (arith, row-inside (s .args .program) (s .args .table .now) (s .args .h) (s .args .i) (s .pre))
 
-mul-t18 : tie.Need-mul-t18
-mul-t18 c = omega (arith, row-inside (c .before .before .before .args .program) (c .before .before .before .args .table .now) (c .before .before .before .args .h) (c .before .before .before .args .i) (c .before .before .before .pre))
+add-t18 : tie.Need-add-t18
+add-t18 c = let s = c .before .before .before in omega (arith, row-inside (s .args .program) (s .args .table .now) (s .args .h) (s .args .i) (s .pre))
 
-shared-slice-read-t20 : tie.Need-shared-slice-read-t20
-shared-slice-read-t20 c = omega (arith, row-inside (c .before .before .before .before .args .program) (c .before .before .before .before .args .table .now) (c .before .before .before .before .args .h) (c .before .before .before .before .args .i) (c .before .before .before .before .pre))
+mul-t19 : tie.Need-mul-t19
+mul-t19 c = let s = c .before .before .before in omega (arith, row-inside (s .args .program) (s .args .table .now) (s .args .h) (s .args .i) (s .pre))
 
-add-t21 : tie.Need-add-t21
-add-t21 c = omega (arith, row-inside (c .before .before .before .before .args .program) (c .before .before .before .before .args .table .now) (c .before .before .before .before .args .h) (c .before .before .before .before .args .i) (c .before .before .before .before .pre))
+shared-slice-read-t21 : tie.Need-shared-slice-read-t21
+shared-slice-read-t21 c = let s = c .before .before .before .before in omega (arith, row-inside (s .args .program) (s .args .table .now) (s .args .h) (s .args .i) (s .pre))
 
 mul-t22 : tie.Need-mul-t22
-mul-t22 c = omega (arith, row-inside (c .before .before .before .before .args .program) (c .before .before .before .before .args .table .now) (c .before .before .before .before .args .h) (c .before .before .before .before .args .i) (c .before .before .before .before .pre))
+mul-t22 c = let s = c .before .before .before .before in omega (arith, row-inside (s .args .program) (s .args .table .now) (s .args .h) (s .args .i) (s .pre))
 
-shared-slice-read-t24 : tie.Need-shared-slice-read-t24
-shared-slice-read-t24 c = omega (arith, row-inside (c .before .before .before .before .before .args .program) (c .before .before .before .before .before .args .table .now) (c .before .before .before .before .before .args .h) (c .before .before .before .before .before .args .i) (c .before .before .before .before .before .pre))
+add-t23 : tie.Need-add-t23
+add-t23 c = let s = c .before .before .before .before in omega (arith, row-inside (s .args .program) (s .args .table .now) (s .args .h) (s .args .i) (s .pre))
+
+mul-t24 : tie.Need-mul-t24
+mul-t24 c = let s = c .before .before .before .before in omega (arith, row-inside (s .args .program) (s .args .table .now) (s .args .h) (s .args .i) (s .pre))
+
+shared-slice-read-t26 : tie.Need-shared-slice-read-t26
+shared-slice-read-t26 c = let s = c .before .before .before .before .before in omega (arith, row-inside (s .args .program) (s .args .table .now) (s .args .h) (s .args .i) (s .pre))
 
 returns : tie.Need-returns
-returns c = let a = c .before .before .before .before .before .args in row-read (a .program) (a .table .now) (a .h) (a .i) (c .before .before .before .before .before .pre .1)
+returns c = let s = c .before .before .before .before .before in row-read (s .args .program) (s .args .table .now) (s .args .h) (s .args .i) (s .pre .1)
 
 pub record-spec : {M : Type 1} → statement M
 record-spec =
     tie.close
     (tie.spec
-    mul-at
-    mul-t6
-    shared-slice-read-t8
-    add-t9
-    mul-t10
-    shared-slice-read-t12
+    mul-t5
+    shared-slice-read-t7
+    add-t8
+    mul-t9
+    shared-slice-read-t11
+    mul-t12
     add-t13
     mul-t14
     shared-slice-read-t16
-    add-t17
-    mul-t18
-    shared-slice-read-t20
-    add-t21
+    mul-t17
+    add-t18
+    mul-t19
+    shared-slice-read-t21
     mul-t22
-    shared-slice-read-t24
+    add-t23
+    mul-t24
+    shared-slice-read-t26
     returns)

@@ -1,0 +1,5 @@
+pub mod Answers
+pub mod Copying
+pub mod Converting
+pub mod Alike
+pub mod Same
