@@ -2,11 +2,20 @@
  *
  * Link target/staticlib/libexports.a, which `rt staticlib exports` writes.
  *
- * A table is a list of a circuit's records, six words each: kind, sort line,
- * three operands, and the id as written. A program is a list of records of five
+ * A table is a list that holds a circuit's records, six words each: kind, sort
+ * line, three operands, and the id as written. A program holds records of five
  * words each: kind, width, three operands. Unused words are 0. A list whose
  * length is no multiple of six is no table; one whose length is no multiple of
  * five is no program. At most 16,384 records count.
+ *
+ * The words of a table or a program stand in columns, all kinds first: word j of
+ * record i, both from 0, stands at (len / 6) * j + i, in a program at
+ * (len / 5) * j + i, where len is the length of the whole list, in words. So each
+ * column is as long as the number of records that the list can hold, above 16,384
+ * too, and where it starts depends on the list's length: pass a list on with the
+ * length that it was filled with. Part of a list, or a longer one with zeros behind
+ * the same words, holds other records. The last four functions convert between
+ * records one behind the other and columns.
  *
  * A record's number is its place, from 1, and records tell lines by their
  * places. Ids only rise, from 1 up to 4,294,967,295, with or without gaps: those
@@ -28,7 +37,7 @@
  *    9  sorts, widths, bounds or constant misfit
  *   10  second init or next of a state, or the init rule
  *   11  the count exceeds the table (a sixth of its length) or 16,384, or a record breaks a rule, or its id is not above
- *       the one before it, or not 1 to 4,294,967,295
+ *       the one before it, or not 1 to 4,294,967,295; of a conversion the count alone
  *   12  more records than the target or 16,384 holds
  *   13  steps above 4,096
  *   14  start words: not one for each state cell
@@ -37,13 +46,15 @@
  *   17  work area below one word for each cell of each value line plus each state cell
  *   18  above 64 records, not a value line, or no such cell
  *   19  a record of kind 2 is present
- *   20  the count exceeds the program (a fifth of its length) or 16,384, or a record breaks a rule for programs
+ *   20  the count exceeds the program (a fifth of its length) or 16,384, or a record breaks a rule for programs; of a
+ *       conversion the count alone
  *   21  text buffer too short
  *
  * Further values go to `answer`, a list of three words; words that are not used
- * are 0. Past the end of a result everything lent for writing is zero, and so it
- * is after a refusal, but for answer[0] of gofeshan_read, which is then the text
- * line (0 with 1 and 2); a work area is zero after any call.
+ * are 0. Past the end of a result everything lent for writing is zero, in a table
+ * or a program past the count in each column, and so it is after a refusal, but for
+ * answer[0] of gofeshan_read, which is then the text line (0 with 1 and 2); a work
+ * area is zero after any call.
  *
  * What the caller sees to:
  *  - each pointer comes with the length of its list, in elements; where the
@@ -106,7 +117,7 @@ uint64_t gofeshan_run_circuit(const uint64_t *table, size_t table_len, size_t co
                               uint64_t *work, size_t work_len,
                               uint64_t *answer, size_t answer_len);
 
-/* Runs a program, as gofeshan_run_circuit runs a circuit; `table` has five words a record. 1, 20, 13, 14, 15, 16, 17. */
+/* Runs a program, as gofeshan_run_circuit runs a circuit; `table` has five columns. 1, 20, 13, 14, 15, 16, 17. */
 uint64_t gofeshan_run_program(const uint64_t *table, size_t table_len, size_t count, size_t steps,
                               const uint64_t *starts, size_t starts_len,
                               const uint64_t *inputs, size_t inputs_len,
@@ -127,6 +138,34 @@ uint64_t gofeshan_peek(const uint64_t *table, size_t table_len, size_t count, si
  * line is missing, has an unknown word or has not just one extra token. */
 uint64_t gofeshan_name(const uint8_t *text, size_t text_len, uint64_t id,
                        uint64_t *answer, size_t answer_len);
+
+/* Converts the first `count` records of a circuit, one behind the other (word j of record i at 6 * i + j), into the
+ * columns of the target, which has room for target_len / 6 records. Any words are carried over as they stand: neither
+ * records nor ids are checked, and words past the count are not looked at. The lists may have different lengths.
+ * 1 for either list; 11 where the count exceeds records_len / 6 or 16,384; 12 where it exceeds target_len / 6.
+ * answer[0]: the count. */
+uint64_t gofeshan_circuit_to_columns(const uint64_t *records, size_t records_len, size_t count,
+                                     uint64_t *target, size_t target_len,
+                                     uint64_t *answer, size_t answer_len);
+
+/* Converts the first `count` records of a table back into records one behind the other, likewise. 1, 11, 12.
+ * answer[0]: the count. */
+uint64_t gofeshan_circuit_to_records(const uint64_t *table, size_t table_len, size_t count,
+                                     uint64_t *target, size_t target_len,
+                                     uint64_t *answer, size_t answer_len);
+
+/* As gofeshan_circuit_to_columns, for the records of a program, five words each (word j of record i at 5 * i + j):
+ * lengths are counted in fives, and 20 stands for 11. 1, 20, 12.
+ * answer[0]: the count. */
+uint64_t gofeshan_program_to_columns(const uint64_t *records, size_t records_len, size_t count,
+                                     uint64_t *target, size_t target_len,
+                                     uint64_t *answer, size_t answer_len);
+
+/* As gofeshan_circuit_to_records, for a program. 1, 20, 12.
+ * answer[0]: the count. */
+uint64_t gofeshan_program_to_records(const uint64_t *table, size_t table_len, size_t count,
+                                     uint64_t *target, size_t target_len,
+                                     uint64_t *answer, size_t answer_len);
 
 #ifdef __cplusplus
 }

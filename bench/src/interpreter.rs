@@ -1,5 +1,5 @@
 //! Two plain interpreters to compare runs with; the step loop of neither allocates anything. One decodes the lines once
-//! into a table of instructions. The other has the shape of the proved one: it walks the table's records and looks up
+//! into a table of instructions. The other has the shape of the proved one: it walks the table's columns and looks up
 //! places and widths in lists.
 
 use crate::independent::kinds::{is_value, row, Place};
@@ -264,12 +264,16 @@ impl Machine {
         }
     }
 
-    /// The same from the records.
-    fn walk_records<const P: bool>(&mut self, stores: u8, row: &[u64], signals: &mut [u8]) {
+    /// The same from the columns of the table.
+    fn walk_columns<const P: bool>(&mut self, stores: u8, row: &[u64], signals: &mut [u8]) {
         let (values, states) = (&mut self.values[..], &mut self.states[..]);
         let (places, widths, numbers) = (&self.places[..], &self.widths[..], &self.numbers[..]);
         let (mut input, mut signal) = (0, 0);
-        for (line, r) in (1..).zip(self.table.chunks_exact(if P { PROGRAM_RECORD } else { RECORD })) {
+        let count = self.table.len() / if P { PROGRAM_RECORD } else { RECORD };
+        let column = |j: usize| self.table[count * j..count * (j + 1)].iter();
+        let operands = column(2).zip(column(3)).zip(column(4));
+        for (line, (&kind, ((&first, &second), &third))) in (1..).zip(column(0).zip(operands)) {
+            let r = [kind, 0, first, second, third];
             let (to, w) = (places[line] as usize, widths[line]);
             let at = |operand: usize| places[r[1 + operand] as usize] as usize;
             match r[0] as u8 {
@@ -341,7 +345,7 @@ impl Machine {
         if D {
             self.walk_decoded::<P>(stores, row, signals);
         } else {
-            self.walk_records::<P>(stores, row, signals);
+            self.walk_columns::<P>(stores, row, signals);
         }
     }
 }

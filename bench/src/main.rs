@@ -1,8 +1,8 @@
 //! The proved library against plain Rust: `bash bench/run` in the repository's root.
 //!
-//! Reading, writing, flattening and translating are compared with the independent implementation of rust/tests, runs
-//! with the two interpreters of this crate. Each is measured at three sizes, the sides taking turns. Texts with gaps in
-//! their ids are measured beside texts of the same lines without.
+//! Reading, writing, flattening, translating and conversions are compared with the independent implementation of
+//! rust/tests, runs with the two interpreters of this crate. Each is measured at three sizes, the sides taking turns. Texts
+//! with gaps in their ids are measured beside texts of the same lines without.
 //! `bash bench/run -- write` measures one operation alone, `-- edges` the inputs that could take long. `bench profile write` calls the proved one at its largest size
 //! and measures nothing; `bench/profile` runs that under callgrind.
 #![allow(dead_code, unused_imports)]
@@ -26,7 +26,7 @@ use generator::Random;
 use gofeshan::interface as proved;
 use gofeshan::{PROGRAM_RECORD, RECORD};
 use independent::rules::{check_table, Lines};
-use independent::{numbered, Record};
+use independent::{numbered, program_list, Record};
 use std::time::{Duration, Instant};
 
 /// Whether nothing is measured, and the proved operations alone are called.
@@ -288,6 +288,36 @@ fn translate_rows() {
     }
 }
 
+#[cfg(feature = "convert")]
+type Conversion = fn(&[u64], usize, &mut [u64], &mut [u64]) -> u64;
+
+/// A circuit's records to columns or back, in lists with room for them alone.
+#[cfg(feature = "convert")]
+fn convert_rows(name: &str, ours: Conversion, plain: Conversion, list: fn(&Lines) -> Vec<u64>) {
+    let mut table = Table::new();
+    for &lines in sizes(&[250, 2000, 16_000]) {
+        let c = circuit(lines, Some(3));
+        let (words, n) = (list(&c), c.records.len());
+        let (mut a, mut b) = (vec![1; words.len()], vec![2; words.len()]);
+        let (mut x, mut y) = ([1; 3], [2; 3]);
+        let times = measure([&mut || assert_eq!(ours(&words, n, &mut a, &mut x), 0), &mut || {
+            assert_eq!(plain(&words, n, &mut b, &mut y), 0)
+        }]);
+        assert!(a == b && x == y);
+        table.row(name, &format!("{n} records"), n as f64, "record", &times);
+    }
+}
+
+fn to_columns_rows() {
+    #[cfg(feature = "convert")]
+    convert_rows("to columns", proved::circuit_to_columns, independent::circuit_to_columns, Lines::rows);
+}
+
+fn to_records_rows() {
+    #[cfg(feature = "convert")]
+    convert_rows("to records", proved::circuit_to_records, independent::circuit_to_records, Lines::words);
+}
+
 #[cfg(any(feature = "run_circuit", feature = "run_program"))]
 type Running = fn(&[u64], usize, usize, &[u64], &[u64], &mut [u8], &mut [u64], &mut [u64]) -> u64;
 
@@ -360,7 +390,7 @@ fn program_rows() {
         let mut table = Table::new();
         for &(lines, steps) in sizes(&RUNS) {
             let program = independent::translating::program_records(&circuit(lines, None));
-            let lines = independent::rules::check_program(&program.concat(), program.len()).unwrap();
+            let lines = independent::rules::check_program(&program_list(&program), program.len()).unwrap();
             run_row(&mut table, "programs", proved::run_program, true, &lines, steps);
         }
     }
@@ -442,18 +472,20 @@ fn main() {
     println!(
         "Growth, of either side: the time against the row above, divided by the growth of the work; 1.00 is linear."
     );
-    println!("Runs: `plain` decodes the lines once, `same shape` walks the records and looks up places and widths, as the proved run does.");
+    println!("Runs: `plain` decodes the lines once, `same shape` walks the columns and looks up places and widths, as the proved run does.");
     println!("Circuits of one kind of line (`adds alone`) stand beside those of all kinds, where branches are hard to foresee.\n");
     println!(
         "{:<12} {:<34} {:>10} {:>10} {:>6} {:>10} {:>6} {:>24} {:>6} {:>6}",
         "operation", "size", "proved", "plain", "ratio", "same shape", "ratio", "proved per unit", "growth", "plain"
     );
-    let rows: [(&str, fn()); 7] = [
+    let rows: [(&str, fn()); 9] = [
         ("read", read_rows),
         ("read_gaps", gap_rows),
         ("write", write_rows),
         ("flatten", flatten_rows),
         ("translate", translate_rows),
+        ("circuit_to_columns", to_columns_rows),
+        ("circuit_to_records", to_records_rows),
         ("run_circuit", circuit_rows),
         ("run_program", program_rows),
     ];

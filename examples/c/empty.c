@@ -3,6 +3,7 @@
 
 #include <stdio.h>
 #include <stdlib.h>
+#include <string.h>
 
 /* Sixty words are ten records of a circuit, twelve of a program. */
 enum { WORDS = 60, STEPS = 3 };
@@ -26,6 +27,14 @@ static void nothing(uint64_t *answer) {
     expect("run_program", gofeshan_run_program(NULL, 0, 0, STEPS, NULL, 0, NULL, 0, NULL, 0, NULL, 0, answer, 3), 0, answer, 0, 0, 0);
     expect("peek", gofeshan_peek(NULL, 0, 0, 1, 0, NULL, 0, NULL, 0, answer, 3), 18, answer, 0, 0, 0);
     expect("name", gofeshan_name(NULL, 0, 1, answer, 3), 0, answer, 0, 0, 0);
+    expect("circuit_to_columns", gofeshan_circuit_to_columns(NULL, 0, 0, NULL, 0, answer, 3), 0, answer, 0, 0, 0);
+    expect("circuit_to_records", gofeshan_circuit_to_records(NULL, 0, 0, NULL, 0, answer, 3), 0, answer, 0, 0, 0);
+    expect("program_to_columns", gofeshan_program_to_columns(NULL, 0, 0, NULL, 0, answer, 3), 0, answer, 0, 0, 0);
+    expect("program_to_records", gofeshan_program_to_records(NULL, 0, 0, NULL, 0, answer, 3), 0, answer, 0, 0, 0);
+    expect("circuit_to_columns, a record", gofeshan_circuit_to_columns(NULL, 0, 1, NULL, 0, answer, 3), 11, answer, 0, 0, 0);
+    expect("circuit_to_records, a record", gofeshan_circuit_to_records(NULL, 0, 1, NULL, 0, answer, 3), 11, answer, 0, 0, 0);
+    expect("program_to_columns, a record", gofeshan_program_to_columns(NULL, 0, 1, NULL, 0, answer, 3), 20, answer, 0, 0, 0);
+    expect("program_to_records, a record", gofeshan_program_to_records(NULL, 0, 1, NULL, 0, answer, 3), 20, answer, 0, 0, 0);
 }
 
 /* There is no answer list: 1, whatever else is lent. */
@@ -39,6 +48,10 @@ static void no_answer(void) {
     expect("run_program, no answer", gofeshan_run_program(NULL, 0, 0, STEPS, NULL, 0, NULL, 0, NULL, 0, NULL, 0, NULL, 0), 1, zeros, 0, 0, 0);
     expect("peek, no answer", gofeshan_peek(NULL, 0, 0, 1, 0, NULL, 0, NULL, 0, NULL, 0), 1, zeros, 0, 0, 0);
     expect("name, no answer", gofeshan_name(NULL, 0, 1, NULL, 0), 1, zeros, 0, 0, 0);
+    expect("circuit_to_columns, no answer", gofeshan_circuit_to_columns(NULL, 0, 0, NULL, 0, NULL, 0), 1, zeros, 0, 0, 0);
+    expect("circuit_to_records, no answer", gofeshan_circuit_to_records(NULL, 0, 0, NULL, 0, NULL, 0), 1, zeros, 0, 0, 0);
+    expect("program_to_columns, no answer", gofeshan_program_to_columns(NULL, 0, 0, NULL, 0, NULL, 0), 1, zeros, 0, 0, 0);
+    expect("program_to_records, no answer", gofeshan_program_to_records(NULL, 0, 0, NULL, 0, NULL, 0), 1, zeros, 0, 0, 0);
 }
 
 /* A circuit without states and inputs: the start words, the inputs and the row are NULL. */
@@ -62,11 +75,25 @@ static void constant(uint64_t *answer) {
     free(table), free(flat), free(program), free(work), free(signals), free(written);
 }
 
+/* Two records to columns and back, through lists that are not initialised; the other list is NULL where nothing is carried over. */
+static void converted(uint64_t *answer) {
+    static const uint64_t records[12] = {1, 0, 1, 0, 0, 5, 4, 1, 0, 0, 0, 9};
+    uint64_t *table = malloc(WORDS * sizeof *table), *back = malloc(12 * sizeof *back);
+    expect("to columns", gofeshan_circuit_to_columns(records, 12, 2, table, WORDS, answer, 3), 0, answer, 2, 0, 0);
+    expect("columns", table[0] == 1 && table[1] == 4 && table[11] == 1 && table[20] == 1 && table[50] == 5 && table[51] == 9, 1, answer, 2, 0, 0);
+    expect("to records", gofeshan_circuit_to_records(table, WORDS, 2, back, 12, answer, 3), 0, answer, 2, 0, 0);
+    expect("records", (uint64_t)memcmp(records, back, sizeof records), 0, answer, 2, 0, 0);
+    expect("no target", gofeshan_circuit_to_records(table, WORDS, 2, NULL, 0, answer, 3), 12, answer, 0, 0, 0);
+    expect("no list", gofeshan_program_to_columns(NULL, 0, 0, table, WORDS, answer, 3), 0, answer, 0, 0, 0);
+    free(table), free(back);
+}
+
 int main(void) {
     uint64_t *answer = malloc(3 * sizeof *answer);
     nothing(answer);
     no_answer();
     constant(answer);
+    converted(answer);
     free(answer);
     return failed;
 }

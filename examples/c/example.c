@@ -1,5 +1,5 @@
-/* Reads the circuit below, whose ids have a gap, flattens it and prints the flat text; then runs it and its program, and
- * peeks at values.
+/* Reads the circuit below, whose ids have a gap, flattens it and prints the flat text; then runs it and its program,
+ * peeks at values and looks at a record.
  *
  *     rt staticlib exports
  *     cc -O2 -Iinclude examples/c/example.c target/staticlib/libexports.a -o example && ./example
@@ -9,10 +9,10 @@
 #include <stdio.h>
 #include <string.h>
 
-/* A circuit's record has six words, a program's five. */
+/* A circuit's record has six words, a program's five; a list has a column for each, RECORDS words long. */
 enum { RECORDS = 1000, WORDS = 6 * RECORDS, PROGRAM_WORDS = 5 * RECORDS, BYTES = 65536, STEPS = 3 };
 
-static uint64_t circuit[WORDS], flat[WORDS], program[PROGRAM_WORDS], work[WORDS], answer[3];
+static uint64_t circuit[WORDS], flat[WORDS], program[PROGRAM_WORDS], records[WORDS], work[WORDS], answer[3];
 static uint8_t text[BYTES];
 
 static const char *example =
@@ -74,13 +74,21 @@ int main(void) {
         return 1;
     printf("; cell 1 of record 7: %llu\n", (unsigned long long)answer[0]);
 
-    /* A peek goes by the record's place, a name by the id as written, which is the record's last word. */
+    /* A peek goes by the record's place, a name by the id as written, which stands in the sixth column. */
     if (refused("peek", gofeshan_peek(circuit, WORDS, count, 10, 0, starts, 2, row, 1, answer, 3)))
         return 1;
-    uint64_t id = circuit[6 * (11 - 1) + 5];
+    uint64_t id = circuit[RECORDS * 5 + (11 - 1)];
     printf("; record 10, the eq: %llu; record 11 has the id %llu\n", (unsigned long long)answer[0], (unsigned long long)id);
     if (refused("name", gofeshan_name(source, length, id, answer, 3)))
         return 1;
     printf("; the bad line's name: %.*s\n", (int)answer[1], example + answer[0]);
+
+    /* One behind the other, the words of a record are neighbours. */
+    if (refused("to records", gofeshan_circuit_to_records(circuit, WORDS, count, records, WORDS, answer, 3)))
+        return 1;
+    printf("; record 7:");
+    for (size_t j = 0; j < 6; j++)
+        printf(" %llu", (unsigned long long)records[6 * (7 - 1) + j]);
+    printf("\n");
     return 0;
 }

@@ -133,7 +133,7 @@ fn rows(o: &Operator, random: &mut impl FnMut() -> u64) -> Vec<Vec<u64>> {
     (0..300).map(|_| o.widths.iter().map(|&w| word(w)).collect()).collect()
 }
 
-/// A circuit of inputs, the operator, and a bad line for each bit of its result.
+/// The table of inputs, the operator, and a bad line for each bit of its result, with room for them alone.
 fn circuit(o: &Operator) -> Vec<u64> {
     let mut table: Vec<[u64; 5]> = Vec::new();
     let mut operands = Vec::new();
@@ -153,7 +153,11 @@ fn circuit(o: &Operator) -> Vec<u64> {
         table.push([18, bit, line, i, i]);
         table.push([8, 0, table.len() as u64, 0, 0]);
     }
-    (1..).zip(table).flat_map(|(id, [kind, sort, a, b, c])| [kind, sort, a, b, c, id]).collect()
+    let with_id = |(id, [kind, sort, a, b, c]): (u64, [u64; 5])| [kind, sort, a, b, c, id];
+    let records: Vec<u64> = (1..).zip(table).flat_map(with_id).collect();
+    let mut target = vec![0; records.len()];
+    gofeshan::circuit_to_columns(&records, records.len() / gofeshan::RECORD, &mut target).unwrap();
+    target
 }
 
 /// The results of a run for each row of operands, of the circuit or of its program.

@@ -1,10 +1,19 @@
 //! Safe functions over the C interface of Gofeshan, a proved tool for BTOR2
 //! circuits with small memories.
 //!
-//! A *table* is a list of a circuit's records, six words each ([`RECORD`]): kind,
-//! sort line, three operands, and the id as written in the text. A *program* is
-//! a list of records of five words each ([`PROGRAM_RECORD`]): kind, width, three
+//! A *table* is a list that holds a circuit's records, six words each ([`RECORD`]):
+//! kind, sort line, three operands, and the id as written in the text. A *program*
+//! holds records of five words each ([`PROGRAM_RECORD`]): kind, width, three
 //! operands. At most 16,384 records count.
+//!
+//! The words of a table or a program stand in columns, all kinds first, each column
+//! as long as the number of records that the list can hold: word j of record i, both
+//! from 0, is `table[table.len() / RECORD * j + i]`, in a program
+//! `program[program.len() / PROGRAM_RECORD * j + i]`. So the list's length says where
+//! a column starts: a part of a list, or a longer list with the same words in front,
+//! holds other records. [`circuit_to_columns`], [`circuit_to_records`],
+//! [`program_to_columns`] and [`program_to_records`] go from records one behind the
+//! other to columns and back.
 //!
 //! A record's number is its place, from 1, and records tell lines by their
 //! places. Ids only rise, from 1 up to 4,294,967,295 ([`MOST_ID`]),
@@ -29,7 +38,11 @@
 //! ```
 //! let mut table = [0; gofeshan::RECORD * 100];
 //! let count = gofeshan::read(b"1 sort bitvec 1\n2 input 1\n7 bad 2\n", &mut table).unwrap();
-//! assert_eq!(table[12..18], [8, 0, 2, 0, 0, 7]);
+//! assert_eq!(table[..4], [1, 4, 8, 0]);
+//! assert_eq!(table[5 * 100 + 2], 7);
+//! let mut records = [0; gofeshan::RECORD * 3];
+//! gofeshan::circuit_to_records(&table, count, &mut records).unwrap();
+//! assert_eq!(records[12..], [8, 0, 2, 0, 0, 7]);
 //! let mut signals = [0; 2];
 //! let mut work = [0; 100];
 //! let bad = gofeshan::run_circuit(&table, count, 2, &[], &[0, 1], &mut signals, &mut work).unwrap();
@@ -107,6 +120,45 @@ pub mod interface {
                 text: *const u8, text_len: usize, id: u64,
                 answer: *mut u64, answer_len: usize,
             ) -> u64;
+            pub fn gofeshan_circuit_to_columns(
+                records: *const u64, records_len: usize, count: usize,
+                target: *mut u64, target_len: usize,
+                answer: *mut u64, answer_len: usize,
+            ) -> u64;
+            pub fn gofeshan_circuit_to_records(
+                table: *const u64, table_len: usize, count: usize,
+                target: *mut u64, target_len: usize,
+                answer: *mut u64, answer_len: usize,
+            ) -> u64;
+            pub fn gofeshan_program_to_columns(
+                records: *const u64, records_len: usize, count: usize,
+                target: *mut u64, target_len: usize,
+                answer: *mut u64, answer_len: usize,
+            ) -> u64;
+            pub fn gofeshan_program_to_records(
+                table: *const u64, table_len: usize, count: usize,
+                target: *mut u64, target_len: usize,
+                answer: *mut u64, answer_len: usize,
+            ) -> u64;
+        }
+    }
+
+    /// A C function that goes from so many records of a list to a target.
+    type Changing = unsafe extern "C" fn(*const u64, usize, usize, *mut u64, usize, *mut u64, usize) -> u64;
+
+    #[allow(dead_code)]
+    fn change(function: Changing, list: &[u64], count: usize, target: &mut [u64], answer: &mut [u64]) -> u64 {
+        // SAFETY: each pointer comes with the length of its slice, and the functions ask nothing else.
+        unsafe {
+            function(
+                list.as_ptr(),
+                list.len(),
+                count,
+                target.as_mut_ptr(),
+                target.len(),
+                answer.as_mut_ptr(),
+                answer.len(),
+            )
         }
     }
 
@@ -147,36 +199,14 @@ pub mod interface {
     /// Flattens a circuit. `answer[0]` is the number of records in the target, a table with the ids 1, 2, 3.
     #[cfg(feature = "flatten")]
     pub fn flatten(table: &[u64], count: usize, target: &mut [u64], answer: &mut [u64]) -> u64 {
-        // SAFETY: each pointer comes with the length of its slice.
-        unsafe {
-            c::gofeshan_flatten(
-                table.as_ptr(),
-                table.len(),
-                count,
-                target.as_mut_ptr(),
-                target.len(),
-                answer.as_mut_ptr(),
-                answer.len(),
-            )
-        }
+        change(c::gofeshan_flatten, table, count, target, answer)
     }
 
     /// Translates a flat circuit into a program. `answer[0]` is the number of records in the target, which has five words
     /// for each.
     #[cfg(feature = "translate")]
     pub fn translate(table: &[u64], count: usize, target: &mut [u64], answer: &mut [u64]) -> u64 {
-        // SAFETY: each pointer comes with the length of its slice.
-        unsafe {
-            c::gofeshan_translate(
-                table.as_ptr(),
-                table.len(),
-                count,
-                target.as_mut_ptr(),
-                target.len(),
-                answer.as_mut_ptr(),
-                answer.len(),
-            )
-        }
+        change(c::gofeshan_translate, table, count, target, answer)
     }
 
     /// Runs a circuit. `answer` is 1, step, place of the first counted bad, or three zeros.
@@ -274,6 +304,30 @@ pub mod interface {
                 answer.len(),
             )
         }
+    }
+
+    /// Converts records of a circuit, one behind the other, into a table. `answer[0]` is the count.
+    #[cfg(feature = "convert")]
+    pub fn circuit_to_columns(records: &[u64], count: usize, target: &mut [u64], answer: &mut [u64]) -> u64 {
+        change(c::gofeshan_circuit_to_columns, records, count, target, answer)
+    }
+
+    /// Converts a table into its records, one behind the other. `answer[0]` is the count.
+    #[cfg(feature = "convert")]
+    pub fn circuit_to_records(table: &[u64], count: usize, target: &mut [u64], answer: &mut [u64]) -> u64 {
+        change(c::gofeshan_circuit_to_records, table, count, target, answer)
+    }
+
+    /// Converts records of a program, one behind the other, into a program. `answer[0]` is the count.
+    #[cfg(feature = "convert")]
+    pub fn program_to_columns(records: &[u64], count: usize, target: &mut [u64], answer: &mut [u64]) -> u64 {
+        change(c::gofeshan_program_to_columns, records, count, target, answer)
+    }
+
+    /// Converts a program into its records, one behind the other. `answer[0]` is the count.
+    #[cfg(feature = "convert")]
+    pub fn program_to_records(table: &[u64], count: usize, target: &mut [u64], answer: &mut [u64]) -> u64 {
+        change(c::gofeshan_program_to_records, table, count, target, answer)
     }
 
     /// The name of a line, which is told by its id as written. `answer[0]` is the start of the name in the text,
@@ -449,4 +503,37 @@ pub fn name(text: &[u8], id: u64) -> &[u8] {
     interface::name(text, id, &mut answer);
     let start = answer[0] as usize;
     &text[start..start + answer[1] as usize]
+}
+
+/// Converts the first `count` records of a circuit, six words each, one behind the other, into the columns of the target,
+/// and gives the count. The target may have another length. Records and ids are not checked: any words are carried over.
+///
+/// Refused are, in this order, a list or a target whose length is no multiple of six (1), a count above the list's records
+/// or 16,384 (11), and one above the target's (12).
+#[cfg(feature = "convert")]
+pub fn circuit_to_columns(records: &[u64], count: usize, target: &mut [u64]) -> Result<usize, Refusal> {
+    let mut answer = [0; 3];
+    counted(interface::circuit_to_columns(records, count, target, &mut answer), answer)
+}
+
+/// Converts the first `count` records of a table back into records one behind the other, as [`circuit_to_columns`] converts
+/// them into columns.
+#[cfg(feature = "convert")]
+pub fn circuit_to_records(table: &[u64], count: usize, target: &mut [u64]) -> Result<usize, Refusal> {
+    let mut answer = [0; 3];
+    counted(interface::circuit_to_records(table, count, target, &mut answer), answer)
+}
+
+/// As [`circuit_to_columns`], for the records of a program: lengths are multiples of five, and 20 stands for 11.
+#[cfg(feature = "convert")]
+pub fn program_to_columns(records: &[u64], count: usize, target: &mut [u64]) -> Result<usize, Refusal> {
+    let mut answer = [0; 3];
+    counted(interface::program_to_columns(records, count, target, &mut answer), answer)
+}
+
+/// As [`circuit_to_records`], for a program: lengths are multiples of five, and 20 stands for 11.
+#[cfg(feature = "convert")]
+pub fn program_to_records(table: &[u64], count: usize, target: &mut [u64]) -> Result<usize, Refusal> {
+    let mut answer = [0; 3];
+    counted(interface::program_to_records(table, count, target, &mut answer), answer)
 }

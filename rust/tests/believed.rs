@@ -5,8 +5,8 @@ use std::collections::{BTreeMap, BTreeSet};
 use std::path::{Path, PathBuf};
 
 /// The crates whose public functions without a `requires` are the operations; each keeps them in `src/lib.rt`.
-const OPERATIONS: [&str; 9] =
-    ["reading", "writing", "naming", "flatten", "translating", "runs", "peeking", "exports", "flat_text"];
+const OPERATIONS: [&str; 10] =
+    ["reading", "writing", "naming", "flatten", "translating", "runs", "peeking", "layouts", "exports", "flat_text"];
 
 /// Demand 3 is stated there, and that ids are of no matter.
 const THEOREMS: [&str; 2] = ["crates/agreement/specs/Comparison.antt", "crates/agreement/specs/Ids.antt"];

@@ -8,20 +8,48 @@
     feature = "run_circuit",
     feature = "run_program",
     feature = "peek",
-    feature = "name"
+    feature = "name",
+    feature = "convert"
 ))]
+#![allow(dead_code)]
 
-use gofeshan::interface;
+#[path = "independent/layout.rs"]
+mod layout;
+
+use gofeshan::{interface, PROGRAM_RECORD, RECORD};
 use std::path::Path;
 
 /// What the lines of a file have set so far.
 #[derive(Default)]
 struct Lists {
     text: Vec<u8>,
-    table: Vec<u64>,
+    table: Table,
     target: Vec<u64>,
     starts: Vec<u64>,
     inputs: Vec<u64>,
+}
+
+/// The table: records one behind the other, or words that stand as they are to stand in the list.
+#[derive(Default)]
+struct Table {
+    words: Vec<u64>,
+    placed: bool,
+}
+
+impl Table {
+    fn add(&mut self, words: Vec<u64>, placed: bool) {
+        assert!(self.words.is_empty() || self.placed == placed, "words and placed words in one table");
+        self.words.extend(words);
+        self.placed = placed;
+    }
+
+    /// The list that a call takes: records in columns; words as they are, where they are placed or no whole records.
+    fn list(&self, size: usize) -> Vec<u64> {
+        if self.placed || self.words.len() % size != 0 {
+            return self.words.clone();
+        }
+        layout::spread(&self.words, self.words.len(), size)
+    }
 }
 
 /// The numbers of a line; `v*n` is n times v.
@@ -54,10 +82,13 @@ fn listed_bytes(bytes: &[u8]) -> String {
     listed(&bytes.iter().map(|&byte| byte.into()).collect::<Vec<u64>>())
 }
 
-/// The records of a list from a place on, one to a line; zeros up to its end are one line.
+/// The records of a list in columns, or its words where it has no whole records, from a word on, a record to a line; zeros
+/// up to the end are one line.
 fn records(list: &[u64], from: usize, size: usize) -> Vec<String> {
+    let whole = list.len() % size == 0;
+    let rows = if whole { layout::gather(list, list.len() / size, size) } else { list.to_vec() };
     let mut said = Vec::new();
-    let mut rest = &list[from..];
+    let mut rest = &rows[from..];
     while !rest.is_empty() {
         if rest.iter().all(|&word| word == 0) {
             said.push(format!("0*{}", rest.len()));
@@ -81,6 +112,16 @@ fn lent(length: u64) -> Vec<u64> {
     vec![9; length as usize]
 }
 
+/// The calls from a list to a target. A conversion takes its list as it stands.
+const CHANGES: [(&str, fn(&[u64], usize, &mut [u64], &mut [u64]) -> u64); 6] = [
+    ("flatten", interface::flatten),
+    ("translate", interface::translate),
+    ("circuit_to_columns", interface::circuit_to_columns),
+    ("circuit_to_records", interface::circuit_to_records),
+    ("program_to_columns", interface::program_to_columns),
+    ("program_to_records", interface::program_to_records),
+];
+
 /// What one line prints.
 fn call(line: &str, lists: &mut Lists) -> Vec<String> {
     let Lists { text, table, target, starts, inputs } = lists;
@@ -97,31 +138,25 @@ fn call(line: &str, lists: &mut Lists) -> Vec<String> {
     match word {
         "text" => text.clear(),
         "bytes" => text.extend(given.iter().map(|&word| u8::try_from(word).unwrap())),
-        "table" => table.clear(),
-        "words" => table.extend(given),
+        "table" => *table = Table::default(),
+        "words" => table.add(given, false),
+        "placed" => table.add(given, true),
         "starts" => *starts = given,
         "inputs" => *inputs = given,
-        "take" => *table = target.clone(),
-        "show" => return records(target, size(0), gofeshan::RECORD),
-        "show_program" => return records(target, size(0), gofeshan::PROGRAM_RECORD),
+        "take" => *table = Table { words: target.clone(), placed: true },
+        "show" => return records(target, size(0), RECORD),
+        "show_program" => return records(target, size(0), PROGRAM_RECORD),
+        "show_words" => {
+            return target[size(0)..].chunks(size(1)).map(|words| listed(words).trim_start().to_string()).collect()
+        }
         "read" => {
             *target = lent(given[0]);
             let number = interface::read(text, target, &mut answer);
             return told(number, answer);
         }
-        "flatten" => {
-            *target = lent(given[1]);
-            let number = interface::flatten(table, size(0), target, &mut answer);
-            return told(number, answer);
-        }
-        "translate" => {
-            *target = lent(given[1]);
-            let number = interface::translate(table, size(0), target, &mut answer);
-            return told(number, answer);
-        }
         "write" => {
             let mut written = vec![9; size(1)];
-            let number = interface::write(table, size(0), &mut written, &mut answer);
+            let number = interface::write(&table.list(RECORD), size(0), &mut written, &mut answer);
             let (said, past) = written.split_at(answer[0] as usize);
             let mut out = told(number, answer);
             out.extend(if said.is_empty() { Vec::new() } else { lines(said) });
@@ -139,19 +174,30 @@ fn call(line: &str, lists: &mut Lists) -> Vec<String> {
             return out;
         }
         "run_circuit" | "run_program" => {
-            let run = if word == "run_circuit" { interface::run_circuit } else { interface::run_program };
+            let program = word == "run_program";
+            let run = if program { interface::run_program } else { interface::run_circuit };
+            let list = table.list(if program { PROGRAM_RECORD } else { RECORD });
             let (mut signals, mut work) = (vec![9; size(2)], lent(given[3]));
-            let number = run(table, size(0), size(1), starts, inputs, &mut signals, &mut work, &mut answer);
+            let number = run(&list, size(0), size(1), starts, inputs, &mut signals, &mut work, &mut answer);
             let mut out = told(number, answer);
             out.push(format!("signals{}", listed_bytes(&signals)));
             out.push(format!("work{}", listed(&work)));
             return out;
         }
         "peek" => {
-            let number = interface::peek(table, size(0), size(1), size(2), starts, inputs, &mut answer);
+            let list = table.list(RECORD);
+            let number = interface::peek(&list, size(0), size(1), size(2), starts, inputs, &mut answer);
             return told(number, answer);
         }
-        _ => return vec![format!("no such call: {word}")],
+        _ => {
+            let Some((_, change)) = CHANGES.iter().find(|(name, _)| *name == word) else {
+                return vec![format!("no such call: {word}")];
+            };
+            *target = lent(given[1]);
+            let list = if word.contains("_to_") { table.words.clone() } else { table.list(RECORD) };
+            let number = change(&list, size(0), target, &mut answer);
+            return told(number, answer);
+        }
     }
     Vec::new()
 }

@@ -17,8 +17,8 @@ mod independent;
 use generator::*;
 use gofeshan::interface as proved;
 use gofeshan::{PROGRAM_RECORD, RECORD};
-use independent::numbered;
 use independent::rules::Lines;
+use independent::{numbered, program_list};
 use std::collections::BTreeMap;
 
 /// What an operation told: the number, and every list that was lent for writing, the answer first.
@@ -107,36 +107,10 @@ fn on_stack(work: impl FnOnce() + Send + 'static) {
 
 /// The records of a circuit's table, or of a program's.
 fn show(table: &[u64], count: usize, program: bool) -> String {
-    let size = if program { PROGRAM_RECORD } else { RECORD };
-    let records: Vec<String> =
-        table.chunks(size).take(count.min(400)).enumerate().map(|(i, r)| format!("{}: {r:?}", i + 1)).collect();
+    let size = independent::size(program);
+    let rows = independent::layout::gather(table, count.min(table.len() / size).min(400), size);
+    let records: Vec<String> = (1..).zip(rows.chunks(size)).map(|(i, r)| format!("{i}: {r:?}")).collect();
     format!("table of {} words, count {count}\n{}\n", table.len(), records.join("\n"))
-}
-
-/// A table or a program with a count: valid, damaged, cut, or with other words past the count.
-fn table_of(random: &mut Random, lines: &Lines) -> (Vec<u64>, usize) {
-    let (mut table, program) = (lines.words(), lines.program);
-    let size = if program { PROGRAM_RECORD } else { RECORD };
-    if random.one_in(3) {
-        damage_records(random, &mut table, program);
-    }
-    let n = table.len() / size;
-    if n > 0 && !program && random.one_in(12) {
-        // Ids that are broken past the count alone.
-        let at = random.below(n);
-        (at..n).for_each(|i| table[size * i + 5] = random.word());
-        return (table, at);
-    }
-    let length = match random.below(8) {
-        0 => table_length(random, n, program),
-        1 => size * (n + random.below(20)),
-        _ => size * n,
-    };
-    while table.len() < length {
-        table.push(random.word());
-    }
-    table.truncate(length);
-    (table, count(random, n))
 }
 
 fn flat_of(lines: &Lines) -> Option<Lines> {
@@ -147,7 +121,7 @@ fn flat_of(lines: &Lines) -> Option<Lines> {
 /// The program of a flat circuit, where it has at most 16,384 records.
 fn program_of(flat: &Lines) -> Option<Lines> {
     let records = independent::translating::program_records(flat);
-    let program = independent::rules::check_program(&records.concat(), records.len());
+    let program = independent::rules::check_program(&program_list(&records), records.len());
     assert!(program.is_some() || records.len() > independent::MOST_RECORDS);
     program
 }
@@ -323,7 +297,9 @@ fn writing_at_the_edges() {
         assert_eq!(both_write(&mut random, &table, n, 1_000_000, 3), 0);
         assert_eq!(both_write(&mut random, &table, n + 1, 1_000_000, 3), 11);
         assert_eq!(both_write(&mut random, &table, n, 65_536, 3), 21);
-        assert_eq!(both_write(&mut random, &table[..RECORD * n], n, 1_000_000, 3), 0);
+        assert_eq!(both_write(&mut random, &numbered(&records[..n]), n, 1_000_000, 3), 0);
+        // The same list cut: by a record, which moves all words, and by five words.
+        assert_eq!(both_write(&mut random, &table[..RECORD * n], n, 1_000_000, 3), 11);
         assert_eq!(both_write(&mut random, &table[..RECORD * n + 1], n, 1_000_000, 3), 1);
         assert_eq!(both_write(&mut random, &[], 0, 0, 3), 0);
         assert_eq!(both_write(&mut random, &[], 1, 0, 3), 11);
@@ -359,12 +335,10 @@ fn writing_then_reading() {
     });
 }
 
-// Flattening and translating.
+// Flattening and translating, and conversions: from a list to a target.
 
-#[cfg(any(feature = "flatten", feature = "translate"))]
 type Changing = fn(&[u64], usize, &mut [u64], &mut [u64]) -> u64;
 
-#[cfg(any(feature = "flatten", feature = "translate"))]
 fn both_change(
     random: &mut Random,
     operations: (Changing, Changing),
@@ -486,6 +460,92 @@ fn translating_at_the_edges() {
     });
 }
 
+/// Both implementations of each conversion, and whether it is one of programs.
+#[cfg(feature = "convert")]
+const CONVERSIONS: [((Changing, Changing), bool); 4] = [
+    ((independent::circuit_to_columns, proved::circuit_to_columns), false),
+    ((independent::circuit_to_records, proved::circuit_to_records), false),
+    ((independent::program_to_columns, proved::program_to_columns), true),
+    ((independent::program_to_records, proved::program_to_records), true),
+];
+
+#[cfg(feature = "convert")]
+fn conversion_case(random: &mut Random, conversion: usize) -> u64 {
+    let (both, program) = CONVERSIONS[conversion];
+    let (list, count, length) = generator::conversion(random, program);
+    let answer = answer_length(random);
+    both_change(random, both, &list, count, length, answer)
+}
+
+#[cfg(feature = "convert")]
+#[test]
+fn converting_circuits_to_columns() {
+    cases("circuit_to_columns", 10_000, &[0, 1, 11, 12], |random| conversion_case(random, 0));
+}
+
+#[cfg(feature = "convert")]
+#[test]
+fn converting_circuits_to_records() {
+    cases("circuit_to_records", 10_000, &[0, 1, 11, 12], |random| conversion_case(random, 1));
+}
+
+#[cfg(feature = "convert")]
+#[test]
+fn converting_programs_to_columns() {
+    cases("program_to_columns", 10_000, &[0, 1, 12, 20], |random| conversion_case(random, 2));
+}
+
+#[cfg(feature = "convert")]
+#[test]
+fn converting_programs_to_records() {
+    cases("program_to_records", 10_000, &[0, 1, 12, 20], |random| conversion_case(random, 3));
+}
+
+/// Lists and targets of every length up to four records, with every count up to six; and counts about 16,384.
+#[cfg(feature = "convert")]
+#[test]
+fn converting_at_the_edges() {
+    on_stack(|| {
+        let mut random = Random::new(11);
+        for (both, program) in CONVERSIONS {
+            let size = independent::size(program);
+            for (from, to) in (0..=4 * size).flat_map(|from| (0..=4 * size).map(move |to| (from, to))) {
+                let list = random.words(from);
+                (0..=6).for_each(|count| _ = both_change(&mut random, both, &list, count, to, 3));
+            }
+            for (from, to) in [(16_384, 16_384), (16_400, 16_383), (16_384, 16_400), (16_400, 16_400), (40_000, 16_384)]
+            {
+                let list = random.words(size * from);
+                for count in [16_383, 16_384, 16_385, 40_000] {
+                    both_change(&mut random, both, &list, count, size * to, 3);
+                }
+            }
+        }
+    });
+}
+
+/// A circuit's records go to a table of any length, whose text is theirs, and from there back.
+#[cfg(all(feature = "convert", feature = "write"))]
+#[test]
+fn converting_there_and_back() {
+    cases("there and back", 3_000, &[0], |random| {
+        let size = size(random);
+        let lines = circuit(random, size);
+        let (rows, n) = (lines.rows(), lines.records.len());
+        let (room, other) = (n + random.below(30), n + random.below(30));
+        let mut table = random.words(RECORD * room);
+        assert_eq!(gofeshan::circuit_to_columns(&rows, n, &mut table), Ok(n));
+        let text = independent::texts::print(&lines.records);
+        let mut written = random.bytes(text.len());
+        assert_eq!(gofeshan::write(&table, n, &mut written), Ok(text.len()));
+        assert!(written == text, "{}", show(&table, n, false));
+        let mut back = random.words(RECORD * other);
+        assert_eq!(gofeshan::circuit_to_records(&table, n, &mut back), Ok(n));
+        assert!(back[..rows.len()] == rows && back[rows.len()..].iter().all(|&word| word == 0));
+        0
+    });
+}
+
 // Runs.
 
 #[cfg(any(feature = "run_circuit", feature = "run_program"))]
@@ -557,7 +617,8 @@ fn run_circuit_case(random: &mut Random) -> u64 {
         lines = flat_of(&lines).unwrap_or_default();
     }
     let run = run_of(random, &lines);
-    let (table, count) = if random.one_in(3) { table_of(random, &lines) } else { (lines.words(), lines.records.len()) };
+    let (table, count) =
+        if random.one_in(3) { table_of(random, &lines) } else { (roomy(random, &lines), lines.records.len()) };
     both_run(random, (independent::run_circuit, proved::run_circuit), (&table, count, false), &run)
 }
 
@@ -573,13 +634,14 @@ fn run_program_case(random: &mut Random) -> u64 {
     let lines = flat_of(&circuit(random, size)).unwrap_or_default();
     let records =
         if random.one_in(2) { independent::translating::program_records(&lines) } else { wild_program(random, &lines) };
-    let Some(lines) = independent::rules::check_program(&records.concat(), records.len()) else {
+    let Some(lines) = independent::rules::check_program(&program_list(&records), records.len()) else {
         // Masks past 16,384 records.
         assert!(records.len() > independent::MOST_RECORDS);
         return 20;
     };
     let run = run_of(random, &lines);
-    let (table, count) = if random.one_in(3) { table_of(random, &lines) } else { (lines.words(), lines.records.len()) };
+    let (table, count) =
+        if random.one_in(3) { table_of(random, &lines) } else { (roomy(random, &lines), lines.records.len()) };
     both_run(random, (independent::run_program, proved::run_program), (&table, count, true), &run)
 }
 
@@ -704,7 +766,7 @@ fn operators(random: &mut Random, both: (Running, Running), program: bool) {
                     answer: 3,
                 };
                 compared += steps;
-                let words = if program { table.concat() } else { numbered(&table) };
+                let words = if program { program_list(&table) } else { numbered(&table) };
                 assert!(matches!(both_run(random, both, (&words, table.len(), program), &run), 0 | 100));
             }
         }
@@ -716,7 +778,7 @@ fn operators(random: &mut Random, both: (Running, Running), program: bool) {
 /// without arrays the program; for one of at most 64 records a value.
 #[cfg(all(feature = "write", feature = "flatten", feature = "translate", feature = "run_circuit", feature = "peek"))]
 fn all_results(random: &mut Random, lines: &Lines) -> Vec<(Vec<u64>, Vec<u8>)> {
-    let (table, n) = (lines.words(), lines.records.len());
+    let (table, n) = (roomy(random, lines), lines.records.len());
     let room = flat_of(lines).map_or(0, |flat| flat.records.len());
     let mut results = Vec::new();
     let mut keep = |number: u64, answer: [u64; 3], words: Vec<u64>, bytes: Vec<u8>| {
@@ -743,10 +805,11 @@ fn all_results(random: &mut Random, lines: &Lines) -> Vec<(Vec<u64>, Vec<u8>)> {
     results
 }
 
-/// Two tables that differ in their ids alone give the same flat table, program, text, run and values.
+/// Two tables that differ in their ids, their lengths and what stands past the count give the same flat table, program,
+/// text, run and values.
 #[cfg(all(feature = "write", feature = "flatten", feature = "translate", feature = "run_circuit", feature = "peek"))]
 #[test]
-fn ids_make_no_difference() {
+fn ids_and_lengths_make_no_difference() {
     cases("ids", 2_000, &[0, 19], |random| {
         let size = size(random);
         let mut lines = circuit(random, size);
@@ -766,7 +829,7 @@ fn circuit_flat_circuit_and_program() {
     cases("C, F and P", 10_000, &[0, 100], |random| {
         let size = size(random);
         let lines = circuit(random, size);
-        let (c, n) = (lines.words(), lines.records.len());
+        let (c, n) = (roomy(random, &lines), lines.records.len());
         let Some(known) = flat_of(&lines) else { return 12 };
         let room = known.records.len() + random.below(3);
         let mut f = random.words(RECORD * room);
@@ -811,7 +874,7 @@ fn runs_of_circuit_flat_circuit_and_program() {
         for of in [&lines, &flat, &program] {
             let run = if of.program { gofeshan::run_program } else { gofeshan::run_circuit };
             let (mut signals, mut work) = (random.bytes(expected.len()), random.words(of.work()));
-            let told = run(&of.words(), of.records.len(), k, &starts, &inputs, &mut signals, &mut work);
+            let told = run(&roomy(random, of), of.records.len(), k, &starts, &inputs, &mut signals, &mut work);
             assert!(told == Ok(bad) && signals == expected, "{told:?}\n{}", show(&lines.words(), 400, false));
         }
         100 * u64::from(bad.is_some())
@@ -848,7 +911,7 @@ fn peek_case(random: &mut Random) -> u64 {
         circuit(random, size)
     };
     let n = lines.records.len();
-    let (table, count) = if random.one_in(4) { table_of(random, &lines) } else { (lines.words(), n) };
+    let (table, count) = if random.one_in(4) { table_of(random, &lines) } else { (roomy(random, &lines), n) };
     // A place; seldom a place that there is not, or an id.
     let line = match random.below(30) {
         0 | 1 => random.pick(&[0, n + 1, usize::MAX, 1 << 32]),

@@ -257,3 +257,25 @@ fn flattening_chains_alike() {
         }
     });
 }
+
+/// As many records as count, of lists that are longer, to columns and back.
+#[cfg(feature = "convert")]
+#[test]
+fn converting() {
+    use gofeshan::{circuit_to_columns, circuit_to_records, program_to_columns, program_to_records, MOST_RECORDS};
+    type Conversion = fn(&[u64], usize, &mut [u64]) -> Result<usize, gofeshan::Refusal>;
+    on_stack(|| {
+        let conversions: [(&str, Conversion, usize); 4] = [
+            ("a circuit to columns", circuit_to_columns, gofeshan::RECORD),
+            ("a circuit to records", circuit_to_records, gofeshan::RECORD),
+            ("a program to columns", program_to_columns, gofeshan::PROGRAM_RECORD),
+            ("a program to records", program_to_records, gofeshan::PROGRAM_RECORD),
+        ];
+        for (name, convert, size) in conversions {
+            let (list, mut target) = (vec![7; size * 20_000], vec![1; size * 18_000]);
+            let took = least(|| assert_eq!(convert(&list, MOST_RECORDS, &mut target), Ok(MOST_RECORDS)));
+            println!("converting {name}: {took:?}");
+            assert!(took < MOST, "converting {name} took {took:?}");
+        }
+    });
+}

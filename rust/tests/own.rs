@@ -46,17 +46,16 @@ fn reading(text: &str) -> (u64, u64, Vec<Record>) {
     let (mut table, mut answer) = (vec![7; 6 * 20_000], [7; 3]);
     let number = read(text.as_bytes(), &mut table, &mut answer);
     let count = if number == 0 { answer[0] as usize } else { 0 };
-    assert!(table[6 * count..].iter().all(|&x| x == 0));
+    assert!(table.chunks(20_000).all(|column| column[count..].iter().all(|&x| x == 0)));
     (number, answer[0], records(&table, count, false))
 }
 
-/// The words of an accepted text's table, and the count.
+/// The table of an accepted text, with room for its records alone, and the count.
 fn table(text: &str) -> (Vec<u64>, usize) {
     let (mut table, mut answer) = (vec![7; 6 * 20_000], [7; 3]);
     assert_eq!(read(text.as_bytes(), &mut table, &mut answer), 0, "{text}");
     let count = answer[0] as usize;
-    table.truncate(6 * count);
-    (table, count)
+    (columns(&layout::gather(&table, count, 6), false), count)
 }
 
 /// The refusal of a last line after a fixed beginning.
@@ -86,7 +85,7 @@ fn example() {
     let mut program = vec![9; 5 * 17];
     assert_eq!(translate(&flat, 19, &mut program, &mut answer), 0);
     assert_eq!(answer, [17, 0, 0]);
-    let masks: Vec<usize> = (1..=17).filter(|i| program[5 * (i - 1)] == 56).collect();
+    let masks: Vec<usize> = (1..=17).filter(|i| program[i - 1] == 56).collect();
     assert_eq!(masks, [6]);
     assert_eq!(translate(&circuit, count, &mut program, &mut answer), 19);
 
@@ -294,7 +293,7 @@ fn gaps() {
     assert_eq!((count, ids(&gapped, count)), (11, written.to_vec()));
     assert_eq!(ids(&plain, count), (1..=11).collect::<Vec<u64>>());
     assert_eq!(records(&gapped, count, false), records(&plain, count, false));
-    assert_eq!(gapped[6 * 6..6 * 7], [55, 3, 4, 5, 6, 70]);
+    assert_eq!(layout::gather(&gapped, count, 6)[36..42], [55, 3, 4, 5, 6, 70]);
     let mut answer = [9; 3];
     let mut text = vec![9; 146];
     assert_eq!((write(&gapped, count, &mut text, &mut answer), answer), (0, [146, 0, 0]));
@@ -302,7 +301,7 @@ fn gaps() {
     let mut flat = vec![9; 120];
     assert_eq!((flatten(&gapped, count, &mut flat, &mut answer), answer), (0, [19, 0, 0]));
     assert_eq!(ids(&flat, 19), (1..=19).collect::<Vec<u64>>());
-    assert_eq!(flat[6 * 19..], [0; 6]);
+    assert!(flat.chunks(20).all(|column| column[19] == 0));
     assert_eq!((translate(&flat, 19, &mut [9; 85], &mut answer), answer), (0, [17, 0, 0]));
     assert_eq!(translate(&flat, 19, &mut [9; 84], &mut answer), 1);
     let named = |id| find_name_of(GAPS.as_bytes(), id);
@@ -372,7 +371,7 @@ fn ids_of_tables() {
     for (first, second, number) in
         [(5, 6, 0), (1, MOST_ID, 0), (5, 5, 11), (5, 4, 11), (0, 1, 11), (5, 0, 11), (5, MOST_ID + 1, 11)]
     {
-        let table = [1, 0, 1, 0, 0, first, 4, 1, 0, 0, 0, second];
+        let table = [1, 4, 0, 1, 1, 0, 0, 0, 0, 0, first, second];
         let mut answer = [9; 3];
         assert_eq!(write(&table, 2, &mut [9; 60], &mut answer), number);
         assert_eq!(flatten(&table, 2, &mut [9; 60], &mut answer), number);
@@ -384,7 +383,7 @@ fn ids_of_tables() {
         assert_eq!(write(&table, 1, &mut [9; 60], &mut answer), number);
     }
     // Thirty words are five records of a circuit and six of a program.
-    let (circuit, program) = (numbered(&[[1, 0, 1, 0, 0]; 5]), [[3, 1, 0, 0, 0]; 6].concat());
+    let (circuit, program) = (numbered(&[[1, 0, 1, 0, 0]; 5]), program_list(&[[3, 1, 0, 0, 0]; 6]));
     assert_eq!((circuit.len(), program.len()), (30, 30));
     let mut answer = [9; 3];
     let mut run = |list: &[u64], count| {
@@ -393,7 +392,8 @@ fn ids_of_tables() {
     };
     assert_eq!((run(&circuit, 5), run(&circuit, 6)), ((0, 20), (11, 20)));
     assert_eq!((run(&program, 5), run(&program, 6), run(&program, 7)), ((11, 0), (11, 0), (11, 20)));
-    assert_eq!((run(&program[..25], 5), run(&circuit[..24], 4)), ((1, 0), (0, 1)));
+    let (circuit, program) = (numbered(&[[1, 0, 1, 0, 0]; 4]), program_list(&[[3, 1, 0, 0, 0]; 5]));
+    assert_eq!((run(&program, 5), run(&circuit, 4)), ((1, 0), (0, 1)));
 }
 
 /// Two tables that differ in their ids alone give the same; a written text gives the first five words back.
@@ -436,7 +436,6 @@ fn generator_reaches_gaps() {
     for _ in 0..2000 {
         let size = generator::size(&mut random);
         let lines = generator::circuit(&mut random, size);
-        let n = lines.records.len();
         gaps += usize::from(lines.ids.iter().zip(1..).any(|(&id, place)| id != place));
         late += usize::from(lines.ids.first().is_some_and(|&id| id > 1));
         last += usize::from(lines.ids.last() == Some(&MOST_ID));
@@ -444,9 +443,9 @@ fn generator_reaches_gaps() {
         let text = generator::damaged_text(&mut random, &lines);
         let number = read(&text, &mut vec![9; 6 * 400], &mut [9; 3]);
         *read_answers.entry(number).or_insert(0) += 1;
-        let mut words = lines.words();
-        generator::damage_records(&mut random, &mut words, false);
-        let n = n.max(words.len() / 6);
+        let mut rows = lines.rows();
+        generator::damage_records(&mut random, &mut rows, false);
+        let (words, n) = (columns(&rows, false), rows.len() / 6);
         let renumbered = numbered(&records(&words, n, false));
         let accepted = |words: &[u64]| rules::check_table(words, n).is_some();
         ids_alone += usize::from(accepted(&renumbered) && !accepted(&words));
@@ -488,4 +487,135 @@ fn generator_reaches() {
     for n in [other_sort, array_init, constant_read, loose_ite, counted] {
         assert!(n > 50, "{other_sort} {array_init} {constant_read} {loose_ite} {counted}");
     }
+}
+
+type Conversion = fn(&[u64], usize, &mut [u64], &mut [u64]) -> u64;
+
+/// The number, the answer's first word, and the target of a conversion.
+fn converted(conversion: Conversion, list: &[u64], count: usize, length: usize) -> (u64, u64, Vec<u64>) {
+    let (mut target, mut answer) = (vec![9; length], [9; 3]);
+    let number = conversion(list, count, &mut target, &mut answer);
+    assert_eq!(answer[1..], [0, 0]);
+    (number, answer[0], target)
+}
+
+#[test]
+fn columns_of_the_example() {
+    let (mut table, mut answer) = (vec![9; 72], [9; 3]);
+    assert_eq!((read(GAPS.as_bytes(), &mut table, &mut answer), answer), (0, [11, 0, 0]));
+    let columns = [
+        [1, 1, 2, 5, 4, 3, 55, 7, 54, 21, 8, 0],
+        [0, 0, 0, 3, 1, 2, 3, 3, 2, 1, 0, 0],
+        [1, 3, 1, 0, 0, 5, 4, 4, 4, 9, 10, 0],
+        [0, 0, 2, 0, 0, 0, 5, 7, 5, 6, 0, 0],
+        [0, 0, 0, 0, 0, 0, 6, 0, 0, 0, 0, 0],
+        [5, 9, 10, 40, 41, 50, 70, 71, 90, 100, 4_294_967_295, 0],
+    ];
+    assert_eq!(table, columns.concat());
+}
+
+#[test]
+fn conversions() {
+    let records = [1, 0, 1, 0, 0, 5, 4, 1, 0, 0, 0, 9, 8, 0, 2, 0, 0, 11];
+    let wide = vec![1, 4, 0, 0, 0, 1, 0, 0, 1, 0, 0, 0, 0, 0, 0, 0, 0, 0, 0, 0, 5, 9, 0, 0];
+    let narrow = vec![1, 4, 0, 1, 1, 0, 0, 0, 0, 0, 5, 9];
+    assert_eq!(converted(circuit_to_columns, &records, 2, 24), (0, 2, wide.clone()));
+    assert_eq!(converted(circuit_to_columns, &records, 2, 12), (0, 2, narrow));
+    assert_eq!(converted(circuit_to_columns, &records, 3, 12), (12, 0, vec![0; 12]));
+    assert_eq!(converted(circuit_to_columns, &records, 4, 24), (11, 0, vec![0; 24]));
+    assert_eq!(converted(circuit_to_columns, &records, 2, 13), (1, 0, vec![0; 13]));
+    assert_eq!(converted(circuit_to_columns, &records, 0, 0), (0, 0, vec![]));
+    assert_eq!(converted(circuit_to_columns, &[], 0, 6), (0, 0, vec![0; 6]));
+    assert_eq!(converted(circuit_to_records, &wide, 2, 12), (0, 2, records[..12].to_vec()));
+    assert_eq!(converted(circuit_to_records, &wide, 1, 12), (0, 1, vec![1, 0, 1, 0, 0, 5, 0, 0, 0, 0, 0, 0]));
+    assert_eq!(converted(circuit_to_records, &wide, 4, 18), (12, 0, vec![0; 18]));
+    assert_eq!(converted(circuit_to_records, &wide, 5, 18), (11, 0, vec![0; 18]));
+    assert_eq!(converted(circuit_to_records, &wide[..23], 5, 18), (1, 0, vec![0; 18]));
+    let program = [4, 3, 0, 0, 0, 56, 3, 1, 0, 0];
+    let laid_out = vec![4, 56, 3, 3, 0, 1, 0, 0, 0, 0];
+    assert_eq!(converted(program_to_columns, &program, 2, 10), (0, 2, laid_out.clone()));
+    assert_eq!(converted(program_to_columns, &program, 3, 10), (20, 0, vec![0; 10]));
+    assert_eq!(converted(program_to_columns, &program, 2, 5), (12, 0, vec![0; 5]));
+    assert_eq!(converted(program_to_columns, &program, 2, 12), (1, 0, vec![0; 12]));
+    assert_eq!(converted(program_to_records, &laid_out, 2, 10), (0, 2, program.to_vec()));
+    // 16,400 places, of which 16,384 count; the ids start at 82,000.
+    let mut long = vec![0; 98_400];
+    (long[0], long[2 * 16_400], long[82_000]) = (1, 7, 3);
+    assert_eq!(converted(circuit_to_records, &long, 16_384, 98_304).1, 16_384);
+    assert_eq!(converted(circuit_to_records, &long, 16_385, 98_400).0, 11);
+    assert_eq!(converted(circuit_to_records, &long, 1, 6), (0, 1, vec![1, 0, 7, 0, 0, 3]));
+    // Another length of the answer.
+    assert_eq!(circuit_to_columns(&records, 2, &mut [9; 24], &mut [9; 2]), 1);
+}
+
+/// There and back: the counted records and zeros, for any words and any lengths.
+#[test]
+fn converted_there_and_back() {
+    let mut random = generator::Random::new(4);
+    for case in 0..2000 {
+        let program = case % 2 == 1;
+        let [there, back]: [Conversion; 2] =
+            if program { [program_to_columns, program_to_records] } else { [circuit_to_columns, circuit_to_records] };
+        let (size, n) = (size(program), random.below(30));
+        let (length, room, other) = (n + random.below(9), n + random.below(9), n + random.below(9));
+        let list = random.words(size * length);
+        let (number, count, columns) = converted(there, &list, n, size * room);
+        assert_eq!((number, count), (0, n as u64));
+        assert!(columns.chunks(room.max(1)).all(|column| column[n..].iter().all(|&word| word == 0)));
+        let (_, _, rows) = converted(back, &columns, n, size * other);
+        assert!(rows[..size * n] == list[..size * n] && rows[size * n..].iter().all(|&word| word == 0));
+        // The other way round: words of a list in columns, to records and to columns of the same length.
+        let (_, _, rows) = converted(back, &list, n, size * room);
+        let (_, _, again) = converted(there, &rows, n, list.len());
+        assert!((0..list.len()).all(|at| again[at] == if at % length < n { list[at] } else { 0 }));
+    }
+}
+
+/// A circuit that goes through its records to lists of other lengths stays what it is.
+#[test]
+fn converted_circuits() {
+    let mut random = generator::Random::new(5);
+    for _ in 0..300 {
+        let size = generator::size(&mut random);
+        let lines = generator::circuit(&mut random, size);
+        let (table, n) = (generator::roomy(&mut random, &lines), lines.records.len());
+        let (_, _, rows) = converted(circuit_to_records, &table, n, 6 * n);
+        assert!(rows == lines.rows());
+        let (_, _, longer) = converted(circuit_to_columns, &rows, n, 6 * (n + 1 + random.below(40)));
+        let of = |table: &[u64]| {
+            let (mut text, mut flat, mut answer) = (vec![9; 40 * n + 1], vec![9; 6 * 16_384], [9; 3]);
+            let numbers = [write(table, n, &mut text, &mut answer), flatten(table, n, &mut flat, &mut answer)];
+            (numbers, text, flat)
+        };
+        let ours = of(&longer);
+        assert!(ours.0[0] == 0 && ours == of(&table) && ours == of(&lines.words()));
+        assert!(ours.1.starts_with(&texts::print(&lines.records)));
+    }
+}
+
+/// The generator makes lists that are longer than they have to be, and lists whose words stand in wrong places.
+#[test]
+fn generator_reaches_layouts() {
+    let mut random = generator::Random::new(6);
+    let (mut longer, mut far, mut wrong, mut right, mut accepted) = (0, 0, 0, 0, 0);
+    for _ in 0..4000 {
+        let size = generator::size(&mut random);
+        let lines = generator::circuit(&mut random, size);
+        let n = lines.records.len();
+        let roomy = generator::roomy(&mut random, &lines);
+        assert!(rules::check_table(&roomy, n).is_some_and(|held| held.rows() == lines.rows()));
+        longer += usize::from(roomy.len() > 6 * n);
+        let misplaced = generator::misplaced(&mut random, &lines.rows(), false);
+        let held = n.min(misplaced.len() / 6);
+        match rules::check_table(&misplaced, held) {
+            None => wrong += 1,
+            Some(_) => right += 1,
+        }
+        let (list, count) = generator::table_of(&mut random, &lines);
+        far += usize::from(list.len() > 6 * MOST_RECORDS);
+        let held = list.len() % 6 == 0 && rules::check_table(&list, count).is_some();
+        accepted += usize::from(held && count > 1 && list.len() > 6 * count);
+    }
+    assert!((2000..3500).contains(&longer) && wrong > 2000 && right > 100, "{longer} {wrong} {right}");
+    assert!(far > 5 && accepted > 500, "{far} {accepted}");
 }

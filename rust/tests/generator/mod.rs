@@ -1,9 +1,11 @@
 //! A seeded generator: valid circuits as tables and as texts, and what is wrong with texts, tables and lists.
+//!
+//! Records are made, and damaged, one behind the other (`rows`); a list of them is laid out in columns when it is whole.
 #![allow(dead_code)]
 
 use crate::independent::kinds::{row, Place, KINDS};
-use crate::independent::rules::{ones, Lines, Sort};
-use crate::independent::{ids, records, size as record_size, Record, MOST_ID};
+use crate::independent::rules::{check_program, check_table, ones, Lines, Sort};
+use crate::independent::{columns, ids, layout, records, size as record_size, Record, MOST_ID, MOST_RECORDS};
 
 /// Numbers from a seed (splitmix64).
 pub struct Random(u64);
@@ -540,12 +542,12 @@ pub fn damaged_text(random: &mut Random, lines: &Lines) -> Vec<u8> {
     }
     if random.one_in(2) {
         // A fault of the records, in valid syntax.
-        let mut words = lines.words();
-        damage_records(random, &mut words, false);
-        let n = words.len() / record_size(false);
-        let records = records(&words, n, false);
+        let mut rows = lines.rows();
+        damage_records(random, &mut rows, false);
+        let (table, n) = (columns(&rows, false), rows.len() / record_size(false));
+        let records = records(&table, n, false);
         if records.iter().all(|r| (1..=55).contains(&r[0])) {
-            let mut printed = all_tokens(&records, &ids(&words, n));
+            let mut printed = all_tokens(&records, &ids(&table, n));
             for line in &mut printed {
                 if line[1] == b"constd" && random.one_in(4) {
                     line[1] = random.pick(&[&b"const"[..], b"consth"]).to_vec();
@@ -732,40 +734,40 @@ fn rejoin(lines: &[Vec<Vec<u8>>]) -> Vec<u8> {
     joined.join(&b'\n')
 }
 
-/// Adds a record to a list, in a circuit's with an id above the last or, seldom, with another.
-fn extend(random: &mut Random, table: &mut Vec<u64>, record: Record, program: bool) {
-    let last = if program { 0 } else { table.last().copied().unwrap_or(0) };
-    table.extend(record);
+/// Adds a record behind the others, in a circuit with an id above the last or, seldom, with another.
+fn extend(random: &mut Random, rows: &mut Vec<u64>, record: Record, program: bool) {
+    let last = if program { 0 } else { rows.last().copied().unwrap_or(0) };
+    rows.extend(record);
     if !program {
-        table.push(last.wrapping_add(u64::from(!random.one_in(9))));
+        rows.push(last.wrapping_add(u64::from(!random.one_in(9))));
     }
 }
 
 /// The id of a circuit's record is broken, or seldom is not.
-fn damage_id(random: &mut Random, table: &mut [u64], record: usize) {
+fn damage_id(random: &mut Random, rows: &mut [u64], record: usize) {
     let size = record_size(false);
     let at = size * record + 5;
-    let last = if record == 0 { 0 } else { table[at - size] };
-    let other = size * random.below(table.len() / size) + 5;
+    let last = if record == 0 { 0 } else { rows[at - size] };
+    let other = size * random.below(rows.len() / size) + 5;
     match random.below(9) {
-        0 | 1 => table[at] = last,
-        2 => table[at] = last.saturating_sub(1),
-        3 => table[at] = 0,
-        4 => table[at] = MOST_ID + 1,
-        5 => table[at] = MOST_ID,
-        6 => table[at] = table[at].wrapping_add(MOST_ID + 1),
-        7 => table.swap(at, other),
-        _ => table[at] = random.word(),
+        0 | 1 => rows[at] = last,
+        2 => rows[at] = last.saturating_sub(1),
+        3 => rows[at] = 0,
+        4 => rows[at] = MOST_ID + 1,
+        5 => rows[at] = MOST_ID,
+        6 => rows[at] = rows[at].wrapping_add(MOST_ID + 1),
+        7 => rows.swap(at, other),
+        _ => rows[at] = random.word(),
     }
 }
 
-/// Faults of a table's or a program's records; some are none.
-pub fn damage_records(random: &mut Random, table: &mut Vec<u64>, program: bool) {
+/// Faults of a circuit's or a program's records, one behind the other; some are none.
+pub fn damage_records(random: &mut Random, rows: &mut Vec<u64>, program: bool) {
     let size = record_size(program);
-    let n = table.len() / size;
+    let n = rows.len() / size;
     if n == 0 {
         let kind = random.word() % 60;
-        extend(random, table, [kind, 0, 1, 0, 0], program);
+        extend(random, rows, [kind, 0, 1, 0, 0], program);
         return;
     }
     for _ in 0..1 + random.below(2) {
@@ -773,28 +775,28 @@ pub fn damage_records(random: &mut Random, table: &mut Vec<u64>, program: bool) 
         let at = size * record;
         let word = at + 1 + random.below(4);
         match random.below(if program { 14 } else { 16 }) {
-            0 => table[at] = random.pick(&[0, 1, 2, 3, 53, 54, 55, 56, 57, 255, 256, 311, u64::MAX]),
-            1 => table[at] = 1 + random.next() % 56,
-            2..=4 => table[word] = 1 + random.next() % n as u64,
-            5 => table[word] = random.word(),
-            6 => table[word] = table[word].wrapping_add(random.pick(&[1, u64::MAX, 256, 1 << 32])),
-            7 => table.swap(at + 2, at + 3),
-            8 => table[at + 1] = table[other + 1],
-            9 => table[at + 2 + random.below(3)] = table[other + 2],
-            10 => (0..5).for_each(|i| table.swap(at + i, other + i)),
+            0 => rows[at] = random.pick(&[0, 1, 2, 3, 53, 54, 55, 56, 57, 255, 256, 311, u64::MAX]),
+            1 => rows[at] = 1 + random.next() % 56,
+            2..=4 => rows[word] = 1 + random.next() % n as u64,
+            5 => rows[word] = random.word(),
+            6 => rows[word] = rows[word].wrapping_add(random.pick(&[1, u64::MAX, 256, 1 << 32])),
+            7 => rows.swap(at + 2, at + 3),
+            8 => rows[at + 1] = rows[other + 1],
+            9 => rows[at + 2 + random.below(3)] = rows[other + 2],
+            10 => (0..5).for_each(|i| rows.swap(at + i, other + i)),
             11 => {
                 // A record once more: a second init or next.
-                let again: Record = table[at..at + 5].try_into().unwrap();
-                extend(random, table, again, program);
+                let again: Record = rows[at..at + 5].try_into().unwrap();
+                extend(random, rows, again, program);
             }
-            12 => late_init(random, table, program),
-            14 | 15 => damage_id(random, table, record),
+            12 => late_init(random, rows, program),
+            14 | 15 => damage_id(random, rows, record),
             _ => {
                 // Among inits and nexts only.
-                let held: Vec<usize> = (0..n).filter(|i| matches!(table[size * i], 6 | 7)).collect();
+                let held: Vec<usize> = (0..n).filter(|i| matches!(rows[size * i], 6 | 7)).collect();
                 if !held.is_empty() {
                     let at = size * random.pick(&held);
-                    table[at + random.pick(&[2, 3])] = 1 + random.next() % n as u64;
+                    rows[at + random.pick(&[2, 3])] = 1 + random.next() % n as u64;
                 }
             }
         }
@@ -802,11 +804,9 @@ pub fn damage_records(random: &mut Random, table: &mut Vec<u64>, program: bool) 
 }
 
 /// An init whose value fits the state in its sort, with any cone and any place.
-fn late_init(random: &mut Random, table: &mut Vec<u64>, program: bool) {
-    let check = crate::independent::rules::check_table;
-    let check_program = crate::independent::rules::check_program;
-    let n = table.len() / record_size(program);
-    let Some(lines) = (if program { check_program(table, n) } else { check(table, n) }) else { return };
+fn late_init(random: &mut Random, rows: &mut Vec<u64>, program: bool) {
+    let (check, n) = (if program { check_program } else { check_table }, rows.len() / record_size(program));
+    let Some(lines) = check(&columns(rows, program), n) else { return };
     let states: Vec<usize> = (0..n).filter(|&i| lines.lines[i].kind == 5).collect();
     if states.is_empty() {
         return;
@@ -818,7 +818,7 @@ fn late_init(random: &mut Random, table: &mut Vec<u64>, program: bool) {
     if !values.is_empty() {
         let value = random.pick(&values);
         let record = [6, lines.records[state][1], state as u64 + 1, value as u64 + 1, 0];
-        extend(random, table, record, program);
+        extend(random, rows, record, program);
     }
 }
 
@@ -868,6 +868,92 @@ pub fn count(random: &mut Random, exact: usize) -> usize {
         }
         _ => exact,
     }
+}
+
+/// The list of some lines, often with room for more records, and any words or zeros past them in each column.
+pub fn roomy(random: &mut Random, lines: &Lines) -> Vec<u64> {
+    let (size, mut rows) = (record_size(lines.program), lines.rows());
+    let more = match random.below(8) {
+        0..=2 => 0,
+        3 => 1,
+        4 => lines.records.len(),
+        _ => random.below(40),
+    };
+    let clean = random.one_in(3);
+    rows.extend((0..size * more).map(|_| if clean { 0 } else { random.word() }));
+    columns(&rows, lines.program)
+}
+
+/// The words of records, given one behind the other, in places of a list that are not theirs; seldom they are.
+pub fn misplaced(random: &mut Random, rows: &[u64], program: bool) -> Vec<u64> {
+    let (size, mut list) = (record_size(program), columns(rows, program));
+    let (n, other) = (rows.len() / size, record_size(!program));
+    let (a, b) = (n * random.below(size), n * random.below(size));
+    let some = size * (1 + random.below(n.min(6)));
+    match random.below(9) {
+        // One record behind the other.
+        0 | 1 => list = rows.to_vec(),
+        // Two columns, or two words, exchanged.
+        2 => (0..n).for_each(|i| list.swap(a + i, b + i)),
+        3 if n > 0 => list.swap(a + random.below(n), b + random.below(n)),
+        // A list with zeros behind it, a list cut, the columns of a longer list.
+        4 => list.extend(vec![0; some]),
+        5 => list.truncate(list.len().saturating_sub(some)),
+        6 => list = layout::spread(rows, list.len() + some, size)[..list.len()].to_vec(),
+        // Five columns for six, or six for five.
+        7 if list.len() % other == 0 => list = layout::spread(rows, list.len(), other),
+        // Every word a place on.
+        _ if n > 0 => list.rotate_right(1),
+        _ => {}
+    }
+    list
+}
+
+/// A table or a program with a count: valid, damaged, cut, misplaced, or with other words past the count.
+pub fn table_of(random: &mut Random, lines: &Lines) -> (Vec<u64>, usize) {
+    let (mut rows, program) = (lines.rows(), lines.program);
+    let size = record_size(program);
+    if random.one_in(8) {
+        let list = misplaced(random, &rows, program);
+        let held = lines.records.len().min(list.len() / size);
+        return (list, count(random, held));
+    }
+    if random.one_in(3) {
+        damage_records(random, &mut rows, program);
+    }
+    let n = rows.len() / size;
+    if n > 0 && !program && random.one_in(12) {
+        // Ids that are broken past the count alone.
+        let at = random.below(n);
+        (at..n).for_each(|i| rows[size * i + 5] = random.word());
+        return (columns(&rows, program), at);
+    }
+    let length = match random.below(8) {
+        0 => table_length(random, n, program),
+        1 if random.one_in(60) => size * (MOST_RECORDS + random.below(40)),
+        1..=3 => size * (n + random.below(20)),
+        _ => size * n,
+    };
+    rows.resize_with(length, || random.word());
+    let list = if length % size == 0 { columns(&rows, program) } else { rows };
+    (list, count(random, n))
+}
+
+/// A list of any words, a count and the length of a target, for a conversion.
+pub fn conversion(random: &mut Random, program: bool) -> (Vec<u64>, usize, usize) {
+    let n = match random.below(200) {
+        0 => random.pick(&[16_383, 16_384, 16_385, 16_400]),
+        1..=30 => random.below(3),
+        _ => random.below(60),
+    };
+    let length = |random: &mut Random, held: usize| match random.below(3) {
+        0 => table_length(random, held, program),
+        1 => record_size(program) * (held + random.below(20)),
+        _ => record_size(program) * held,
+    };
+    let (count, from) = (count(random, n), length(random, n));
+    let (list, held) = (random.words(from), if random.one_in(3) { n } else { count.min(n) });
+    (list, count, length(random, held))
 }
 
 /// The length of an answer list: three, or seldom another.

@@ -2,7 +2,7 @@
 
 use super::kinds::{row, Place};
 use super::rules::{check_table, Lines, Sort};
-use super::{is_whole, numbered, room, store, Record};
+use super::{is_whole, numbered_rows, room, store, Record};
 
 /// What the flat circuit has for a line of the circuit.
 #[derive(Clone, Default)]
@@ -162,7 +162,7 @@ pub fn flatten(table: &[u64], count: usize, target: &mut [u64], answer: &mut [u6
     }
     let Some(lines) = check_table(table, count) else { return 11 };
     let Some(flat) = flat_records(&lines, room(target, false)) else { return 12 };
-    store(&numbered(&flat), target);
+    store(&numbered_rows(&flat), target, false);
     answer[0] = flat.len() as u64;
     0
 }

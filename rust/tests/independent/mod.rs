@@ -6,8 +6,10 @@
 //! what is lent for writing, and returns the refusal's number, 0 when done.
 #![allow(dead_code, unused_imports)]
 
+pub mod conversions;
 pub mod flattening;
 pub mod kinds;
+pub mod layout;
 pub mod meaning;
 pub mod rules;
 pub mod runs;
@@ -15,6 +17,7 @@ pub mod texts;
 pub mod translating;
 pub mod words;
 
+pub use conversions::{circuit_to_columns, circuit_to_records, program_to_columns, program_to_records};
 pub use flattening::flatten;
 pub use runs::{peek, run_circuit, run_program};
 pub use texts::{name, read, write};
@@ -39,29 +42,46 @@ pub fn size(program: bool) -> usize {
     }
 }
 
-/// The counted records of a list.
+/// The counted records of a list in columns.
 pub fn records(list: &[u64], count: usize, program: bool) -> Vec<Record> {
-    list.chunks_exact(size(program)).take(count).map(|c| c[..5].try_into().unwrap()).collect()
+    let height = layout::height(list.len(), size(program));
+    (0..count).map(|i| std::array::from_fn(|j| list[layout::place(height, i, j)])).collect()
 }
 
 /// The ids of the counted records of a circuit's list.
 pub fn ids(table: &[u64], count: usize) -> Vec<u64> {
-    table.chunks_exact(size(false)).take(count).map(|c| c[5]).collect()
+    let height = layout::height(table.len(), size(false));
+    (0..count).map(|i| table[layout::place(height, i, 5)]).collect()
 }
 
-/// A circuit's list of some records with their ids.
-pub fn table(records: &[Record], ids: &[u64]) -> Vec<u64> {
+/// A circuit's records with their ids, one behind the other.
+pub fn rows(records: &[Record], ids: &[u64]) -> Vec<u64> {
     records.iter().zip(ids).flat_map(|(&[kind, sort, a, b, c], &id)| [kind, sort, a, b, c, id]).collect()
 }
 
-/// A circuit's list of some records, with the ids 1, 2, 3.
-pub fn numbered(records: &[Record]) -> Vec<u64> {
-    table(records, &(1..=records.len() as u64).collect::<Vec<u64>>())
+/// A circuit's records with the ids 1, 2, 3, one behind the other.
+fn numbered_rows(records: &[Record]) -> Vec<u64> {
+    rows(records, &(1..=records.len() as u64).collect::<Vec<u64>>())
 }
 
-/// Puts words at the front of a cleared list.
-pub fn store(words: &[u64], target: &mut [u64]) {
-    target[..words.len()].copy_from_slice(words);
+/// A list in columns that has room for just some records, given one behind the other.
+pub fn columns(rows: &[u64], program: bool) -> Vec<u64> {
+    layout::spread(rows, rows.len(), size(program))
+}
+
+/// The list of a circuit of some records, with the ids 1, 2, 3.
+pub fn numbered(records: &[Record]) -> Vec<u64> {
+    columns(&numbered_rows(records), false)
+}
+
+/// The list of a program of some records.
+pub fn program_list(records: &[Record]) -> Vec<u64> {
+    columns(&records.concat(), true)
+}
+
+/// Puts records, given one behind the other, into a cleared list.
+pub fn store(rows: &[u64], target: &mut [u64], program: bool) {
+    layout::put(rows, target, size(program));
 }
 
 /// Whether a list may hold records.

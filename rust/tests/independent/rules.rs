@@ -2,7 +2,7 @@
 //! 10 (second init or next, the init rule), the ids, and the checks 11 and 20.
 
 use super::kinds::{is_value, row, Place};
-use super::{ids, records, room, Record, MOST_ID};
+use super::{columns, ids, records, room, Record, MOST_ID};
 
 #[derive(Clone, Copy, PartialEq, Eq, Debug)]
 pub enum Sort {
@@ -71,13 +71,18 @@ impl Lines {
         self.ids.binary_search(&id).map_or(0, |i| i as u64 + 1)
     }
 
-    /// The words of the lines in a circuit's list, or in a program's.
-    pub fn words(&self) -> Vec<u64> {
+    /// The records of the lines one behind the other, a circuit's with their ids.
+    pub fn rows(&self) -> Vec<u64> {
         if self.program {
             self.records.concat()
         } else {
-            super::table(&self.records, &self.ids)
+            super::rows(&self.records, &self.ids)
         }
+    }
+
+    /// The words of a list in columns that has room for just these lines.
+    pub fn words(&self) -> Vec<u64> {
+        columns(&self.rows(), self.program)
     }
 
     /// The sort of a sort line or value line that is known to exist.

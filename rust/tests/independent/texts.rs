@@ -180,7 +180,7 @@ pub fn read(text: &[u8], table: &mut [u64], answer: &mut [u64]) -> u64 {
             }
         }
     }
-    store(&known.words(), table);
+    store(&known.rows(), table, false);
     answer[0] = known.records.len() as u64;
     0
 }

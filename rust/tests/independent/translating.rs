@@ -89,7 +89,7 @@ pub fn translate(table: &[u64], count: usize, target: &mut [u64], answer: &mut [
     if program.len() > room(target, true) {
         return 12;
     }
-    store(&program.concat(), target);
+    store(&program.concat(), target, true);
     answer[0] = program.len() as u64;
     0
 }
