@@ -108,7 +108,7 @@ pub fn put_line(table: &mut [u64], i: usize, rec: [u64; WORDS], id: u64)
     table[WORDS * h + i] = id;
 }
 
-// How far apart the rows of words of a list of records stand, and how far apart the words of a row.
+// How far apart neighbouring records of a list stand, and neighbouring words of a record.
 pub struct Strides {
     pub row: usize,
     pub word: usize,
