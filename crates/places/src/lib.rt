@@ -6,7 +6,6 @@ use records::notes;
 use records::notes::BYTES;
 use tables::Checked;
 use tables::Ty;
-use tables::WORDS;
 ghost use mathlib.Core.Path.{_≡_};
 ghost use mathlib.Core.List.{List, _++_};
 ghost use Prim.Native.Nat.{ℕ, _≤_, _+_, _<_};
@@ -28,12 +27,11 @@ fn cells_of(y: Ty) -> usize
     1 << y.iw
 }
 
-// The counts after a line of m cells.
-fn count_line(rec: [u64; WORDS], m: usize, t: Totals) -> Totals
+// The counts after a line of the kind k that has m cells.
+fn count_line(k: u64, m: usize, t: Totals) -> Totals
     requires { ⌜ Small (countsOf t) m ⌝ }
-    ensures { λ r. ⌜ r ≡ totalsOf (countsAfter (countsOf t) m (lineOf rec)) ⌝ }
+    ensures { λ r. ⌜ ((rec : List ℕ) → k ≡ kindIn rec → r ≡ totalsOf (countsAfter (countsOf t) m (lineOf rec))) ⌝ }
 {
-    let k = rec[0];
     match k {
         4 => Totals {
             cells: t.cells + m,
@@ -71,11 +69,10 @@ fn more_cells(m: usize, t: Totals) -> Totals
     }
 }
 
-// The place of a line after those counted.
-fn find_spot(rec: [u64; WORDS], t: Totals) -> Spot
-    ensures { λ r. ⌜ r ≡ spotBy (countsOf t) (lineOf rec) ⌝ }
+// The place of a line of the kind k after those counted.
+fn find_spot(k: u64, t: Totals) -> Spot
+    ensures { λ r. ⌜ ((rec : List ℕ) → k ≡ kindIn rec → r ≡ spotBy (countsOf t) (lineOf rec)) ⌝ }
 {
-    let k = rec[0];
     match k {
         4 => Spot {
             off: t.cells,
@@ -129,15 +126,14 @@ pub fn lay_out(
         inputs: 0,
         signals: 0,
     };
-    let h = records::step(program, table.len());
     let mut i: usize = 0;
     while i < count {
-        let rec = records::record(program, table, h, i);
+        let k = records::kind(program, table, i);
         let y = notes::look(notes, (i + 1) as u64);
         let m = cells_of(y);
-        let s = find_spot(rec, t);
+        let s = find_spot(k, t);
         put_line(laid, i + 1, s, m, y.w);
-        t = count_line(rec, m, t);
+        t = count_line(k, m, t);
         i += 1;
     }
     t
