@@ -45,32 +45,32 @@ place-by Y Line.unknown = refl
 
 -- ---- by the kind
 
--- the counts after a record's line, and its place
+-- the counts after a record's line, and its place; the record is known by its kind alone
 pub record Way (c : Counts) (m : ℕ) (r : List ℕ) (d : Counts) (q : Spot) : Type 0 where
   pub count : d ≡ countsAfter c m (lineOf r)
   pub spot : q ≡ spotBy c (lineOf r)
 
-module _ (r : List ℕ) (c : Counts) (m : ℕ) where
-  way-as : (S : Shape) → shapeOf (kindIn r) ≡ S → {d : Counts} {q : Spot} → d ≡ countsAfter c m (build S (kindIn r) (sortIn r) (firstIn r) (secondIn r) (thirdIn r))
+module _ (r : List ℕ) {kind : ℕ} (e : kind ≡ kindIn r) (c : Counts) (m : ℕ) where
+  way-as : (S : Shape) → shapeOf kind ≡ S → {d : Counts} {q : Spot} → d ≡ countsAfter c m (build S (kindIn r) (sortIn r) (firstIn r) (secondIn r) (thirdIn r))
       → q ≡ spotBy c (build S (kindIn r) (sortIn r) (firstIn r) (secondIn r) (thirdIn r)) → Way c m r d q
-  way-as S e hd hq = record { count = hd ∙ ap (countsAfter c m) (sym (line-as r S e)); spot = hq ∙ ap (spotBy c) (sym (line-as r S e)) }
+  way-as S s hd hq = let l = sym (line-as r S (ap shapeOf (sym e) ∙ s)) in record { count = hd ∙ ap (countsAfter c m) l; spot = hq ∙ ap (spotBy c) l }
 
-  pub way-input : kindIn r ≡ 4 → Way c m r (counting (c .cells + m) (c .states) (c .inputs + 1) (c .signals)) (spot (c .cells) (c .inputs))
+  pub way-input : kind ≡ 4 → Way c m r (counting (c .cells + m) (c .states) (c .inputs + 1) (c .signals)) (spot (c .cells) (c .inputs))
   way-input k = way-as isInput (ap shapeOf k) (ap (λ (n : ℕ). counting (c .cells + m) (c .states) n (c .signals)) (add-one (c .inputs))) refl
 
-  pub way-state : kindIn r ≡ 5 → Way c m r (counting (c .cells + m) (c .states + m) (c .inputs) (c .signals)) (spot (c .cells) (c .states))
+  pub way-state : kind ≡ 5 → Way c m r (counting (c .cells + m) (c .states + m) (c .inputs) (c .signals)) (spot (c .cells) (c .states))
   way-state k = way-as isState (ap shapeOf k) refl refl
 
-  pub way-const : kindIn r ≡ 3 → Way c m r (counting (c .cells + m) (c .states) (c .inputs) (c .signals)) (spot (c .cells) 0)
+  pub way-const : kind ≡ 3 → Way c m r (counting (c .cells + m) (c .states) (c .inputs) (c .signals)) (spot (c .cells) 0)
   way-const k = way-as isConst (ap shapeOf k) refl refl
 
-  pub way-signal : 8 ≤ kindIn r → kindIn r < 10 → Way c m r (counting (c .cells) (c .states) (c .inputs) (c .signals + 1)) (spot 0 (c .signals))
-  way-signal h l = go (shapeOf (kindIn r)) refl (kind-of (kindIn r))
+  pub way-signal : 8 ≤ kind → kind < 10 → Way c m r (counting (c .cells) (c .states) (c .inputs) (c .signals + 1)) (spot 0 (c .signals))
+  way-signal h l = go (shapeOf kind) refl (kind-of kind)
     where
       bump : counting (c .cells) (c .states) (c .inputs) (c .signals + 1) ≡ counting (c .cells) (c .states) (c .inputs) (suc (c .signals))
       bump = ap (counting (c .cells) (c .states) (c .inputs)) (add-one (c .signals))
 
-      go : (S : Shape) → shapeOf (kindIn r) ≡ S → KindOf S (kindIn r) → Way c m r (counting (c .cells) (c .states) (c .inputs) (c .signals + 1)) (spot 0 (c .signals))
+      go : (S : Shape) → shapeOf kind ≡ S → KindOf S kind → Way c m r (counting (c .cells) (c .states) (c .inputs) (c .signals + 1)) (spot 0 (c .signals))
       go isBitvec e k = absurd (omega arith)
       go isArray e k = absurd (omega arith)
       go isConst e k = absurd (omega arith)
@@ -83,17 +83,17 @@ module _ (r : List ℕ) (c : Counts) (m : ℕ) where
       go isIte e k = absurd (omega arith)
       go isRead e k = absurd (omega arith)
       go isWrite e k = absurd (omega arith)
-      go isUnknown e k = absurd (no-unknown (kindIn r) (omega arith) (omega arith) e)
+      go isUnknown e k = absurd (no-unknown kind (omega arith) (omega arith) e)
       go (isInitOrNext true) e k = absurd (omega arith)
       go (isInitOrNext false) e k = absurd (omega arith)
       go (isSignal n) e k = way-as (isSignal n) e bump refl
       go (isEquality true) e k = absurd (omega arith)
       go (isEquality false) e k = absurd (omega arith)
 
-  pub way-value : 11 ≤ kindIn r → kindIn r < 57 → Way c m r (counting (c .cells + m) (c .states) (c .inputs) (c .signals)) (spot (c .cells) 0)
-  way-value h l = go (shapeOf (kindIn r)) refl (kind-of (kindIn r))
+  pub way-value : 11 ≤ kind → kind < 57 → Way c m r (counting (c .cells + m) (c .states) (c .inputs) (c .signals)) (spot (c .cells) 0)
+  way-value h l = go (shapeOf kind) refl (kind-of kind)
     where
-      go : (S : Shape) → shapeOf (kindIn r) ≡ S → KindOf S (kindIn r) → Way c m r (counting (c .cells + m) (c .states) (c .inputs) (c .signals)) (spot (c .cells) 0)
+      go : (S : Shape) → shapeOf kind ≡ S → KindOf S kind → Way c m r (counting (c .cells + m) (c .states) (c .inputs) (c .signals)) (spot (c .cells) 0)
       go isBitvec e k = absurd (omega arith)
       go isArray e k = absurd (omega arith)
       go isConst e k = absurd (omega arith)
@@ -105,17 +105,17 @@ module _ (r : List ℕ) (c : Counts) (m : ℕ) where
       go isIte e k = way-as isIte e refl refl
       go isRead e k = way-as isRead e refl refl
       go isWrite e k = way-as isWrite e refl refl
-      go isUnknown e k = absurd (no-unknown (kindIn r) (omega arith) (omega arith) e)
+      go isUnknown e k = absurd (no-unknown kind (omega arith) (omega arith) e)
       go (isInitOrNext true) e k = absurd (omega arith)
       go (isInitOrNext false) e k = absurd (omega arith)
       go (isSignal true) e k = absurd (omega arith)
       go (isSignal false) e k = absurd (omega arith)
       go (isEquality b) e k = way-as (isEquality b) e refl refl
 
-  pub way-none : (kindIn r ≡ 3 → ⊥) → (kindIn r ≡ 4 → ⊥) → (kindIn r ≡ 5 → ⊥) → (8 ≤ kindIn r → kindIn r ≤ 9 → ⊥) → (11 ≤ kindIn r → kindIn r ≤ 56 → ⊥) → Way c m r c noSpot
-  way-none n₃ n₄ n₅ n₈ n₁ = go (shapeOf (kindIn r)) refl (kind-of (kindIn r))
+  pub way-none : (kind ≡ 3 → ⊥) → (kind ≡ 4 → ⊥) → (kind ≡ 5 → ⊥) → (8 ≤ kind → kind ≤ 9 → ⊥) → (11 ≤ kind → kind ≤ 56 → ⊥) → Way c m r c noSpot
+  way-none n₃ n₄ n₅ n₈ n₁ = go (shapeOf kind) refl (kind-of kind)
     where
-      go : (S : Shape) → shapeOf (kindIn r) ≡ S → KindOf S (kindIn r) → Way c m r c noSpot
+      go : (S : Shape) → shapeOf kind ≡ S → KindOf S kind → Way c m r c noSpot
       go isBitvec e k = way-as isBitvec e refl refl
       go isArray e k = way-as isArray e refl refl
       go isConst e k = absurd (n₃ k)
@@ -270,20 +270,20 @@ place-small c m Line.unknown s = (omega arith, omega arith)
 
 -- ---- the marks of the signals
 
-module _ (r : List ℕ) where
-  mark-as : (S : Shape) → shapeOf (kindIn r) ≡ S → badMark (build S (kindIn r) (sortIn r) (firstIn r) (secondIn r) (thirdIn r)) ≡ badMark (lineOf r)
-  mark-as S e = ap badMark (sym (line-as r S e))
+module _ (r : List ℕ) {kind : ℕ} (e : kind ≡ kindIn r) where
+  mark-as : (S : Shape) → shapeOf kind ≡ S → badMark (build S (kindIn r) (sortIn r) (firstIn r) (secondIn r) (thirdIn r)) ≡ badMark (lineOf r)
+  mark-as S s = ap badMark (sym (line-as r S (ap shapeOf (sym e) ∙ s)))
 
-  pub mark-bad : kindIn r ≡ 8 → 1 ∷ [] ≡ badMark (lineOf r)
+  pub mark-bad : kind ≡ 8 → 1 ∷ [] ≡ badMark (lineOf r)
   mark-bad k = mark-as (isSignal true) (ap shapeOf k)
 
-  pub mark-constraint : kindIn r ≡ 9 → 0 ∷ [] ≡ badMark (lineOf r)
+  pub mark-constraint : kind ≡ 9 → 0 ∷ [] ≡ badMark (lineOf r)
   mark-constraint k = mark-as (isSignal false) (ap shapeOf k)
 
-  pub mark-none : (kindIn r ≡ 8 → ⊥) → (kindIn r ≡ 9 → ⊥) → [] ≡ badMark (lineOf r)
-  mark-none n₈ n₉ = go (shapeOf (kindIn r)) refl (kind-of (kindIn r))
+  pub mark-none : (kind ≡ 8 → ⊥) → (kind ≡ 9 → ⊥) → [] ≡ badMark (lineOf r)
+  mark-none n₈ n₉ = go (shapeOf kind) refl (kind-of kind)
     where
-      go : (S : Shape) → shapeOf (kindIn r) ≡ S → KindOf S (kindIn r) → [] ≡ badMark (lineOf r)
+      go : (S : Shape) → shapeOf kind ≡ S → KindOf S kind → [] ≡ badMark (lineOf r)
       go isBitvec e k = mark-as isBitvec e
       go isArray e k = mark-as isArray e
       go isConst e k = mark-as isConst e

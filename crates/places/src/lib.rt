@@ -10,7 +10,7 @@ ghost use mathlib.Core.Path.{_≡_};
 ghost use mathlib.Core.List.{List, _++_};
 ghost use Prim.Native.Nat.{ℕ, _≤_, _+_, _<_};
 ghost use lib.ListN.{length, set, take};
-ghost use Rattle.circuits.specs.Layout.{size, countsAfter, layout};
+ghost use Rattle.circuits.specs.Layout.{counting, size, countsAfter, layout};
 ghost use Rattle.tables.specs.Lines.{lineOf, kindIn};
 ghost use Rattle.circuits.specs.Model.Work.{laidAs};
 ghost use Rattle.circuits.specs.Model.Places.{ShowsAll};
@@ -57,9 +57,10 @@ fn count_line(k: u64, m: usize, t: Totals) -> Totals
     }
 }
 
+// The counts with m cells more.
 fn more_cells(m: usize, t: Totals) -> Totals
     requires { ⌜ t .cells + m < 4294967296 ⌝ }
-    ensures { λ r. ⌜ (r .cells ≡ t .cells + m) × ((r .states ≡ t .states) × ((r .inputs ≡ t .inputs) × (r .signals ≡ t .signals))) ⌝ }
+    ensures { λ r. ⌜ r ≡ totalsOf (counting (t .cells + m) (t .states) (t .inputs) (t .signals)) ⌝ }
 {
     Totals {
         cells: t.cells + m,

@@ -106,7 +106,10 @@ same-length : tie.Need-same-length Inv-loop μ-loop
 same-length c = c .before .loop .inv .long ∙ sym (c .before .before .before .before .before .before .pre .1)
 
 returns : tie.Need-returns Inv-loop μ-loop
-returns c = let s = c .before .before .before .before .before .before .args in laid (s .program) (s .table .now) (s .count) (s .notes .now) (c .before .before .before .before .before .before .pre .0) (c .loop-test .left) (c .before .loop .inv)
+returns c =
+    let s = c .before .before .before .before .before .before in
+    let a = s .args in
+    laid (a .program) (a .table .now) (a .count) (a .notes .now) (s .pre .0) (c .loop-test .left) (c .before .loop .inv)
 
 pub lay-out-spec : {M : Type 1} → statement M
 lay-out-spec =
