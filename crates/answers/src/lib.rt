@@ -29,7 +29,7 @@ pub fn tell(answer: &mut [u64], a: u64, b: u64, c: u64)
     answer[2] = c;
 }
 
-// What reading, writing, flattening and translating tell.
+// What reading, writing, flattening, translating and the conversions tell.
 pub fn tell_count(r: Answer, answer: &mut [u64]) -> u64
     requires { ⌜ length (now answer) ≡ 3 ⌝ }
     ensures { λ n. ⌜ ((left : List (List ℕ)) → tells n (now (answer .exit)) left ≡ told r left) ⌝ }
