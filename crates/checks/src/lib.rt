@@ -85,8 +85,8 @@ pub fn note(program: bool, rec: [u64; WORDS], n: u64, notes: &mut [[u8; BYTES]])
 {
     let y = type_in(program, rec, notes);
     notes::put_type(notes, n, y);
-    notes::mark(true, 6, rec, notes);
-    notes::mark(false, 7, rec, notes);
+    notes::flag(true, 6, rec, notes);
+    notes::flag(false, 7, rec, notes);
 }
 
 // The record breaks no rule after the lines noted.

@@ -1,18 +1,16 @@
--- The cells of a line come from those of earlier lines. A line whose cone holds no input and no state has the same cells in every walk, so the state words that a run starts from depend on no input. Assumes nothing.
+-- The cells of a line come from those of earlier lines. A line without the mark, whose cone holds no input and no state, has the same cells in every walk, so the state words that a run starts from depend on no input. Assumes nothing.
 use Prim.Native.Nat.{ℕ, suc, _+_, _≤_, _<_}
 use mathlib.Core.Path.{_≡_, refl, sym, ap, ap₂, _∙_}
-use mathlib.Core.Bool.{Bool, true, false, _&&_}
+use mathlib.Core.Bool.{Bool, true, false, _||_, true≢false}
 use mathlib.Core.List.{List, [], _∷_, _++_}
 use native.Mathlib.Omega.{arith}
 use lib.ListN.{length, take, drop, getD, set, replicate, length-append, take-append-drop, List·getD-append}
 use lib.Seq.{getD-at, length-take-le}
-use borrow.Author.Tests.{eqb-true}
 use Rattle.words.specs.Word.{bit}
 use Rattle.tables.specs.declared.Ty.{Ty}
-use Rattle.tables.specs.Pick.{pick}
 use Rattle.tables.specs.Lines.{Line, Expr}
-use Rattle.tables.specs.Types.{noTy, isFixed, noCtx, tyAt, given}
-use Rattle.tables.proofs.Kept.{both}
+use Rattle.tables.specs.Types.{noTy, marked, lineType, noCtx, tyAt, given}
+use Rattle.tables.proofs.Values.{role-mark}
 use Rattle.tables.proofs.Showing.{by-place, snoc-other}
 use Rattle.tables.proofs.Facts.{Ok, AllOk}
 use Rattle.circuits.specs.Cells.{ifNonzero, eqOrNeq, sameCells, part, put}
@@ -53,77 +51,59 @@ module _ (p f : Bool) (C : List Line) (σ ι : List ℕ) where
       cells-first (suc i) (suc i) (omega arith) (omega arith) ∙ ap (λ (B : Frame). cellsAt B (suc i)) (acc-suc p f σ ι C i h)
       ∙ getD-at (A .env) (cellsOf p f σ ι A l) [] [] (suc i) (long i (omega arith))
 
--- ---- lines whose cones hold no input and no state have the same cells in every walk
+-- ---- lines without the mark, whose cones hold no input and no state, have the same cells in every walk
 
--- the operands' cones hold no input and no state
-abbrev fixedBy : (ℕ → Ty) → Expr → Bool
-fixedBy L (Expr.const v) = true
-fixedBy L (Expr.unary k a x y) = isFixed (L a)
-fixedBy L (Expr.binary k a b) = isFixed (L a) && isFixed (L b)
-fixedBy L (Expr.equality e a b) = isFixed (L a) && isFixed (L b)
-fixedBy L (Expr.ite c a b) = isFixed (L c) && (isFixed (L a) && isFixed (L b))
-fixedBy L (Expr.read a i) = isFixed (L a) && isFixed (L i)
-fixedBy L (Expr.write a i v) = isFixed (L a) && (isFixed (L i) && isFixed (L v))
+-- a value's operands are not marked where it is not
+record Two (a b : Bool) : Type 0 where
+  first : a ≡ false
+  second : b ≡ false
+
+neither : (a b : Bool) → (a || b) ≡ false → Two a b
+neither true b e = absurd (true≢false e)
+neither false b e = record { first = refl; second = e }
 
 -- the cells of an expression, by those of its operands
-module _ (p : Bool) (W : ℕ → ℕ) (L : ℕ → Ty) (X Y : ℕ → List ℕ) (alike : (a : ℕ) → L a .role ≡ 2 → X a ≡ Y a) where
-  fixed : (a : ℕ) → isFixed (L a) ≡ true → X a ≡ Y a
-  fixed a e = alike a (eqb-true (L a .role) 2 e)
+module _ (p : Bool) (W : ℕ → ℕ) (L : ℕ → Ty) (X Y : ℕ → List ℕ) (alike : (a : ℕ) → marked (L a) ≡ false → X a ≡ Y a) where
+  word : (a : ℕ) → marked (L a) ≡ false → getD (X a) 0 0 ≡ getD (Y a) 0 0
+  word a e = ap (λ (l : List ℕ). getD l 0 0) (alike a e)
 
-  word : (a : ℕ) → isFixed (L a) ≡ true → getD (X a) 0 0 ≡ getD (Y a) 0 0
-  word a e = ap (λ (l : List ℕ). getD l 0 0) (fixed a e)
-
-  pub expr-alike : (e : Expr) → fixedBy L e ≡ true → cellsE p W (λ a. getD (X a) 0 0) X e ≡ cellsE p W (λ a. getD (Y a) 0 0) Y e
-  expr-alike (Expr.const v) q = refl
-  expr-alike (Expr.unary k a x y) q = ap (λ (v : ℕ). opWord p k (W a) 64 v x y ∷ []) (word a q)
-  expr-alike (Expr.binary k a b) q =
-      let h = both (isFixed (L a)) _ q in
-      ap₂ (λ (v w : ℕ). opWord p k (W a) (W b) v w 0 ∷ []) (word a (h .0)) (word b (h .1))
-  expr-alike (Expr.equality e a b) q =
-      let h = both (isFixed (L a)) _ q in
-      ap₂ (λ (v w : List ℕ). bit (eqOrNeq e (sameCells v w)) ∷ []) (fixed a (h .0)) (fixed b (h .1))
-  expr-alike (Expr.ite c a b) q =
-      let h = both (isFixed (L c)) _ q in
-      let k = both (isFixed (L a)) _ (h .1) in
-      ap (λ (n : ℕ). ifNonzero n (X a) (X b)) (word c (h .0)) ∙ ap₂ (ifNonzero (getD (Y c) 0 0)) (fixed a (k .0)) (fixed b (k .1))
-  expr-alike (Expr.read a i) q =
-      let h = both (isFixed (L a)) _ q in
-      ap₂ (λ (l : List ℕ) (n : ℕ). getD l n 0 ∷ []) (fixed a (h .0)) (word i (h .1))
-  expr-alike (Expr.write a i v) q =
-      let h = both (isFixed (L a)) _ q in
-      let k = both (isFixed (L i)) _ (h .1) in
-      ap₂ (λ (l : List ℕ) (n : ℕ). set l n (getD (X v) 0 0)) (fixed a (h .0)) (word i (k .0)) ∙ ap (set (Y a) (getD (Y i) 0 0)) (word v (k .1))
-
--- a fixed value line has such operands
-fixed-two : (b : Bool) → _≡_ {A = ℕ} (pick b 2 3) 2 → b ≡ true
-fixed-two true e = refl
-fixed-two false e = absurd (omega arith)
-
-val-fixed : (p : Bool) (Y : Layout) (s : ℕ) (e : Expr) → lineTypeIn p Y (Line.value s e) .role ≡ 2 → fixedBy (tyAt (Y .ctx)) e ≡ true
-val-fixed p Y s (Expr.const v) q = refl
-val-fixed p Y s (Expr.unary k a x y) q = fixed-two _ q
-val-fixed p Y s (Expr.binary k a b) q = fixed-two _ q
-val-fixed p Y s (Expr.equality e a b) q = fixed-two _ q
-val-fixed p Y s (Expr.ite c a b) q = fixed-two _ q
-val-fixed p Y s (Expr.read a i) q = fixed-two _ q
-val-fixed p Y s (Expr.write a i v) q = fixed-two _ q
+  pub expr-alike : (s : ℕ) (e : Expr) → marked (lineType p L (Line.value s e)) ≡ false → cellsE p W (λ a. getD (X a) 0 0) X e ≡ cellsE p W (λ a. getD (Y a) 0 0) Y e
+  expr-alike s (Expr.const v) q = refl
+  expr-alike s (Expr.unary k a x y) q = ap (λ (v : ℕ). opWord p k (W a) 64 v x y ∷ []) (word a (sym (role-mark _) ∙ q))
+  expr-alike s (Expr.binary k a b) q =
+      let h = neither (marked (L a)) _ (sym (role-mark _) ∙ q) in
+      ap₂ (λ (v w : ℕ). opWord p k (W a) (W b) v w 0 ∷ []) (word a (h .first)) (word b (h .second))
+  expr-alike s (Expr.equality e a b) q =
+      let h = neither (marked (L a)) _ (sym (role-mark _) ∙ q) in
+      ap₂ (λ (v w : List ℕ). bit (eqOrNeq e (sameCells v w)) ∷ []) (alike a (h .first)) (alike b (h .second))
+  expr-alike s (Expr.ite c a b) q =
+      let h = neither (marked (L c)) _ (sym (role-mark _) ∙ q) in
+      let k = neither (marked (L a)) _ (h .second) in
+      ap (λ (n : ℕ). ifNonzero n (X a) (X b)) (word c (h .first)) ∙ ap₂ (ifNonzero (getD (Y c) 0 0)) (alike a (k .first)) (alike b (k .second))
+  expr-alike s (Expr.read a i) q =
+      let h = neither (marked (L a)) _ (sym (role-mark _) ∙ q) in
+      ap₂ (λ (l : List ℕ) (n : ℕ). getD l n 0 ∷ []) (alike a (h .first)) (word i (h .second))
+  expr-alike s (Expr.write a i v) q =
+      let h = neither (marked (L a)) _ (sym (role-mark _) ∙ q) in
+      let k = neither (marked (L i)) _ (h .second) in
+      ap₂ (λ (l : List ℕ) (n : ℕ). set l n (getD (X v) 0 0)) (alike a (h .first)) (word i (k .first)) ∙ ap (set (Y a) (getD (Y i) 0 0)) (word v (k .second))
 
 -- two walks over the same lines
 pub record Alike (A B : Frame) : Type 0 where
   pub lay : A .lay ≡ B .lay
   pub longA : length (A .env) ≡ length (A .lay .ctx .tys)
   pub longB : length (B .env) ≡ length (B .lay .ctx .tys)
-  pub cells : (a : ℕ) → typeAt (A .lay) a .role ≡ 2 → cellsAt A a ≡ cellsAt B a
+  pub cells : (a : ℕ) → marked (typeAt (A .lay) a) ≡ false → cellsAt A a ≡ cellsAt B a
 
 module _ (p f f′ : Bool) (σ σ′ ι ι′ : List ℕ) where
-  cells-alike : (A B : Frame) → Alike A B → (l : Line) → lineTypeIn p (A .lay) l .role ≡ 2 → cellsOf p f σ ι A l ≡ cellsOf p f′ σ′ ι′ B l
+  cells-alike : (A B : Frame) → Alike A B → (l : Line) → marked (lineTypeIn p (A .lay) l) ≡ false → cellsOf p f σ ι A l ≡ cellsOf p f′ σ′ ι′ B l
   cells-alike A B k (Line.bitvec w) q = refl
   cells-alike A B k (Line.array i e) q = refl
-  cells-alike A B k (Line.input s) q = absurd (omega arith)
-  cells-alike A B k (Line.state s) q = absurd (omega arith)
+  cells-alike A B k (Line.input s) q = absurd (true≢false q)
+  cells-alike A B k (Line.state s) q = absurd (true≢false q)
   cells-alike A B k (Line.value s e) q =
       ap (λ (Y : Layout). cellsE p (λ a. typeAt Y a .w) (wordAt A) (cellsAt A) e) (k .lay)
-      ∙ expr-alike p (widthAt B) (tyAt (A .lay .ctx)) (cellsAt A) (cellsAt B) (k .cells) e (val-fixed p (A .lay) s e q)
+      ∙ expr-alike p (widthAt B) (tyAt (A .lay .ctx)) (cellsAt A) (cellsAt B) (k .cells) s e q
   cells-alike A B k (Line.initOrNext m s x v) q = refl
   cells-alike A B k (Line.signal m a) q = refl
   cells-alike A B k (Line.output a) q = refl
@@ -141,11 +121,11 @@ module _ (p f f′ : Bool) (σ σ′ ι ι′ : List ℕ) where
         cells = λ a.
             by-place a n
             (λ e q.
-            let t : lineTypeIn p (A .lay) l .role ≡ 2 = sym (ap (λ (i : ℕ). typeAt (lay p (A .lay) l) i .role) e ∙ ap (λ (t : Ty). t .role) new) ∙ q in
+            let t : marked (lineTypeIn p (A .lay) l) ≡ false = sym (ap (λ (i : ℕ). marked (typeAt (lay p (A .lay) l) i)) e ∙ ap marked new) ∙ q in
             ap (λ (i : ℕ). getD (A .env ++ (cellsOf p f σ ι A l ∷ [])) i []) e ∙ getD-at (A .env) (cellsOf p f σ ι A l) [] [] n (k .longA) ∙ cells-alike A B k l t
             ∙ sym (ap (λ (i : ℕ). getD (B .env ++ (cellsOf p f′ σ′ ι′ B l ∷ [])) i []) e ∙ getD-at (B .env) (cellsOf p f′ σ′ ι′ B l) [] [] n eb))
             (λ e q.
-            let t : typeAt (A .lay) a .role ≡ 2 = sym (ap (λ (t : Ty). t .role) (snoc-other (A .lay .ctx .tys) (lineTypeIn p (A .lay) l) noTy a e)) ∙ q in
+            let t : marked (typeAt (A .lay) a) ≡ false = sym (ap marked (snoc-other (A .lay .ctx .tys) (lineTypeIn p (A .lay) l) noTy a e)) ∙ q in
             snoc-other (A .env) (cellsOf p f σ ι A l) [] a (λ x. e (x ∙ k .longA)) ∙ k .cells a t ∙ sym (snoc-other (B .env) (cellsOf p f′ σ′ ι′ B l) [] a (λ x. e (x ∙ eb))));
       }
 
@@ -154,11 +134,11 @@ module _ (p f f′ : Bool) (σ σ′ ι ι′ : List ℕ) where
   all-alike A B (l ∷ C) k = all-alike (evalLine p f σ ι A l) (evalLine p f′ σ′ ι′ B l) C (line-alike A B l k)
 
   -- an init value is the same as the run starts and at every step
-  pub fixed-alike : (C : List Line) (a : ℕ) → typeAt (layout p C) a .role ≡ 2 → cellsAt (step p f C σ ι) a ≡ cellsAt (step p f′ C σ′ ι′) a
+  pub unmarked-alike : (C : List Line) (a : ℕ) → marked (typeAt (layout p C) a) ≡ false → cellsAt (step p f C σ ι) a ≡ cellsAt (step p f′ C σ′ ι′) a
   unfolding step layout
-  fixed-alike C a q =
+  unmarked-alike C a q =
       let k = all-alike noFrame noFrame C (record { lay = refl; longA = refl; longB = refl; cells = λ x e. refl }) in
-      k .cells a (ap (λ (Y : Layout). typeAt Y a .role) (acc-lay p f σ ι noFrame C) ∙ q)
+      k .cells a (ap (λ (Y : Layout). marked (typeAt Y a)) (acc-lay p f σ ι noFrame C) ∙ q)
 
 -- ---- the state words that a run starts from depend on no input
 
@@ -167,7 +147,7 @@ module _ (p : Bool) (σ ι ι′ : List ℕ) where
       → statesAfter p true σ A (Line.initOrNext m s q v) ≡ statesAfter p true σ B (Line.initOrNext m s q v)
   init-next-alike A B k e true s q v ok =
       ap₂ (λ (x : List ℕ) (Y : Layout). put x (placeAt Y q) (replicate (size (typeAt Y q)) (wordAt A v))) e (k .lay)
-      ∙ ap (λ (x : List ℕ). put (B .sts) (placeAt (B .lay) q) (replicate (size (typeAt (B .lay) q)) (getD x 0 0))) (k .cells v (ok .value .fixed))
+      ∙ ap (λ (x : List ℕ). put (B .sts) (placeAt (B .lay) q) (replicate (size (typeAt (B .lay) q)) (getD x 0 0))) (k .cells v (ok .value .unmarked))
   init-next-alike A B k e false s q v ok = e
 
   sts-alike : (A B : Frame) → Alike A B → A .sts ≡ B .sts → (l : Line) → Ok p (tyAt (A .lay .ctx)) (given (A .lay .ctx)) l → statesAfter p true σ A l ≡ statesAfter p true σ B l

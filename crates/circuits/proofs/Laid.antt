@@ -1,18 +1,17 @@
 -- What is known of the layout of lines that keep the rules: widths, and that every value's cells, and every state's words, lie below what was counted. Assumes nothing.
 use Prim.Native.Nat.{ℕ, zero, suc, _+_, _*_, _≤_, _<_}
 use mathlib.Core.Path.{_≡_, refl, sym, ap, _∙_, subst}
-use mathlib.Core.Bool.{Bool, true, false}
+use mathlib.Core.Bool.{Bool}
 use mathlib.Core.List.{List, [], _∷_, _++_}
 use native.Mathlib.Omega.{arith}
 use lib.Pow.{pow-mono}
 use lib.ListN.{length, getD, take, length-append, List·getD-append}
 use lib.Seq.{getD-at}
 use Rattle.tables.specs.declared.Ty.{Ty}
-use Rattle.tables.specs.Pick.{pick}
-use Rattle.tables.specs.Lines.{Line, Expr, wordsOf, firstIn, secondIn, thirdIn}
-use Rattle.tables.specs.Types.{noTy, lineType, tyAt, given, fixedExpr}
+use Rattle.tables.specs.Lines.{Line, Expr}
+use Rattle.tables.specs.Types.{noTy, lineType, tyAt, given}
 use Rattle.tables.proofs.Showing.{snoc-other, by-place}
-use Rattle.tables.proofs.Values.{val-value}
+use Rattle.tables.proofs.Values.{val-value, val-most}
 use Rattle.tables.proofs.Wide.{AllWide, line-wide, grow-wide}
 use Rattle.tables.proofs.Facts.{Ok, AllOk}
 use Rattle.circuits.specs.Layout.{Counts, Layout, typeAt, placeAt, size, lineTypeIn, placeOf, countsAfter, noLayout, lay, layAll}
@@ -93,11 +92,7 @@ record New (t : Ty) (q : ℕ) (d : Counts) : Type 0 where
   room : t .role ≡ 4 → q + size t ≤ d .states
 
 pub not-four : (p : Bool) (L : ℕ → Ty) (s : ℕ) (e : Expr) → lineType p L (Line.value s e) .role ≡ 4 → ⊥
-not-four p L s e = let r = wordsOf (Line.value s e) in go (fixedExpr e (L (firstIn r)) (L (secondIn r)) (L (thirdIn r)))
-  where
-    go : (b : Bool) → _≡_ {A = ℕ} (pick b 2 3) 4 → ⊥
-    go true z = omega arith
-    go false z = omega arith
+not-four p L s e q = omega (arith, val-most p L s e)
 
 pub line-deep : (p : Bool) (Y : Layout) (l : Line) → AllWide (tyAt (Y .ctx)) → Ok p (tyAt (Y .ctx)) (given (Y .ctx)) l → lineTypeIn p Y l .iw ≤ 8
 line-deep p Y (Line.bitvec w) h ok = omega arith

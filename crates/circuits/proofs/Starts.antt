@@ -154,7 +154,7 @@ module _ (p : Bool) (S S′ ι : List ℕ) {all : ℕ} (total : ℕ) where
 
         eB : wordsSoFar (evalLine p true S′ ι B (Line.initOrNext true s q v)) S′ ≡ put (wordsSoFar B S′) o vs
         eB =
-            ap₂ (λ (Y : Layout) (x : ℕ). put (B .sts) (placeAt Y q) (replicate (size (typeAt Y q)) x) ++ drop (B .lay .counts .states) S′) (sym (a .lay)) (sym (ap (λ (x : List ℕ). getD x 0 0) (a .cells v (kA .ok .0 .value .fixed))))
+            ap₂ (λ (Y : Layout) (x : ℕ). put (B .sts) (placeAt Y q) (replicate (size (typeAt Y q)) x) ++ drop (B .lay .counts .states) S′) (sym (a .lay)) (sym (ap (λ (x : List ℕ). getD x 0 0) (a .cells v (kA .ok .0 .value .unmarked))))
             ∙ sym (put-front (B .sts) (drop (B .lay .counts .states) S′) o vs hB)
 
         same : (getD (wordsSoFar A S) j 0 ≡ getD (wordsSoFar B S′) j 0) ⊎ ((o ≤ j) × (j < o + length vs))

@@ -9,7 +9,7 @@ use Rattle.texts.specs.Forms.{formRow}
 use Rattle.texts.specs.Split.{split, upTo, tokens}
 use Rattle.texts.specs.Decimal.{digit, allIn, valueFrom, valued, scanned, decimal, digitsIn, digits, digitsF}
 use Rattle.texts.specs.Operands.{resolved}
-use Rattle.texts.specs.Reading.{findIn, wordIn, settled, lowest, readLine, readLines, readText}
+use Rattle.texts.specs.Reading.{findIn, wordIn, settled, lowest, readLine, readLinesBy, readTextBy}
 use Rattle.texts.specs.Writing.{writeFrom, writeText}
 use Rattle.flattening.specs.Flat.{flatten, flatRecords}
 use Rattle.flattening.specs.Answers.{flattened}
@@ -23,7 +23,7 @@ abbrev flat : String
 flat = "1 sort bitvec 1\n2 sort bitvec 3\n3 sort bitvec 1\n4 constd 1 0\n5 constd 1 1\n6 state 2\n7 state 2\n8 input 1\n9 constd 2 5\n10 eq 3 8 4\n11 ite 2 10 9 6\n12 eq 3 8 5\n13 ite 2 12 9 7\n14 next 2 6 11\n15 next 2 7 13\n16 eq 3 8 4\n17 ite 2 16 6 7\n18 eq 1 17 9\n19 bad 18\n"
 
 sample-asked : asked 7800 7800 (letters circuit) ≡ letters flat
-unfolding asked readText readLines readLine lowest settled resolved wordIn findIn formRow rowOf fault suits split upTo tokens decimal scanned valued digitsIn allIn valueFrom digit
+unfolding asked readTextBy readLinesBy readLine lowest settled resolved wordIn findIn formRow rowOf fault suits split upTo tokens decimal scanned valued digitsIn allIn valueFrom digit
     flattened checked flatten flatRecords filledBy writeText writeFrom digits digitsF
 sample-asked = refl
 
@@ -35,7 +35,7 @@ abbrev gaps : String
 gaps = "5 sort bitvec 1\n9 sort bitvec 3\n10 sort array 5 9\n40 state 10\n41 input 5\n50 constd 9 5\n70 write 10 40 41 50\n71 next 10 40 70 store\n90 read 9 40 41\n100 eq 5 90 50\n4294967295 bad 100\n"
 
 gaps-asked : asked 7800 7800 (letters gaps) ≡ letters flat
-unfolding asked readText readLines readLine lowest settled resolved wordIn findIn formRow rowOf fault suits split upTo tokens decimal scanned valued digitsIn allIn valueFrom digit
+unfolding asked readTextBy readLinesBy readLine lowest settled resolved wordIn findIn formRow rowOf fault suits split upTo tokens decimal scanned valued digitsIn allIn valueFrom digit
     flattened checked flatten flatRecords filledBy writeText writeFrom digits digitsF
 gaps-asked = refl
 
@@ -44,7 +44,7 @@ gaps-printed = flat-program (letters gaps) ∙ gaps-asked
 
 -- an unknown word in the second line of a text
 refused-asked : asked 7800 7800 (letters "; no record stands here\n1 sort float 8\n") ≡ letters "refused 5 2\n"
-unfolding asked readText readLines readLine lowest wordIn findIn formRow rowOf split upTo tokens decimal scanned valued allIn valueFrom digit digits digitsF
+unfolding asked readTextBy readLinesBy readLine lowest wordIn findIn formRow rowOf split upTo tokens decimal scanned valued allIn valueFrom digit digits digitsF
 refused-asked = refl
 
 pub refused-printed : printed 7800 7800 65536 (letters "; no record stands here\n1 sort float 8\n") ≡ letters "refused 5 2\n"

@@ -2,7 +2,7 @@
 -- values cs; `Ends A ls u p w v` says it of one line. Assumes nothing.
 use Prim.Native.Nat.{ℕ, zero, suc, _+_, _*_, _^_, _≤_, _<_}
 use mathlib.Core.Path.{_≡_, refl, sym, ap, _∙_, subst}
-use mathlib.Core.Bool.{Bool, true, false, _&&_}
+use mathlib.Core.Bool.{Bool, true, false, _||_}
 use mathlib.Core.List.{List, [], _∷_}
 use native.Mathlib.Omega.{arith}
 use lib.Dec.{T}
@@ -11,7 +11,7 @@ use Rattle.words.specs.Word.{bit}
 use Rattle.words.specs.Op.{opOf}
 use Rattle.words.specs.Circuit.{circ}
 use Rattle.tables.specs.Lines.{Line, value, const, binary, equality, ite}
-use Rattle.tables.specs.Types.{isFixed, given}
+use Rattle.tables.specs.Types.{marked, given}
 use Rattle.tables.specs.Rules.{fitsBinary}
 use Rattle.tables.proofs.Facts.{AllOk, Ok}
 use Rattle.tables.specs.Types.{tyAt}
@@ -121,11 +121,11 @@ module _ (f : Bool) (σ ι : List ℕ) where
   ite-word : {u : Bool} {A : Frame} {b s c p q w d x y : ℕ} → Even A → b ≡ length (A .env) → SortAt A s w → Word A u c 1 d → Word A u p w x → Word A u q w y
       → Word (ev1 f σ ι A (value s (ite c p q))) u b w (ifNonzero d x y)
   ite-word {A = A} {s = s} {c} {p} {q} {d = d} {x} {y} ev e hs hc hp hq =
-      let xc = isFixed (typeAt (A .lay) c) in
-      let xp = isFixed (typeAt (A .lay) p) in
-      let xq = isFixed (typeAt (A .lay) q) in
-      new-val f σ ι (xc && (xp && xq)) ev (value s (ite c p q)) e hs refl (rw (hc .cells, hp .cells, hq .cells) (choose-one d x y))
-      (λ z. join xc (xp && xq) (hc .fixed z) (join xp xq (hp .fixed z) (hq .fixed z)))
+      let xc = marked (typeAt (A .lay) c) in
+      let xp = marked (typeAt (A .lay) p) in
+      let xq = marked (typeAt (A .lay) q) in
+      new-val f σ ι (xc || (xp || xq)) ev (value s (ite c p q)) e hs refl (rw (hc .cells, hp .cells, hq .cells) (choose-one d x y))
+      (λ z. join xc (xp || xq) (hc .unmarked z) (join xp xq (hp .unmarked z) (hq .unmarked z)))
 
   ite-ok : {u : Bool} {A : Frame} {s c p q w d x y : ℕ} → SortAt A s w → Word A u c 1 d → Word A u p w x → Word A u q w y
       → Ok false (tyAt (A .lay .ctx)) (given (A .lay .ctx)) (value s (ite c p q))
@@ -143,9 +143,9 @@ module _ (f : Bool) (σ ι : List ℕ) where
   equality-word : {u : Bool} {A : Frame} {b s p q w x y : ℕ} (t : Bool) → Even A → b ≡ length (A .env) → SortAt A s 1 → Word A u p w x → Word A u q w y
       → Word (ev1 f σ ι A (value s (equality t p q))) u b 1 (bit (eqOrNeq t (sameCells (x ∷ []) (y ∷ []))))
   equality-word {A = A} {s = s} {p} {q} t ev e hs hp hq =
-      let xp = isFixed (typeAt (A .lay) p) in
-      let xq = isFixed (typeAt (A .lay) q) in
-      new-val f σ ι (xp && xq) ev (value s (equality t p q)) e hs refl (rw (hp .cells, hq .cells)) (λ z. join xp xq (hp .fixed z) (hq .fixed z))
+      let xp = marked (typeAt (A .lay) p) in
+      let xq = marked (typeAt (A .lay) q) in
+      new-val f σ ι (xp || xq) ev (value s (equality t p q)) e hs refl (rw (hp .cells, hq .cells)) (λ z. join xp xq (hp .unmarked z) (hq .unmarked z))
 
   equality-ok : {u : Bool} {A : Frame} {s p q w x y : ℕ} (t : Bool) → SortAt A s 1 → Word A u p w x → Word A u q w y
       → Ok false (tyAt (A .lay .ctx)) (given (A .lay .ctx)) (value s (equality t p q))
@@ -161,9 +161,9 @@ module _ (f : Bool) (σ ι : List ℕ) where
   join-word : {u : Bool} {A : Frame} {b s p q x y : ℕ} (t : Bool) → Even A → b ≡ length (A .env) → SortAt A s 1 → Word A u p 1 x → Word A u q 1 y
       → Word (ev1 f σ ι A (value s (binary (joinKind t) p q))) u b 1 (joinValue t x y)
   join-word {A = A} {s = s} {p} {q} t ev e hs hp hq =
-      let xp = isFixed (typeAt (A .lay) p) in
-      let xq = isFixed (typeAt (A .lay) q) in
-      new-val f σ ι (xp && xq) ev (value s (binary (joinKind t) p q)) e hs refl (rw (hp .cells, hq .cells, hp .wide, hq .wide)) (λ z. join xp xq (hp .fixed z) (hq .fixed z))
+      let xp = marked (typeAt (A .lay) p) in
+      let xq = marked (typeAt (A .lay) q) in
+      new-val f σ ι (xp || xq) ev (value s (binary (joinKind t) p q)) e hs refl (rw (hp .cells, hq .cells, hp .wide, hq .wide)) (λ z. join xp xq (hp .unmarked z) (hq .unmarked z))
 
   join-ok : {u : Bool} {A : Frame} {s p q x y : ℕ} (t : Bool) → SortAt A s 1 → Word A u p 1 x → Word A u q 1 y
       → Ok false (tyAt (A .lay .ctx)) (given (A .lay .ctx)) (value s (binary (joinKind t) p q))
@@ -178,7 +178,7 @@ module _ (f : Bool) (σ ι : List ℕ) where
       }
 
   const-word : {u : Bool} {A : Frame} {b s w k : ℕ} → Even A → b ≡ length (A .env) → SortAt A s w → Word (ev1 f σ ι A (value s (const k))) u b w k
-  const-word {s = s} {k = k} ev e hs = new-val f σ ι true ev (value s (const k)) e hs refl refl (λ z. tt)
+  const-word {s = s} {k = k} ev e hs = new-val f σ ι false ev (value s (const k)) e hs refl refl (λ z. tt)
 
   const-ok : {A : Frame} {s w k : ℕ} → SortAt A s w → k < 2 ^ w → Ok false (tyAt (A .lay .ctx)) (given (A .lay .ctx)) (value s (const k))
   const-ok hs h = record { sort = sort-ok hs; fits = rw (hs .wide) h }

@@ -2,11 +2,11 @@
 use Prim.Native.Nat.{ℕ, zero, suc, _+_, _%_, _^_, _≤_, _<_}
 use mathlib.Core.Path.{_≡_, refl, sym, ap, ap₂, _∙_, subst, subst⁻¹}
 use mathlib.Core.Logic.{_≢_}
-use mathlib.Core.Bool.{Bool, true, false, _||_}
+use mathlib.Core.Bool.{Bool, true, false, not, _||_}
 use mathlib.Core.List.{List, [], _∷_, _++_, append-assoc, append-nil}
 use native.Mathlib.Nat.{le-trans}
 use native.Mathlib.Omega.{arith}
-use lib.Dec.{T, eqb, eqb→eq}
+use lib.Dec.{T, eqb}
 use lib.ListN.{length, getD, replicate}
 use borrow.Author.Tests.{ne-eqb}
 use Rattle.tables.specs.declared.Ty.{Ty}
@@ -54,7 +54,7 @@ abbrev pub Under : ℕ → List ℕ → Type 0
 Under lo [] = Unit {0}
 Under lo (v ∷ vs) = (v < lo) × Under lo vs
 
--- an init's values have fixed cones and stand before the states
+-- an init's values are unmarked and stand before the states
 abbrev pub Inits : Bool → Bool → ℕ → List ℕ → Type 0
 Inits true u lo vs = T u × Under lo vs
 Inits false u lo vs = Unit {0}
@@ -63,8 +63,12 @@ inits-tail : (m u : Bool) (lo v : ℕ) (vs : List ℕ) → Inits m u lo (v ∷ v
 inits-tail true u lo v vs h = (h .0, h .1 .1)
 inits-tail false u lo v vs h = tt
 
+not-yes : (b : Bool) → T (not b) → b ≡ false
+not-yes true t = absurd t
+not-yes false t = refl
+
 init-next-value : {A : Frame} {u : Bool} {w c lo q v : ℕ} (m : Bool) (vs : List ℕ) → Inits m u lo (v ∷ vs) → Word A u v w c → lo ≤ q → OkValue m q v (typeAt (A .lay) v)
-init-next-value {A} {v = v} true vs i h l = record { word = word-ok h; below = le-trans (i .1 .0) l; fixed = eqb→eq (typeAt (A .lay) v .role) 2 (h .fixed (i .0)) }
+init-next-value {A} {v = v} true vs i h l = record { word = word-ok h; below = le-trans (i .1 .0) l; unmarked = not-yes _ (h .unmarked (i .0)) }
 init-next-value false vs i h l = record { is = h .is }
 
 value-index : (m : Bool) (t : Ty) → t .iw ≡ 0 → 0 ≡ valueIndex m t

@@ -2,21 +2,22 @@
 -- its sort, its index constants and its cells (`Rel`). Assumes nothing.
 use Prim.Native.Nat.{ℕ, suc, _^_, _≤_, _<_}
 use mathlib.Core.Path.{_≡_, refl, sym, ap, _∙_, subst, subst⁻¹}
-use mathlib.Core.Bool.{Bool, true, false}
+use mathlib.Core.Bool.{Bool, true, false, not}
 use mathlib.Core.Option.{Option, none, some}
 use mathlib.Core.List.{List, [], _∷_, _++_}
 use native.Mathlib.Nat.{le-trans}
 use native.Mathlib.Omega.{arith}
 use native.Mathlib.Decide.{decLt}
-use lib.Dec.{T, eqb}
+use lib.Dec.{T}
 use lib.ListN.{length, getD, List·getD-append, List·getD-eq-default}
 use lib.Seq.{getD-at}
 use Rattle.words.specs.Word.{Width}
 use Rattle.tables.specs.declared.Ty.{Ty}
-use Rattle.tables.specs.Pick.{pick, among}
-use Rattle.tables.specs.Lines.{Line, wordsOf, firstIn, secondIn, thirdIn}
-use Rattle.tables.specs.Types.{ty, noTy, isFixed, fixedExpr, givenBy, given}
+use Rattle.tables.specs.Pick.{among}
+use Rattle.tables.specs.Lines.{Line}
+use Rattle.tables.specs.Types.{ty, noTy, marked, valueRole, givenBy, given}
 use Rattle.tables.specs.Layout.{from}
+use Rattle.tables.proofs.Values.{role-least, role-most, role-mark, val-most}
 use Rattle.tables.proofs.Facts.{IsWord}
 use Rattle.circuits.specs.Layout.{typeAt, placeAt, size, lineTypeIn, placeOf}
 use Rattle.circuits.specs.Meaning.{Frame, cellsAt, wordAt, cellsOf}
@@ -43,7 +44,7 @@ KnownRel (some k) cs = cs ≡ k ∷ []
 
 pub record ValRel (B : Frame) (t : Ty) (at : ℕ) (cs : List ℕ) (f : Info) : Type 0 where
   pub sort : SortRel B t f
-  pub held : Holds B (isFixed t) (t .w) (f .cells) cs
+  pub held : Holds B (not (marked t)) (t .w) (f .cells) cs
   pub len : length cs ≡ 2 ^ (t .iw)
   pub small : Small (t .w) cs
   pub known : KnownRel (f .known) cs
@@ -85,31 +86,19 @@ pub sort-of-value : {B : Frame} {t : Ty} {f : Info} {c : ℕ} {ps : List ℕ} {k
 sort-of-value r =
     record { elem = r .elem; size = r .size; wide = r .wide; width = r .width; arr = λ h. record { bit = r .arr h .bit; index = r .arr h .index } }
 
--- ---- a line that computes; x says whether its cone is fixed
+-- ---- a line that computes; x is its mark
 
-pub no-state : (x : Bool) → pick {A = ℕ} x 2 3 ≡ 4 → ⊥
-no-state true e = omega arith
-no-state false e = omega arith
-
-pub no-sort : (x : Bool) → pick {A = ℕ} x 2 3 ≡ 1 → ⊥
-no-sort true e = omega arith
-no-sort false e = omega arith
-
-fixed-back : (x : Bool) → T (eqb (pick x 2 3) 2) → T x
-fixed-back true t = tt
-fixed-back false t = absurd t
-
-pub val-rel : {B : Frame} {t : Ty} {f : Info} {at : ℕ} {cs ps : List ℕ} (x : Bool) (k : Option ℕ) → SortRel B t f → Holds B x (t .w) ps cs → length cs ≡ 2 ^ (t .iw) → Small (t .w) cs
-    → KnownRel k cs → Rel B (ty (pick x 2 3) (t .iw) (t .w)) at cs (valueInfo f ps k)
+pub val-rel : {B : Frame} {t : Ty} {f : Info} {at : ℕ} {cs ps : List ℕ} (x : Bool) (k : Option ℕ) → SortRel B t f → Holds B (not x) (t .w) ps cs → length cs ≡ 2 ^ (t .iw) → Small (t .w) cs
+    → KnownRel k cs → Rel B (ty (valueRole x) (t .iw) (t .w)) at cs (valueInfo f ps k)
 val-rel x k r h n s c =
     record {
-      sort = λ e. absurd (no-sort x e);
-      value = λ e. record { sort = sort-of-value r; held = holds-weak (fixed-back x) h; len = n; small = s; known = c; states = λ e. absurd (no-state x e) };
+      sort = λ e. absurd (omega (arith, role-least x));
+      value = λ e. record { sort = sort-of-value r; held = holds-weak (subst (λ (m : Bool). T (not m)) (role-mark x)) h; len = n; small = s; known = c; states = λ e. absurd (omega (arith, role-most x)) };
     }
 
 -- whose sort is a word's
-pub word-rel : {B : Frame} {t : Ty} {f : Info} {at p v : ℕ} (x : Bool) (k : Option ℕ) → SortRel B t f → t .iw ≡ 0 → Word B x p (t .w) v → v < 2 ^ (t .w) → KnownRel k (v ∷ [])
-    → Rel B (ty (pick x 2 3) (t .iw) (t .w)) at (v ∷ []) (valueInfo f (p ∷ []) k)
+pub word-rel : {B : Frame} {t : Ty} {f : Info} {at p v : ℕ} (x : Bool) (k : Option ℕ) → SortRel B t f → t .iw ≡ 0 → Word B (not x) p (t .w) v → v < 2 ^ (t .w) → KnownRel k (v ∷ [])
+    → Rel B (ty (valueRole x) (t .iw) (t .w)) at (v ∷ []) (valueInfo f (p ∷ []) k)
 word-rel x k r e h s c = val-rel x k r (W.more h W.none) (rw e) (s, tt) c
 
 -- ---- all lines
@@ -128,15 +117,15 @@ pub record Inv (A B : Frame) (I : List Info) : Type 0 where
   pub bound : (m : Bool) (p : ℕ) → length (B .env) ≤ p → given (B .lay .ctx) m p ≡ false
 
 -- a word of the circuit is held by its flat line
-pub word-of : {A B : Frame} {I : List Info} → Inv A B I → (a : ℕ) → IsWord (typeAt (A .lay) a) → Word B (isFixed (typeAt (A .lay) a)) (lineAt I a) (typeAt (A .lay) a .w) (wordAt A a)
+pub word-of : {A B : Frame} {I : List Info} → Inv A B I → (a : ℕ) → IsWord (typeAt (A .lay) a) → Word B (not (marked (typeAt (A .lay) a))) (lineAt I a) (typeAt (A .lay) a .w) (wordAt A a)
 word-of v a k = let r = v .rel a .value (k .is) in holds-at 0 (r .held) (omega (arith, rw (k .flat) at (r .len)))
 
--- the same where less is said to be fixed
-pub word-for : {A B : Frame} {I : List Info} {u : Bool} {w : ℕ} → Inv A B I → (a : ℕ) → IsWord (typeAt (A .lay) a) → (T u → T (isFixed (typeAt (A .lay) a))) → typeAt (A .lay) a .w ≡ w
+-- the same where less is said to be unmarked
+pub word-for : {A B : Frame} {I : List Info} {u : Bool} {w : ℕ} → Inv A B I → (a : ℕ) → IsWord (typeAt (A .lay) a) → (T u → T (not (marked (typeAt (A .lay) a)))) → typeAt (A .lay) a .w ≡ w
     → Word B u (lineAt I a) w (wordAt A a)
 word-for {A} {B} {I} {u} v a k f e = subst (λ (w : ℕ). Word B u (lineAt I a) w (wordAt A a)) e (word-weak f (word-of v a k))
 
-pub cells-for : {B : Frame} {t : Ty} {at : ℕ} {cs : List ℕ} {f : Info} {u : Bool} {w : ℕ} → ValRel B t at cs f → (T u → T (isFixed t)) → t .w ≡ w → Holds B u w (f .cells) cs
+pub cells-for : {B : Frame} {t : Ty} {at : ℕ} {cs : List ℕ} {f : Info} {u : Bool} {w : ℕ} → ValRel B t at cs f → (T u → T (not (marked t))) → t .w ≡ w → Holds B u w (f .cells) cs
 cells-for {B} {cs = cs} {f = f} {u} r g e = subst (λ (w : ℕ). Holds B u w (f .cells) cs) e (holds-weak g (r .held))
 
 -- a word fits its width
@@ -184,10 +173,7 @@ quiet-state A (Line.bitvec w) q t = omega arith
 quiet-state A (Line.array i e) q t = omega arith
 quiet-state A (Line.input s) q t = q
 quiet-state A (Line.state s) q t = q
-quiet-state A (Line.value s x) q t =
-    let L = typeAt (A .lay) in
-    let r = wordsOf (Line.value s x) in
-    no-state (fixedExpr x (L (firstIn r)) (L (secondIn r)) (L (thirdIn r))) t
+quiet-state A (Line.value s x) q t = omega (arith, val-most false (typeAt (A .lay)) s x)
 quiet-state A (Line.initOrNext m s p v) q t = q
 quiet-state A (Line.signal m a) q t = q
 quiet-state A (Line.output a) q t = omega arith

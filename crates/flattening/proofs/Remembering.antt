@@ -2,7 +2,7 @@
 use Prim.Native.Nat.{ℕ, zero, suc, _+_, _-_, _*_, _^_, _≤_, _<_}
 use mathlib.Core.Path.{_≡_, refl, sym, ap, ap₂, _∙_, subst, subst⁻¹}
 use mathlib.Core.Logic.{_≢_}
-use mathlib.Core.Bool.{Bool, true, false, _&&_}
+use mathlib.Core.Bool.{Bool, true, false}
 use mathlib.Core.Option.{Option, none, some}
 use mathlib.Core.List.{List, [], _∷_}
 use native.Mathlib.Omega.{arith}
@@ -13,8 +13,9 @@ use borrow.Author.Tests.{ltb-true}
 use Rattle.tables.specs.declared.Ty.{Ty}
 use Rattle.tables.specs.Pick.{pick}
 use Rattle.tables.specs.Lines.{Line, Expr}
-use Rattle.tables.specs.Types.{noTy, isFixed, tyAt, given}
+use Rattle.tables.specs.Types.{noTy, tyAt, given}
 use Rattle.tables.specs.Layout.{from}
+use Rattle.tables.proofs.Values.{val-value}
 use Rattle.tables.proofs.Facts.{IsWord, Ok}
 use Rattle.tables.proofs.Ids.{from-at, length-from}
 use Rattle.circuits.specs.Layout.{typeAt, lineTypeIn}
@@ -24,7 +25,7 @@ use Rattle.flattening.specs.Flat.{Info, noInfo, infoAt, linesAt, lineAt,
 use Rattle.flattening.specs.Model.Cells.{cellIn}
 use Rattle.flattening.specs.Model.Lines.{deepIn, Notes, wordLine, bitIn, conIn, sizeIn, small, madeAs, flatCount, flatMade}
 use Rattle.flattening.specs.Model.Fits.{Neat}
-use Rattle.flattening.proofs.Rel.{Inv, KnownRel, no-sort, word-small}
+use Rattle.flattening.proofs.Rel.{Inv, KnownRel, word-small}
 use Rattle.flattening.proofs.SimStates.{held-below}
 use Rattle.flattening.proofs.Laying.{size-two, read-con, read-any, read-any-count, write-con, write-any, write-any-count}
 use Rattle.flattening.proofs.Agreeing.{KnownNote, NoteRel, Told, is-line, size-of, cell-of, word-line, elem-of, index-small, con-some}
@@ -211,8 +212,8 @@ module _ {A B : Frame} {I : List Info} (v : Inv A B I) (N : Notes) (ne : Neat N)
 
   -- ---- any line
 
-  not-sort : (x : Bool) → pick {A = ℕ} x 2 3 ≢ 1
-  not-sort x e = no-sort x e
+  not-sort : (s : ℕ) (x : Expr) → lineTypeIn false (A .lay) (Line.value s x) .role ≢ 1
+  not-sort s x e = omega (arith, val-value false (typeAt (A .lay)) s x)
 
   pub line-kept : (l : Line) → Ok false (tyAt (A .lay .ctx)) (given (A .lay .ctx)) l → p + flatCount N l ≤ 16384 → LineKept N n (flatMade N p l) (lineTypeIn false (A .lay) l) (chunk I (suc p) l .info)
   line-kept (Line.bitvec w) k top =
@@ -248,19 +249,19 @@ module _ {A B : Frame} {I : List Info} (v : Inv A B I) (N : Notes) (ne : Neat N)
   line-kept (Line.state s) k top = run-kept (flatMade N p (Line.state s)) s (infoAt I s .size) (lineTypeIn false (A .lay) (Line.state s)) (λ e. omega arith) refl refl refl refl refl (omega arith)
   line-kept (Line.value s (Expr.const c)) k top = word-kept (flatMade N p (Line.value s (Expr.const c))) s (suc p) (some c) (lineTypeIn false (A .lay) (Line.value s (Expr.const c))) (λ e. omega arith) refl refl (omega arith) refl refl (small-le c) (omega arith)
   line-kept (Line.value s (Expr.unary h a x y)) k top =
-      word-kept (flatMade N p (Line.value s (Expr.unary h a x y))) s (suc p) none (lineTypeIn false (A .lay) (Line.value s (Expr.unary h a x y))) (not-sort (isFixed (typeAt (A .lay) a))) refl refl (omega arith) refl refl (omega arith) (omega arith)
+      word-kept (flatMade N p (Line.value s (Expr.unary h a x y))) s (suc p) none (lineTypeIn false (A .lay) (Line.value s (Expr.unary h a x y))) (not-sort s (Expr.unary h a x y)) refl refl (omega arith) refl refl (omega arith) (omega arith)
   line-kept (Line.value s (Expr.binary h a b)) k top =
-      word-kept (flatMade N p (Line.value s (Expr.binary h a b))) s (suc p) none (lineTypeIn false (A .lay) (Line.value s (Expr.binary h a b))) (not-sort (isFixed (typeAt (A .lay) a) && isFixed (typeAt (A .lay) b))) refl refl (omega arith) refl refl (omega arith) (omega arith)
+      word-kept (flatMade N p (Line.value s (Expr.binary h a b))) s (suc p) none (lineTypeIn false (A .lay) (Line.value s (Expr.binary h a b))) (not-sort s (Expr.binary h a b)) refl refl (omega arith) refl refl (omega arith) (omega arith)
   line-kept (Line.value s (Expr.equality e a b)) k top =
       let c = length (linesAt I a) in
       let ec = size-of v N ne tl nr p a (k .left .is) in
       let q : suc p + 2 * (c - 1) ≡ p + (sizeIn N a + (sizeIn N a - 1)) = omega (arith, ec, pow-pos (deepIn N a)) in
-      word-kept (flatMade N p (Line.value s (Expr.equality e a b))) s _ none (lineTypeIn false (A .lay) (Line.value s (Expr.equality e a b))) (not-sort (isFixed (typeAt (A .lay) a) && isFixed (typeAt (A .lay) b))) refl refl (sym q) refl refl (omega arith) (omega (arith, q))
+      word-kept (flatMade N p (Line.value s (Expr.equality e a b))) s _ none (lineTypeIn false (A .lay) (Line.value s (Expr.equality e a b))) (not-sort s (Expr.equality e a b)) refl refl (sym q) refl refl (omega arith) (omega (arith, q))
   line-kept (Line.value s (Expr.ite c a b)) k top =
-      run-kept (flatMade N p (Line.value s (Expr.ite c a b))) s (length (linesAt I a)) (lineTypeIn false (A .lay) (Line.value s (Expr.ite c a b))) (not-sort (isFixed (typeAt (A .lay) c) && (isFixed (typeAt (A .lay) a) && isFixed (typeAt (A .lay) b)))) refl refl refl refl refl (omega arith)
-  line-kept (Line.value s (Expr.read a i)) k top = read-kept s a i (lineTypeIn false (A .lay) (Line.value s (Expr.read a i))) (not-sort (isFixed (typeAt (A .lay) a) && isFixed (typeAt (A .lay) i))) k top
+      run-kept (flatMade N p (Line.value s (Expr.ite c a b))) s (length (linesAt I a)) (lineTypeIn false (A .lay) (Line.value s (Expr.ite c a b))) (not-sort s (Expr.ite c a b)) refl refl refl refl refl (omega arith)
+  line-kept (Line.value s (Expr.read a i)) k top = read-kept s a i (lineTypeIn false (A .lay) (Line.value s (Expr.read a i))) (not-sort s (Expr.read a i)) k top
   line-kept (Line.value s (Expr.write a i x)) k top =
-      write-kept s a i x (lineTypeIn false (A .lay) (Line.value s (Expr.write a i x))) (not-sort (isFixed (typeAt (A .lay) a) && (isFixed (typeAt (A .lay) i) && isFixed (typeAt (A .lay) x)))) k top
+      write-kept s a i x (lineTypeIn false (A .lay) (Line.value s (Expr.write a i x))) (not-sort s (Expr.write a i x)) k top
   line-kept (Line.initOrNext m s q a) k top = none-kept (flatMade N p (Line.initOrNext m s q a)) refl refl refl refl refl
   line-kept (Line.signal m a) k top = none-kept (flatMade N p (Line.signal m a)) refl refl refl refl refl
   line-kept (Line.output a) k top = none-kept (flatMade N p (Line.output a)) refl refl refl refl refl

@@ -1,7 +1,7 @@
 -- ite, eq and neq, read and write: the circuit's walk over such a line and the flat circuit's walk over its chunk keep `Inv`. Assumes nothing.
 use Prim.Native.Nat.{ℕ, zero, suc, _+_, _-_, _*_, _^_, _≤_, _<_}
 use mathlib.Core.Path.{_≡_, refl, sym, ap, _∙_, subst, subst⁻¹}
-use mathlib.Core.Bool.{Bool, false, _&&_}
+use mathlib.Core.Bool.{Bool, false, not, _||_}
 use mathlib.Core.Option.{Option, none, some}
 use mathlib.Core.List.{List, [], _∷_, _++_}
 use native.Mathlib.Omega.{arith}
@@ -10,7 +10,7 @@ use lib.ListN.{length, getD, set, length-set}
 use Rattle.words.specs.Word.{bit}
 use Rattle.tables.specs.declared.Ty.{Ty}
 use Rattle.tables.specs.Lines.{value, equality, ite, read, write}
-use Rattle.tables.specs.Types.{isFixed, tyAt, given}
+use Rattle.tables.specs.Types.{marked, tyAt, given}
 use Rattle.tables.specs.Layout.{from}
 use Rattle.tables.proofs.Facts.{Ok}
 use Rattle.tables.proofs.Ids.{length-from}
@@ -32,10 +32,11 @@ module _ (f : Bool) (σ ι : List ℕ) where
       → Keeps f σ ι A B I (value s (ite d x y)) (chunk I b (value s (ite d x y)))
   sim-ite {A} {B} {I} {b} s d x y v e k =
       let t = typeAt (A .lay) s in
-      let fd = isFixed (typeAt (A .lay) d) in
-      let fx = isFixed (typeAt (A .lay) x) in
-      let fy = isFixed (typeAt (A .lay) y) in
-      let u = fd && (fx && fy) in
+      let md = marked (typeAt (A .lay) d) in
+      let mx = marked (typeAt (A .lay) x) in
+      let my = marked (typeAt (A .lay) y) in
+      let m = md || (mx || my) in
+      let u = not m in
       let rs = v .rel s .sort (k .sort .is) in
       let rx = v .rel x .value (k .left .is) in
       let ry = v .rel y .value (k .right .is) in
@@ -44,14 +45,14 @@ module _ (f : Bool) (σ ι : List ℕ) where
       let nx : length xs ≡ 2 ^ (t .iw) = rx .len ∙ ap (λ (i : ℕ). 2 ^ i) (k .sameA .iw) in
       let ny : length ys ≡ 2 ^ (t .iw) = ry .len ∙ ap (λ (i : ℕ). 2 ^ i) (k .sameB .iw) in
       let c = wordAt A d in
-      let r = run-ites f σ ι {u = u} (ext-refl (v .evenB)) e (rs .elem) (word-for v d (k .cond) (λ z. both fd (fx && fy) z .0) (k .bit))
-      (cells-for rx (λ z. both fx fy (both fd (fx && fy) z .1) .0) (k .sameA .w)) (cells-for ry (λ z. both fx fy (both fd (fx && fy) z .1) .1) (k .sameB .w)) (nx ∙ sym ny) in
+      let r = run-ites f σ ι {u = u} (ext-refl (v .evenB)) e (rs .elem) (word-for v d (k .cond) (λ z. both md (mx || my) z .0) (k .bit))
+      (cells-for rx (λ z. both mx my (both md (mx || my) z .1) .0) (k .sameA .w)) (cells-for ry (λ z. both mx my (both md (mx || my) z .1) .1) (k .sameB .w)) (nx ∙ sym ny) in
       let ps = from b (length (linesAt I x)) in
       let B′ = evs f σ ι B (chunk I b (value s (ite d x y)) .lines) in
       record {
         inv =
             extend-quiet f σ ι (value s (ite d x y)) (valueInfo (infoAt I s) ps none) tt v (r .grew)
-            (val-rel u none (sortrel-ext (r .grew .ext) rs)
+            (val-rel m none (sortrel-ext (r .grew .ext) rs)
             (subst (λ (l : List ℕ). Holds B′ u (t .w) ps l) (chooses-choose c xs ys (nx ∙ sym ny)) (r .holds))
             (choose-has (λ (l : List ℕ). length l ≡ 2 ^ (t .iw)) c nx ny)
             (choose-has (Small (t .w)) c (subst (λ (w : ℕ). Small w xs) (k .sameA .w) (rx .small)) (subst (λ (w : ℕ). Small w ys) (k .sameB .w) (ry .small))) tt);
@@ -106,17 +107,17 @@ module _ (f : Bool) (σ ι : List ℕ) where
       let ys = cellsAt A y in
       let n : length xs ≡ length ys = rx .len ∙ ap (λ (i : ℕ). 2 ^ i) (sym (k .same .iw)) ∙ sym (ry .len) in
       let hs : SortAt B (g .elem) 1 = subst (λ (w : ℕ). SortAt B (g .elem) w) (k .bit) (rs .elem) in
-      let fx = isFixed (typeAt (A .lay) x) in
-      let fy = isFixed (typeAt (A .lay) y) in
-      let hx = cells-for rx (λ z. both fx fy z .0) refl in
-      let r = run-agree {u = fx && fy} t (length (linesAt I x) - 1) (v .evenB) e hs hx (cells-for ry (λ z. both fx fy z .1) (k .same .w)) n (omega (arith, holds-length hx, rx .len, pow-pos (typeAt (A .lay) x .iw))) in
+      let mx = marked (typeAt (A .lay) x) in
+      let my = marked (typeAt (A .lay) y) in
+      let hx = cells-for rx (λ z. both mx my z .0) refl in
+      let r = run-agree {u = not (mx || my)} t (length (linesAt I x) - 1) (v .evenB) e hs hx (cells-for ry (λ z. both mx my z .1) (k .same .w)) n (omega (arith, holds-length hx, rx .len, pow-pos (typeAt (A .lay) x .iw))) in
       let B′ = evs f σ ι B (chunk I b (value s (equality t x y)) .lines) in
       let p = b + 2 * (length (linesAt I x) - 1) in
       let c = bit (eqOrNeq t (sameCells xs ys)) in
       record {
         inv =
             extend-quiet f σ ι (value s (equality t x y)) (valueInfo g (p ∷ []) none) tt v (r .grew)
-            (word-rel (fx && fy) none (sortrel-ext (r .grew .ext) rs) (k .sort .flat) (subst⁻¹ (λ (w : ℕ). Word B′ (fx && fy) p w c) (k .bit) (r .word))
+            (word-rel (mx || my) none (sortrel-ext (r .grew .ext) rs) (k .sort .flat) (subst⁻¹ (λ (w : ℕ). Word B′ (not (mx || my)) p w c) (k .bit) (r .word))
             (subst⁻¹ (λ (w : ℕ). c < 2 ^ w) (k .bit) (small-bit (eqOrNeq t (sameCells xs ys)))) tt);
         ok = r .ok;
       }
@@ -171,14 +172,14 @@ module _ (f : Bool) (σ ι : List ℕ) where
       inside : iv < length cs
       inside = subst⁻¹ (λ (n : ℕ). iv < n) (ra .len) (subst (λ (w : ℕ). iv < 2 ^ w) (k .iw) (word-small v i (k .index .is)))
 
-      fa : Bool
-      fa = isFixed (typeAt (A .lay) a)
+      ma : Bool
+      ma = marked (typeAt (A .lay) a)
 
-      fi : Bool
-      fi = isFixed (typeAt (A .lay) i)
+      mi : Bool
+      mi = marked (typeAt (A .lay) i)
 
-      held : Holds B (fa && fi) (t .w) (g .cells) cs
-      held = cells-for ra (λ z. both fa fi z .0) (k .wide)
+      held : Holds B (not (ma || mi)) (t .w) (g .cells) cs
+      held = cells-for ra (λ z. both ma mi z .0) (k .wide)
 
       fits : getD cs iv 0 < 2 ^ (t .w)
       fits = small-at (t .w) cs iv (subst (λ (w : ℕ). Small w cs) (k .wide) (ra .small))
@@ -189,19 +190,19 @@ module _ (f : Bool) (σ ι : List ℕ) where
           record {
             inv =
                 extend-quiet f σ ι (value s (read a i)) (valueInfo h (getD (g .cells) j 0 ∷ []) none) tt v (grew-refl (v .evenB))
-                (word-rel (fa && fi) none rs (k .sort .flat) (subst (λ (m : ℕ). Word B (fa && fi) (getD (g .cells) m 0) (t .w) (getD cs iv 0)) ej (holds-at iv held inside)) fits tt);
+                (word-rel (ma || mi) none rs (k .sort .flat) (subst (λ (m : ℕ). Word B (not (ma || mi)) (getD (g .cells) m 0) (t .w) (getD cs iv 0)) ej (holds-at iv held inside)) fits tt);
             ok = tt;
           }
       go none z =
           let last = length (g .cells) - 1 in
           let many : 2 ≤ 2 ^ (typeAt (A .lay) a .iw) = pow-mono (k .arr .deep) in
-          let r = run-read last (v .evenB) e (ra .sort .arr (k .arr .deep) .bit) (rs .elem) (word-for v i (k .index) (λ z. both fa fi z .1) (k .iw))
+          let r = run-read last (v .evenB) e (ra .sort .arr (k .arr .deep) .bit) (rs .elem) (word-for v i (k .index) (λ z. both ma mi z .1) (k .iw))
           (holds-weak (λ z. tt) (ra .sort .arr (k .arr .deep) .index)) held (ra .len) (subst (λ (n : ℕ). iv < n) (ra .len) inside)
           (ap (λ (n : ℕ). n - 1) (holds-length held ∙ ra .len)) (omega (arith, holds-length held, ra .len)) in
           record {
             inv =
                 extend-quiet f σ ι (value s (read a i)) (valueInfo h ((b + (2 * last - 1)) ∷ []) none) tt v (r .grew)
-                (word-rel (fa && fi) none (sortrel-ext (r .grew .ext) rs) (k .sort .flat) (r .word) fits tt);
+                (word-rel (ma || mi) none (sortrel-ext (r .grew .ext) rs) (k .sort .flat) (r .word) fits tt);
             ok = r .ok;
           }
 
@@ -235,23 +236,26 @@ module _ (f : Bool) (σ ι : List ℕ) where
       ra : ValRel B (typeAt (A .lay) a) (placeAt (A .lay) a) cs (infoAt I a)
       ra = v .rel a .value (k .arr .is)
 
-      fa : Bool
-      fa = isFixed (typeAt (A .lay) a)
+      ma : Bool
+      ma = marked (typeAt (A .lay) a)
 
-      fi : Bool
-      fi = isFixed (typeAt (A .lay) i)
+      mi : Bool
+      mi = marked (typeAt (A .lay) i)
 
-      fx : Bool
-      fx = isFixed (typeAt (A .lay) x)
+      mx : Bool
+      mx = marked (typeAt (A .lay) x)
+
+      m : Bool
+      m = ma || (mi || mx)
 
       u : Bool
-      u = fa && (fi && fx)
+      u = not m
 
       held : Holds B u (t .w) ps cs
-      held = cells-for ra (λ z. both fa (fi && fx) z .0) (k .same .w)
+      held = cells-for ra (λ z. both ma (mi || mx) z .0) (k .same .w)
 
       wx : Word B u (lineAt I x) (t .w) xv
-      wx = word-for v x (k .value) (λ z. both fi fx (both fa (fi && fx) z .1) .1) (k .vw)
+      wx = word-for v x (k .value) (λ z. both mi mx (both ma (mi || mx) z .1) .1) (k .vw)
 
       fits : Small (t .w) (set cs iv xv)
       fits =
@@ -266,17 +270,17 @@ module _ (f : Bool) (σ ι : List ℕ) where
           record {
             inv =
                 extend-quiet f σ ι (value s (write a i x)) (valueInfo h (set ps j (lineAt I x)) none) tt v (grew-refl (v .evenB))
-                (val-rel u none rs (subst (λ (m : ℕ). Holds B u (t .w) (set ps m (lineAt I x)) (set cs iv xv)) ej (holds-set iv held wx)) (length-set cs iv xv ∙ many) fits tt);
+                (val-rel m none rs (subst (λ (j : ℕ). Holds B u (t .w) (set ps j (lineAt I x)) (set cs iv xv)) ej (holds-set iv held wx)) (length-set cs iv xv ∙ many) fits tt);
             ok = tt;
           }
       go none z =
-          let r = run-writes f σ ι (ext-refl (v .evenB)) e (rs .arr (k .sort .deep) .bit) (rs .elem) (word-for v i (k .index) (λ z. both fi fx (both fa (fi && fx) z .1) .0) (k .iw)) wx
+          let r = run-writes f σ ι (ext-refl (v .evenB)) e (rs .arr (k .sort .deep) .bit) (rs .elem) (word-for v i (k .index) (λ z. both mi mx (both ma (mi || mx) z .1) .0) (k .iw)) wx
           (holds-weak (λ z. tt) (rs .arr (k .sort .deep) .index)) held (length-from 0 (2 ^ (t .iw)) ∙ sym many) in
           let B′ = evs f σ ι B (chunkWrite h ps none (lineAt I i) (lineAt I x) b .lines) in
           record {
             inv =
                 extend-quiet f σ ι (value s (write a i x)) (valueInfo h (writeCells b (length ps)) none) tt v (r .grew)
-                (val-rel u none (sortrel-ext (r .grew .ext) rs)
+                (val-rel m none (sortrel-ext (r .grew .ext) rs)
                 (subst (λ (ds : List ℕ). Holds B′ u (t .w) (writeCells b (length ps)) ds) (ap (λ (n : ℕ). writes iv (from 0 n) xv cs) (sym many) ∙ writes-set iv xv cs) (r .holds))
                 (length-set cs iv xv ∙ many) fits tt);
             ok = r .ok;

@@ -2,7 +2,7 @@
 use Prim.Native.Nat.{ℕ, zero, suc, _+_, _^_, _≤_, _<_}
 use mathlib.Core.Path.{_≡_, refl, sym, ap, ap₂, _∙_, subst, subst⁻¹}
 use mathlib.Core.Logic.{_≢_}
-use mathlib.Core.Bool.{Bool, true, false, _||_}
+use mathlib.Core.Bool.{Bool, true, false, not, _||_}
 use mathlib.Core.Option.{none as nothing}
 use mathlib.Core.List.{List, [], _∷_, _++_}
 use native.Mathlib.Nat.{le-refl, le-trans}
@@ -11,11 +11,11 @@ use native.Mathlib.Decide.{decLt}
 use lib.Dec.{T, eqb}
 use lib.Pow.{pow-pos}
 use lib.ListN.{length, getD, replicate, length-append, length-replicate}
-use borrow.Author.Tests.{eqb-false, ne-eqb, eq-eqb}
+use borrow.Author.Tests.{eqb-false, ne-eqb}
 use Rattle.tables.specs.declared.Ty.{Ty}
 use Rattle.tables.specs.Pick.{pick, among, alike}
 use Rattle.tables.specs.Lines.{state, initOrNext}
-use Rattle.tables.specs.Types.{isFixed, tyAt, given, givenBy}
+use Rattle.tables.specs.Types.{marked, tyAt, given, givenBy}
 use Rattle.tables.specs.Rules.{valueIndex}
 use Rattle.tables.specs.Layout.{from}
 use Rattle.tables.proofs.Kept.{no-yes}
@@ -85,16 +85,16 @@ record GivenRel (B : Frame) (u m : Bool) (lo w : ℕ) (qs vs cs : List ℕ) : Ty
 
 given-rel : {A B : Frame} {I : List Info} {lo n : ℕ} (v : Inv A B I) (m : Bool) (t : Ty) (q a : ℕ) (qs : List ℕ) → length qs ≡ n → 2 ^ (t .iw) ≡ n → OkValue m q a (typeAt (A .lay) a)
     → typeAt (A .lay) a .w ≡ t .w → typeAt (A .lay) a .iw ≡ valueIndex m t → (a < q → lineAt I a < lo)
-    → GivenRel B (isFixed (typeAt (A .lay) a)) m lo (t .w) qs (valueLines I m (length qs) a) (givenWords A m n a)
+    → GivenRel B (not (marked (typeAt (A .lay) a))) m lo (t .w) qs (valueLines I m (length qs) a) (givenWords A m n a)
 given-rel {A} {B} {I} {lo} {n} v true t q a qs e d k ew ei h =
     let c = wordAt A a in
     let p = lineAt I a in
     record {
       held =
-          subst (λ (x : ℕ). Holds B (isFixed (typeAt (A .lay) a)) (t .w) (replicate (length qs) p) (replicate x c)) e
+          subst (λ (x : ℕ). Holds B (not (marked (typeAt (A .lay) a))) (t .w) (replicate (length qs) p) (replicate x c)) e
           (holds-replicate (length qs) (word-for v a (k .word) (λ z. z) ew));
       len = sym (length-replicate (length qs) p);
-      inits = (subst⁻¹ T (eq-eqb (typeAt (A .lay) a .role) 2 (k .fixed)) tt, under-all lo (length qs) p (h (k .below)));
+      inits = (subst⁻¹ T (ap not (k .unmarked)) tt, under-all lo (length qs) p (h (k .below)));
     }
 given-rel {A} {B} {I} v false t q a qs e d k ew ei h =
     let r = v .rel a .value (k .is) in
@@ -222,7 +222,7 @@ module _ (f : Bool) (σ ι : List ℕ) where
           let ra = v .rel a .value (value m (k .value)) in
           v .below q (k .state) a h (value m (k .value)) 0 (omega (arith, holds-length (ra .held), ra .len, pow-pos (typeAt (A .lay) a .iw)))
 
-      gr : GivenRel B (isFixed (typeAt (A .lay) a)) m (lineAt I q) (t .w) qs (valueLines I m (length qs) a) cs
+      gr : GivenRel B (not (marked (typeAt (A .lay) a))) m (lineAt I q) (t .w) qs (valueLines I m (length qs) a) cs
       gr = given-rel v m t q a qs many (ap (λ (i : ℕ). 2 ^ i) (sym (k .same .iw))) (k .value) (k .w) (k .iw) before
 
       room : at + length qs ≤ length (A .sts)

@@ -1,7 +1,7 @@
 -- One line of sorts or words: the circuit's walk over it and the flat circuit's walk over its chunk keep `Inv`. Assumes nothing.
 use Prim.Native.Nat.{ℕ, suc, _^_}
 use mathlib.Core.Path.{_≡_, refl, sym, ap, ap₂, _∙_, subst, subst⁻¹}
-use mathlib.Core.Bool.{Bool, true, false, _&&_}
+use mathlib.Core.Bool.{Bool, true, false, _||_}
 use mathlib.Core.Option.{none, some}
 use mathlib.Core.List.{List, [], _∷_, _++_}
 use native.Mathlib.Nat.{mod-lt}
@@ -12,7 +12,7 @@ use Rattle.words.specs.Op.{opOf}
 use Rattle.words.specs.Circuit.{circ}
 use Rattle.tables.specs.declared.Ty.{Ty}
 use Rattle.tables.specs.Lines.{Line, bitvec, array, input, value, signal, output, const, unary, binary}
-use Rattle.tables.specs.Types.{isFixed, tyAt, given}
+use Rattle.tables.specs.Types.{marked, tyAt, given}
 use Rattle.tables.specs.Layout.{from}
 use Rattle.tables.proofs.Facts.{Ok, AllOk}
 use Rattle.tables.proofs.Ids.{length-from}
@@ -102,7 +102,7 @@ module _ (f : Bool) (σ ι : List ℕ) where
             extend f σ ι (input s) (valueInfo (infoAt I s) (b ∷ []) none) v x
             (record { states = v .alike .states; inputs = ap suc (v .alike .inputs); signals = v .alike .signals; sts = v .alike .sts; sigs = v .alike .sigs })
             (v .many)
-            (word-rel false none (sortrel-ext x rs) (k .flat)
+            (word-rel true none (sortrel-ext x rs) (k .flat)
             (new-word f σ ι (v .evenB) l e (rs .elem) refl (rw (v .alike .inputs, rs .elem .wide)) (omega arith) (λ z. absurd z))
             (mod-lt (getD ι (A .lay .counts .inputs) 0) (pow-pos (typeAt (A .lay) s .w))) tt)
             (λ z. absurd (omega arith)) (same-given f σ ι (input s) refl v (x .len) (gave-same f σ ι B l refl));
@@ -118,7 +118,7 @@ module _ (f : Bool) (σ ι : List ℕ) where
       record {
         inv =
             extend-quiet f σ ι (value s (const c)) (valueInfo (infoAt I s) (b ∷ []) (some c)) tt v g
-            (word-rel true (some c) (sortrel-ext (g .ext) rs) (k .sort .flat) (new-val f σ ι true (v .evenB) l e (rs .elem) refl refl (λ z. tt)) (k .fits) refl);
+            (word-rel false (some c) (sortrel-ext (g .ext) rs) (k .sort .flat) (new-val f σ ι false (v .evenB) l e (rs .elem) refl refl (λ z. tt)) (k .fits) refl);
         ok = (record { sort = sort-ok (rs .elem); fits = rw (rs .elem .wide) (k .fits) }, tt);
       }
 
@@ -133,9 +133,9 @@ module _ (f : Bool) (σ ι : List ℕ) where
       record {
         inv =
             extend-quiet f σ ι (value s (unary h a x y)) (valueInfo (infoAt I s) (b ∷ []) none) tt v g
-            (word-rel (isFixed (typeAt (A .lay) a)) none (sortrel-ext (g .ext) rs) (k .sort .flat)
-            (new-val f σ ι (isFixed (typeAt (B .lay) (lineAt I a))) (v .evenB) l e (rs .elem) refl
-            (ap₂ (λ (u w : ℕ). circ (opOf h) u 64 w x y ∷ []) (wa .wide) (word-val wa)) (wa .fixed))
+            (word-rel (marked (typeAt (A .lay) a)) none (sortrel-ext (g .ext) rs) (k .sort .flat)
+            (new-val f σ ι (marked (typeAt (B .lay) (lineAt I a))) (v .evenB) l e (rs .elem) refl
+            (ap₂ (λ (u w : ℕ). circ (opOf h) u 64 w x y ∷ []) (wa .wide) (word-val wa)) (wa .unmarked))
             (one-lt h x y k (rs .width) (ra .sort .width) (wordAt A a) (word-small v a (k .arg .is))) tt);
         ok = (
           record {
@@ -156,18 +156,18 @@ module _ (f : Bool) (σ ι : List ℕ) where
       let rs = v .rel s .sort (k .sort .is) in
       let wx = word-of v x (k .left) in
       let wy = word-of v y (k .right) in
-      let fx = isFixed (typeAt (A .lay) x) in
-      let fy = isFixed (typeAt (A .lay) y) in
-      let gx = isFixed (typeAt (B .lay) (lineAt I x)) in
-      let gy = isFixed (typeAt (B .lay) (lineAt I y)) in
+      let mx = marked (typeAt (A .lay) x) in
+      let my = marked (typeAt (A .lay) y) in
+      let gx = marked (typeAt (B .lay) (lineAt I x)) in
+      let gy = marked (typeAt (B .lay) (lineAt I y)) in
       let l = value (infoAt I s .elem) (binary h (lineAt I x) (lineAt I y)) in
       let g = grew-line f σ ι (v .evenB) l tt in
       record {
         inv =
             extend-quiet f σ ι (value s (binary h x y)) (valueInfo (infoAt I s) (b ∷ []) none) tt v g
-            (word-rel (fx && fy) none (sortrel-ext (g .ext) rs) (k .sort .flat)
-            (new-val f σ ι (gx && gy) (v .evenB) l e (rs .elem) refl (rw (wx .wide, wy .wide, word-val wx, word-val wy))
-            (λ z. let w = both fx fy z in join gx gy (wx .fixed (w .0)) (wy .fixed (w .1))))
+            (word-rel (mx || my) none (sortrel-ext (g .ext) rs) (k .sort .flat)
+            (new-val f σ ι (gx || gy) (v .evenB) l e (rs .elem) refl (rw (wx .wide, wy .wide, word-val wx, word-val wy))
+            (λ z. let w = both mx my z in join gx gy (wx .unmarked (w .0)) (wy .unmarked (w .1))))
             (two-lt h (wordAt A x) (wordAt A y) k (rs .width) (v .rel x .value (k .left .is) .sort .width) (word-small v x (k .left .is)) (word-small v y (k .right .is))) tt);
         ok = (
           record {

@@ -3,19 +3,19 @@
 -- word of width w, their state words being those from a on. Assumes nothing.
 use Prim.Native.Nat.{ℕ, zero, suc, _+_, _^_, _≤_, _<_}
 use mathlib.Core.Path.{_≡_, refl, sym, ap, _∙_, subst⁻¹}
-use mathlib.Core.Bool.{Bool, true, false, _&&_}
+use mathlib.Core.Bool.{Bool, true, false, not, _||_}
 use mathlib.Core.List.{List, [], _∷_, _++_}
 use native.Mathlib.Nat.{le-refl, le-trans}
 use native.Mathlib.Omega.{arith}
 use native.Mathlib.Numerals.{add-one}
-use lib.Dec.{T, eqb}
+use lib.Dec.{T, leb}
 use lib.ListN.{length, getD, length-append, List·getD-append}
 use lib.Seq.{getD-at}
 use Rattle.tables.specs.declared.Ty.{Ty}
-use Rattle.tables.specs.Pick.{pick}
 use Rattle.tables.specs.Lines.{Line}
-use Rattle.tables.specs.Types.{ty, noTy, isFixed, givenBy}
+use Rattle.tables.specs.Types.{ty, markedRole, noTy, marked, valueRole, givenBy}
 use Rattle.tables.proofs.Kept.{no-yes}
+use Rattle.tables.proofs.Values.{role-least, role-mark}
 use Rattle.tables.proofs.Facts.{IsWord, IsWordSort, AllOk}
 use Rattle.circuits.specs.Layout.{typeAt, placeAt, size, lineTypeIn, placeOf}
 use Rattle.circuits.specs.Meaning.{Frame, cellsAt, wordAt, cellsOf, evalLine, evalAll}
@@ -66,7 +66,7 @@ pub record Word (A : Frame) (u : Bool) (p w v : ℕ) : Type 0 where
   pub flat : typeAt (A .lay) p .iw ≡ 0
   pub wide : typeAt (A .lay) p .w ≡ w
   pub cells : cellsAt A p ≡ v ∷ []
-  pub fixed : T u → T (isFixed (typeAt (A .lay) p))
+  pub unmarked : T u → T (not (marked (typeAt (A .lay) p)))
 
 pub data Holds (A : Frame) (u : Bool) (w : ℕ) : List ℕ → List ℕ → Type 0 where
   none : Holds A u w [] []
@@ -106,7 +106,7 @@ word-ext {p = p} x h =
       flat = ap (λ (t : Ty). t .iw) e ∙ h .flat;
       wide = ap (λ (t : Ty). t .w) e ∙ h .wide;
       cells = x .cells p (h .inb) ∙ h .cells;
-      fixed = λ z. subst⁻¹ (λ (t : Ty). T (isFixed t)) e (h .fixed z);
+      unmarked = λ z. subst⁻¹ (λ (t : Ty). T (not (marked t))) e (h .unmarked z);
     }
 
 pub holds-ext : {u : Bool} {A B : Frame} {w : ℕ} {ps cs : List ℕ} → Ext A B → Holds A u w ps cs → Holds B u w ps cs
@@ -156,9 +156,9 @@ holds-at j none h = absurd (omega arith)
 holds-at zero (more x r) h = x
 holds-at (suc j) (more x r) h = holds-at j r (omega arith)
 
--- less is known to be fixed
+-- less is known to be unmarked
 pub word-weak : {A : Frame} {u u′ : Bool} {p w v : ℕ} → (T u → T u′) → Word A u′ p w v → Word A u p w v
-word-weak f h = record { inb = h .inb; is = h .is; flat = h .flat; wide = h .wide; cells = h .cells; fixed = λ z. h .fixed (f z) }
+word-weak f h = record { inb = h .inb; is = h .is; flat = h .flat; wide = h .wide; cells = h .cells; unmarked = λ z. h .unmarked (f z) }
 
 pub holds-weak : {A : Frame} {u u′ : Bool} {w : ℕ} {ps cs : List ℕ} → (T u → T u′) → Holds A u′ w ps cs → Holds A u w ps cs
 holds-weak f none = none
@@ -170,13 +170,13 @@ states-room none h = absurd (omega arith)
 states-room (more s none) h = let r = s .room in omega arith
 states-room (more s (more q r)) h = let k = states-room (more q r) (omega arith) in omega arith
 
-pub both : (a b : Bool) → T (a && b) → T a × T b
-both true b h = (tt, h)
-both false b h = absurd h
+pub both : (a b : Bool) → T (not (a || b)) → T (not a) × T (not b)
+both true b h = absurd h
+both false b h = (tt, h)
 
-pub join : (a b : Bool) → T a → T b → T (a && b)
-join true b x y = y
-join false b x y = absurd x
+pub join : (a b : Bool) → T (not a) → T (not b) → T (not (a || b))
+join true b x y = absurd x
+join false b x y = y
 
 -- each cell is a word of width w
 abbrev pub Small : ℕ → List ℕ → Type 0
@@ -230,15 +230,6 @@ grew-refl ev = record { ext = ext-refl ev; alike = alike-refl; gave = λ m. refl
 
 pub grew-trans : {A B C : Frame} → Grew A B → Grew B C → Grew A C
 grew-trans x y = record { ext = ext-trans (x .ext) (y .ext); alike = alike-trans (x .alike) (y .alike); gave = λ m. y .gave m ∙ x .gave m }
-
--- state words only grow
-pub value-class : (x : Bool) → 2 ≤ pick x 2 3
-value-class true = omega arith
-value-class false = omega arith
-
-pub fixed-class : (x : Bool) → T x → T (eqb (pick x 2 3) 2)
-fixed-class true t = tt
-fixed-class false t = absurd t
 
 -- only init and next lines are given to states
 abbrev pub gives : Line → Bool
@@ -312,7 +303,7 @@ module _ (f : Bool) (σ ι : List ℕ) where
 
   -- it is a word, of the sort line s
   pub new-word : {A : Frame} {u : Bool} {b s w v c : ℕ} → Even A → (l : Line) → b ≡ length (A .env) → SortAt A s w
-      → lineTypeIn false (A .lay) l ≡ ty c (typeAt (A .lay) s .iw) (typeAt (A .lay) s .w) → cellsOf false f σ ι A l ≡ v ∷ [] → 2 ≤ c → (T u → T (eqb c 2)) → Word (ev1 A l) u b w v
+      → lineTypeIn false (A .lay) l ≡ ty c (typeAt (A .lay) s .iw) (typeAt (A .lay) s .w) → cellsOf false f σ ι A l ≡ v ∷ [] → 2 ≤ c → (T u → T (not (leb markedRole c))) → Word (ev1 A l) u b w v
   new-word {A} {b = b} ev l e hs ht hc hv hu =
       let h = new-type ev l b e ∙ ht in
       record {
@@ -321,13 +312,13 @@ module _ (f : Bool) (σ ι : List ℕ) where
         flat = ap (λ (t : Ty). t .iw) h ∙ hs .flat;
         wide = ap (λ (t : Ty). t .w) h ∙ hs .wide;
         cells = new-cells ev l b e ∙ hc;
-        fixed = λ z. subst⁻¹ (λ (t : Ty). T (isFixed t)) h (hu z);
+        unmarked = λ z. subst⁻¹ (λ (t : Ty). T (not (marked t))) h (hu z);
       }
 
-  -- the same of a line that computes: x says whether its cone is fixed
+  -- the same of a line that computes: x is its mark
   pub new-val : {A : Frame} {u : Bool} {b s w v : ℕ} (x : Bool) → Even A → (l : Line) → b ≡ length (A .env) → SortAt A s w
-      → lineTypeIn false (A .lay) l ≡ ty (pick x 2 3) (typeAt (A .lay) s .iw) (typeAt (A .lay) s .w) → cellsOf false f σ ι A l ≡ v ∷ [] → (T u → T x) → Word (ev1 A l) u b w v
-  new-val x ev l e hs ht hc hu = new-word ev l e hs ht hc (value-class x) (λ z. fixed-class x (hu z))
+      → lineTypeIn false (A .lay) l ≡ ty (valueRole x) (typeAt (A .lay) s .iw) (typeAt (A .lay) s .w) → cellsOf false f σ ι A l ≡ v ∷ [] → (T u → T (not x)) → Word (ev1 A l) u b w v
+  new-val x ev l e hs ht hc hu = new-word ev l e hs ht hc (role-least x) (λ z. subst⁻¹ (λ (m : Bool). T (not m)) (role-mark x) (hu z))
 
   -- ---- accepted lines
 

@@ -13,9 +13,10 @@ use Rattle.tables.specs.declared.Ty.{Ty}
 use Rattle.tables.specs.declared.Checked.the-variants.{Accepted}
 use Rattle.tables.specs.Pick.{pick}
 use Rattle.tables.specs.Lines.{Line}
-use Rattle.tables.specs.Types.{tyAt, given, sortAt}
+use Rattle.tables.specs.Types.{unmarkedRole, tyAt, given, sortAt}
 use Rattle.tables.specs.Tables.{checked}
 use Rattle.tables.proofs.Facts.{Ok, OkInitOrNext}
+use Rattle.tables.proofs.Values.{unmarked-value}
 use Rattle.tables.proofs.Showing.{by-place, earlier}
 use Rattle.circuits.specs.Cells.{ifNonzero, maskWords, part, put}
 use Rattle.circuits.specs.Layout.{Layout, typeAt, placeAt, size, lineTypeIn, placeOf, noLayout, lay, layout}
@@ -49,7 +50,7 @@ pub record Settled (Y : Layout) (q at m w d : ℕ) : Type 0 where
   -- the words of no other state meet its own
   pub apart : (x : ℕ) → typeAt Y x .role ≡ 4 → (x ≡ q → ⊥) → (at + m ≤ placeAt Y x) ⊎ (placeAt Y x + size (typeAt Y x) ≤ at)
   pub below : d < q
-  pub fixed : (d ≡ 0 → ⊥) → typeAt Y d .role ≡ 2
+  pub unmarked : (d ≡ 0 → ⊥) → typeAt Y d .role ≡ unmarkedRole
   pub flat : (d ≡ 0 → ⊥) → typeAt Y d .iw ≡ 0
   pub same : (d ≡ 0 → ⊥) → typeAt Y d .w ≡ w
 
@@ -97,7 +98,7 @@ module _ (Y : Layout) (S : Sound Y) (l : Line) where
             let px = place-old false Y l (S .long) x n in
             rw (tx, px) (k .apart x (sym (ap (λ (t : Ty). t .role) tx) ∙ c) ne));
         below = k .below;
-        fixed = λ z. ap (λ (t : Ty). t .role) td ∙ k .fixed z;
+        unmarked = λ z. ap (λ (t : Ty). t .role) td ∙ k .unmarked z;
         flat = λ z. ap (λ (t : Ty). t .iw) td ∙ k .flat z;
         same = λ z. ap (λ (t : Ty). t .w) td ∙ k .same z;
       }
@@ -145,12 +146,12 @@ module _ (S ι : List ℕ) (B : Frame) (sound : Sound (B .lay)) (lines : length 
         subst (λ (b : Bool). Begun S (evalLine false true S ι B (Line.initOrNext true s x v)) q at m w (pick b v d)) (sym (eq-eqb q x e))
         (let l = Line.initOrNext true s x v in
         let K = settled-more (B .lay) sound l (k .settled) in
-        let vk : v < length (B .lay .ctx .tys) = earlier (B .lay .ctx .tys) v (omega (arith, ok .value .fixed)) in
+        let vk : v < length (B .lay .ctx .tys) = earlier (B .lay .ctx .tys) v (omega (arith, ok .value .word .is)) in
         let tv = type-old false (B .lay) l (sound .long) v (λ z. omega arith) in
         let sx : size (typeAt (B .lay) x) ≡ m = ap (λ (y : ℕ). size (typeAt (B .lay) y)) (sym e) ∙ k .settled .sized in
         let px : placeAt (B .lay) x ≡ at = ap (placeAt (B .lay)) (sym e) ∙ k .settled .spot in
         let wx : typeAt (B .lay) x .w ≡ w = ap (λ (y : ℕ). typeAt (B .lay) y .w) (sym e) ∙ k .settled .width in
-        let nz : v ≡ 0 → ⊥ = λ z. omega (arith, ok .value .fixed, ap (λ (y : ℕ). typeAt (B .lay) y .role) z, k .settled .none) in
+        let nz : v ≡ 0 → ⊥ = λ z. omega (arith, ok .value .word .is, ap (λ (y : ℕ). typeAt (B .lay) y .role) z, k .settled .none) in
         record {
           settled =
               record {
@@ -162,7 +163,7 @@ module _ (S ι : List ℕ) (B : Frame) (sound : Sound (B .lay)) (lines : length 
                 none = K .none;
                 apart = K .apart;
                 below = omega (arith, ok .value .below);
-                fixed = λ z. ap (λ (t : Ty). t .role) tv ∙ ok .value .fixed;
+                unmarked = λ z. ap (λ (t : Ty). t .role) tv ∙ unmarked-value (typeAt (B .lay) v) (ok .value .word .is) (ok .value .unmarked);
                 flat = λ z. ap (λ (t : Ty). t .iw) tv ∙ ok .value .word .flat;
                 same = λ z. ap (λ (t : Ty). t .w) tv ∙ ok .w ∙ sym (ok .same .w) ∙ wx;
               };
@@ -230,7 +231,7 @@ settled-new Y S s z h =
           let px = place-old false Y l (S .long) x n in
           inr (rw (tx, px) (S .room x (sym (ap (λ (t : Ty). t .role) tx) ∙ c))));
       below = h;
-      fixed = λ e. absurd (e refl);
+      unmarked = λ e. absurd (e refl);
       flat = λ e. absurd (e refl);
       same = λ e. absurd (e refl);
     }

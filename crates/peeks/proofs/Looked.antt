@@ -5,6 +5,7 @@ use mathlib.Core.Bool.{Bool, true, false}
 use mathlib.Core.List.{List, [], _∷_}
 use native.Mathlib.Omega.{arith}
 use native.Mathlib.Nat.{mod-eq-of-lt, mod-mod, pow-suc}
+use lib.Dec.{leb}
 use lib.Pow.{pow-pos}
 use lib.ListN.{length, take, getD, set, getD-replicate}
 use lib.Seq.{take-all, getD-set-same, getD-set-other}
@@ -13,7 +14,7 @@ use Rattle.tables.specs.declared.Ty.{Ty}
 use Rattle.tables.specs.declared.Checked.the-variants.{Accepted}
 use Rattle.tables.specs.Lines.{Line, Expr, lineOf}
 use Rattle.tables.specs.Layout.{recordAt, linesOf}
-use Rattle.tables.specs.Types.{tyAt, given, sortAt}
+use Rattle.tables.specs.Types.{unmarkedRole, markedRole, tyAt, given, sortAt}
 use Rattle.tables.specs.Tables.{checked}
 use Rattle.tables.proofs.Facts.{IsWord, IsArray, Ok, OkExpr}
 use Rattle.tables.proofs.Showing.{earlier}
@@ -33,7 +34,7 @@ use Rattle.circuits.proofs.Laid.{Later, later, grew, type-new, place-new, type-
 use Rattle.circuits.proofs.Simulation.{word-one, word-two, is-sort}
 use Rattle.circuits.proofs.Walked.{accAt, lines-many, line-here, number-at, later-at, Facts}
 use Rattle.circuits.proofs.Placing.{all-sound, lines-here}
-use Rattle.circuits.proofs.Earlier.{cells-first, cells-here, fixed-alike}
+use Rattle.circuits.proofs.Earlier.{cells-first, cells-here, unmarked-alike}
 use Rattle.circuits.proofs.Sizes.{laidOf}
 use Rattle.peeks.proofs.Whole.{HeldBy, lay-is, facts-of, held-at, held-whole, lay-whole, cells-many, cells-small}
 use Rattle.peeks.proofs.Begun.{startOf, Begun, begun}
@@ -466,9 +467,9 @@ module _ {t : List ℕ} {n : ℕ} {P : List (List ℕ)} {ini S R : List ℕ} (lk
           let lz = lay-whole t n accepted S (lk .laid .starts) true ι in
           let d : ℕ = initOf (suc i) (linesOf false t n) in
           let td : typeAt (step false true (linesOf false t n) S ι .lay) d ≡ typeAt Z d = ap (λ (Y : Layout). typeAt Y d) lz in
-          let role : typeAt Z d .role ≡ 2 = sym (ap (λ (y : Ty). y .role) td) ∙ k .fixed z in
+          let role : typeAt Z d .role ≡ unmarkedRole = sym (ap (λ (y : Ty). y .role) td) ∙ k .unmarked z in
           let wd : typeAt Z d .w ≡ own .w = sym (ap (λ (y : Ty). y .w) td) ∙ k .same z in
-          let xe : wordAt (step false true (linesOf false t n) S ι) d ≡ wordAt A d = ap (λ (y : List ℕ). getD y 0 0) (fixed-alike false true false S σ ι ι (linesOf false t n) d role) in
+          let xe : wordAt (step false true (linesOf false t n) S ι) d ≡ wordAt A d = ap (λ (y : List ℕ). getD y 0 0) (unmarked-alike false true false S σ ι ι (linesOf false t n) d (ap (leb markedRole) role)) in
           record {
             arg = record { word = record { is = omega arith; flat = sym (ap (λ (y : Ty). y .iw) td) ∙ k .flat z }; below = k .below };
             is = sym (state-at ∙ ap (λ (y : List ℕ). getD y c 0 % 2 ^ (own .w)) (yes-choose d _ _ z) ∙ ap (λ (m : ℕ). m % 2 ^ (own .w)) (getD-replicate (size own) c _ 0 hm ∙ xe)

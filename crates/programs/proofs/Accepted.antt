@@ -62,7 +62,7 @@ module _ {Y Z : Layout} {J : List Known} (v : Laid Y Z J) (o : Once Y Z J) where
   given-value false q x t k = k .is
 
   value-ok : (m : Bool) (q x : ℕ) → typeAt Y q .role ≡ 4 → OkValue m q x (typeAt Y x) → OkValue m (operandNumber J q) (operandNumber J x) (typeAt Y x)
-  value-ok true q x c k = record { word = k .word; below = o .rising x q (k .word .is) (omega arith) (k .below); fixed = k .fixed }
+  value-ok true q x c k = record { word = k .word; below = o .rising x q (k .word .is) (omega arith) (k .below); unmarked = k .unmarked }
   value-ok false q x c k = k
 
   init-next-ok : (m : Bool) (s q x : ℕ) → Ok false (tyAt (Y .ctx)) (given (Y .ctx)) (initOrNext m s q x) → Ok true (tyAt (Z .ctx)) (given (Z .ctx)) (initOrNext m (operandWidth J s) (operandNumber J q) (operandNumber J x))

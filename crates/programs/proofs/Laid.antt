@@ -6,13 +6,12 @@ use mathlib.Core.Bool.{Bool, true, false}
 use mathlib.Core.List.{List, [], _∷_, _++_}
 use native.Mathlib.Nat.{le-trans}
 use native.Mathlib.Omega.{arith}
-use lib.Dec.{eqb}
 use lib.ListN.{length}
-use borrow.Author.Tests.{le-leb, eqb-true, eqb-false}
+use borrow.Author.Tests.{le-leb}
 use Rattle.tables.specs.declared.Ty.{Ty}
-use Rattle.tables.specs.Pick.{pick}
 use Rattle.tables.specs.Lines.{Line}
-use Rattle.tables.specs.Types.{ty, noTy, sortAt, tyAt, given}
+use Rattle.tables.specs.Types.{ty, noTy, marked, valueRole, sortAt, tyAt, given}
+use Rattle.tables.proofs.Values.{role-back}
 use Rattle.tables.proofs.Facts.{Ok}
 use Rattle.tables.proofs.Wide.{AllWide, grow-wide}
 use Rattle.circuits.specs.Layout.{Layout, typeAt, placeAt, lineTypeIn, placeOf, lay, layAll}
@@ -95,13 +94,6 @@ pub record Fresh (Z : Layout) (l : Line) (t : Ty) (q : ℕ) (w : ℕ) (lo : Bool
   pub at : t .role ≡ 4 → placeOf Z l ≡ q
   pub low : t .role ≡ 4 → q < lay true Z l .counts .states
 
-fixed-class : (c : ℕ) → 2 ≤ c → c ≤ 3 → pick (eqb c 2) 2 3 ≡ c
-fixed-class c h k = go (eqb c 2) refl
-  where
-    go : (b : Bool) → eqb c 2 ≡ b → pick b 2 3 ≡ c
-    go true e = sym (eqb-true c 2 e)
-    go false e = let n : (c ≡ 2 → ⊥) = eqb-false c 2 e in omega arith
-
 module _ {Z : Layout} (ev : Even Z) {l : Line} {t : Ty} {q : ℕ} {w : ℕ} {lo : Bool} (h : Fresh Z l t q w lo) (b : ℕ) (e : b ≡ lines Z) where
   fresh-reg : (f : Known) → f .num ≡ b → Reg (lay true Z l) t q f
   fresh-reg f n =
@@ -117,8 +109,8 @@ module _ {Z : Layout} (ev : Even Z) {l : Line} {t : Ty} {q : ℕ} {w : ℕ} {lo 
   mask-type o =
       let x : typeAt (lay true Z l) b ≡ t = new-type true ev l b e ∙ h .type in
       let s = sort-of-width (tyAt (lay true Z l .ctx)) w (h .least) (h .most) in
-      let p : lineTypeIn true (lay true Z l) (maskOf w b) ≡ ty (pick (eqb (t .role) 2) 2 3) 0 w = λ i. ty (pick (eqb (x i .role) 2) 2 3) (s i .iw) (s i .w) in
-      let r : ty (pick (eqb (t .role) 2) 2 3) 0 w ≡ t = λ i. ty (fixed-class (t .role) (h .class) (h .loose o) i) (sym (h .flat) i) (sym (h .width) i) in
+      let p : lineTypeIn true (lay true Z l) (maskOf w b) ≡ ty (valueRole (marked t)) 0 w = λ i. ty (valueRole (marked (x i))) (s i .iw) (s i .w) in
+      let r : ty (valueRole (marked t)) 0 w ≡ t = λ i. ty (role-back (t .role) (h .class) (h .loose o) i) (sym (h .flat) i) (sym (h .width) i) in
       p ∙ r
 
   mask-reg : lo ≡ true → (f : Known) → f .num ≡ suc b → Reg (lay true (lay true Z l) (maskOf w b)) t q f

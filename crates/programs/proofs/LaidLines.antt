@@ -8,11 +8,11 @@ use lib.Dec.{eqb}
 use lib.ListN.{length}
 use Rattle.tables.specs.declared.Ty.{Ty}
 use Rattle.tables.specs.Lines.{Line, Expr, bitvec, array, input, state, value, initOrNext, signal, output, unknown, const, unary, binary, equality, ite, read, write}
-use Rattle.tables.specs.Types.{ty, noTy, sortAt, tyAt, given, noCtx, isFixed}
+use Rattle.tables.specs.Types.{ty, noTy, sortAt, tyAt, given, noCtx}
 use Rattle.tables.specs.Pick.{pick}
 use Rattle.tables.proofs.Kept.{no-yes}
 use Rattle.tables.proofs.Facts.{Ok, OkExpr, AllOk}
-use Rattle.tables.proofs.Values.{val-iw, val-w, val-value}
+use Rattle.tables.proofs.Values.{val-iw, val-w, val-value, val-most}
 use Rattle.circuits.specs.Layout.{Layout, typeAt, placeAt, lineTypeIn, placeOf, size, lay, layAll, noLayout, layout}
 use Rattle.programs.specs.Uses.{looseLine, looseExpr, hasNeedingUse}
 use Rattle.programs.specs.Translation.{Known, info, noneKnown, knownAt, operandWidth, operandNumber, looseOf, withMask, renumbered, instructionsOf, arraySortLine, hasArray, translateFrom, translate}
@@ -22,20 +22,6 @@ use Rattle.programs.proofs.Laid.{Rel, rel-none, Laid, laid-end, sort-of
 pub and-never : (b : Bool) → (b && false) ≡ true → ⊥
 and-never true e = let z : _≡_ {A = ℕ} 0 1 = ap (λ (x : Bool). pick x 1 0) e in omega arith
 and-never false e = let z : _≡_ {A = ℕ} 0 1 = ap (λ (x : Bool). pick x 1 0) e in omega arith
-
--- a value line is no state
-two-three : (b : Bool) → pick b 2 3 ≤ 3
-two-three true = omega arith
-two-three false = omega arith
-
-pub val-class : (Y : Layout) (s : ℕ) (x : Expr) → lineTypeIn false Y (value s x) .role ≤ 3
-val-class Y s (const n) = omega arith
-val-class Y s (unary n a x y) = two-three (isFixed (typeAt Y a))
-val-class Y s (binary n a b) = two-three (isFixed (typeAt Y a) && isFixed (typeAt Y b))
-val-class Y s (equality e a b) = two-three (isFixed (typeAt Y a) && isFixed (typeAt Y b))
-val-class Y s (ite c a b) = two-three (isFixed (typeAt Y c) && (isFixed (typeAt Y a) && isFixed (typeAt Y b)))
-val-class Y s (read a i) = two-three (isFixed (typeAt Y a) && isFixed (typeAt Y i))
-val-class Y s (write a i x) = two-three (isFixed (typeAt Y a) && (isFixed (typeAt Y i) && isFixed (typeAt Y x)))
 
 module _ {Y Z : Layout} {J : List Known} (v : Laid Y Z J) where
   -- an operand has the type of its instruction
@@ -115,7 +101,7 @@ module _ {Y Z : Layout} {J : List Known} (v : Laid Y Z J) where
       let c = sort-class s x k in
       let w : operandWidth J s ≡ typeAt Y s .w = v .rel s .sort c in
       let g = v .wide s (omega arith) in
-      let n = val-class Y s x in
+      let n = val-most false (typeAt Y) s x in
       record {
         type = val-type s x k;
         flat = val-iw false (tyAt (Y .ctx)) s x ∙ v .rel s .flat;

@@ -15,6 +15,7 @@ use Rattle.tables.specs.Lines.{Line, Expr, bitvec, array, input, state, value, 
 use Rattle.tables.specs.Types.{tyAt, given}
 use Rattle.tables.proofs.Kept.{no-yes}
 use Rattle.tables.proofs.Facts.{Ok, OkValue}
+use Rattle.tables.proofs.Values.{val-most}
 use Rattle.tables.proofs.Showing.{by-place, snoc-other}
 use Rattle.circuits.specs.Cells.{ifNonzero, part, put as putWords}
 use Rattle.circuits.specs.Layout.{Layout, typeAt, placeAt, lineTypeIn, size, lay, layAll}
@@ -23,7 +24,7 @@ use Rattle.programs.specs.Uses.{looseLine, looseExpr, needs, needsBinary
 use Rattle.programs.specs.Translation.{Known, info, noneKnown, operandWidth, operandNumber, looseOf, instructionsOf, arraySortLine}
 use Rattle.programs.proofs.Grew.{lines, grew-none}
 use Rattle.programs.proofs.Laid.{Laid}
-use Rattle.programs.proofs.LaidLines.{and-never, typed, fresh-input, fresh-state, fresh-val, val-class, laid-line}
+use Rattle.programs.proofs.LaidLines.{and-never, typed, fresh-input, fresh-state, fresh-val, laid-line}
 use Rattle.programs.proofs.Operator.{narrowed, exact-result}
 use Rattle.programs.proofs.Held.{Alike, more-none, more-line, full-line, alike-end, New, holds}
 use Rattle.programs.proofs.Needs.{Met}
@@ -116,7 +117,7 @@ module _ (g : Bool) (σ ι : List ℕ) (W : ℕ → ℕ) (N : ℕ → Bool) (tam
     line-value s x k m =
         let lo = looseExpr (looseOf J) (operandWidth J s) x in
         let r = fresh-val (v .laid) s x lo k in
-        let h = holds g σ ι W (v .fullB) b e lo (N (length J)) r (new-val g σ ι v s x k m) (λ c. absurd (omega (arith, val-class (A .lay) s x))) in
+        let h = holds g σ ι W (v .fullB) b e lo (N (length J)) r (new-val g σ ι v s x k m) (λ c. absurd (omega (arith, val-most false (typeAt (A .lay)) s x))) in
         alike-end g σ ι (value s x) _ v (h .more) (laid-here (value s x) k refl) (h .full) (h .sts ∙ v .sts) (h .sigs ∙ v .sigs) (v .count) (v .fit) (λ c. h .word)
 
     -- ---- a state line

@@ -1,10 +1,10 @@
-// What a check keeps of each line, at the line's number: its role, its index width, its width, and two marks, of a state that has an init line and of one that has a
+// What a check keeps of each line, at the line's number: its role, its index width, its width, and two flags, of a state that has an init line and of one that has a
 // next line.
 use tables::Ty;
 use tables::WORDS;
 ghost use mathlib.Core.Path.{_≡_};
 ghost use lib.ListN.{set};
-ghost use Rattle.tables.specs.Model.Notes.{noteAt, lookIn, typed as typedOf, withMark as markedOf, markedBy};
+ghost use Rattle.tables.specs.Model.Notes.{noteAt, lookIn, typed as typedOf, withFlag as flaggedOf, flaggedBy};
 ghost use Rattle.tables.specs.Lines.{initOrNextKind};
 
 // The bytes of a note.
@@ -51,9 +51,9 @@ pub fn put_type(notes: &mut [[u8; BYTES]], n: u64, y: Ty)
     put(notes, n, [y.role, y.iw, y.w, r[3], r[4]]);
 }
 
-// A note with the mark of an init, or of a next.
-fn marked(init: bool, r: [u8; BYTES]) -> [u8; BYTES]
-    ensures { λ v. ⌜ v ≡ markedOf init r ⌝ }
+// A note with the flag of an init, or of a next.
+fn flagged(init: bool, r: [u8; BYTES]) -> [u8; BYTES]
+    ensures { λ v. ⌜ v ≡ flaggedOf init r ⌝ }
 {
     if init {
         return [r[0], r[1], r[2], 1, r[4]];
@@ -61,13 +61,13 @@ fn marked(init: bool, r: [u8; BYTES]) -> [u8; BYTES]
     [r[0], r[1], r[2], r[3], 1]
 }
 
-// A record of the kind k, an init or a next, marks its state.
-pub fn mark(init: bool, k: u64, rec: [u64; WORDS], notes: &mut [[u8; BYTES]])
+// A record of the kind k, an init or a next, flags its state.
+pub fn flag(init: bool, k: u64, rec: [u64; WORDS], notes: &mut [[u8; BYTES]])
     requires { ⌜ k ≡ initOrNextKind init ⌝ }
-    ensures { λ _. ⌜ now (notes .exit) ≡ markedBy init rec (now (notes .entry)) ⌝ }
+    ensures { λ _. ⌜ now (notes .exit) ≡ flaggedBy init rec (now (notes .entry)) ⌝ }
 {
     if rec[0] == k {
         let r = at(notes, rec[2]);
-        put(notes, rec[2], marked(init, r));
+        put(notes, rec[2], flagged(init, r));
     }
 }

@@ -49,7 +49,7 @@ fn classed(row: [u8; 16], t: Ty, a: Ty, b: Ty, c: Ty) -> bool
     suits(row[15], c)
 }
 
-// Rule 10: b is the type of the second operand.
+// Rule 10: b is the type of the second operand. Of an init's value one mark is looked at.
 fn once(rec: [u64; WORDS], b: Ty, notes: &[[u8; BYTES]]) -> bool
     ensures { λ r. ⌜ r ≡ all (onceRules (lineOf rec) (givenIn (now (notes .entry))) b) ⌝ }
 {
@@ -64,7 +64,7 @@ fn once(rec: [u64; WORDS], b: Ty, notes: &[[u8; BYTES]]) -> bool
             if q <= rec[3] {
                 return false;
             }
-            b.role == 2
+            !types::marked(b)
         }
         7 => r[4] != 1,
         _ => true,

@@ -14,7 +14,7 @@ use Rattle.tables.specs.Layout.{whole, held, room, recordsOf}
 use Rattle.tables.specs.Ids.{idsRight}
 use Rattle.tables.specs.Types.{ty, noTy, noCtx, tyAt, given}
 use Rattle.tables.specs.Tables.{lawful, broken, checked}
-use Rattle.tables.specs.Model.Notes.{blank, noteAt, markIn, givenIn, Shows, Fresh}
+use Rattle.tables.specs.Model.Notes.{blank, noteAt, flagIn, givenIn, Shows, Fresh}
 
 module _ (p : Bool) (t : List ℕ) (n : ℕ) where
   pub no-table : whole p (length t) ≡ false → Refused NotATable ≡ checked p t n
@@ -64,14 +64,14 @@ empty-at zero = refl
 empty-at (suc a) = refl
 
 pub shows-none : {n : ℕ} {notes : List (List ℕ)} → Fresh n notes → Shows notes noCtx
-shows-none {n} {notes} f = record { types = λ a. ap (λ (r : List ℕ). ty (getD r 0 0) (getD r 1 0) (getD r 2 0)) (none a) ∙ sym (empty-at a); marks = no-mark }
+shows-none {n} {notes} f = record { types = λ a. ap (λ (r : List ℕ). ty (getD r 0 0) (getD r 1 0) (getD r 2 0)) (none a) ∙ sym (empty-at a); flags = no-flag }
   where
     none : (a : ℕ) → noteAt notes a ≡ blank
     none a = ap (λ (l : List (List ℕ)). noteAt l a) (f .blanks) ∙ blanks-at (length notes) a
 
-    no-mark : (m : Bool) (q : ℕ) → givenIn notes m q ≡ given noCtx m q
-    no-mark true q = ap (λ (r : List ℕ). eqb (markIn true r) 1) (none q)
-    no-mark false q = ap (λ (r : List ℕ). eqb (markIn false r) 1) (none q)
+    no-flag : (m : Bool) (q : ℕ) → givenIn notes m q ≡ given noCtx m q
+    no-flag true q = ap (λ (r : List ℕ). eqb (flagIn true r) 1) (none q)
+    no-flag false q = ap (λ (r : List ℕ). eqb (flagIn false r) 1) (none q)
 
 -- a list of m blank notes
 pub fresh : (n m : ℕ) → (n ≤ 16384 → n < m) → Fresh n (replicate m blank)

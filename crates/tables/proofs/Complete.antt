@@ -214,7 +214,7 @@ module _ (p : Bool) (L : ℕ → Ty) (G : Bool → ℕ → Bool) where
       (record {
         class = and₄ (of-sort (k .sort)) (eq-eqb (L q .role) 4 (k .state)) (of-word (k .value .word)) refl;
         width = and₂ (of-same (k .same)) (and₂ (eq-eqb (L v .w) (sortAt p L s .w) (k .w)) (and₂ (eq-eqb (L v .iw) 0 (k .iw)) refl));
-        once = and₂ (ap not (k .once)) (and₂ (lt-ltb v q (k .value .below)) (and₂ (eq-eqb (L v .role) 2 (k .value .fixed)) refl));
+        once = and₂ (ap not (k .once)) (and₂ (lt-ltb v q (k .value .below)) (and₂ (ap not (k .value .unmarked)) refl));
       })
   complete (Line.initOrNext false s q v) k =
       kept p L G (fields 7 s q v 0) (shared p 7 refl refl) refl

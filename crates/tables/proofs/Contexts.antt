@@ -13,7 +13,7 @@ pub grow-snoc : (p : Bool) (c : Ctx) (ls : List Line) (l : Line) → growAll p c
 grow-snoc p c [] l = refl
 grow-snoc p c (x ∷ ls) l = grow-snoc p (grow p c x) ls l
 
-map-snoc : (rs : List (List ℕ)) (r : List ℕ) → map lineOf (rs ++ (r ∷ [])) ≡ map lineOf rs ++ (lineOf r ∷ [])
+pub map-snoc : (rs : List (List ℕ)) (r : List ℕ) → map lineOf (rs ++ (r ∷ [])) ≡ map lineOf rs ++ (lineOf r ∷ [])
 map-snoc [] r = refl
 map-snoc (x ∷ rs) r = ap (λ (ls : List Line). lineOf x ∷ ls) (map-snoc rs r)
 

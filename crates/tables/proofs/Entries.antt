@@ -2,7 +2,7 @@
 use Prim.Native.Nat.{ℕ, zero, suc, _+_, _<_}
 use mathlib.Core.Path.{_≡_, refl, sym, ap, _∙_, subst}
 use mathlib.Core.Bool.{Bool}
-use mathlib.Core.List.{List, [], _∷_}
+use mathlib.Core.List.{List, [], _∷_, _++_}
 use native.Mathlib.Omega.{arith}
 use lib.ListN.{length, getD, length-append, List·getD-append}
 use lib.Seq.{getD-at}
@@ -46,3 +46,8 @@ entry p c (l ∷ ls) k zero h =
 entry p c (l ∷ ls) k (suc i) h =
     let z : length (grow p c l .tys) + i ≡ length (c .tys) + suc i = omega (arith, grown p c l) in
     subst (λ (n : ℕ). Entry p (growAll p (grow p c l) ls) n (getD ls i Line.unknown)) z (entry p (grow p c l) ls (k .1) i (omega arith))
+
+-- one line more keeps the rules
+pub ok-snoc : (p : Bool) (c : Ctx) (ls : List Line) (l : Line) → AllOk p c ls → Ok p (tyAt (growAll p c ls)) (given (growAll p c ls)) l → AllOk p c (ls ++ (l ∷ []))
+ok-snoc p c [] l k h = (h, tt)
+ok-snoc p c (x ∷ ls) l k h = (k .0, ok-snoc p (grow p c x) ls l (k .1) h)

@@ -8,7 +8,7 @@ use mathlib.Core.List.{List, [], _∷_}
 use Rattle.tables.specs.declared.Ty.{Ty}
 use Rattle.tables.specs.Kinds.{rowOf, secondClass, thirdClass}
 use Rattle.tables.specs.Lines.{Line, Expr}
-use Rattle.tables.specs.Types.{sortAt, Ctx, tyAt, given, grow}
+use Rattle.tables.specs.Types.{marked, sortAt, Ctx, tyAt, given, grow}
 use Rattle.tables.specs.Rules.{fitsUnary, fitsBinary, valueIndex}
 use Rattle.tables.specs.Tables.{unused}
 
@@ -119,11 +119,11 @@ pub record OkArray (p : Bool) (i e : Ty) : Type 0 where
   pub element : IsWordSort e
   pub most : i .w ≤ 8
 
--- an init's value is a word; its line stands before the state's and its cone holds no input and no state
+-- an init's value is a word; its line stands before the state's, and is not marked
 pub record OkInit (q v : ℕ) (b : Ty) : Type 0 where
   pub word : IsWord b
   pub below : v < q
-  pub fixed : b .role ≡ 2
+  pub unmarked : marked b ≡ false
 
 abbrev pub OkValue : Bool → (q v : ℕ) → Ty → Type 0
 OkValue true q v b = OkInit q v b

@@ -3,16 +3,16 @@
 use Prim.Native.Nat.{ℕ, _≤_}
 use mathlib.Core.Path.{_≡_, refl, sym, ap, _∙_, subst}
 use mathlib.Core.Logic.{_↔_}
-use mathlib.Core.Bool.{Bool, true, false, not, _&&_, true≢false, false≢true}
+use mathlib.Core.Bool.{Bool, true, false, not, _&&_, true≢false}
 use mathlib.Core.List.{List, [], _∷_, map}
 use native.Mathlib.Omega.{arith}
 use lib.Dec.{ltb}
-use borrow.Author.Tests.{eqb-true, ltb-false, le-ltb, leb-true, not-false}
+use borrow.Author.Tests.{ltb-false, le-ltb, leb-true, not-false}
 use Rattle.tables.specs.declared.Ty.{Ty}
 use Rattle.tables.specs.Pick.{all}
 use Rattle.tables.specs.Kinds.{rowOf}
 use Rattle.tables.specs.Lines.{Line, isInitOrNext, initOrNextKind, shapeOf, fields, lineOf, kindIn, sortIn, firstIn, secondIn, thirdIn}
-use Rattle.tables.specs.Types.{isSort, isState, isValue, isFixed, isWord, sortAt, Ctx, tyAt, given, growAll, noCtx, context}
+use Rattle.tables.specs.Types.{isSort, isState, isValue, marked, isWord, sortAt, Ctx, tyAt, given, growAll, noCtx, context}
 use Rattle.tables.specs.Cone.{itself, under, SourceInCone, HasInitOrNext, BarsInit, secondInit, notBelow, sourceInCone, RuleTen}
 use Rattle.tables.specs.Rules.{suits, classes, fits, onceRules, answer, fault}
 use Rattle.tables.proofs.Laws.{and-true, and-false}
@@ -20,7 +20,7 @@ use Rattle.tables.proofs.Kept.{both}
 use Rattle.tables.proofs.Shapes.{once-as, no-once}
 use Rattle.tables.proofs.Facts.{AllOk}
 use Rattle.tables.proofs.Sound.{all-sound}
-use Rattle.tables.proofs.Cones.{fixed-cone, source-in-cone}
+use Rattle.tables.proofs.Marks.{marks-exactly}
 use Rattle.tables.proofs.GivenLines.{given-line}
 
 -- ---- the answer is 10 exactly where a test of the last list fails
@@ -77,23 +77,22 @@ module _ (p : Bool) (C : List Line) (ok : AllOk p noCtx C) (r : List ℕ) where
   -- the tests of rule 10, and what they test
   tests : (m : Bool) (s q v : ℕ) → 2 ≤ tyAt c v .role
       → (all (onceRules (Line.initOrNext m s q v) (given c) (tyAt c v)) ≡ false) ↔ RuleTen m C q v
+  unfolding context
   tests true s q v t = (
-    λ e. fails (not (given c true q)) (ltb v q) (isFixed (tyAt c v)) e
+    λ e. fails (not (given c true q)) (ltb v q) (not (marked (tyAt c v))) e
         (λ h. secondInit (given-line p true q C .0 (not-false (given c true q) h)))
         (λ h. notBelow (ltb-false v q h))
-        (λ h. sourceInCone (source-in-cone p C ok v t h)),
+        (λ h. sourceInCone (marks .0 (not-false (marked (tyAt c v)) h))),
     refuses,
   )
     where
-      fixed-or : (b : Bool) → isFixed (tyAt c v) ≡ b → SourceInCone C v → b ≡ false
-      fixed-or false e S = refl
-      fixed-or true e S =
-          absurd (false≢true (sym (S .is) ∙ fixed-cone p C ok v (eqb-true (tyAt c v .role) 2 e) (S .line) (S .inCone)))
+      marks : (marked (tyAt c v) ≡ true) ↔ SourceInCone C v
+      marks = marks-exactly p C ok v t
 
       refuses : BarsInit C q v → all (onceRules (Line.initOrNext true s q v) (given c) (tyAt c v)) ≡ false
       refuses (secondInit h) = rw (given-line p true q C .1 h)
       refuses (notBelow h) = rw (le-ltb v q h, and-false)
-      refuses (sourceInCone S) = rw (fixed-or (isFixed (tyAt c v)) refl S, and-false, and-false)
+      refuses (sourceInCone S) = rw (marks .1 S, and-false, and-false)
   tests false s q v t = (
     λ e. given-line p false q C .0 (not-false (given c false q) (sym (and-true _) ∙ e)),
     λ h. rw (given-line p false q C .1 h),

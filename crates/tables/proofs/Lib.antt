@@ -23,6 +23,9 @@ pub mod Values
 pub mod Wide
 pub mod Entries
 pub mod Cones
+pub mod Marks
+pub mod SameChecks
+pub mod SampleMarks
 pub mod GivenStates
 pub mod GivenLines
 pub mod InitRule

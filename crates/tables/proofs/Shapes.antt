@@ -2,7 +2,7 @@
 use Prim.Native.Nat.{ℕ, suc, _-_, _≤_, _<_}
 use mathlib.Core.Path.{_≡_, refl, sym, ap, _∙_, subst}
 use mathlib.Core.Logic.{_⊎_, inl, inr}
-use mathlib.Core.Bool.{Bool, true, false, not, _&&_}
+use mathlib.Core.Bool.{Bool, true, false, not, _||_}
 use mathlib.Core.List.{List}
 use lib.Dec.{T, T-not, leb, eqb, leb→le}
 use Rattle.tables.proofs.Every.{at-each}
@@ -13,7 +13,7 @@ use native.Mathlib.Omega.{arith}
 use Rattle.tables.specs.declared.Ty.{Ty}
 use Rattle.tables.specs.Pick.{pick, inside, all}
 use Rattle.tables.specs.Lines.{Line, Shape, isBitvec, isArray, isConst, isInput, isState, isOutput, isUnary, isBinary, isIte, isRead, isWrite, isUnknown, isInitOrNext, isSignal, isEquality, initOrNextKind, signalKind, equalityKind, shapeOf, build, lineOf, kindIn, sortIn, firstIn, secondIn, thirdIn}
-use Rattle.tables.specs.Types.{ty, noTy, isFixed, typeOf}
+use Rattle.tables.specs.Types.{ty, noTy, marked, valueRole, typeOf}
 use Rattle.tables.specs.Rules.{fits, onceRules}
 
 pub line-as : (r : List ℕ) (S : Shape) → shapeOf (kindIn r) ≡ S → lineOf r ≡ build S (kindIn r) (sortIn r) (firstIn r) (secondIn r) (thirdIn r)
@@ -178,10 +178,10 @@ module _ (r : List ℕ) (t a b c : Ty) where
 
   -- of two operands: comparisons, operators of two words, read
   pub two-type : 20 < kindIn r → kindIn r ≤ 56 → (kindIn r ≡ 53 → ⊥) → (kindIn r ≡ 55 → ⊥) → (kindIn r ≡ 56 → ⊥)
-      → ty (pick (isFixed a && isFixed b) 2 3) (t .iw) (t .w) ≡ typeOf (lineOf r) t a b c
+      → ty (valueRole (marked a || marked b)) (t .iw) (t .w) ≡ typeOf (lineOf r) t a b c
   two-type h l n₁ n₂ n₃ = go (shapeOf (kindIn r)) refl (kind-of (kindIn r))
     where
-      go : (S : Shape) → shapeOf (kindIn r) ≡ S → KindOf S (kindIn r) → ty (pick (isFixed a && isFixed b) 2 3) (t .iw) (t .w) ≡ typeOf (lineOf r) t a b c
+      go : (S : Shape) → shapeOf (kindIn r) ≡ S → KindOf S (kindIn r) → ty (valueRole (marked a || marked b)) (t .iw) (t .w) ≡ typeOf (lineOf r) t a b c
       go isBitvec e k = absurd (omega arith)
       go isArray e k = absurd (omega arith)
       go isConst e k = absurd (omega arith)

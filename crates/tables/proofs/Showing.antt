@@ -17,7 +17,7 @@ use Rattle.tables.specs.Layout.{recordWords}
 use Rattle.tables.specs.Types.{ty, noTy, isState, sortAt, recordType, lineType, Ctx, tyAt, givenBy, given, givenAfter, grow}
 use Rattle.tables.specs.Rules.{suits, classes, fault}
 use Rattle.tables.specs.Tables.{formed, keeps}
-use Rattle.tables.specs.Model.Notes.{blank, noteAt, lookIn, markIn, givenIn, Shows, typed, withMark, markedBy, noted}
+use Rattle.tables.specs.Model.Notes.{blank, noteAt, lookIn, flagIn, givenIn, Shows, typed, withFlag, flaggedBy, noted}
 use Rattle.tables.proofs.Laws.{or-true, or-false}
 use Rattle.tables.proofs.Shapes.{KindOf, kind-of, line-as, no-unknown}
 use Rattle.tables.proofs.Answers.{passed}
@@ -103,16 +103,16 @@ given-as m c r = go (shapeOf (kindIn r)) refl (kind-of (kindIn r))
     go (isEquality true) e q = rest (isEquality true) e refl (other m (kindIn r) (λ z. omega arith) (λ z. omega arith))
     go (isEquality false) e q = rest (isEquality false) e refl (other m (kindIn r) (λ z. omega arith) (λ z. omega arith))
 
--- a mark at the state q
-marked-at : (m : Bool) (notes : List (List ℕ)) (xs : List ℕ) (q : ℕ) → q < length notes → ((n : ℕ) → givenIn notes m n ≡ among n xs)
-    → (n : ℕ) → givenIn (set notes q (withMark m (noteAt notes q))) m n ≡ among n (xs ++ (q ∷ []))
-marked-at m notes xs q h f n =
+-- a flag at the state q
+flagged-at : (m : Bool) (notes : List (List ℕ)) (xs : List ℕ) (q : ℕ) → q < length notes → ((n : ℕ) → givenIn notes m n ≡ among n xs)
+    → (n : ℕ) → givenIn (set notes q (withFlag m (noteAt notes q))) m n ≡ among n (xs ++ (q ∷ []))
+flagged-at m notes xs q h f n =
     by-place n q
-    (λ e. subst (λ (j : ℕ). givenIn (set notes q (withMark m (noteAt notes q))) m j ≡ among j (xs ++ (q ∷ []))) (sym e)
-    (ap (λ (r : List ℕ). eqb (markIn m r) 1) (getD-set-same notes q (withMark m (noteAt notes q)) blank h) ∙ own m ∙ sym (among-snoc q xs q ∙ rw (eq-eqb q q refl, or-true))))
-    (λ e. ap (λ (r : List ℕ). eqb (markIn m r) 1) (getD-set-other notes q n (withMark m (noteAt notes q)) blank e) ∙ f n ∙ sym (among-snoc n xs q ∙ rw (ne-eqb n q e, or-false)))
+    (λ e. subst (λ (j : ℕ). givenIn (set notes q (withFlag m (noteAt notes q))) m j ≡ among j (xs ++ (q ∷ []))) (sym e)
+    (ap (λ (r : List ℕ). eqb (flagIn m r) 1) (getD-set-same notes q (withFlag m (noteAt notes q)) blank h) ∙ own m ∙ sym (among-snoc q xs q ∙ rw (eq-eqb q q refl, or-true))))
+    (λ e. ap (λ (r : List ℕ). eqb (flagIn m r) 1) (getD-set-other notes q n (withFlag m (noteAt notes q)) blank e) ∙ f n ∙ sym (among-snoc n xs q ∙ rw (ne-eqb n q e, or-false)))
   where
-    own : (m : Bool) → eqb (markIn m (withMark m (noteAt notes q))) 1 ≡ true
+    own : (m : Bool) → eqb (flagIn m (withFlag m (noteAt notes q))) 1 ≡ true
     own true = refl
     own false = refl
 
@@ -160,40 +160,40 @@ same-at g notes q r e a = go (leb (length notes) q) refl
         (λ z. subst (λ (j : ℕ). g (noteAt (set notes q r) j) ≡ g (noteAt notes j)) (sym z) (ap g (getD-set-same notes q r blank (leb-false (length notes) q h)) ∙ e))
         (λ z. ap g (getD-set-other notes q a r blank z))
 
--- a mark leaves the types and the other marks
-mark-types : (m : Bool) (r : List ℕ) (notes : List (List ℕ)) (a : ℕ) → lookIn (markedBy m r notes) a ≡ lookIn notes a
-mark-types m r notes a = go (eqb (kindIn r) (initOrNextKind m)) m
+-- a flag leaves the types and the other flags
+flag-types : (m : Bool) (r : List ℕ) (notes : List (List ℕ)) (a : ℕ) → lookIn (flaggedBy m r notes) a ≡ lookIn notes a
+flag-types m r notes a = go (eqb (kindIn r) (initOrNextKind m)) m
   where
-    go : (b m : Bool) → lookIn (pick b (set notes (firstIn r) (withMark m (noteAt notes (firstIn r)))) notes) a ≡ lookIn notes a
-    go true true = same-at (λ (x : List ℕ). ty (getD x 0 0) (getD x 1 0) (getD x 2 0)) notes (firstIn r) (withMark true (noteAt notes (firstIn r))) refl a
-    go true false = same-at (λ (x : List ℕ). ty (getD x 0 0) (getD x 1 0) (getD x 2 0)) notes (firstIn r) (withMark false (noteAt notes (firstIn r))) refl a
+    go : (b m : Bool) → lookIn (pick b (set notes (firstIn r) (withFlag m (noteAt notes (firstIn r)))) notes) a ≡ lookIn notes a
+    go true true = same-at (λ (x : List ℕ). ty (getD x 0 0) (getD x 1 0) (getD x 2 0)) notes (firstIn r) (withFlag true (noteAt notes (firstIn r))) refl a
+    go true false = same-at (λ (x : List ℕ). ty (getD x 0 0) (getD x 1 0) (getD x 2 0)) notes (firstIn r) (withFlag false (noteAt notes (firstIn r))) refl a
     go false m = refl
 
-other-mark : (m : Bool) (r : List ℕ) (notes : List (List ℕ)) (q : ℕ) → givenIn (markedBy (not m) r notes) m q ≡ givenIn notes m q
-other-mark m r notes q = go (eqb (kindIn r) (initOrNextKind (not m))) m
+other-flag : (m : Bool) (r : List ℕ) (notes : List (List ℕ)) (q : ℕ) → givenIn (flaggedBy (not m) r notes) m q ≡ givenIn notes m q
+other-flag m r notes q = go (eqb (kindIn r) (initOrNextKind (not m))) m
   where
-    go : (b m : Bool) → givenIn (pick b (set notes (firstIn r) (withMark (not m) (noteAt notes (firstIn r)))) notes) m q ≡ givenIn notes m q
-    go true true = same-at (λ (x : List ℕ). eqb (markIn true x) 1) notes (firstIn r) (withMark false (noteAt notes (firstIn r))) refl q
-    go true false = same-at (λ (x : List ℕ). eqb (markIn false x) 1) notes (firstIn r) (withMark true (noteAt notes (firstIn r))) refl q
+    go : (b m : Bool) → givenIn (pick b (set notes (firstIn r) (withFlag (not m) (noteAt notes (firstIn r)))) notes) m q ≡ givenIn notes m q
+    go true true = same-at (λ (x : List ℕ). eqb (flagIn true x) 1) notes (firstIn r) (withFlag false (noteAt notes (firstIn r))) refl q
+    go true false = same-at (λ (x : List ℕ). eqb (flagIn false x) 1) notes (firstIn r) (withFlag true (noteAt notes (firstIn r))) refl q
     go false m = refl
 
--- a type leaves the marks
-type-marks : (m : Bool) (n : ℕ) (y : Ty) (notes : List (List ℕ)) (q : ℕ) → givenIn (set notes n (typed y (noteAt notes n))) m q ≡ givenIn notes m q
-type-marks true n y notes q = same-at (λ (x : List ℕ). eqb (markIn true x) 1) notes n (typed y (noteAt notes n)) refl q
-type-marks false n y notes q = same-at (λ (x : List ℕ). eqb (markIn false x) 1) notes n (typed y (noteAt notes n)) refl q
+-- a type leaves the flags
+type-flags : (m : Bool) (n : ℕ) (y : Ty) (notes : List (List ℕ)) (q : ℕ) → givenIn (set notes n (typed y (noteAt notes n))) m q ≡ givenIn notes m q
+type-flags true n y notes q = same-at (λ (x : List ℕ). eqb (flagIn true x) 1) notes n (typed y (noteAt notes n)) refl q
+type-flags false n y notes q = same-at (λ (x : List ℕ). eqb (flagIn false x) 1) notes n (typed y (noteAt notes n)) refl q
 
-same-marks : (m : Bool) (r : List ℕ) (notes : List (List ℕ)) → length (markedBy m r notes) ≡ length notes
-same-marks m r notes = go (eqb (kindIn r) (initOrNextKind m))
+same-flags : (m : Bool) (r : List ℕ) (notes : List (List ℕ)) → length (flaggedBy m r notes) ≡ length notes
+same-flags m r notes = go (eqb (kindIn r) (initOrNextKind m))
   where
-    go : (b : Bool) → length (pick b (set notes (firstIn r) (withMark m (noteAt notes (firstIn r)))) notes) ≡ length notes
-    go true = length-set notes (firstIn r) (withMark m (noteAt notes (firstIn r)))
+    go : (b : Bool) → length (pick b (set notes (firstIn r) (withFlag m (noteAt notes (firstIn r)))) notes) ≡ length notes
+    go true = length-set notes (firstIn r) (withFlag m (noteAt notes (firstIn r)))
     go false = refl
 
 pub length-noted : (p : Bool) (r : List ℕ) (n : ℕ) (notes : List (List ℕ)) → length (noted p r n notes) ≡ length notes
 unfolding noted
 length-noted p r n notes =
     let y = typed (recordType p (lookIn notes) r (lineOf r)) (noteAt notes n) in
-    same-marks false r (markedBy true r (set notes n y)) ∙ same-marks true r (set notes n y) ∙ length-set notes n y
+    same-flags false r (flaggedBy true r (set notes n y)) ∙ same-flags true r (set notes n y) ∙ length-set notes n y
 
 -- ---- one line more
 
@@ -226,36 +226,36 @@ module _ {notes : List (List ℕ)} {c : Ctx} (p : Bool) (r : List ℕ) {n : ℕ}
       (λ e. ap (λ (x : List ℕ). ty (getD x 0 0) (getD x 1 0) (getD x 2 0)) (getD-set-other notes n a (typed new (noteAt notes n)) blank e) ∙ sh .types a
       ∙ sym (snoc-other (c .tys) (lineType p (tyAt c) (lineOf r)) noTy a (λ q. e (q ∙ ln))))
 
-  -- the marks of one kind of line
-  marks-of : (m : Bool) (xs : List (List ℕ)) → length xs ≡ length notes → ((q : ℕ) → givenIn xs m q ≡ given c m q)
-      → (q : ℕ) → givenIn (markedBy m r xs) m q ≡ among q (givenAfter m c (lineOf r))
-  marks-of m xs l f q = go (eqb (kindIn r) (initOrNextKind m)) refl
+  -- the flags of one kind of line
+  flags-of : (m : Bool) (xs : List (List ℕ)) → length xs ≡ length notes → ((q : ℕ) → givenIn xs m q ≡ given c m q)
+      → (q : ℕ) → givenIn (flaggedBy m r xs) m q ≡ among q (givenAfter m c (lineOf r))
+  flags-of m xs l f q = go (eqb (kindIn r) (initOrNextKind m)) refl
     where
-      go : (b : Bool) → eqb (kindIn r) (initOrNextKind m) ≡ b → givenIn (markedBy m r xs) m q ≡ among q (givenAfter m c (lineOf r))
+      go : (b : Bool) → eqb (kindIn r) (initOrNextKind m) ≡ b → givenIn (flaggedBy m r xs) m q ≡ among q (givenAfter m c (lineOf r))
       go true e =
           let st = named p m (tyAt c) (given c) r fine (eqb-true (kindIn r) (initOrNextKind m) e) in
           let at = earlier (c .tys) (firstIn r) (omega (arith, eqb-true (tyAt c (firstIn r) .role) 4 st)) in
-          ap (λ (b : Bool). givenIn (pick b (set xs (firstIn r) (withMark m (noteAt xs (firstIn r)))) xs) m q) e
-          ∙ marked-at m xs (givenBy m c) (firstIn r) (omega arith) f q ∙ sym (ap (among q) (given-as m c r ∙ ap (λ (b : Bool). pick b (givenBy m c ++ (firstIn r ∷ [])) (givenBy m c)) e))
+          ap (λ (b : Bool). givenIn (pick b (set xs (firstIn r) (withFlag m (noteAt xs (firstIn r)))) xs) m q) e
+          ∙ flagged-at m xs (givenBy m c) (firstIn r) (omega arith) f q ∙ sym (ap (among q) (given-as m c r ∙ ap (λ (b : Bool). pick b (givenBy m c ++ (firstIn r ∷ [])) (givenBy m c)) e))
       go false e =
-          ap (λ (b : Bool). givenIn (pick b (set xs (firstIn r) (withMark m (noteAt xs (firstIn r)))) xs) m q) e
+          ap (λ (b : Bool). givenIn (pick b (set xs (firstIn r) (withFlag m (noteAt xs (firstIn r)))) xs) m q) e
           ∙ f q ∙ sym (ap (among q) (given-as m c r ∙ ap (λ (b : Bool). pick b (givenBy m c ++ (firstIn r ∷ [])) (givenBy m c)) e))
 
-  marks-put : (m : Bool) (q : ℕ) → givenIn put m q ≡ given c m q
-  marks-put m q = type-marks m n new notes q ∙ sh .marks m q
+  flags-put : (m : Bool) (q : ℕ) → givenIn put m q ≡ given c m q
+  flags-put m q = type-flags m n new notes q ∙ sh .flags m q
 
   long-put : length put ≡ length notes
   long-put = length-set notes n (typed new (noteAt notes n))
 
-  marks-more : (m : Bool) (q : ℕ) → givenIn (markedBy false r (markedBy true r put)) m q ≡ given (grow p c (lineOf r)) m q
-  marks-more true q = other-mark true r (markedBy true r put) q ∙ marks-of true put long-put (marks-put true) q
-  marks-more false q =
-      marks-of false (markedBy true r put) (same-marks true r put ∙ long-put) (λ x. other-mark false r put x ∙ marks-put false x) q
+  flags-more : (m : Bool) (q : ℕ) → givenIn (flaggedBy false r (flaggedBy true r put)) m q ≡ given (grow p c (lineOf r)) m q
+  flags-more true q = other-flag true r (flaggedBy true r put) q ∙ flags-of true put long-put (flags-put true) q
+  flags-more false q =
+      flags-of false (flaggedBy true r put) (same-flags true r put ∙ long-put) (λ x. other-flag false r put x ∙ flags-put false x) q
 
   pub shows-more : Shows (noted p r n notes) (grow p c (lineOf r))
   unfolding noted
   shows-more =
-      record { types = λ a. mark-types false r (markedBy true r put) a ∙ mark-types true r put a ∙ types-put a; marks = marks-more }
+      record { types = λ a. flag-types false r (flaggedBy true r put) a ∙ flag-types true r put a ∙ types-put a; flags = flags-more }
 
   pub length-more : length (grow p c (lineOf r) .tys) ≡ suc n
   length-more = length-append (c .tys) _ ∙ omega arith

@@ -36,7 +36,7 @@ module _ {p : Bool} {t : List ℕ} {n i : ℕ} {notes : List (List ℕ)} (S : So
   -- the record as the lists judge it
   judged : keeps p (lookIn notes) (givenIn notes) (recordAt p t i) ≡ keeps p (tyAt (after p (recordsOf p t n) i)) (given (after p (recordsOf p t n) i)) (recordAt p t i)
   judged =
-      ap₂ (λ (L : ℕ → Ty) (G : Bool → ℕ → Bool). keeps p L G (recordAt p t i)) (λ j a. S .shows .types a j) (λ j m q. S .shows .marks m q j)
+      ap₂ (λ (L : ℕ → Ty) (G : Bool → ℕ → Bool). keeps p L G (recordAt p t i)) (λ j a. S .shows .types a j) (λ j m q. S .shows .flags m q j)
 
   step : lawful p noCtx (recordsOf p t n)
       ≡ (keeps p (lookIn notes) (givenIn notes) (recordAt p t i) && lawful p (grow p (after p (recordsOf p t n) i) (lineOf (recordAt p t i))) (drop (suc i) (recordsOf p t n)))

@@ -14,7 +14,7 @@ use Rattle.tables.specs.declared.Checked.the-variants.{Accepted, Refused
 use Rattle.tables.specs.Pick.{pick, all, inside}
 use Rattle.tables.specs.Kinds.{rowOf, sortClass, firstClass, secondClass, thirdClass}
 use Rattle.tables.specs.Lines.{Line, Shape, isBitvec, isArray as arrayShape, isConst, isInput, isState as stateShape, isOutput, isUnary, isBinary, isIte, isRead, isWrite, isUnknown, isInitOrNext, isSignal, isEquality, initOrNextKind, shapeOf, build, lineOf, kindIn, sortIn, firstIn, secondIn, thirdIn}
-use Rattle.tables.specs.Types.{isSort, isValue, isFixed, isWord, isArray, isWordSort, isArraySort, sortAt, Ctx, tyAt, given, grow, noCtx}
+use Rattle.tables.specs.Types.{isSort, isValue, marked, isWord, isArray, isWordSort, isArraySort, sortAt, Ctx, tyAt, given, grow, noCtx}
 use Rattle.tables.specs.Rules.{suits, classes, fits, sameSort, onceRules, fault}
 use Rattle.tables.specs.Layout.{whole, room as roomOf, recordsOf, linesOf}
 use Rattle.tables.specs.Ids.{idsRight}
@@ -128,12 +128,12 @@ module _ (p : Bool) (L : ℕ → Ty) (G : Bool → ℕ → Bool) (k s x y z : �
       let f₃ = both (eqb (L y .iw) 0) _ (f₂ .1) in
       let o₁ = both (not (G true x)) _ o in
       let o₂ = both (ltb y x) _ (o₁ .1) in
-      let o₃ = both (isFixed (L y)) _ (o₂ .1) in
+      let o₃ = both (not (marked (L y))) _ (o₂ .1) in
       record {
         sort = sort-of t (c .sort);
         state = eqb-true (L x .role) 4 (c .first);
         same = same-of (L x) t (f₁ .0);
-        value = record { word = word-of (L y) (c .second); below = ltb-true y x (o₂ .0); fixed = eqb-true (L y .role) 2 (o₃ .0) };
+        value = record { word = word-of (L y) (c .second); below = ltb-true y x (o₂ .0); unmarked = not-true (marked (L y)) (o₃ .0) };
         iw = eqb-true (L y .iw) 0 (f₃ .0);
         w = eqb-true (L y .w) (t .w) (f₂ .0);
         once = not-true (G true x) (o₁ .0);

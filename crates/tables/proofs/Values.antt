@@ -3,10 +3,37 @@ use Prim.Native.Nat.{ℕ, _≤_}
 use mathlib.Core.Path.{_≡_, refl}
 use mathlib.Core.Bool.{Bool, true, false}
 use native.Mathlib.Omega.{arith}
+use lib.Dec.{leb}
+use borrow.Author.Tests.{leb-true, leb-false}
 use Rattle.tables.specs.declared.Ty.{Ty}
-use Rattle.tables.specs.Pick.{pick}
-use Rattle.tables.specs.Lines.{Line, Expr}
-use Rattle.tables.specs.Types.{sortAt, lineType, fixedExpr}
+use Rattle.tables.specs.Lines.{Line, Expr, wordsOf, firstIn, secondIn, thirdIn}
+use Rattle.tables.specs.Types.{unmarkedRole, marked, sortAt, valueRole, lineType, markedExpr}
+
+-- ---- the role of a value, and its mark
+
+pub role-least : (m : Bool) → 2 ≤ valueRole m
+role-least true = omega arith
+role-least false = omega arith
+
+pub role-most : (m : Bool) → valueRole m ≤ 3
+role-most true = omega arith
+role-most false = omega arith
+
+pub role-mark : (m : Bool) → leb 3 (valueRole m) ≡ m
+role-mark true = refl
+role-mark false = refl
+
+pub role-back : (c : ℕ) → 2 ≤ c → c ≤ 3 → valueRole (leb 3 c) ≡ c
+role-back c h l = go (leb 3 c) refl
+  where
+    go : (b : Bool) → leb 3 c ≡ b → valueRole b ≡ c
+    go true e = omega (arith, leb-true 3 c e)
+    go false e = omega (arith, leb-false 3 c e)
+
+pub unmarked-value : (t : Ty) → 2 ≤ t .role → marked t ≡ false → t .role ≡ unmarkedRole
+unmarked-value t h e = omega (arith, leb-false 3 (t .role) e)
+
+-- ---- the type of a value line
 
 module _ (p : Bool) (L : ℕ → Ty) (s : ℕ) where
   pub val-iw : (e : Expr) → lineType p L (Line.value s e) .iw ≡ sortAt p L s .iw
@@ -27,15 +54,9 @@ module _ (p : Bool) (L : ℕ → Ty) (s : ℕ) where
   val-w (Expr.read a i) = refl
   val-w (Expr.write a i v) = refl
 
-  two-three : (b : Bool) → 2 ≤ pick b 2 3
-  two-three true = omega arith
-  two-three false = omega arith
-
+  -- it has a value's role, and is no state
   pub val-value : (e : Expr) → 2 ≤ lineType p L (Line.value s e) .role
-  val-value (Expr.const v) = omega arith
-  val-value (Expr.unary k a x y) = two-three (fixedExpr (Expr.unary k a x y) (L a) (L x) (L y))
-  val-value (Expr.binary k a b) = two-three (fixedExpr (Expr.binary k a b) (L a) (L b) (L 0))
-  val-value (Expr.equality e a b) = two-three (fixedExpr (Expr.equality e a b) (L a) (L b) (L 0))
-  val-value (Expr.ite c a b) = two-three (fixedExpr (Expr.ite c a b) (L c) (L a) (L b))
-  val-value (Expr.read a i) = two-three (fixedExpr (Expr.read a i) (L a) (L i) (L 0))
-  val-value (Expr.write a i v) = two-three (fixedExpr (Expr.write a i v) (L a) (L i) (L v))
+  val-value e = let r = wordsOf (Line.value s e) in role-least (markedExpr e (L (firstIn r)) (L (secondIn r)) (L (thirdIn r)))
+
+  pub val-most : (e : Expr) → lineType p L (Line.value s e) .role ≤ 3
+  val-most e = let r = wordsOf (Line.value s e) in role-most (markedExpr e (L (firstIn r)) (L (secondIn r)) (L (thirdIn r)))

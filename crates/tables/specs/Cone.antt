@@ -11,7 +11,7 @@ use Rattle.tables.specs.Lines.{Line, Expr}
 abbrev pub lineNumbered : List Line → ℕ → Line
 lineNumbered C n = getD (Line.unknown ∷ C) n Line.unknown
 
--- the lines whose values a value is computed from
+-- the lines whose values a value is computed from: its operands that are lines, not its sort and not plain numbers
 abbrev pub usesExpr : Expr → List ℕ
 usesExpr (Expr.const v) = []
 usesExpr (Expr.unary k a x y) = a ∷ []
@@ -21,6 +21,7 @@ usesExpr (Expr.ite c a b) = c ∷ a ∷ b ∷ []
 usesExpr (Expr.read a i) = a ∷ i ∷ []
 usesExpr (Expr.write a i v) = a ∷ i ∷ v ∷ []
 
+-- the same of a line; one without a value is beneath no other, so that nothing is asked of its operands
 abbrev pub uses : Line → List ℕ
 uses (Line.bitvec w) = []
 uses (Line.array i e) = []
@@ -37,23 +38,23 @@ pub data Cone (C : List Line) : ℕ → ℕ → Type 0 where
   itself : {v : ℕ} → Cone C v v
   under : {v w : ℕ} (a : ℕ) → among a (uses (lineNumbered C v)) ≡ true → Cone C a w → Cone C v w
 
--- neither an input nor a state
-abbrev pub isFree : Line → Bool
-isFree (Line.bitvec w) = true
-isFree (Line.array i e) = true
-isFree (Line.input s) = false
-isFree (Line.state s) = false
-isFree (Line.value s e) = true
-isFree (Line.initOrNext m s q v) = true
-isFree (Line.signal m a) = true
-isFree (Line.output a) = true
-isFree Line.unknown = true
+-- an input or a state
+abbrev pub isSource : Line → Bool
+isSource (Line.bitvec w) = false
+isSource (Line.array i e) = false
+isSource (Line.input s) = true
+isSource (Line.state s) = true
+isSource (Line.value s e) = false
+isSource (Line.initOrNext m s q v) = false
+isSource (Line.signal m a) = false
+isSource (Line.output a) = false
+isSource Line.unknown = false
 
 -- a line of the cone of v is an input or a state
 pub record SourceInCone (C : List Line) (v : ℕ) : Type 0 where
   pub line : ℕ
   pub inCone : Cone C v line
-  pub is : isFree (lineNumbered C line) ≡ false
+  pub is : isSource (lineNumbered C line) ≡ true
 
 -- the state q has an init (true) or a next (false) line
 pub record HasInitOrNext (C : List Line) (m : Bool) (q : ℕ) : Type 0 where

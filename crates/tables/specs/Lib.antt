@@ -8,6 +8,7 @@ pub mod Cone
 pub mod Rules
 pub mod Model
 pub mod Tables
+pub mod Search
 pub mod Refusals
 pub mod Answers
 pub mod Examples

@@ -8,7 +8,7 @@ use Rattle.tables.specs.declared.Ty.{Ty}
 use Rattle.tables.specs.Pick.{pick, inside, all}
 use Rattle.tables.specs.Kinds.{word, array, value, state, wordSort, arraySort, anySort, rowOf, sortClass, firstClass, secondClass, thirdClass}
 use Rattle.tables.specs.Lines.{Line, Expr, lineOf, kindIn, sortIn, firstIn, secondIn, thirdIn}
-use Rattle.tables.specs.Types.{isSort, isValue, isFixed, isState, isWord, isArray, isWordSort, isArraySort, sortAt}
+use Rattle.tables.specs.Types.{isSort, isValue, marked, isState, isWord, isArray, isWordSort, isArraySort, sortAt}
 
 -- ---- 8: an operand is not an earlier line of the right class
 
@@ -91,14 +91,14 @@ fits Line.unknown t a b c = false ∷ []
 
 -- ---- 10: a second init or next of a state, or the init rule
 
--- G says which states have had an init (true) or a next (false); an init's value stands before its state, and its cone is fixed
+-- G says which states have had an init (true) or a next (false); an init's value, whose type is b, stands before its state, and is not marked
 abbrev pub onceRules : Line → (Bool → ℕ → Bool) → Ty → List Bool
 onceRules (Line.bitvec w) G b = []
 onceRules (Line.array i e) G b = []
 onceRules (Line.input s) G b = []
 onceRules (Line.state s) G b = []
 onceRules (Line.value s e) G b = []
-onceRules (Line.initOrNext true s q v) G b = not (G true q) ∷ ltb v q ∷ isFixed b ∷ []
+onceRules (Line.initOrNext true s q v) G b = not (G true q) ∷ ltb v q ∷ not (marked b) ∷ []
 onceRules (Line.initOrNext false s q v) G b = not (G false q) ∷ []
 onceRules (Line.signal m x) G b = []
 onceRules (Line.output x) G b = []

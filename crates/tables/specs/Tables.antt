@@ -48,12 +48,13 @@ abbrev pub broken : Bool → Refusal
 broken false = BadTable
 broken true = BadProgram
 
+-- the answer for a count of records in a list of len words, where the records and their ids keep the rules or not
+abbrev pub verdict : Bool → (len n : ℕ) → Bool → Checked
+verdict p len n kept = pick (whole p len) (pick (leb n (room p len) && kept) Accepted (Refused (broken p))) (Refused NotATable)
+
 -- the check of a list that holds records by a layout, and that of a table
 abbrev pub checkedBy : Placing → Bool → List ℕ → ℕ → Checked
-checkedBy f p t n =
-    pick (whole p (length t))
-    (pick (leb n (room p (length t)) && (lawful p noCtx (rowsFrom f recordWords t 0 n) && idsRightBy f p t n)) Accepted (Refused (broken p)))
-    (Refused NotATable)
+checkedBy f p t n = verdict p (length t) n (lawful p noCtx (rowsFrom f recordWords t 0 n) && idsRightBy f p t n)
 
 unfoldable pub checked : Bool → List ℕ → ℕ → Checked
 checked p t n = checkedBy (placing p) p t n

@@ -2,7 +2,7 @@
 -- context in which the rules judge the next line. A list's index is the line's number: entry 0 stands for no line, and so does whatever lies past the end.
 -- Assumes nothing.
 use Prim.Native.Nat.{ℕ}
-use mathlib.Core.Bool.{Bool, true, false, _&&_}
+use mathlib.Core.Bool.{Bool, true, false, _&&_, _||_}
 use mathlib.Core.List.{List, [], _∷_, _++_}
 use lib.Dec.{leb, ltb, eqb}
 use lib.ListN.{getD}
@@ -21,14 +21,15 @@ noRole = 0
 abbrev pub sortRole : ℕ
 sortRole = 1
 
--- a value whose cone holds no input and no state
-abbrev pub fixedRole : ℕ
-fixedRole = 2
+-- a value without the mark
+abbrev pub unmarkedRole : ℕ
+unmarkedRole = 2
 
--- any other value but a state
-abbrev pub valueRole : ℕ
-valueRole = 3
+-- a value with the mark, but for a state
+abbrev pub markedRole : ℕ
+markedRole = 3
 
+-- a state, which has the mark too
 abbrev pub stateRole : ℕ
 stateRole = 4
 
@@ -40,10 +41,11 @@ isSort t = eqb (t .role) sortRole
 
 -- the last three
 abbrev pub isValue : Ty → Bool
-isValue t = leb fixedRole (t .role)
+isValue t = leb unmarkedRole (t .role)
 
-abbrev pub isFixed : Ty → Bool
-isFixed t = eqb (t .role) fixedRole
+-- The mark of a line: it is, or has beneath it, an input or a state. Of lines without a value it is never looked at.
+abbrev pub marked : Ty → Bool
+marked t = leb markedRole (t .role)
 
 abbrev pub isState : Ty → Bool
 isState t = eqb (t .role) stateRole
@@ -65,23 +67,26 @@ abbrev pub sortAt : Bool → (ℕ → Ty) → ℕ → Ty
 sortAt false L s = L s
 sortAt true L s = pick (inside 1 64 s) (ty sortRole 0 s) noTy
 
--- The cone of a value holds no input and no state: those of its operands don't. a, b and c are the types of the operands as they are written.
-abbrev pub fixedExpr : Expr → (a b c : Ty) → Bool
-fixedExpr (Expr.const v) a b c = true
-fixedExpr (Expr.unary k x m n) a b c = isFixed a
-fixedExpr (Expr.binary k x y) a b c = isFixed a && isFixed b
-fixedExpr (Expr.equality e x y) a b c = isFixed a && isFixed b
-fixedExpr (Expr.ite d x y) a b c = isFixed a && (isFixed b && isFixed c)
-fixedExpr (Expr.read x i) a b c = isFixed a && isFixed b
-fixedExpr (Expr.write x i v) a b c = isFixed a && (isFixed b && isFixed c)
+-- A line that a value uses is marked, and so the value is. a, b and c are the types of the operands as they are written; numbers are no lines.
+abbrev pub markedExpr : Expr → (a b c : Ty) → Bool
+markedExpr (Expr.const v) a b c = false
+markedExpr (Expr.unary k x m n) a b c = marked a
+markedExpr (Expr.binary k x y) a b c = marked a || marked b
+markedExpr (Expr.equality e x y) a b c = marked a || marked b
+markedExpr (Expr.ite d x y) a b c = marked a || (marked b || marked c)
+markedExpr (Expr.read x i) a b c = marked a || marked b
+markedExpr (Expr.write x i v) a b c = marked a || (marked b || marked c)
+
+abbrev pub valueRole : (mark : Bool) → ℕ
+valueRole mark = pick mark markedRole unmarkedRole
 
 -- the type of a line, from the types of its sort, t, and of its operands
 abbrev pub typeOf : Line → (t a b c : Ty) → Ty
 typeOf (Line.bitvec w) t a b c = ty sortRole 0 w
 typeOf (Line.array i e) t a b c = ty sortRole (a .w) (b .w)
-typeOf (Line.input s) t a b c = ty valueRole (t .iw) (t .w)
+typeOf (Line.input s) t a b c = ty markedRole (t .iw) (t .w)
 typeOf (Line.state s) t a b c = ty stateRole (t .iw) (t .w)
-typeOf (Line.value s e) t a b c = ty (pick (fixedExpr e a b c) fixedRole valueRole) (t .iw) (t .w)
+typeOf (Line.value s e) t a b c = ty (valueRole (markedExpr e a b c)) (t .iw) (t .w)
 typeOf (Line.initOrNext m s q v) t a b c = noTy
 typeOf (Line.signal m x) t a b c = noTy
 typeOf (Line.output x) t a b c = noTy

@@ -40,7 +40,7 @@ pub enum Checked {
     Refused(Refusal),
 }
 
-// What is known of a line: its role (none, sort, fixed value, value, state), its index width and its width.
+// What is known of a line: its role (none, sort, unmarked value, marked value, state), its index width and its width.
 pub struct Ty {
     pub role: u8,
     pub iw: u8,

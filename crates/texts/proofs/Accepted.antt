@@ -18,7 +18,7 @@ use Rattle.tables.proofs.Checking.{is-lawful, roomy}
 use Rattle.tables.proofs.Places.{Sized, length-filled}
 use Rattle.tables.proofs.Ids.{records-with, ids-with}
 use Rattle.texts.specs.Split.{split}
-use Rattle.texts.specs.Reading.{Reply, skip, no, got, lastOf, lineId, lineTokens, readLine, done, refused, readLines, readText, tableOf}
+use Rattle.texts.specs.Reading.{Reply, skip, no, got, lastOf, lineId, lineTokens, readLine, done, refused, readLinesBy, readLines, readText, tableOf}
 use Rattle.texts.proofs.Kept.{Gives, got-gives}
 use Rattle.texts.proofs.Reached.{step-got, step-skip, step-no, text-1, text-2, text-lines}
 
@@ -54,7 +54,7 @@ added-one {rs = rs} {ds = ds} {ts = ts} r g a =
     }
 
 adds : (m l : ℕ) (c : Ctx) (rs : List (List ℕ)) (ds : List ℕ) (xs out : List (List ℕ)) (ids : List ℕ) → readLines m l c rs ds xs ≡ done out ids → Added m c rs ds out ids
-unfolding readLines
+unfolding readLinesBy
 adds m l c rs ds [] out ids q =
     let b : rs ≡ out = cc in
     let d : ds ≡ ids = cc in

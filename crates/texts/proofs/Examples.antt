@@ -19,7 +19,8 @@ use Rattle.texts.specs.Forms.{formRow}
 use Rattle.texts.specs.Split.{split, upTo, tokens}
 use Rattle.texts.specs.Decimal.{digit, allIn, valueFrom, valued, scanned, decimal, digitsIn, digits, digitsF}
 use Rattle.texts.specs.Operands.{resolved}
-use Rattle.texts.specs.Reading.{findIn, wordIn, settled, lowest, readLine, readLines, readText, Text, done, refused, tableOf}
+use Rattle.texts.specs.Reading.{findIn, wordIn, settled, lowest, readLine, readLinesBy, readTextBy, readText, Text, done, refused, tableOf}
+use Rattle.texts.specs.Search.{readTextBySearch}
 use Rattle.texts.specs.Writing.{writeFrom, writeText}
 use Rattle.texts.specs.Naming.{lineFrom, nameOf, namePlace}
 use Rattle.texts.proofs.Round.{round-trip}
@@ -39,7 +40,7 @@ records =
     ∷ fields 8 0 10 0 0 ∷ []
 
 pub sample-read : readText (wordsFor false 20) (bytes sample) ≡ done records (from 1 11)
-unfolding bytes readText readLines readLine lowest settled resolved wordIn findIn formRow rowOf fault suits split upTo tokens decimal scanned valued digitsIn allIn valueFrom digit
+unfolding bytes readTextBy readLinesBy readLine lowest settled resolved wordIn findIn formRow rowOf fault suits split upTo tokens decimal scanned valued digitsIn allIn valueFrom digit
 sample-read = refl
 
 pub sample-written : writeText records ≡ bytes sample
@@ -67,7 +68,7 @@ abbrev gaps : String
 gaps = "5 sort bitvec 1\n9 sort bitvec 3\n10 sort array 5 9\n40 state 10\n41 input 5\n50 constd 9 5\n70 write 10 40 41 50\n71 next 10 40 70 store\n90 read 9 40 41\n100 eq 5 90 50\n4294967295 bad 100\n"
 
 pub gaps-read : readText 72 (bytes gaps) ≡ done records (5 ∷ 9 ∷ 10 ∷ 40 ∷ 41 ∷ 50 ∷ 70 ∷ 71 ∷ 90 ∷ 100 ∷ 4294967295 ∷ [])
-unfolding bytes readText readLines readLine lowest settled resolved wordIn findIn formRow rowOf fault suits split upTo tokens decimal scanned valued digitsIn allIn valueFrom digit
+unfolding bytes readTextBy readLinesBy readLine lowest settled resolved wordIn findIn formRow rowOf fault suits split upTo tokens decimal scanned valued digitsIn allIn valueFrom digit
 gaps-read = refl
 
 -- in 72 words they are six columns of twelve, the sixth the ids
@@ -101,7 +102,7 @@ pub refusals : answers (
     ∷ "1 sort bitvec 1\n2 state 1\n3 next 1 2 2\n4 next 1 2 2\n"
     ∷ [])
     ≡ refused WrongId 3 ∷ refused NoRecordLeft 7 ∷ refused UnknownWord 2 ∷ refused BadOperand 3 ∷ refused NumberTooLarge 1 ∷ refused WrongClass 3 ∷ refused Misfit 2 ∷ refused InitOrNext 4 ∷ []
-unfolding answers bytes readText readLines readLine lowest settled resolved wordIn findIn formRow rowOf fault suits split upTo tokens decimal scanned valued digitsIn allIn valueFrom digit
+unfolding answers bytes readTextBy readLinesBy readLine lowest settled resolved wordIn findIn formRow rowOf fault suits split upTo tokens decimal scanned valued digitsIn allIn valueFrom digit
 refusals = refl
 
 -- ids: an equal one, a lower one, one too large, one above 2 ^ 64 - 1, 0; an operand that names a hole, its own line, a later line, no line as large as a number may be; one that
@@ -121,13 +122,39 @@ pub wrong-ids : map (λ s. readText (wordsFor false 2) (bytes s)) (
     ∷ [])
     ≡ refused WrongId 2 ∷ refused WrongId 2 ∷ refused WrongId 2 ∷ refused WrongId 2 ∷ refused WrongId 1 ∷ refused WrongClass 2 ∷ refused WrongClass 2 ∷ refused WrongClass 2
     ∷ refused WrongClass 2 ∷ refused NumberTooLarge 2 ∷ refused WrongId 3 ∷ []
-unfolding bytes readText readLines readLine lowest settled resolved wordIn findIn formRow rowOf fault suits split upTo tokens decimal scanned valued digitsIn allIn valueFrom digit
+unfolding bytes readTextBy readLinesBy readLine lowest settled resolved wordIn findIn formRow rowOf fault suits split upTo tokens decimal scanned valued digitsIn allIn valueFrom digit
 wrong-ids = refl
+
+-- ---- init values: 9 init 1 8 5 has the input 2 beneath it; 5 init 1 3 4 stands behind its state, though nothing is beneath it. A search of the cones answers the same
+
+abbrev inits : List String
+inits =
+    "1 sort bitvec 4\n2 input 1\n3 constd 1 5\n4 add 1 3 3\n5 add 1 2 3\n6 state 1\n7 init 1 6 4\n8 state 1\n9 init 1 8 5\n"
+    ∷ "1 sort bitvec 4\n2 zero 1\n3 state 1\n4 not 1 2\n5 init 1 3 4\n"
+    ∷ []
+
+pub init-marks : map (λ s. readText (wordsFor false 9) (bytes s)) inits ≡ refused InitOrNext 9 ∷ refused InitOrNext 5 ∷ []
+unfolding bytes readTextBy readLinesBy readLine lowest settled resolved wordIn findIn formRow rowOf fault suits split upTo tokens decimal scanned valued digitsIn allIn valueFrom digit
+init-marks = refl
+
+pub init-searches : map (λ s. readTextBySearch (wordsFor false 9) (bytes s)) inits ≡ refused InitOrNext 9 ∷ refused InitOrNext 5 ∷ []
+unfolding bytes readTextBy readLinesBy readLine lowest settled resolved wordIn findIn formRow rowOf fault suits split upTo tokens decimal scanned valued digitsIn allIn valueFrom digit
+init-searches = refl
+
+-- without its last line the first is read: 8 records
+pub inits-read : readText (wordsFor false 9) (bytes "1 sort bitvec 4\n2 input 1\n3 constd 1 5\n4 add 1 3 3\n5 add 1 2 3\n6 state 1\n7 init 1 6 4\n8 state 1\n")
+    ≡ done
+    (fields 1 0 4 0 0 ∷ fields 4 1 0 0 0 ∷ fields 3 1 5 0 0 ∷ fields 39 1 3 3 0 ∷ fields 39 1 2 3 0 ∷ fields 5 1 0 0 0 ∷ fields 6 1 6 4 0 ∷ fields 5 1 0 0 0 ∷ [])
+    (from 1 8)
+unfolding bytes readTextBy readLinesBy readLine lowest settled resolved wordIn findIn formRow rowOf fault suits split upTo tokens decimal scanned valued digitsIn allIn valueFrom digit
+inits-read = refl
+
+-- ---- lengths
 
 -- a list of 10 words is no table of a circuit; one of 6 holds one record, one of 12 two
 pub lengths : map (λ len. readText len (bytes "5 sort bitvec 1\n6 input 5\n")) (10 ∷ 6 ∷ 12 ∷ [])
     ≡ refused NotATable 0 ∷ refused NoRecordLeft 2 ∷ done (fields 1 0 1 0 0 ∷ fields 4 1 0 0 0 ∷ []) (5 ∷ 6 ∷ []) ∷ []
-unfolding bytes readText readLines readLine lowest settled resolved wordIn findIn formRow rowOf fault suits split upTo tokens decimal scanned valued digitsIn allIn valueFrom digit
+unfolding bytes readTextBy readLinesBy readLine lowest settled resolved wordIn findIn formRow rowOf fault suits split upTo tokens decimal scanned valued digitsIn allIn valueFrom digit
 lengths = refl
 
 -- ---- names

@@ -19,5 +19,6 @@ pub mod Named
 pub mod Located
 pub mod Ends
 pub mod Accepted
+pub mod SameReading
 pub mod Lengths
 pub mod Refused

@@ -32,7 +32,7 @@ use Rattle.tables.proofs.Shapes.{range}
 use Rattle.tables.proofs.Showing.{length-noted, shows-more, length-more}
 use Rattle.texts.specs.declared.Readout.{Readout}
 use Rattle.texts.specs.Split.{split, upTo, tokens}
-use Rattle.texts.specs.Reading.{Reply, skip, no, got, lastOf, lineId, lineTokens, readLine, Text, done, refused, readLines, linesRead, readText, outcomeOf, reads}
+use Rattle.texts.specs.Reading.{Reply, skip, no, got, lastOf, lineId, lineTokens, readLine, Text, done, refused, readLinesBy, readLines, linesRead, readTextBy, readText, outcomeOf, reads}
 use Rattle.texts.specs.Model.Stages.{stagedLine}
 use Rattle.texts.specs.Model.Structs.{asRead}
 use Rattle.texts.proofs.Places.{tail, line-first}
@@ -44,24 +44,24 @@ use Rattle.texts.proofs.Kept.{Gives, got-gives}
 module _ (m l : ℕ) (c : Ctx) (rs : List (List ℕ)) (ds : List ℕ) (x : List ℕ) (xs : List (List ℕ)) where
   pub step-got : (r : List ℕ) → readLine (tyAt c) (given c) m ds (lineTokens x) ≡ got r
       → readLines m l c rs ds (x ∷ xs) ≡ readLines m (suc l) (grow false c (lineOf r)) (rs ++ (r ∷ [])) (ds ++ (lineId (lineTokens x) ∷ [])) xs
-  unfolding readLines
-  step-got r h = rw (h, readLines) refl
+  unfolding readLinesBy
+  step-got r h = rw (h, readLinesBy) refl
 
   pub step-skip : readLine (tyAt c) (given c) m ds (lineTokens x) ≡ skip → readLines m l c rs ds (x ∷ xs) ≡ readLines m (suc l) c rs ds xs
-  unfolding readLines
-  step-skip h = rw (h, readLines) refl
+  unfolding readLinesBy
+  step-skip h = rw (h, readLinesBy) refl
 
   pub step-no : (r : Refusal) → readLine (tyAt c) (given c) m ds (lineTokens x) ≡ no r → readLines m l c rs ds (x ∷ xs) ≡ refused r l
-  unfolding readLines
-  step-no r h = rw (h, readLines) refl
+  unfolding readLinesBy
+  step-no r h = rw (h, readLinesBy) refl
 
 module _ (m l : ℕ) (c : Ctx) (rs : List (List ℕ)) (ds : List ℕ) where
   pub lines-end : readLines m l c rs ds (split 10 []) ≡ done rs ds
-  unfolding readLines readLine split upTo tokens
+  unfolding readLinesBy readLine split upTo tokens
   lines-end = refl
 
   none : readLines m l c rs ds [] ≡ done rs ds
-  unfolding readLines
+  unfolding readLinesBy
   none = refl
 
   -- behind a line that ends at z
@@ -198,7 +198,7 @@ module _ {s table : List ℕ} {notes rs : List (List ℕ)} {ds : List ℕ} {len 
   as-noted : (ts : List (List ℕ)) → stagedLine (lookIn notes) (givenIn notes) (idsOf table n) (room false len) ts ≡ readLine (tyAt c) (given c) (room false len) ds ts
   as-noted ts =
       staged (lookIn notes) (givenIn notes) (idsOf table n) (room false len) ts
-      ∙ ap₂ (λ (L : ℕ → Ty) (G : Bool → ℕ → Bool). readLine L G (room false len) (idsOf table n) ts) (λ j a. R .shows .types a j) (λ j m q. R .shows .marks m q j)
+      ∙ ap₂ (λ (L : ℕ → Ty) (G : Bool → ℕ → Bool). readLine L G (room false len) (idsOf table n) ts) (λ j a. R .shows .types a j) (λ j m q. R .shows .flags m q j)
       ∙ ap (λ (k : List ℕ). readLine (tyAt c) (given c) (room false len) k ts) has-ids
 
   pub at-end : length s ≤ i → linesRead len s ≡ done rs ds
@@ -312,16 +312,16 @@ out-done len n rs ds e h k = rw (e, h, k) refl
 
 module _ (len : ℕ) (s : List ℕ) where
   pub text-1 : whole false len ≡ false → readText len s ≡ refused NotATable 0
-  unfolding readText
-  text-1 h = rw (h, readText) refl
+  unfolding readTextBy
+  text-1 h = rw (h, readTextBy) refl
 
   pub text-2 : whole false len ≡ true → 65536 < length s → readText len s ≡ refused TextTooLong 0
-  unfolding readText
-  text-2 h k = rw (h, lt-leb (length s) 65536 k, readText) refl
+  unfolding readTextBy
+  text-2 h k = rw (h, lt-leb (length s) 65536 k, readTextBy) refl
 
   pub text-lines : whole false len ≡ true → length s ≤ 65536 → readText len s ≡ linesRead len s
-  unfolding readText
-  text-lines h k = rw (h, le-leb (length s) 65536 k, readText) refl
+  unfolding readTextBy
+  text-lines h k = rw (h, le-leb (length s) 65536 k, readTextBy) refl
 
 -- what reading leaves
 pub out-text : (len : ℕ) (s : List ℕ) {o : Outcome} → o ≡ outcomeOf len (readText len s) → o ≡ reads len s

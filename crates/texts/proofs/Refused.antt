@@ -15,7 +15,7 @@ use Rattle.tables.specs.Lines.{lineOf}
 use Rattle.tables.specs.Layout.{whole, room}
 use Rattle.tables.specs.Types.{Ctx, noCtx, tyAt, given, grow}
 use Rattle.texts.specs.Split.{glue, split}
-use Rattle.texts.specs.Reading.{formOf, behind, wordIn, recordIn, refusals, Reply, skip, no, got, lowest, lineId, lineTokens, readLine, refused, readLines, readText}
+use Rattle.texts.specs.Reading.{formOf, behind, wordIn, recordIn, refusals, Reply, skip, no, got, lowest, lineId, lineTokens, readLine, refused, readLinesBy, readLines, readText}
 use Rattle.texts.proofs.Lowest.{holds, passes}
 use Rattle.texts.proofs.Reached.{step-got, step-skip, step-no, text-1, text-2, text-lines}
 
@@ -60,7 +60,7 @@ split-lines b (c ∷ s) = go (eqb c b) (split b s) (split-lines b s)
     go false ls h = omega (arith, glued ls)
 
 lines-no : (m l : ℕ) (c : Ctx) (rs : List (List ℕ)) (ds : List ℕ) (xs : List (List ℕ)) (r : Refusal) (k : ℕ) → readLines m l c rs ds xs ≡ refused r k → (numberOf r ≤ 10) × (k < l + length xs)
-unfolding readLines
+unfolding readLinesBy
 lines-no m l c rs ds [] r k e = let w : _≡_ {A = ℕ} 0 1 = cc in absurd (omega arith)
 lines-no m l c rs ds (x ∷ xs) r k e =
     go (readLine (tyAt c) (given c) m ds (lineTokens x)) refl (lines-no m (suc l) c rs ds xs r k) (λ q. lines-no m (suc l) (grow false c (lineOf q)) (rs ++ (q ∷ [])) (ds ++ (lineId (lineTokens x) ∷ [])) xs r k)

@@ -227,27 +227,43 @@ pub data Text : Type 0 where
   done : (rs : List (List ℕ)) (ds : List ℕ) → Text
   refused : (r : Refusal) (l : ℕ) → Text
 
--- the lines from the line l on, after the records rs with the ids ds, whose context is c
-unfoldable pub readLines : (m l : ℕ) (c : Ctx) (rs : List (List ℕ)) (ds : List ℕ) → List (List ℕ) → Text
-readLines m l c rs ds [] = done rs ds
-readLines m l c rs ds (x ∷ xs) =
-    elim (readLine (tyAt c) (given c) m ds (lineTokens x)) [
-      | skip ↦ readLines m (suc l) c rs ds xs
-      | no r ↦ refused r l
-      | got rec ↦ readLines m (suc l) (grow false c (lineOf rec)) (rs ++ (rec ∷ [])) (ds ++ (lineId (lineTokens x) ∷ [])) xs
-    ]
+-- how the types of the lines so far are looked up, by their records and their context: as the context keeps them
+abbrev pub keptTypes : List (List ℕ) → Ctx → ℕ → Ty
+keptTypes rs c = tyAt c
 
--- all lines of the text s, into a table of len words
+-- a text, by any way to look the types up
+module _ (T : List (List ℕ) → Ctx → ℕ → Ty) where
+  -- the lines from the line l on, after the records rs with the ids ds, whose context is c
+  unfoldable pub readLinesBy : (m l : ℕ) (c : Ctx) (rs : List (List ℕ)) (ds : List ℕ) → List (List ℕ) → Text
+  readLinesBy m l c rs ds [] = done rs ds
+  readLinesBy m l c rs ds (x ∷ xs) =
+      elim (readLine (T rs c) (given c) m ds (lineTokens x)) [
+        | skip ↦ readLinesBy m (suc l) c rs ds xs
+        | no r ↦ refused r l
+        | got rec ↦ readLinesBy m (suc l) (grow false c (lineOf rec)) (rs ++ (rec ∷ [])) (ds ++ (lineId (lineTokens x) ∷ [])) xs
+      ]
+
+  -- all lines of the text s, into a table of len words
+  abbrev pub linesReadBy : (len : ℕ) → List ℕ → Text
+  linesReadBy len s = readLinesBy (room false len) 1 noCtx [] [] (split 10 s)
+
+  -- the text s read into a table of len words: 1, 2, and then line by line
+  unfoldable pub readTextBy : (len : ℕ) → List ℕ → Text
+  readTextBy len s =
+      elim (whole false len) [
+        | false ↦ refused NotATable 0
+        | true ↦ elim (leb (length s) 65536) [ true ↦ linesReadBy len s | false ↦ refused TextTooLong 0 ]
+      ]
+
+-- and by the types that are kept, their marks among them
+abbrev pub readLines : (m l : ℕ) (c : Ctx) (rs : List (List ℕ)) (ds : List ℕ) → List (List ℕ) → Text
+readLines = readLinesBy keptTypes
+
 abbrev pub linesRead : (len : ℕ) → List ℕ → Text
-linesRead len s = readLines (room false len) 1 noCtx [] [] (split 10 s)
+linesRead = linesReadBy keptTypes
 
--- the text s read into a table of len words: 1, 2, and then line by line
-unfoldable pub readText : (len : ℕ) → List ℕ → Text
-readText len s =
-    elim (whole false len) [
-      | false ↦ refused NotATable 0
-      | true ↦ elim (leb (length s) 65536) [ true ↦ linesRead len s | false ↦ refused TextTooLong 0 ]
-    ]
+abbrev pub readText : (len : ℕ) → List ℕ → Text
+readText = readTextBy keptTypes
 
 -- what is answered, and the words of the table afterwards: zero past the records, and zero after a refusal
 abbrev pub textAnswer : Text → Answer

@@ -4,11 +4,10 @@ use records::notes::BYTES;
 use tables::Ty;
 use tables::WORDS;
 ghost use mathlib.Core.Path.{_≡_};
-ghost use mathlib.Core.Bool.{_&&_};
+ghost use mathlib.Core.Bool.{_||_};
 ghost use Prim.Native.Nat.{_≤_, _<_};
 ghost use Rattle.tables.specs.Model.Notes.{lookIn};
-ghost use Rattle.tables.specs.Types.{sortAt, isWord, isArray, isWordSort, isArraySort, isFixed, ty, typeOf};
-ghost use Rattle.tables.specs.Pick.{pick};
+ghost use Rattle.tables.specs.Types.{sortAt, isWord, isArray, isWordSort, isArraySort, marked as markedOf, ty, valueRole, typeOf};
 ghost use Rattle.tables.specs.Lines.{lineOf, kindIn, firstIn};
 
 // The sort that a line's second word names: in a program the word is the width.
@@ -75,38 +74,45 @@ pub fn is_array_sort(t: Ty) -> bool
     0 < t.iw
 }
 
-// The cones of two values, or of three, hold no input and no state.
-fn fixed_two(a: Ty, b: Ty) -> bool
-    ensures { λ r. ⌜ r ≡ (isFixed a && isFixed b) ⌝ }
+// The line is, or has beneath it, an input or a state.
+pub fn marked(t: Ty) -> bool
+    ensures { λ r. ⌜ r ≡ markedOf t ⌝ }
 {
-    if a.role != 2 {
-        return false;
-    }
-    b.role == 2
+    3 <= t.role
 }
 
-fn fixed_three(a: Ty, b: Ty, c: Ty) -> bool
-    ensures { λ r. ⌜ r ≡ (isFixed a && (isFixed b && isFixed c)) ⌝ }
+// One of the lines that a value uses is marked: of two, and of three.
+fn marked_two(a: Ty, b: Ty) -> bool
+    ensures { λ r. ⌜ r ≡ (markedOf a || markedOf b) ⌝ }
 {
-    if a.role != 2 {
-        return false;
+    if 3 <= a.role {
+        return true;
     }
-    fixed_two(b, c)
+    3 <= b.role
 }
 
-// A value of the sort t.
-fn value(fixed: bool, t: Ty) -> Ty
-    ensures { λ r. ⌜ r ≡ ty (pick fixed 2 3) (t .iw) (t .w) ⌝ }
+fn marked_three(a: Ty, b: Ty, c: Ty) -> bool
+    ensures { λ r. ⌜ r ≡ (markedOf a || (markedOf b || markedOf c)) ⌝ }
 {
-    if fixed {
+    if 3 <= a.role {
+        return true;
+    }
+    marked_two(b, c)
+}
+
+// A value of the sort t, marked or not.
+fn value(mark: bool, t: Ty) -> Ty
+    ensures { λ r. ⌜ r ≡ ty (valueRole mark) (t .iw) (t .w) ⌝ }
+{
+    if mark {
         return Ty {
-            role: 2,
+            role: 3,
             iw: t.iw,
             w: t.w,
         };
     }
     Ty {
-        role: 3,
+        role: 2,
         iw: t.iw,
         w: t.w,
     }
@@ -139,8 +145,8 @@ pub fn type_of(rec: [u64; WORDS], t: Ty, a: Ty, b: Ty, c: Ty) -> Ty
             iw: a.w,
             w: b.w,
         },
-        3 => value(true, t),
-        4 => value(false, t),
+        3 => value(false, t),
+        4 => value(true, t),
         5 => Ty {
             role: 4,
             iw: t.iw,
@@ -161,7 +167,7 @@ fn type_of_value(rec: [u64; WORDS], t: Ty, a: Ty, b: Ty, c: Ty) -> Ty
 {
     let k = rec[0];
     if k <= 20 {
-        return value(a.role == 2, t);
+        return value(marked(a), t);
     }
     if 56 < k {
         return Ty {
@@ -171,9 +177,9 @@ fn type_of_value(rec: [u64; WORDS], t: Ty, a: Ty, b: Ty, c: Ty) -> Ty
         };
     }
     match k {
-        53 => value(fixed_three(a, b, c), t),
-        55 => value(fixed_three(a, b, c), t),
-        56 => value(a.role == 2, t),
-        _ => value(fixed_two(a, b), t),
+        53 => value(marked_three(a, b, c), t),
+        55 => value(marked_three(a, b, c), t),
+        56 => value(marked(a), t),
+        _ => value(marked_two(a, b), t),
     }
 }

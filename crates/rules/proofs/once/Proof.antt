@@ -36,12 +36,15 @@ returns-2 : tie.Need-returns-2
 returns-2 c = let s = c .before .before .before .before .args in let e = ap (λ (r : List ℕ). getD r 3 0) (c .before .before .before .at .ensures) in
     once-as (s .t1) (isInitOrNext true) (ap shapeOf (c .before .before .match .keys1)) (givenIn (s .notes .now)) (s .b) (simp (ne-eqb _ _ (λ q. c .before .if1 .left (e ∙ q)), le-ltb _ _ (c .if2 .taken)))
 
+marked-requires : tie.Need-marked-requires
+marked-requires c κs = tt
+
 array-read-result : tie.Need-array-read-result
 array-read-result c = search needs
 
 returns-3 : tie.Need-returns-3
 returns-3 c = let s = c .before .before .before .before .before .args in let e = ap (λ (r : List ℕ). getD r 3 0) (c .before .before .before .before .at .ensures) in
-    once-as (s .t1) (isInitOrNext true) (ap shapeOf (c .before .before .before .match .keys1)) (givenIn (s .notes .now)) (s .b) (simp (ne-eqb _ _ (λ q. c .before .before .if1 .left (e ∙ q)), lt-ltb _ _ (c .before .if2 .left), and-true))
+    once-as (s .t1) (isInitOrNext true) (ap shapeOf (c .before .before .before .match .keys1)) (givenIn (s .notes .now)) (s .b) (simp (ne-eqb _ _ (λ q. c .before .before .if1 .left (e ∙ q)), lt-ltb _ _ (c .before .if2 .left), and-true) (ap not (c .marked .ensures)))
 
 returns-4 : tie.Need-returns-4
 returns-4 c = let s = c .before .before .args in let e = ap (λ (r : List ℕ). getD r 4 0) (c .before .at .ensures) in
@@ -61,6 +64,7 @@ once-spec =
     returns
     array-read-if2
     returns-2
+    marked-requires
     array-read-result
     returns-3
     returns-4

@@ -1,6 +1,6 @@
 use borrow.Author.Needs.{needs}
-use Rattle.records.proofs.notes.marked.Statement.{statement}
-use Rattle.records.proofs.notes.marked.Tie as tie
+use Rattle.records.proofs.notes.flagged.Statement.{statement}
+use Rattle.records.proofs.notes.flagged.Tie as tie
 
 array-read-t7 : tie.Need-array-read-t7
 array-read-t7 c = search needs
@@ -32,8 +32,8 @@ array-read-t28 c = search needs
 returns-2 : tie.Need-returns-2
 returns-2 c = rw (c .if1 .left)
 
-pub marked-spec : {M : Type 1} → statement M
-marked-spec =
+pub flagged-spec : {M : Type 1} → statement M
+flagged-spec =
     tie.close
     (tie.spec
     array-read-t7

@@ -1,0 +1,78 @@
+-- "Refusal 10 is given for the same texts and with the same line number": reading by the mark answers, and leaves, what reading by a search of each init value's cone does, for
+-- every text and every length of the table. Assumes nothing.
+use Prim.Native.Nat.{ℕ, suc}
+use mathlib.Core.Path.{_≡_, refl, sym, ap, _∙_, subst}
+use mathlib.Core.Bool.{Bool, true, false}
+use mathlib.Core.List.{List, [], _∷_, _++_, map}
+use lib.Dec.{leb}
+use lib.ListN.{length}
+use Rattle.tables.specs.declared.Ty.{Ty}
+use Rattle.tables.specs.Lines.{lineOf}
+use Rattle.tables.specs.Layout.{whole, room}
+use Rattle.tables.specs.Types.{Ctx, noCtx, tyAt, given, grow, context}
+use Rattle.tables.specs.Search.{searched}
+use Rattle.tables.specs.Tables.{keeps}
+use Rattle.tables.proofs.Facts.{Ok, AllOk}
+use Rattle.tables.proofs.Sound.{sound}
+use Rattle.tables.proofs.Contexts.{map-snoc}
+use Rattle.tables.proofs.Marks.{searched-types}
+use Rattle.tables.proofs.SameChecks.{context-more, ok-more}
+use Rattle.texts.specs.Split.{split}
+use Rattle.texts.specs.Reading.{Reply, skip, no, got, lineId, lineTokens, readLine, readLinesBy, readLines, readTextBy, readText, outcomeOf, reads}
+use Rattle.texts.specs.Search.{searchedTypes, readTextBySearch, readsBySearch}
+use Rattle.texts.proofs.Kept.{got-gives}
+
+-- the records so far are those of accepted lines, and c is their context
+record Sofar (c : Ctx) (rs : List (List ℕ)) : Type 0 where
+  is : c ≡ context false (map lineOf rs)
+  ok : AllOk false noCtx (map lineOf rs)
+
+same-types : {c : Ctx} {rs : List (List ℕ)} → Sofar c rs → searchedTypes rs c ≡ tyAt c
+same-types {rs = rs} S = subst (λ (x : Ctx). searched (map lineOf rs) (tyAt x) ≡ tyAt x) (sym (S .is)) (searched-types false (map lineOf rs) (S .ok))
+
+one-more : {c : Ctx} {rs : List (List ℕ)} (r : List ℕ) → Sofar c rs → keeps false (tyAt c) (given c) r ≡ true → Sofar (grow false c (lineOf r)) (rs ++ (r ∷ []))
+one-more {c} {rs} r S k =
+    let C = map lineOf rs in
+    let h : Ok false (tyAt (context false C)) (given (context false C)) (lineOf r) =
+    subst (λ (x : Ctx). Ok false (tyAt x) (given x) (lineOf r)) (S .is) (sound false (tyAt c) (given c) r k)
+    in
+    record {
+      is = ap (λ (x : Ctx). grow false x (lineOf r)) (S .is) ∙ sym (context-more false C (lineOf r)) ∙ ap (context false) (sym (map-snoc rs r));
+      ok = subst (AllOk false noCtx) (sym (map-snoc rs r)) (ok-more false C (lineOf r) (S .ok) h);
+    }
+
+same-lines : (m l : ℕ) (c : Ctx) (rs : List (List ℕ)) (ds : List ℕ) (xs : List (List ℕ)) → Sofar c rs → readLinesBy searchedTypes m l c rs ds xs ≡ readLines m l c rs ds xs
+unfolding readLinesBy
+same-lines m l c rs ds [] S = refl
+same-lines m l c rs ds (x ∷ xs) S =
+    go (readLine (tyAt c) (given c) m ds (lineTokens x)) refl (same-lines m (suc l) c rs ds xs S)
+    (λ r. same-lines m (suc l) (grow false c (lineOf r)) (rs ++ (r ∷ [])) (ds ++ (lineId (lineTokens x) ∷ [])) xs)
+  where
+    same : readLine (searchedTypes rs c) (given c) m ds (lineTokens x) ≡ readLine (tyAt c) (given c) m ds (lineTokens x)
+    same = ap (λ (L : ℕ → Ty). readLine L (given c) m ds (lineTokens x)) (same-types S)
+
+    go : (y : Reply) → readLine (tyAt c) (given c) m ds (lineTokens x) ≡ y → readLinesBy searchedTypes m (suc l) c rs ds xs ≡ readLines m (suc l) c rs ds xs
+        → ((r : List ℕ) → Sofar (grow false c (lineOf r)) (rs ++ (r ∷ []))
+        → readLinesBy searchedTypes m (suc l) (grow false c (lineOf r)) (rs ++ (r ∷ [])) (ds ++ (lineId (lineTokens x) ∷ [])) xs
+        ≡ readLines m (suc l) (grow false c (lineOf r)) (rs ++ (r ∷ [])) (ds ++ (lineId (lineTokens x) ∷ [])) xs)
+        → readLinesBy searchedTypes m l c rs ds (x ∷ xs) ≡ readLines m l c rs ds (x ∷ xs)
+    go skip h f g = rw (same ∙ h, h, readLinesBy) f
+    go (no r) h f g = rw (same ∙ h, h, readLinesBy) refl
+    go (got r) h f g = rw (same ∙ h, h, readLinesBy) (g r (one-more r S (got-gives (tyAt c) (given c) m ds (lineTokens x) r h .rules)))
+
+at-first : Sofar noCtx []
+unfolding context
+at-first = record { is = refl; ok = tt }
+
+pub same-reading : (len : ℕ) (s : List ℕ) → readTextBySearch len s ≡ readText len s
+unfolding readTextBy
+same-reading len s = go (whole false len) (leb (length s) 65536) refl refl
+  where
+    go : (x y : Bool) → whole false len ≡ x → leb (length s) 65536 ≡ y → readTextBySearch len s ≡ readText len s
+    go false y h k = rw (h, readTextBy) refl
+    go true false h k = rw (h, k, readTextBy) refl
+    go true true h k = rw (h, k, readTextBy) (same-lines (room false len) 1 noCtx [] [] (split 10 s) at-first)
+
+pub same-outcome : (len : ℕ) (s : List ℕ) → readsBySearch len s ≡ reads len s
+unfolding reads
+same-outcome len s = ap (outcomeOf len) (same-reading len s)
