@@ -2,7 +2,8 @@
 //!
 //! Reading, writing, flattening, translating and conversions are compared with the independent implementation of
 //! rust/tests, runs with the two interpreters of this crate. Each is measured at three sizes, the sides taking turns. Texts
-//! with gaps in their ids are measured beside texts of the same lines without.
+//! with gaps in their ids are measured beside texts of the same lines without, register files with inits beside the same
+//! files with nexts, which need no cone; the independent implementation searches the cone of each init value.
 //! `bash bench/run -- write` measures one operation alone, `-- edges` the inputs that could take long. `bench profile write` calls the proved one at its largest size
 //! and measures nothing; `bench/profile` runs that under callgrind.
 #![allow(dead_code, unused_imports)]
@@ -188,13 +189,13 @@ fn read_rows() {
         let mut table = Table::new();
         for &lines in sizes(&[80, 500, 2900]) {
             let c = circuit(lines, Some(3));
-            read_row(&mut table, "reading", &c);
+            read_row(&mut table, "reading", "", &c);
         }
     }
 }
 
 #[cfg(feature = "read")]
-fn read_row(table: &mut Table, name: &str, lines: &Lines) {
+fn read_row(table: &mut Table, name: &str, size: &str, lines: &Lines) {
     let (text, n) = (generator::plain_text(lines), lines.records.len());
     let (mut a, mut b) = (vec![1; RECORD * n], vec![2; RECORD * n]);
     let (mut x, mut y) = ([1; 3], [2; 3]);
@@ -202,7 +203,7 @@ fn read_row(table: &mut Table, name: &str, lines: &Lines) {
         assert_eq!(independent::read(&text, &mut b, &mut y), 0)
     }]);
     assert!(a == b && x == y && a == lines.words());
-    table.row(name, &format!("{} bytes, {n} lines", text.len()), text.len() as f64, "byte", &times);
+    table.row(name, &format!("{size}{} bytes, {n} lines", text.len()), text.len() as f64, "byte", &times);
 }
 
 /// The ids of so many lines: 1, 2, 3; 2, 4, 6; or anywhere up to 4,294,967,295, so that a gap is some millions.
@@ -227,8 +228,109 @@ fn gap_rows() {
     for (lines, style) in sizes(&GAPS) {
         let mut c = circuit(*lines, Some(3));
         c.ids = ids(style, c.records.len());
-        read_row(&mut Table::new(), style, &c);
+        read_row(&mut Table::new(), style, "", &c);
     }
+}
+
+/// The cones that the values of a register file have, all over one constant.
+#[derive(Clone, Copy, PartialEq)]
+enum Cones {
+    /// All values are the last line of a chain of 1,000.
+    Chain,
+    /// Each value is a line over the value before it: the cone of the i-th has i lines.
+    Deep,
+}
+
+const INIT: u64 = 6;
+const NEXT: u64 = 7;
+
+/// A register file of so many states, each with an init or with a next. A table that is to be refused by 19 has an array sort.
+fn registers(cones: Cones, count: usize, kind: u64, array_sort: bool) -> Lines {
+    let mut all = Lines::default();
+    all.add([1, 0, 8, 0, 0]);
+    if array_sort {
+        all.add([2, 0, 1, 1, 0]);
+    }
+    all.add([3, 1, 5, 0, 0]);
+    let constant = all.lines.len() as u64;
+    let line_over = |all: &mut Lines, value: u64| {
+        all.add([[39, 1, value, constant, 0], [35, 1, constant, value, 0], [11, 1, value, 0, 0]][value as usize % 3]);
+        all.lines.len() as u64
+    };
+    let mut value = constant;
+    if cones == Cones::Chain {
+        (1..1000).for_each(|_| value = line_over(&mut all, value));
+    }
+    for place in 0..count {
+        if cones == Cones::Deep && place > 0 {
+            value = line_over(&mut all, value);
+        }
+        all.add([5, 1, 0, 0, 0]);
+        let state = all.lines.len() as u64;
+        all.add([kind, 1, state, value, 0]);
+    }
+    all
+}
+
+/// Register files: 100 and 1,000 states, and as many as fit.
+fn register_files() -> Vec<(Cones, u64, Option<usize>)> {
+    let counts = [Some(100), Some(1000), None];
+    let kinds = [Cones::Chain, Cones::Deep].into_iter().flat_map(|cones| [(cones, INIT), (cones, NEXT)]);
+    kinds.flat_map(|(cones, kind)| counts.map(|count| (cones, kind, count))).collect()
+}
+
+/// Makes each file, of as many states as fit by the first function, and calls the other with the rows' table, a name, the
+/// number of states, and the file.
+fn each_register_file(array_sort: bool, most: fn(Cones) -> usize, row: fn(&mut Table, &str, usize, &Lines)) {
+    let mut table = Table::new();
+    for &(cones, kind, count) in sizes(&register_files()) {
+        if count == Some(100) {
+            table = Table::new();
+        }
+        let name = match (cones, kind) {
+            (Cones::Chain, INIT) => "chain inits",
+            (Cones::Chain, _) => "chain nexts",
+            (Cones::Deep, INIT) => "deep inits",
+            (Cones::Deep, _) => "deep nexts",
+        };
+        let count = count.unwrap_or_else(|| most(cones));
+        let lines = registers(cones, count, kind, array_sort);
+        if profiled() {
+            println!("registers {count}\nlines {}", lines.records.len());
+        }
+        row(&mut table, name, count, &lines);
+    }
+}
+
+fn init_rows() {
+    // As many states as a text holds.
+    fn most(cones: Cones) -> usize {
+        let long = registers(cones, 3000, INIT, false);
+        let text = generator::plain_text(&long);
+        let lines = text[..gofeshan::MOST_TEXT].iter().filter(|&&byte| byte == b'\n').count();
+        long.records[..lines].iter().filter(|r| r[0] == INIT).count()
+    }
+    #[cfg(feature = "read")]
+    each_register_file(false, most, |table, name, count, lines| read_row(table, name, &format!("{count} in "), lines));
+}
+
+/// The check of a table: translating checks it, and then refuses it by 19, as an array sort is present.
+fn check_rows() {
+    // As many states as a table holds.
+    fn most(cones: Cones) -> usize {
+        let long = registers(cones, 8000, INIT, true);
+        long.records[..independent::MOST_RECORDS].iter().filter(|r| r[0] == INIT).count()
+    }
+    #[cfg(feature = "translate")]
+    each_register_file(true, most, |table, name, count, lines| {
+        let (words, n) = (lines.words(), lines.records.len());
+        let (mut x, mut y) = ([1; 3], [2; 3]);
+        let times = measure([&mut || assert_eq!(proved::translate(&words, n, &mut [], &mut x), 19), &mut || {
+            assert_eq!(independent::translate(&words, n, &mut [], &mut y), 19)
+        }]);
+        assert!(x == y);
+        table.row(name, &format!("{count} in a table of {n} records"), n as f64, "record", &times);
+    });
 }
 
 fn write_rows() {
@@ -473,14 +575,17 @@ fn main() {
         "Growth, of either side: the time against the row above, divided by the growth of the work; 1.00 is linear."
     );
     println!("Runs: `plain` decodes the lines once, `same shape` walks the columns and looks up places and widths, as the proved run does.");
-    println!("Circuits of one kind of line (`adds alone`) stand beside those of all kinds, where branches are hard to foresee.\n");
+    println!("Circuits of one kind of line (`adds alone`) stand beside those of all kinds, where branches are hard to foresee.");
+    println!("Register files, as texts and as tables: the values are all the last line of one chain (`chain`), or each a line over the one before (`deep`).\n");
     println!(
         "{:<12} {:<34} {:>10} {:>10} {:>6} {:>10} {:>6} {:>24} {:>6} {:>6}",
         "operation", "size", "proved", "plain", "ratio", "same shape", "ratio", "proved per unit", "growth", "plain"
     );
-    let rows: [(&str, fn()); 9] = [
+    let rows: [(&str, fn()); 11] = [
         ("read", read_rows),
         ("read_gaps", gap_rows),
+        ("read_inits", init_rows),
+        ("check_inits", check_rows),
         ("write", write_rows),
         ("flatten", flatten_rows),
         ("translate", translate_rows),

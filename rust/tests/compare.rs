@@ -73,6 +73,11 @@ fn environment(name: &str) -> Option<u64> {
 /// Runs cases of an operation, each with its own seed, and sees that every listed answer was given. 100 stands for a run
 /// with a counted bad, and for a name that was found.
 fn cases(operation: &'static str, default: u64, listed: &'static [u64], case: fn(&mut Random) -> u64) {
+    many_cases(operation, default, listed, 0, case);
+}
+
+/// The same; every listed answer was given in more than so many cases of a hundred.
+fn many_cases(operation: &'static str, default: u64, listed: &'static [u64], share: u64, case: fn(&mut Random) -> u64) {
     on_stack(move || {
         let seed = environment("GOFESHAN_SEED").unwrap_or(1);
         let count = environment("GOFESHAN_CASES").unwrap_or(default);
@@ -91,7 +96,8 @@ fn cases(operation: &'static str, default: u64, listed: &'static [u64], case: fn
         );
         if only.is_none() && count >= default {
             for number in listed {
-                assert!(answers.contains_key(number), "{operation}: no case gave {number}");
+                let given = answers.get(number).copied().unwrap_or(0);
+                assert!(given > count * share / 100, "{operation}: {given} cases gave {number}");
             }
         }
     });
@@ -899,6 +905,79 @@ fn independent_circuit_flat_circuit_and_program() {
         assert!(of(&lines) == of(&flat) && of(&flat) == of(&program), "{}", show(&lines.words(), 400, false));
         0
     });
+}
+
+// Register files: many inits over shared cones. A file is accepted, or refused by 10, as a table by 11, as a program by 20.
+
+#[cfg(feature = "read")]
+fn read_file_case(random: &mut Random) -> u64 {
+    let arrays = random.below(3) > 0;
+    let lines = register_file(random, arrays);
+    let (text, room) = (text(random, &lines), lines.records.len() + random.below(9));
+    both_read(random, &text, RECORD * room, 3)
+}
+
+#[cfg(feature = "read")]
+#[test]
+fn reading_register_files() {
+    many_cases("read register files", 10_000, &[0, 10], 25, read_file_case);
+}
+
+#[cfg(all(feature = "write", feature = "flatten", feature = "translate", feature = "run_circuit"))]
+fn table_file_case(random: &mut Random) -> u64 {
+    let arrays = random.below(3) > 0;
+    let lines = register_file(random, arrays);
+    let (table, n) = (roomy(random, &lines), lines.records.len());
+    let number = match random.below(4) {
+        0 => {
+            let length = independent::texts::print(&lines.records).len();
+            both_write(random, &table, n, length, 3)
+        }
+        1 => {
+            let room = flat_of(&lines).map_or(0, |flat| flat.records.len());
+            both_change(random, (independent::flatten, proved::flatten), &table, n, RECORD * room, 3)
+        }
+        2 => {
+            let room = (2 * n).min(16_384);
+            both_change(random, (independent::translate, proved::translate), &table, n, PROGRAM_RECORD * room, 3)
+        }
+        _ => {
+            let run = run_of(random, &lines);
+            both_run(random, (independent::run_circuit, proved::run_circuit), (&table, n, false), &run)
+        }
+    };
+    if number == 11 {
+        11
+    } else {
+        0
+    }
+}
+
+/// An answer other than 11 counts as 0.
+#[cfg(all(feature = "write", feature = "flatten", feature = "translate", feature = "run_circuit"))]
+#[test]
+fn tables_of_register_files() {
+    many_cases("tables of register files", 10_000, &[0, 11], 25, table_file_case);
+}
+
+#[cfg(feature = "run_program")]
+fn program_file_case(random: &mut Random) -> u64 {
+    let circuit = register_file(random, false);
+    let program = Lines { records: wild_program(random, &circuit), program: true, ..Lines::default() };
+    let n = program.records.len();
+    let accepted = independent::rules::check_program(&program_list(&program.records), n);
+    let (table, run) = (roomy(random, &program), run_of(random, &accepted.unwrap_or_default()));
+    match both_run(random, (independent::run_program, proved::run_program), (&table, n, true), &run) {
+        20 => 20,
+        _ => 0,
+    }
+}
+
+/// An answer other than 20 counts as 0.
+#[cfg(feature = "run_program")]
+#[test]
+fn programs_of_register_files() {
+    many_cases("programs of register files", 10_000, &[0, 20], 25, program_file_case);
 }
 
 // Peek.

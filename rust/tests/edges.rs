@@ -47,6 +47,30 @@ fn lines_with_gaps(first: u64, gap: u64) -> (Vec<u8>, usize) {
     unreachable!("a text has an end")
 }
 
+/// A register file of so many lines: first lines that each use the line before twice, over a constant or an input, half of
+/// all; then states, each with its init by the last of those. A search that comes to a line once for each use does not end.
+fn doubling_registers(lines: u64, input: bool) -> Vec<independent::Record> {
+    let bottom = if input { [4, 1, 0, 0, 0] } else { [3, 1, 1, 0, 0] };
+    let (mut records, last) = (vec![[1, 0, 64, 0, 0], bottom], lines / 2);
+    (2..last).for_each(|n| records.push([39, 1, n, n, 0]));
+    for state in (last + 1..lines).step_by(2) {
+        records.extend([[5, 1, 0, 0, 0], [6, 1, state, last, 0]]);
+    }
+    records
+}
+
+/// The largest such file that fits a text, its count, and the text line of its first init.
+fn doubling_text(input: bool) -> (Vec<u8>, usize, u64) {
+    let mut lines = 4;
+    let text = |lines| independent::texts::print(&doubling_registers(lines, input));
+    while text(lines + 4).len() <= gofeshan::MOST_TEXT {
+        lines += 4;
+    }
+    let records = doubling_registers(lines, input);
+    let first = records.iter().position(|r| r[0] == 6).unwrap();
+    (text(lines), records.len(), first as u64 + 1)
+}
+
 #[cfg(feature = "read")]
 #[test]
 fn reading() {
@@ -58,6 +82,7 @@ fn reading() {
         };
         let ((small, small_count), (large, large_count)) =
             (lines_with_gaps(1000, 3), lines_with_gaps(1 << 31, 1 << 19));
+        let ((constant, count, _), (input, _, first)) = (doubling_text(false), doubling_text(true));
         let texts = [
             ("semicolons", full("", b';'), Ok(0)),
             ("spaces", full("", b' '), Ok(0)),
@@ -75,6 +100,8 @@ fn reading() {
             ("6,000 shortest lines", shortest_lines(), Ok(6000)),
             ("lines with small gaps", small, Ok(small_count)),
             ("lines with large gaps", large, Ok(large_count)),
+            ("inits over doubling lines", constant, Ok(count)),
+            ("inits over doubling lines and an input", input, Err((10, first))),
         ];
         let mut table = vec![1; gofeshan::RECORD * gofeshan::MOST_RECORDS];
         for (name, text, told) in texts {
@@ -84,6 +111,24 @@ fn reading() {
             assert_eq!(answer.map_err(|r| (r.number, r.line)), told, "{name}");
             println!("reading {name}, {} bytes: {took:?}", text.len());
             assert!(took < MOST, "reading {name} took {took:?}");
+        }
+    });
+}
+
+/// As many records as count, half of them states and inits over doubling lines: the check of the table, and then no room.
+#[cfg(feature = "write")]
+#[test]
+fn checking() {
+    on_stack(|| {
+        for (input, told) in [(false, 21), (true, 11)] {
+            let records = doubling_registers(gofeshan::MOST_RECORDS as u64, input);
+            let (table, count) = (independent::numbered(&records), records.len());
+            assert_eq!(count, gofeshan::MOST_RECORDS);
+            let mut answer = Ok(0);
+            let took = least(|| answer = gofeshan::write(&table, count, &mut []));
+            assert_eq!(answer.map_err(|r| r.number), Err(told));
+            println!("checking {count} records, refused by {told}: {took:?}");
+            assert!(took < MOST, "the check took {took:?}");
         }
     });
 }

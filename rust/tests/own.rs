@@ -489,6 +489,80 @@ fn generator_reaches() {
     }
 }
 
+/// Cones by hand, and the init rule.
+#[test]
+fn cones() {
+    let text =
+        "1 sort bitvec 4\n2 input 1\n3 constd 1 5\n4 add 1 3 3\n5 add 1 2 3\n6 state 1\n7 init 1 6 4\n8 state 1\n";
+    let (told, at, found) = reading(text);
+    assert_eq!((told, at), (0, 8));
+    assert_eq!(reading(&format!("{text}9 init 1 8 5\n")), (10, 9, vec![]));
+    assert_eq!(reading("1 sort bitvec 4\n2 zero 1\n3 state 1\n4 not 1 2\n5 init 1 3 4\n"), (10, 5, vec![]));
+    let lines = rules::check_table(&numbered(&found), 8).unwrap();
+    let cone = |line| {
+        let mut cone = lines.cone(line);
+        cone.sort_unstable();
+        cone
+    };
+    assert_eq!((cone(3), cone(4), cone(5)), (vec![3], vec![3, 4], vec![2, 3, 5]));
+    assert_eq!([2, 3, 4, 5, 6, 8].map(|line| lines.has_fixed_cone(line)), [false, true, true, false, false, false]);
+    // Each line uses the line before three times; a plain number that is the place of an input is no operand.
+    let mut lines = rules::Lines::default();
+    [[1, 0, 1, 0, 0], [4, 1, 0, 0, 0], [3, 1, 1, 0, 0]].iter().for_each(|&r| lines.add(r));
+    (3..16_000).for_each(|n| lines.add([53, 1, n, n, n]));
+    lines.add([1, 0, 3, 0, 0]);
+    lines.add([20, 16_001, 16_000, 2, 0]);
+    assert_eq!((lines.cone(16_002).len(), lines.has_fixed_cone(16_002)), (15_999, true));
+}
+
+/// The generator makes register files that keep the init rule and such that break it in each way: inputs and states far
+/// below a value, by way of each operand.
+#[test]
+fn generator_reaches_register_files() {
+    let mut random = generator::Random::new(7);
+    let (mut kept, mut broken, mut inits, mut most, mut array_inits) = (0, 0, 0, 0, 0);
+    let (mut second, mut behind, mut deep) = (0, 0, [0; 9]);
+    // By way of one operand alone, by its place and the kind of the line above; and what is found there.
+    let (mut places, mut kinds, mut sources) = ([0; 3], [0; 57], [0; 6]);
+    for case in 0..3000 {
+        let lines = generator::register_file(&mut random, case % 3 > 0);
+        let held: Vec<&Record> = lines.records.iter().filter(|r| r[0] == 6).collect();
+        (inits, most) = (inits + held.len(), most.max(held.len()));
+        array_inits += held.iter().filter(|r| lines.sort(r[1]).cells() > 1).count();
+        match rules::check_table(&lines.words(), lines.records.len()) {
+            Some(_) => kept += 1,
+            None => broken += 1,
+        }
+        for (i, r) in held.iter().enumerate() {
+            second += usize::from(held[..i].iter().any(|other| other[2] == r[2]));
+            behind += usize::from(r[3] > r[2]);
+            // The way to an input or a state, as long as one operand alone leads there.
+            let (mut line, mut length) = (r[3], 0);
+            while !lines.has_fixed_cone(line) {
+                let record = lines.records[line as usize - 1];
+                let operands: Vec<u64> = lines.operands(line).collect();
+                let lead: Vec<usize> = (0..operands.len()).filter(|&j| !lines.has_fixed_cone(operands[j])).collect();
+                if lead.len() != 1 {
+                    sources[record[0].min(5) as usize] += usize::from(lead.is_empty());
+                    deep[length.min(8)] += 1;
+                    break;
+                }
+                places[lead[0]] += 1;
+                kinds[record[0] as usize] += 1;
+                (line, length) = (operands[lead[0]], length + 1);
+            }
+        }
+    }
+    println!("register files: {kept} keep the rules, {broken} break rule 10; {inits} inits, at most {most} in a file, {array_inits} of arrays");
+    println!("second inits {second}, values behind their states {behind}, lengths of ways {deep:?}, operands {places:?}, inputs and states {:?}", &sources[4..]);
+    assert!(kept > 1000 && broken > 1000, "{kept} {broken}");
+    assert!(inits > 60_000 && most > 150 && array_inits > 5000, "{inits} {most} {array_inits}");
+    for n in [second, behind].iter().chain(&deep).chain(&places).chain(&sources[4..]) {
+        assert!(*n > 30, "{second} {behind} {deep:?} {places:?} {sources:?}");
+    }
+    assert!(kinds[11..55].iter().all(|&n| n > 20) && kinds[55] > 3, "{kinds:?}");
+}
+
 type Conversion = fn(&[u64], usize, &mut [u64], &mut [u64]) -> u64;
 
 /// The number, the answer's first word, and the target of a conversion.

@@ -3,7 +3,7 @@
 //! Records are made, and damaged, one behind the other (`rows`); a list of them is laid out in columns when it is whole.
 #![allow(dead_code)]
 
-use crate::independent::kinds::{row, Place, KINDS};
+use crate::independent::kinds::{is_value, row, Place, KINDS};
 use crate::independent::rules::{check_program, check_table, ones, Lines, Sort};
 use crate::independent::{columns, ids, layout, records, size as record_size, Record, MOST_ID, MOST_RECORDS};
 
@@ -103,14 +103,46 @@ struct Builder<'a> {
     random: &'a mut Random,
     lines: Lines,
     arrays: bool,
+    /// Of a register file.
+    cones: Option<Cones>,
+}
+
+/// The value lines of a register file. Lines are made of fixed words, but for planted operands.
+#[derive(Default)]
+struct Cones {
+    /// Their cones hold no input and no state.
+    fixed: Vec<u64>,
+    /// Inputs and states.
+    sources: Vec<u64>,
+    /// Operators with an input or a state in their cones.
+    others: Vec<u64>,
+    /// An operand of the next operator is to be a source or one of the others.
+    plant: bool,
 }
 
 impl Builder<'_> {
-    fn emit(&mut self, record: Record) -> u64 {
-        let fits = self.lines.classes_fit(&record) && self.lines.widths_fit(&record) && self.lines.states_fit(&record);
+    fn emit(&mut self, mut record: Record) -> u64 {
+        if record[0] >= 11 && self.cones.as_mut().is_some_and(|cones| std::mem::take(&mut cones.plant)) {
+            self.plant(&mut record);
+        }
+        assert!(self.lines.classes_fit(&record) && self.lines.states_fit(&record), "the generator made {record:?}");
+        self.put(record)
+    }
+
+    /// Adds a line that may break rule 10.
+    fn put(&mut self, record: Record) -> u64 {
+        let fits = self.lines.classes_fit(&record) && self.lines.widths_fit(&record);
         assert!(fits, "the generator made {record:?}");
         self.lines.add(record);
-        self.lines.lines.len() as u64
+        let line = self.lines.lines.len() as u64;
+        if let Some(cones) = self.cones.as_mut().filter(|_| is_value(record[0])) {
+            match record[0] {
+                4 | 5 => cones.sources.push(line),
+                _ if self.lines.has_fixed_cone(line) => cones.fixed.push(line),
+                _ => cones.others.push(line),
+            }
+        }
+        line
     }
 
     /// The numbers of the lines that pass a test.
@@ -145,7 +177,19 @@ impl Builder<'_> {
     }
 
     fn values(&self, sort: Sort) -> Vec<u64> {
-        self.those(|_, l| l.kind > 2 && l.sort == Some(sort))
+        match (&self.cones, sort) {
+            (Some(cones), Sort::Word(_)) => self.among(&cones.fixed, |s| s == sort),
+            _ => self.those(|_, l| l.kind > 2 && l.sort == Some(sort)),
+        }
+    }
+
+    /// Those of some value lines whose sort passes a test.
+    fn among(&self, lines: &[u64], test: impl Fn(Sort) -> bool) -> Vec<u64> {
+        lines.iter().copied().filter(|&n| test(self.lines.sort(n))).collect()
+    }
+
+    fn words_among(&self, lines: &[u64]) -> Vec<u64> {
+        self.among(lines, |sort| matches!(sort, Sort::Word(_)))
     }
 
     fn constant(&mut self, w: u64) -> u64 {
@@ -162,7 +206,7 @@ impl Builder<'_> {
             }
         }
         let kind = match sort {
-            Sort::Word(w) if self.random.one_in(3) => return self.constant(w),
+            Sort::Word(w) if self.cones.is_some() || self.random.one_in(3) => return self.constant(w),
             Sort::Word(_) => self.random.pick(&[4, 4, 5]),
             Sort::Array(..) => 5,
         };
@@ -176,7 +220,18 @@ impl Builder<'_> {
 
     /// A word of any width.
     fn any_word(&mut self) -> (u64, u64) {
-        let old = self.those(|_, l| l.kind > 2 && matches!(l.sort, Some(Sort::Word(_))));
+        let old = match &self.cones {
+            Some(cones) if cones.plant => {
+                let others = self.words_among(&cones.others);
+                if let Some(line) = self.choose(&others) {
+                    let w = self.lines.sort(line).width();
+                    return (self.word(w), w);
+                }
+                vec![]
+            }
+            Some(cones) => cones.fixed.clone(),
+            None => self.those(|_, l| l.kind > 2 && matches!(l.sort, Some(Sort::Word(_)))),
+        };
         match self.choose(&old) {
             Some(line) if !self.random.one_in(6) => (line, self.lines.sort(line).width()),
             _ => {
@@ -232,8 +287,9 @@ impl Builder<'_> {
         // A state without an init, and a fixed word below it; a new pair where there is none.
         let states = self.those(|_, l| l.kind == 5 && !l.init);
         if let Some(state) = self.choose(&states) {
-            let w = self.lines.sort(state).width();
-            let fixed = self.those(|n, l| l.kind > 2 && n < state && l.fixed && l.sort == Some(Sort::Word(w)));
+            let word = Sort::Word(self.lines.sort(state).width());
+            let mut fixed = self.values(word);
+            fixed.retain(|&n| n < state && self.lines.has_fixed_cone(n));
             if let Some(value) = self.choose(&fixed) {
                 let own = self.sort_line(self.lines.sort(state));
                 self.emit([6, own, state, value, 0]);
@@ -246,6 +302,13 @@ impl Builder<'_> {
             let (kind, own) = (self.random.pick(&[11, 12, 13, 14]), self.sort_line(Sort::Word(w)));
             value = self.emit([kind, own, value, 0, 0]);
         }
+        let init = self.register(value);
+        self.emit(init);
+    }
+
+    /// A new state, and an init line for it with a value.
+    fn register(&mut self, value: u64) -> Record {
+        let w = self.lines.sort(value).width();
         let sort = if self.arrays && self.random.one_in(3) {
             Sort::Array(self.random.index_width(), w)
         } else {
@@ -254,7 +317,78 @@ impl Builder<'_> {
         let line = self.sort_line(sort);
         let state = self.emit([5, line, 0, 0, 0]);
         let own = self.sort_line(sort);
-        self.emit([6, own, state, value, 0]);
+        [6, own, state, value, 0]
+    }
+
+    /// An operand of an operator becomes a line whose cone holds an input or a state.
+    fn plant(&mut self, record: &mut Record) {
+        let places = (2..).zip(row(record[0]).operands);
+        let lines: Vec<usize> = places.filter(|(_, &place)| place != Place::Number).map(|(at, _)| at).collect();
+        let at = self.random.pick(&lines);
+        let sort = self.lines.sort(record[at]);
+        let cones = self.cones.as_ref().unwrap();
+        let (sources, others) = (self.among(&cones.sources, |s| s == sort), self.among(&cones.others, |s| s == sort));
+        record[at] = match (self.choose(&others), self.choose(&sources)) {
+            (Some(line), _) if !self.random.one_in(12) => line,
+            (_, Some(line)) if !self.random.one_in(3) => line,
+            _ => {
+                let (line, word) = (self.sort_line(sort), matches!(sort, Sort::Word(_)));
+                let kind = if word { self.random.pick(&[4, 5]) } else { 5 };
+                self.emit([kind, line, 0, 0, 0])
+            }
+        };
+    }
+
+    /// An operator whose cone holds an input or a state, by way of one operand alone where it has no arrays.
+    fn planted_line(&mut self) {
+        self.cones.as_mut().unwrap().plant = true;
+        if self.arrays && self.random.one_in(4) {
+            self.array_line();
+        } else {
+            self.word_line();
+        }
+    }
+
+    /// A state and its init, or the init of a state that has none yet.
+    fn right_init(&mut self) {
+        let fixed = self.cones.as_ref().unwrap().fixed.clone();
+        match self.choose(&fixed) {
+            Some(value) if !self.random.one_in(4) => {
+                let init = self.register(value);
+                self.emit(init);
+            }
+            _ => self.init_line(),
+        }
+    }
+
+    /// An init that breaks rule 10: most often by an input or a state in its value's cone. Seldom it breaks no rule.
+    fn wrong_init(&mut self) {
+        let cones = self.cones.as_ref().unwrap();
+        let (sources, others) = (self.words_among(&cones.sources), self.words_among(&cones.others));
+        let fixed = cones.fixed.clone();
+        let inits: Vec<Record> = self.lines.records.iter().copied().filter(|r| r[0] == 6).collect();
+        let way = self.random.below(9);
+        let from = match way {
+            0 => &fixed,
+            1 => &sources,
+            _ => &others,
+        };
+        let init = match self.choose(from) {
+            Some(value) if way < 7 => {
+                let mut init = self.register(value);
+                if way == 0 {
+                    // A fixed value behind its state.
+                    let own = self.sort_line(self.lines.sort(value));
+                    init[3] = self.emit([11, own, value, 0, 0]);
+                }
+                Some(init)
+            }
+            _ if way == 7 && !inits.is_empty() => Some(self.random.pick(&inits)),
+            _ => any_init(self.random, &self.lines),
+        };
+        if let Some(init) = init {
+            self.put(init);
+        }
     }
 
     fn next_line(&mut self) {
@@ -282,7 +416,9 @@ impl Builder<'_> {
 
     fn word_line(&mut self) {
         let (a, w) = self.any_word();
-        let kind = 11 + self.random.below(43) as u64;
+        // A register file has more of the lines with three operands.
+        let three = self.cones.is_some() && self.random.one_in(6);
+        let kind = if three { 53 } else { 11 + self.random.below(43) as u64 };
         let bit = Sort::Word(1);
         match kind {
             11..=14 => {
@@ -379,7 +515,7 @@ pub fn rising_ids(random: &mut Random, n: usize) -> Vec<u64> {
 
 /// A valid circuit.
 pub fn circuit(random: &mut Random, size: Size) -> Lines {
-    let mut b = Builder { random, lines: Lines::default(), arrays: size.arrays };
+    let mut b = Builder { random, lines: Lines::default(), arrays: size.arrays, cones: None };
     while b.lines.lines.len() < size.lines {
         match b.random.below(20) {
             0..=10 => b.word_line(),
@@ -388,6 +524,30 @@ pub fn circuit(random: &mut Random, size: Size) -> Lines {
             16 | 17 => b.next_line(),
             18 | 19 => b.signal_line(),
             _ => b.word_line(),
+        }
+    }
+    let ids = rising_ids(b.random, b.lines.records.len());
+    Lines { ids, ..b.lines }
+}
+
+/// A register file: words made of constants, and many inits that share their cones. Beside them stand words with inputs and
+/// states in their cones. Rule 10 is all that some lines break.
+pub fn register_file(random: &mut Random, arrays: bool) -> Lines {
+    let steps = match random.below(60) {
+        0 => 400 + random.below(400),
+        1..=5 => 100 + random.below(200),
+        _ => 10 + random.below(80),
+    };
+    let wrong = random.pick(&[None, None, Some(3), Some(12), Some(40)]);
+    let mut b = Builder { random, lines: Lines::default(), arrays, cones: Some(Cones::default()) };
+    for _ in 0..steps {
+        match b.random.below(16) {
+            0..=3 => b.word_line(),
+            4..=6 => b.planted_line(),
+            7..=12 if wrong.is_some_and(|n| b.random.one_in(n)) => b.wrong_init(),
+            7..=12 => b.right_init(),
+            13 | 14 => b.next_line(),
+            _ => b.signal_line(),
         }
     }
     let ids = rising_ids(b.random, b.lines.records.len());
@@ -803,23 +963,31 @@ pub fn damage_records(random: &mut Random, rows: &mut Vec<u64>, program: bool) {
     }
 }
 
-/// An init whose value fits the state in its sort, with any cone and any place.
+/// An init behind the lines of a table that breaks no rule yet.
 fn late_init(random: &mut Random, rows: &mut Vec<u64>, program: bool) {
     let (check, n) = (if program { check_program } else { check_table }, rows.len() / record_size(program));
     let Some(lines) = check(&columns(rows, program), n) else { return };
+    if let Some(record) = any_init(random, &lines) {
+        extend(random, rows, record, program);
+    }
+}
+
+/// An init whose value fits the state in its sort, with any cone and any place; the state may have an init.
+fn any_init(random: &mut Random, lines: &Lines) -> Option<Record> {
+    let n = lines.lines.len();
     let states: Vec<usize> = (0..n).filter(|&i| lines.lines[i].kind == 5).collect();
     if states.is_empty() {
-        return;
+        return None;
     }
     let state = random.pick(&states);
     let w = lines.lines[state].sort.unwrap().width();
     let values: Vec<usize> =
         (0..n).filter(|&i| lines.lines[i].kind > 2 && lines.lines[i].sort == Some(Sort::Word(w))).collect();
-    if !values.is_empty() {
-        let value = random.pick(&values);
-        let record = [6, lines.records[state][1], state as u64 + 1, value as u64 + 1, 0];
-        extend(random, rows, record, program);
+    if values.is_empty() {
+        return None;
     }
+    let value = random.pick(&values);
+    Some([6, lines.records[state][1], state as u64 + 1, value as u64 + 1, 0])
 }
 
 /// A length near the exact one.
@@ -984,7 +1152,7 @@ pub fn wild_program(random: &mut Random, lines: &Lines) -> Vec<Record> {
         out.push(copy);
         number[n] = out.len() as u64;
         // A state is used by its own number.
-        if crate::independent::kinds::is_value(r[0]) && r[0] != 5 {
+        if is_value(r[0]) && r[0] != 5 {
             while masks > 0 && random.one_in(4) {
                 out.push([56, copy[1], number[n], 0, 0]);
                 number[n] = out.len() as u64;

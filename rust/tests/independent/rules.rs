@@ -38,8 +38,6 @@ pub struct Line {
     pub kind: u64,
     /// The sort that a sort line defines, or that a value line has.
     pub sort: Option<Sort>,
-    /// The cone holds no input and no state.
-    pub fixed: bool,
     /// A state with an init line, with a next line.
     pub init: bool,
     pub next: bool,
@@ -158,10 +156,34 @@ impl Lines {
         }
     }
 
+    /// The operands of a value line that are lines, and not plain numbers.
+    pub fn operands(&self, line: u64) -> impl Iterator<Item = u64> + '_ {
+        let r = &self.records[line as usize - 1];
+        let places = row(r[0]).operands.iter().zip(&r[2..]);
+        places.filter(|(&place, _)| place != Place::Number).map(|(_, &operand)| operand)
+    }
+
+    /// The cone of a value line, itself and the lines it depends on: a search, depth first, that visits each line once.
+    pub fn cone(&self, value: u64) -> Vec<u64> {
+        let (mut cone, mut ahead, mut visited) = (vec![], vec![value], vec![false; value as usize + 1]);
+        while let Some(line) = ahead.pop() {
+            if !std::mem::replace(&mut visited[line as usize], true) {
+                cone.push(line);
+                ahead.extend(self.operands(line));
+            }
+        }
+        cone
+    }
+
+    /// Whether the cone of a value line holds no input and no state.
+    pub fn has_fixed_cone(&self, value: u64) -> bool {
+        self.cone(value).iter().all(|&line| !matches!(self.line(line).unwrap().kind, 4 | 5))
+    }
+
     /// Rule 10: no second init or next, and the init rule.
     pub fn states_fit(&self, r: &Record) -> bool {
         match r[0] {
-            6 => !self.line(r[2]).unwrap().init && r[3] < r[2] && self.line(r[3]).unwrap().fixed,
+            6 => !self.line(r[2]).unwrap().init && r[3] < r[2] && self.has_fixed_cone(r[3]),
             7 => !self.line(r[2]).unwrap().next,
             _ => true,
         }
@@ -180,16 +202,12 @@ impl Lines {
             k if is_value(k) => self.own_sort(&r),
             _ => None,
         };
-        let operands = row(r[0]).operands.iter().enumerate();
-        let fixed = r[0] != 4
-            && r[0] != 5
-            && operands.filter(|(_, &p)| p != Place::Number).all(|(i, _)| self.line(r[2 + i]).unwrap().fixed);
         match r[0] {
             6 => self.lines[r[2] as usize - 1].init = true,
             7 => self.lines[r[2] as usize - 1].next = true,
             _ => {}
         }
-        self.lines.push(Line { kind: r[0], sort, fixed, init: false, next: false });
+        self.lines.push(Line { kind: r[0], sort, init: false, next: false });
         self.records.push(r);
         self.ids.push(id);
     }
