@@ -6,7 +6,7 @@ use mathlib.Core.Logic.{_↔_}
 use mathlib.Core.Bool.{Bool, true, false, _||_}
 use mathlib.Core.List.{List, [], _∷_}
 use native.Mathlib.Omega.{arith}
-use lib.Dec.{eqb}
+use lib.Dec.{leb, eqb}
 use borrow.Author.Tests.{eqb-true, eq-eqb, leb-true}
 use Rattle.tables.specs.declared.Ty.{Ty}
 use Rattle.tables.specs.declared.Checked.the-variants.{Accepted}
@@ -51,10 +51,10 @@ any-same f g (x ∷ r) h = ap₂ (λ (a b : Bool). a || b) (h x (rw (eq-eqb x x 
 -- ---- "marking exactly those that are, or have beneath them, an input or a state": the mark of a line, by those of the lines that it uses
 
 module _ (p : Bool) (L : ℕ → Ty) where
-  two : (a b : ℕ) → marked (ty (pick (marked (L a) || marked (L b)) 3 2) 0 0) ≡ anyOf (λ x. marked (L x)) (a ∷ b ∷ [])
+  two : (a b : ℕ) → leb 3 (valueRole (marked (L a) || marked (L b))) ≡ anyOf (λ x. marked (L x)) (a ∷ b ∷ [])
   two a b = role-mark (marked (L a) || marked (L b)) ∙ rw (or-false (marked (L b))) refl
 
-  three : (a b c : ℕ) → marked (ty (pick (marked (L a) || (marked (L b) || marked (L c))) 3 2) 0 0) ≡ anyOf (λ x. marked (L x)) (a ∷ b ∷ c ∷ [])
+  three : (a b c : ℕ) → leb 3 (valueRole (marked (L a) || (marked (L b) || marked (L c)))) ≡ anyOf (λ x. marked (L x)) (a ∷ b ∷ c ∷ [])
   three a b c = role-mark (marked (L a) || (marked (L b) || marked (L c))) ∙ rw (or-false (marked (L c))) refl
 
   value-mark : (s : ℕ) (e : Expr) → marked (lineType p L (Line.value s e)) ≡ anyOf (λ a. marked (L a)) (usesExpr e)
