@@ -1,5 +1,5 @@
-// What a check keeps of each line, at the line's number: its role, its index width, its width, and two flags, of a state that has an init line and of one that has a
-// next line.
+// What a check keeps of each line, at the line's number: its role, which has the mark in it, its index width, its width, and two flags, of a state that has an init
+// line and of one that has a next line.
 use tables::Ty;
 use tables::WORDS;
 ghost use mathlib.Core.Path.{_≡_};

@@ -17,7 +17,7 @@ use Rattle.tables.specs.Types.{ty, isValue, marked, valueRole, lineType,
 use Rattle.tables.specs.Cone.{lineNumbered, usesExpr, uses, Cone, itself, under, isSource, SourceInCone}
 use Rattle.tables.specs.Tables.{checked}
 use Rattle.tables.specs.Model.Notes.{lookIn, Shows}
-use Rattle.tables.specs.Search.{anyOf, sourceWithin, search, searched}
+use Rattle.tables.specs.Search.{anyOf, sourceWithin, searchCone, searched}
 use Rattle.tables.proofs.Laws.{or-true, or-false}
 use Rattle.tables.proofs.Kept.{either, no-yes}
 use Rattle.tables.proofs.Shapes.{range}
@@ -112,7 +112,7 @@ module _ (p : Bool) (C : List Line) (ok : AllOk p noCtx C) where
       ∙ ap (λ (b : Bool). isSource (lineNumbered C v) || b)
       (any-same _ (sourceWithin n C) (uses (lineNumbered C v)) (λ a m. let u = used p C ok v E a m in sym (finds n a (omega (arith, u .below)) (u .is)))))
 
-  pub search-marks : (v : ℕ) → 2 ≤ tyAt (context p C) v .role → search C v ≡ marked (tyAt (context p C) v)
+  pub search-marks : (v : ℕ) → 2 ≤ tyAt (context p C) v .role → searchCone C v ≡ marked (tyAt (context p C) v)
   unfolding context
   search-marks v h = finds v v (omega arith) h
 
@@ -132,15 +132,15 @@ module _ (p : Bool) (C : List Line) (ok : AllOk p noCtx C) where
       t : Ty
       t = tyAt (context p C) v
 
-      go : (b : Bool) → inside 2 3 (t .role) ≡ b → pick b (ty (valueRole (search C v)) (t .iw) (t .w)) t ≡ t
+      go : (b : Bool) → inside 2 3 (t .role) ≡ b → pick b (ty (valueRole (searchCone C v)) (t .iw) (t .w)) t ≡ t
       go false e = refl
       go true e =
           let k = range 2 3 (t .role) e in
-          let m : valueRole (search C v) ≡ t .role = ap valueRole (search-marks v (k .0)) ∙ role-back (t .role) (k .0) (k .1) in
+          let m : valueRole (searchCone C v) ≡ t .role = ap valueRole (search-marks v (k .0)) ∙ role-back (t .role) (k .0) (k .1) in
           λ j. ty (m j) (t .iw) (t .w)
 
   -- a value that is judged by a search has the mark that the search finds
-  pub searched-mark : (v : ℕ) → 2 ≤ tyAt (context p C) v .role → marked (searched C (tyAt (context p C)) v) ≡ search C v
+  pub searched-mark : (v : ℕ) → 2 ≤ tyAt (context p C) v .role → marked (searched C (tyAt (context p C)) v) ≡ searchCone C v
   searched-mark v h = ap marked (searched-type v) ∙ sym (search-marks v h)
 
   pub searched-types : searched C (tyAt (context p C)) ≡ tyAt (context p C)

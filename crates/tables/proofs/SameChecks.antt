@@ -43,6 +43,6 @@ module _ (p : Bool) where
       go true e f = rw (same-record C ok r, e) (f (ok-more p C (lineOf r) ok (sound p _ _ r e)))
       go false e f = rw (same-record C ok r, e) refl
 
-  pub same-check : (t : List ℕ) (n : ℕ) → checkedBySearch p t n ≡ checked p t n
+  pub same-checking : (t : List ℕ) (n : ℕ) → checkedBySearch p t n ≡ checked p t n
   unfolding checked context
-  same-check t n = ap (λ (b : Bool). verdict p (length t) n (b && idsRight p t n)) (same-lawful [] tt (recordsOf p t n))
+  same-checking t n = ap (λ (b : Bool). verdict p (length t) n (b && idsRight p t n)) (same-lawful [] tt (recordsOf p t n))

@@ -12,7 +12,7 @@ use Rattle.tables.specs.Layout.{filledBy, tableWith}
 use Rattle.tables.specs.Types.{marked, tyAt, noCtx, context}
 use Rattle.tables.specs.Cone.{itself, under, SourceInCone}
 use Rattle.tables.specs.Rules.{suits, fault}
-use Rattle.tables.specs.Search.{search, checkedBySearch}
+use Rattle.tables.specs.Search.{searchCone, checkedBySearch}
 use Rattle.tables.proofs.Facts.{AllOk}
 use Rattle.tables.proofs.Sound.{all-sound}
 use Rattle.tables.proofs.Marks.{marks-exactly}
@@ -39,7 +39,7 @@ registers-marks : marksOf registers (2 ∷ 3 ∷ 4 ∷ 5 ∷ 6 ∷ 8 ∷ []) ≡
 unfolding context
 registers-marks = refl
 
-registers-search : map (search lines) (2 ∷ 3 ∷ 4 ∷ 5 ∷ 6 ∷ 8 ∷ []) ≡ true ∷ false ∷ false ∷ true ∷ true ∷ true ∷ []
+registers-search : map (searchCone lines) (2 ∷ 3 ∷ 4 ∷ 5 ∷ 6 ∷ 8 ∷ []) ≡ true ∷ false ∷ false ∷ true ∷ true ∷ true ∷ []
 registers-search = refl
 
 -- the cone of 5 holds an input or a state, that of 4 does not

@@ -24,8 +24,8 @@ sourceWithin zero C v = isSource (lineNumbered C v)
 sourceWithin (suc n) C v = isSource (lineNumbered C v) || anyOf (sourceWithin n C) (uses (lineNumbered C v))
 
 -- a search of the whole cone: operands stand before the lines that use them, so that no cone is deeper than its line's number
-abbrev pub search : List Line → ℕ → Bool
-search C v = sourceWithin v C v
+abbrev pub searchCone : List Line → ℕ → Bool
+searchCone C v = sourceWithin v C v
 
 -- the type of a value with a mark in place of its own; that of a state is in its role
 abbrev pub remarked : (mark : Bool) → Ty → Ty
@@ -33,7 +33,7 @@ remarked mark t = pick (inside unmarkedRole markedRole (t .role)) (ty (valueRole
 
 -- the types of the lines C, each with the mark that a search of its cone finds
 abbrev pub searched : List Line → (ℕ → Ty) → ℕ → Ty
-searched C L v = remarked (search C v) (L v)
+searched C L v = remarked (searchCone C v) (L v)
 
 -- every record breaks no rule after the lines before it, C and then its own: cones are searched
 abbrev pub lawfulBySearch : Bool → List Line → List (List ℕ) → Bool

@@ -1,5 +1,5 @@
--- What a check keeps of each line, at the line's number: its role, its index width, its width, and two flags, of a state that has an init line and of one that
--- has a next line. Assumes nothing.
+-- What a check keeps of each line, at the line's number: its role, which has the mark in it, its index width, its width, and two flags, of a state that has an init
+-- line and of one that has a next line. Assumes nothing.
 use Prim.Native.Nat.{ℕ, _≤_, _<_}
 use mathlib.Core.Path.{_≡_}
 use mathlib.Core.Bool.{Bool, true, false}
