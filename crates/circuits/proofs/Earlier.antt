@@ -1,7 +1,7 @@
 -- The cells of a line come from those of earlier lines. A line without the mark, whose cone holds no input and no state, has the same cells in every walk, so the state words that a run starts from depend on no input. Assumes nothing.
 use Prim.Native.Nat.{ℕ, suc, _+_, _≤_, _<_}
 use mathlib.Core.Path.{_≡_, refl, sym, ap, ap₂, _∙_}
-use mathlib.Core.Bool.{Bool, true, false, _||_, true≢false}
+use mathlib.Core.Bool.{Bool, true, false, true≢false}
 use mathlib.Core.List.{List, [], _∷_, _++_}
 use native.Mathlib.Omega.{arith}
 use lib.ListN.{length, take, drop, getD, set, replicate, length-append, take-append-drop, List·getD-append}
@@ -10,6 +10,7 @@ use Rattle.words.specs.Word.{bit}
 use Rattle.tables.specs.declared.Ty.{Ty}
 use Rattle.tables.specs.Lines.{Line, Expr}
 use Rattle.tables.specs.Types.{noTy, marked, lineType, noCtx, tyAt, given}
+use Rattle.tables.proofs.Kept.{neither}
 use Rattle.tables.proofs.Values.{role-mark}
 use Rattle.tables.proofs.Showing.{by-place, snoc-other}
 use Rattle.tables.proofs.Facts.{Ok, AllOk}
@@ -53,16 +54,7 @@ module _ (p f : Bool) (C : List Line) (σ ι : List ℕ) where
 
 -- ---- lines without the mark, whose cones hold no input and no state, have the same cells in every walk
 
--- a value's operands are not marked where it is not
-record Two (a b : Bool) : Type 0 where
-  first : a ≡ false
-  second : b ≡ false
-
-neither : (a b : Bool) → (a || b) ≡ false → Two a b
-neither true b e = absurd (true≢false e)
-neither false b e = record { first = refl; second = e }
-
--- the cells of an expression, by those of its operands
+-- the cells of an expression, by those of its operands, which are not marked where it is not
 module _ (p : Bool) (W : ℕ → ℕ) (L : ℕ → Ty) (X Y : ℕ → List ℕ) (alike : (a : ℕ) → marked (L a) ≡ false → X a ≡ Y a) where
   word : (a : ℕ) → marked (L a) ≡ false → getD (X a) 0 0 ≡ getD (Y a) 0 0
   word a e = ap (λ (l : List ℕ). getD l 0 0) (alike a e)
@@ -72,21 +64,21 @@ module _ (p : Bool) (W : ℕ → ℕ) (L : ℕ → Ty) (X Y : ℕ → List ℕ) 
   expr-alike s (Expr.unary k a x y) q = ap (λ (v : ℕ). opWord p k (W a) 64 v x y ∷ []) (word a (sym (role-mark _) ∙ q))
   expr-alike s (Expr.binary k a b) q =
       let h = neither (marked (L a)) _ (sym (role-mark _) ∙ q) in
-      ap₂ (λ (v w : ℕ). opWord p k (W a) (W b) v w 0 ∷ []) (word a (h .first)) (word b (h .second))
+      ap₂ (λ (v w : ℕ). opWord p k (W a) (W b) v w 0 ∷ []) (word a (h .0)) (word b (h .1))
   expr-alike s (Expr.equality e a b) q =
       let h = neither (marked (L a)) _ (sym (role-mark _) ∙ q) in
-      ap₂ (λ (v w : List ℕ). bit (eqOrNeq e (sameCells v w)) ∷ []) (alike a (h .first)) (alike b (h .second))
+      ap₂ (λ (v w : List ℕ). bit (eqOrNeq e (sameCells v w)) ∷ []) (alike a (h .0)) (alike b (h .1))
   expr-alike s (Expr.ite c a b) q =
       let h = neither (marked (L c)) _ (sym (role-mark _) ∙ q) in
-      let k = neither (marked (L a)) _ (h .second) in
-      ap (λ (n : ℕ). ifNonzero n (X a) (X b)) (word c (h .first)) ∙ ap₂ (ifNonzero (getD (Y c) 0 0)) (alike a (k .first)) (alike b (k .second))
+      let k = neither (marked (L a)) _ (h .1) in
+      ap (λ (n : ℕ). ifNonzero n (X a) (X b)) (word c (h .0)) ∙ ap₂ (ifNonzero (getD (Y c) 0 0)) (alike a (k .0)) (alike b (k .1))
   expr-alike s (Expr.read a i) q =
       let h = neither (marked (L a)) _ (sym (role-mark _) ∙ q) in
-      ap₂ (λ (l : List ℕ) (n : ℕ). getD l n 0 ∷ []) (alike a (h .first)) (word i (h .second))
+      ap₂ (λ (l : List ℕ) (n : ℕ). getD l n 0 ∷ []) (alike a (h .0)) (word i (h .1))
   expr-alike s (Expr.write a i v) q =
       let h = neither (marked (L a)) _ (sym (role-mark _) ∙ q) in
-      let k = neither (marked (L i)) _ (h .second) in
-      ap₂ (λ (l : List ℕ) (n : ℕ). set l n (getD (X v) 0 0)) (alike a (h .first)) (word i (k .first)) ∙ ap (set (Y a) (getD (Y i) 0 0)) (word v (k .second))
+      let k = neither (marked (L i)) _ (h .1) in
+      ap₂ (λ (l : List ℕ) (n : ℕ). set l n (getD (X v) 0 0)) (alike a (h .0)) (word i (k .0)) ∙ ap (set (Y a) (getD (Y i) 0 0)) (word v (k .1))
 
 -- two walks over the same lines
 pub record Alike (A B : Frame) : Type 0 where

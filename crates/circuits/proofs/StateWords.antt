@@ -15,6 +15,7 @@ use Rattle.tables.specs.Pick.{pick, among, alike}
 use Rattle.tables.specs.Lines.{Line}
 use Rattle.tables.specs.Types.{tyAt, given}
 use Rattle.tables.proofs.Laws.{or-true}
+use Rattle.tables.proofs.Kept.{neither}
 use Rattle.tables.proofs.Showing.{by-place, snoc-other, earlier}
 use Rattle.tables.proofs.Facts.{OkValue}
 use Rattle.circuits.specs.Cells.{part, put}
@@ -25,7 +26,7 @@ use Rattle.circuits.proofs.Laid.{not-four, type-new, place-new, type-ol
 use Rattle.circuits.proofs.Simulation.{state-length}
 use Rattle.circuits.proofs.Walked.{acc-lay}
 use Rattle.circuits.proofs.Earlier.{cells-kept}
-use Rattle.tables.proofs.GivenStates.{givesTo, given-more, neither, gives-none, same-flag, given-once}
+use Rattle.tables.proofs.GivenStates.{givesTo, given-more, gives-none, same-flag, given-once}
 use Rattle.circuits.proofs.Sizes.{Walking, walk-line, states-many, cells-size}
 
 -- the words of the state on the line q, among the state words

@@ -20,7 +20,7 @@ use Rattle.circuits.specs.Cells.{ifNonzero, eqOrNeq, sameCells}
 use Rattle.circuits.specs.Layout.{typeAt}
 use Rattle.circuits.specs.Meaning.{Frame}
 use Rattle.flattening.specs.Flat.{constLines, iteLines, equalityLines, joinKind, joinLines, writeLines, writeCells, readChain}
-use Rattle.flattening.proofs.Walk.{join, Even, Ext, ext-trans, SortAt, Word, Holds, none, more, holds-at, sort-ext, word-ext, sort-ok, word-ok, Grew, grew-refl, grew-trans, quiet, Small, ev1, evs, len1, ext-line, new-val, grew-line}
+use Rattle.flattening.proofs.Walk.{unmarked-both, Even, Ext, ext-trans, SortAt, Word, Holds, none, more, holds-at, sort-ext, word-ext, sort-ok, word-ok, Grew, grew-refl, grew-trans, quiet, Small, ev1, evs, len1, ext-line, new-val, grew-line}
 
 -- ---- what the chains compute
 
@@ -125,7 +125,7 @@ module _ (f : Bool) (σ ι : List ℕ) where
       let xp = marked (typeAt (A .lay) p) in
       let xq = marked (typeAt (A .lay) q) in
       new-val f σ ι (xc || (xp || xq)) ev (value s (ite c p q)) e hs refl (rw (hc .cells, hp .cells, hq .cells) (choose-one d x y))
-      (λ z. join xc (xp || xq) (hc .unmarked z) (join xp xq (hp .unmarked z) (hq .unmarked z)))
+      (λ z. unmarked-both xc (xp || xq) (hc .unmarked z) (unmarked-both xp xq (hp .unmarked z) (hq .unmarked z)))
 
   ite-ok : {u : Bool} {A : Frame} {s c p q w d x y : ℕ} → SortAt A s w → Word A u c 1 d → Word A u p w x → Word A u q w y
       → Ok false (tyAt (A .lay .ctx)) (given (A .lay .ctx)) (value s (ite c p q))
@@ -145,7 +145,7 @@ module _ (f : Bool) (σ ι : List ℕ) where
   equality-word {A = A} {s = s} {p} {q} t ev e hs hp hq =
       let xp = marked (typeAt (A .lay) p) in
       let xq = marked (typeAt (A .lay) q) in
-      new-val f σ ι (xp || xq) ev (value s (equality t p q)) e hs refl (rw (hp .cells, hq .cells)) (λ z. join xp xq (hp .unmarked z) (hq .unmarked z))
+      new-val f σ ι (xp || xq) ev (value s (equality t p q)) e hs refl (rw (hp .cells, hq .cells)) (λ z. unmarked-both xp xq (hp .unmarked z) (hq .unmarked z))
 
   equality-ok : {u : Bool} {A : Frame} {s p q w x y : ℕ} (t : Bool) → SortAt A s 1 → Word A u p w x → Word A u q w y
       → Ok false (tyAt (A .lay .ctx)) (given (A .lay .ctx)) (value s (equality t p q))
@@ -163,7 +163,7 @@ module _ (f : Bool) (σ ι : List ℕ) where
   join-word {A = A} {s = s} {p} {q} t ev e hs hp hq =
       let xp = marked (typeAt (A .lay) p) in
       let xq = marked (typeAt (A .lay) q) in
-      new-val f σ ι (xp || xq) ev (value s (binary (joinKind t) p q)) e hs refl (rw (hp .cells, hq .cells, hp .wide, hq .wide)) (λ z. join xp xq (hp .unmarked z) (hq .unmarked z))
+      new-val f σ ι (xp || xq) ev (value s (binary (joinKind t) p q)) e hs refl (rw (hp .cells, hq .cells, hp .wide, hq .wide)) (λ z. unmarked-both xp xq (hp .unmarked z) (hq .unmarked z))
 
   join-ok : {u : Bool} {A : Frame} {s p q x y : ℕ} (t : Bool) → SortAt A s 1 → Word A u p 1 x → Word A u q 1 y
       → Ok false (tyAt (A .lay .ctx)) (given (A .lay .ctx)) (value s (binary (joinKind t) p q))

@@ -2,11 +2,11 @@
 use Prim.Native.Nat.{ℕ, zero, suc, _+_, _%_, _^_, _≤_, _<_}
 use mathlib.Core.Path.{_≡_, refl, sym, ap, ap₂, _∙_, subst, subst⁻¹}
 use mathlib.Core.Logic.{_≢_}
-use mathlib.Core.Bool.{Bool, true, false, not, _||_}
+use mathlib.Core.Bool.{Bool, true, false}
 use mathlib.Core.List.{List, [], _∷_, _++_, append-assoc, append-nil}
 use native.Mathlib.Nat.{le-trans}
 use native.Mathlib.Omega.{arith}
-use lib.Dec.{T, eqb}
+use lib.Dec.{T}
 use lib.ListN.{length, getD, replicate}
 use borrow.Author.Tests.{ne-eqb}
 use Rattle.tables.specs.declared.Ty.{Ty}
@@ -15,6 +15,8 @@ use Rattle.tables.specs.Lines.{Line, state, initOrNext}
 use Rattle.tables.specs.Types.{givenBy}
 use Rattle.tables.specs.Rules.{valueIndex}
 use Rattle.tables.specs.Layout.{from}
+use Rattle.tables.proofs.Laws.{not-of}
+use Rattle.tables.proofs.Showing.{among-join}
 use Rattle.tables.proofs.Facts.{OkValue, AllOk}
 use Rattle.circuits.specs.Cells.{maskWords, part, put}
 use Rattle.circuits.specs.Layout.{typeAt, placeAt, size}
@@ -30,13 +32,8 @@ abbrev pub Fresh : List ℕ → List ℕ → Type 0
 Fresh d [] = Unit {0}
 Fresh d (q ∷ qs) = (among q d ≡ false) × Fresh d qs
 
-or-keeps : (b : Bool) {c d : Bool} → (b || c) ≡ false → (c ≡ false → d ≡ false) → (b || d) ≡ false
-or-keeps true h g = h
-or-keeps false h g = g h
-
 pub among-append : (x : ℕ) (d e : List ℕ) → among x d ≡ false → among x e ≡ false → among x (d ++ e) ≡ false
-among-append x [] e h k = k
-among-append x (y ∷ d) e h k = or-keeps (eqb x y) h (λ g. among-append x d e g k)
+among-append x d e h k = among-join x d e ∙ rw (h, k) refl
 
 among-one : (x q : ℕ) → x ≢ q → among x (q ∷ []) ≡ false
 among-one x q n = rw (ne-eqb x q n)
@@ -63,12 +60,8 @@ inits-tail : (m u : Bool) (lo v : ℕ) (vs : List ℕ) → Inits m u lo (v ∷ v
 inits-tail true u lo v vs h = (h .0, h .1 .1)
 inits-tail false u lo v vs h = tt
 
-not-yes : (b : Bool) → T (not b) → b ≡ false
-not-yes true t = absurd t
-not-yes false t = refl
-
 init-next-value : {A : Frame} {u : Bool} {w c lo q v : ℕ} (m : Bool) (vs : List ℕ) → Inits m u lo (v ∷ vs) → Word A u v w c → lo ≤ q → OkValue m q v (typeAt (A .lay) v)
-init-next-value {A} {v = v} true vs i h l = record { word = word-ok h; below = le-trans (i .1 .0) l; unmarked = not-yes _ (h .unmarked (i .0)) }
+init-next-value {A} {v = v} true vs i h l = record { word = word-ok h; below = le-trans (i .1 .0) l; unmarked = not-of _ (h .unmarked (i .0)) }
 init-next-value false vs i h l = record { is = h .is }
 
 value-index : (m : Bool) (t : Ty) → t .iw ≡ 0 → 0 ≡ valueIndex m t

@@ -19,7 +19,7 @@ use Rattle.circuits.specs.Layout.{typeAt, placeAt}
 use Rattle.circuits.specs.Meaning.{Frame, cellsAt, wordAt}
 use Rattle.flattening.specs.Flat.{Info, infoAt, linesAt, lineAt, valueInfo, chunk, equalityLines, joinLines, readChain, writeCells, chunkRead, chunkWrite}
 use Rattle.flattening.proofs.Walk as W
-use Rattle.flattening.proofs.Walk.{both, holds-weak, Even, SortAt, Word, Holds, Small, ext-refl, sort-ext, holds-head, holds-tail, holds-length, holds-at, ok-append, evs, evs-append, len-all, Grew, grew-refl, grew-trans}
+use Rattle.flattening.proofs.Walk.{unmarked-each, holds-weak, Even, SortAt, Word, Holds, Small, ext-refl, sort-ext, holds-head, holds-tail, holds-length, holds-at, ok-append, evs, evs-append, len-all, Grew, grew-refl, grew-trans}
 use Rattle.flattening.proofs.Chains.{Ends, writes, picks, equalityValues, lastLine, run-ites, run-cmps, run-joins, run-writes, run-reads}
 use Rattle.flattening.proofs.CellLaws.{chooses-choose, choose-has, writes-set, picks-get, joins-agree, small-at, small-set, small-bit, holds-set}
 use Rattle.flattening.proofs.Rel.{SortRel, KnownRel, ValRel, Inv, sortrel-ext, val-rel, word-rel, word-for, word-small, cells-for, extend-quiet}
@@ -45,8 +45,8 @@ module _ (f : Bool) (σ ι : List ℕ) where
       let nx : length xs ≡ 2 ^ (t .iw) = rx .len ∙ ap (λ (i : ℕ). 2 ^ i) (k .sameA .iw) in
       let ny : length ys ≡ 2 ^ (t .iw) = ry .len ∙ ap (λ (i : ℕ). 2 ^ i) (k .sameB .iw) in
       let c = wordAt A d in
-      let r = run-ites f σ ι {u = u} (ext-refl (v .evenB)) e (rs .elem) (word-for v d (k .cond) (λ z. both md (mx || my) z .0) (k .bit))
-      (cells-for rx (λ z. both mx my (both md (mx || my) z .1) .0) (k .sameA .w)) (cells-for ry (λ z. both mx my (both md (mx || my) z .1) .1) (k .sameB .w)) (nx ∙ sym ny) in
+      let r = run-ites f σ ι {u = u} (ext-refl (v .evenB)) e (rs .elem) (word-for v d (k .cond) (λ z. unmarked-each md (mx || my) z .0) (k .bit))
+      (cells-for rx (λ z. unmarked-each mx my (unmarked-each md (mx || my) z .1) .0) (k .sameA .w)) (cells-for ry (λ z. unmarked-each mx my (unmarked-each md (mx || my) z .1) .1) (k .sameB .w)) (nx ∙ sym ny) in
       let ps = from b (length (linesAt I x)) in
       let B′ = evs f σ ι B (chunk I b (value s (ite d x y)) .lines) in
       record {
@@ -109,8 +109,8 @@ module _ (f : Bool) (σ ι : List ℕ) where
       let hs : SortAt B (g .elem) 1 = subst (λ (w : ℕ). SortAt B (g .elem) w) (k .bit) (rs .elem) in
       let mx = marked (typeAt (A .lay) x) in
       let my = marked (typeAt (A .lay) y) in
-      let hx = cells-for rx (λ z. both mx my z .0) refl in
-      let r = run-agree {u = not (mx || my)} t (length (linesAt I x) - 1) (v .evenB) e hs hx (cells-for ry (λ z. both mx my z .1) (k .same .w)) n (omega (arith, holds-length hx, rx .len, pow-pos (typeAt (A .lay) x .iw))) in
+      let hx = cells-for rx (λ z. unmarked-each mx my z .0) refl in
+      let r = run-agree {u = not (mx || my)} t (length (linesAt I x) - 1) (v .evenB) e hs hx (cells-for ry (λ z. unmarked-each mx my z .1) (k .same .w)) n (omega (arith, holds-length hx, rx .len, pow-pos (typeAt (A .lay) x .iw))) in
       let B′ = evs f σ ι B (chunk I b (value s (equality t x y)) .lines) in
       let p = b + 2 * (length (linesAt I x) - 1) in
       let c = bit (eqOrNeq t (sameCells xs ys)) in
@@ -179,7 +179,7 @@ module _ (f : Bool) (σ ι : List ℕ) where
       mi = marked (typeAt (A .lay) i)
 
       held : Holds B (not (ma || mi)) (t .w) (g .cells) cs
-      held = cells-for ra (λ z. both ma mi z .0) (k .wide)
+      held = cells-for ra (λ z. unmarked-each ma mi z .0) (k .wide)
 
       fits : getD cs iv 0 < 2 ^ (t .w)
       fits = small-at (t .w) cs iv (subst (λ (w : ℕ). Small w cs) (k .wide) (ra .small))
@@ -196,7 +196,7 @@ module _ (f : Bool) (σ ι : List ℕ) where
       go none z =
           let last = length (g .cells) - 1 in
           let many : 2 ≤ 2 ^ (typeAt (A .lay) a .iw) = pow-mono (k .arr .deep) in
-          let r = run-read last (v .evenB) e (ra .sort .arr (k .arr .deep) .bit) (rs .elem) (word-for v i (k .index) (λ z. both ma mi z .1) (k .iw))
+          let r = run-read last (v .evenB) e (ra .sort .arr (k .arr .deep) .bit) (rs .elem) (word-for v i (k .index) (λ z. unmarked-each ma mi z .1) (k .iw))
           (holds-weak (λ z. tt) (ra .sort .arr (k .arr .deep) .index)) held (ra .len) (subst (λ (n : ℕ). iv < n) (ra .len) inside)
           (ap (λ (n : ℕ). n - 1) (holds-length held ∙ ra .len)) (omega (arith, holds-length held, ra .len)) in
           record {
@@ -252,10 +252,10 @@ module _ (f : Bool) (σ ι : List ℕ) where
       u = not m
 
       held : Holds B u (t .w) ps cs
-      held = cells-for ra (λ z. both ma (mi || mx) z .0) (k .same .w)
+      held = cells-for ra (λ z. unmarked-each ma (mi || mx) z .0) (k .same .w)
 
       wx : Word B u (lineAt I x) (t .w) xv
-      wx = word-for v x (k .value) (λ z. both mi mx (both ma (mi || mx) z .1) .1) (k .vw)
+      wx = word-for v x (k .value) (λ z. unmarked-each mi mx (unmarked-each ma (mi || mx) z .1) .1) (k .vw)
 
       fits : Small (t .w) (set cs iv xv)
       fits =
@@ -274,7 +274,7 @@ module _ (f : Bool) (σ ι : List ℕ) where
             ok = tt;
           }
       go none z =
-          let r = run-writes f σ ι (ext-refl (v .evenB)) e (rs .arr (k .sort .deep) .bit) (rs .elem) (word-for v i (k .index) (λ z. both mi mx (both ma (mi || mx) z .1) .0) (k .iw)) wx
+          let r = run-writes f σ ι (ext-refl (v .evenB)) e (rs .arr (k .sort .deep) .bit) (rs .elem) (word-for v i (k .index) (λ z. unmarked-each mi mx (unmarked-each ma (mi || mx) z .1) .0) (k .iw)) wx
           (holds-weak (λ z. tt) (rs .arr (k .sort .deep) .index)) held (length-from 0 (2 ^ (t .iw)) ∙ sym many) in
           let B′ = evs f σ ι B (chunkWrite h ps none (lineAt I i) (lineAt I x) b .lines) in
           record {

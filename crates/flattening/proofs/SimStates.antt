@@ -2,7 +2,7 @@
 use Prim.Native.Nat.{ℕ, zero, suc, _+_, _^_, _≤_, _<_}
 use mathlib.Core.Path.{_≡_, refl, sym, ap, ap₂, _∙_, subst, subst⁻¹}
 use mathlib.Core.Logic.{_≢_}
-use mathlib.Core.Bool.{Bool, true, false, not, _||_}
+use mathlib.Core.Bool.{Bool, true, false, not}
 use mathlib.Core.Option.{none as nothing}
 use mathlib.Core.List.{List, [], _∷_, _++_}
 use native.Mathlib.Nat.{le-refl, le-trans}
@@ -18,7 +18,8 @@ use Rattle.tables.specs.Lines.{state, initOrNext}
 use Rattle.tables.specs.Types.{marked, tyAt, given, givenBy}
 use Rattle.tables.specs.Rules.{valueIndex}
 use Rattle.tables.specs.Layout.{from}
-use Rattle.tables.proofs.Kept.{no-yes}
+use Rattle.tables.proofs.Kept.{neither}
+use Rattle.tables.proofs.Showing.{among-join}
 use Rattle.tables.proofs.Facts.{Ok, OkValue}
 use Rattle.tables.proofs.Ids.{from-at, length-from}
 use Rattle.circuits.specs.Cells.{part, put}
@@ -47,25 +48,11 @@ under-all lo zero v h = tt
 under-all lo (suc n) v h = (h, under-all lo n v h)
 
 -- what is in neither part
-or-left : (a b : Bool) → (a || b) ≡ false → a ≡ false
-or-left true b e = e
-or-left false b e = refl
-
-or-both : (a : Bool) {b c : Bool} → (a || b) ≡ false → (b ≡ false → c ≡ false) → (a || c) ≡ false
-or-both true e g = e
-or-both false e g = g e
-
-or-right : (a : Bool) {b : Bool} → (a || b) ≡ false → b ≡ false
-or-right true e = absurd (no-yes (sym e))
-or-right false e = e
-
 among-front : (x : ℕ) (d e : List ℕ) → among x (d ++ e) ≡ false → among x d ≡ false
-among-front x [] e h = refl
-among-front x (y ∷ d) e h = or-both (eqb x y) h (λ g. among-front x d e g)
+among-front x d e h = neither (among x d) (among x e) (sym (among-join x d e) ∙ h) .0
 
 among-back : (x : ℕ) (d e : List ℕ) → among x (d ++ e) ≡ false → among x e ≡ false
-among-back x [] e h = h
-among-back x (y ∷ d) e h = among-back x d e (or-right (eqb x y) h)
+among-back x d e h = neither (among x d) (among x e) (sym (among-join x d e) ∙ h) .1
 
 states-low : {A : Frame} {lo w a : ℕ} {qs : List ℕ} → States A lo w a qs → (j : ℕ) → j < length qs → lo ≤ getD qs j 0
 states-low none j h = absurd (omega arith)
@@ -255,7 +242,7 @@ module _ (f : Bool) (σ ι : List ℕ) where
       free-by n p h j l true e g =
           let x = getD (linesAt I p) j 0 in
           let g′ : among p (givenBy n (A .lay .ctx) ++ (q ∷ [])) ≡ false = sym (ap (λ (d : List ℕ). among p d) (gave-init-next f σ ι A m s q a n ∙ ap (λ (c : Bool). pick c (givenBy n (A .lay .ctx) ++ (q ∷ [])) (givenBy n (A .lay .ctx))) e)) ∙ g in
-          let d : p ≢ q = eqb-false p q (or-left (eqb p q) false (among-back p (givenBy n (A .lay .ctx)) (q ∷ []) g′)) in
+          let d : p ≢ q = eqb-false p q (neither (eqb p q) false (among-back p (givenBy n (A .lay .ctx)) (q ∷ []) g′) .0) in
           ap (λ (d : List ℕ). among x d) (r .gave n ∙ ap (λ (c : Bool). pick c (givenBy n (B .lay .ctx) ++ qs) (givenBy n (B .lay .ctx))) e)
           ∙ among-append x (givenBy n (B .lay .ctx)) qs (v .free n p h (among-front p (givenBy n (A .lay .ctx)) (q ∷ []) g′) j l) (apart p h d j l)
       free-by n p h j l false e g =

@@ -20,7 +20,7 @@ use Rattle.circuits.specs.Cells.{ifNonzero}
 use Rattle.circuits.specs.Layout.{typeAt}
 use Rattle.circuits.specs.Meaning.{Frame, Signal, signalByte, wordAt}
 use Rattle.flattening.specs.Flat.{Info, noInfo, Chunk, infoAt, lineAt, bitvecInfo, arrayInfo, valueInfo, chunk, constLines}
-use Rattle.flattening.proofs.Walk.{both, join, Even, SortAt, ext-refl, ext-trans, sort-ext, word-val, sort-ok, word-ok, ev1, evs, ext-line, new-type, new-word, new-val, len1, gave-same, grew-trans, grew-line}
+use Rattle.flattening.proofs.Walk.{unmarked-each, unmarked-both, Even, SortAt, ext-refl, ext-trans, sort-ext, word-val, sort-ok, word-ok, ev1, evs, ext-line, new-type, new-word, new-val, len1, gave-same, grew-trans, grew-line}
 use Rattle.flattening.proofs.Chains.{Run, run-consts}
 use Rattle.flattening.proofs.CellLaws.{small-from}
 use Rattle.flattening.proofs.Rel.{Inv, sortrel-ext, rel-none, rel-sort, word-rel, word-of, word-small, extend, extend-quiet, same-given}
@@ -167,7 +167,7 @@ module _ (f : Bool) (σ ι : List ℕ) where
             extend-quiet f σ ι (value s (binary h x y)) (valueInfo (infoAt I s) (b ∷ []) none) tt v g
             (word-rel (mx || my) none (sortrel-ext (g .ext) rs) (k .sort .flat)
             (new-val f σ ι (gx || gy) (v .evenB) l e (rs .elem) refl (rw (wx .wide, wy .wide, word-val wx, word-val wy))
-            (λ z. let w = both mx my z in join gx gy (wx .unmarked (w .0)) (wy .unmarked (w .1))))
+            (λ z. let w = unmarked-each mx my z in unmarked-both gx gy (wx .unmarked (w .0)) (wy .unmarked (w .1))))
             (two-lt h (wordAt A x) (wordAt A y) k (rs .width) (v .rel x .value (k .left .is) .sort .width) (word-small v x (k .left .is)) (word-small v y (k .right .is))) tt);
         ok = (
           record {

@@ -170,13 +170,14 @@ states-room none h = absurd (omega arith)
 states-room (more s none) h = let r = s .room in omega arith
 states-room (more s (more q r)) h = let k = states-room (more q r) (omega arith) in omega arith
 
-pub both : (a b : Bool) → T (not (a || b)) → T (not a) × T (not b)
-both true b h = absurd h
-both false b h = (tt, h)
+-- neither of two marks is set
+pub unmarked-each : (a b : Bool) → T (not (a || b)) → T (not a) × T (not b)
+unmarked-each true b h = absurd h
+unmarked-each false b h = (tt, h)
 
-pub join : (a b : Bool) → T (not a) → T (not b) → T (not (a || b))
-join true b x y = absurd x
-join false b x y = y
+pub unmarked-both : (a b : Bool) → T (not a) → T (not b) → T (not (a || b))
+unmarked-both true b x y = absurd x
+unmarked-both false b x y = y
 
 -- each cell is a word of width w
 abbrev pub Small : ℕ → List ℕ → Type 0

@@ -14,10 +14,11 @@ use Rattle.tables.specs.declared.Checked.the-variants.{Accepted}
 use Rattle.tables.specs.Kinds.{rowOf}
 use Rattle.tables.specs.Lines.{Line, Expr, bitvec, array, input, state, value, initOrNext, signal, output, unknown, const, unary, binary, equality, ite, read, write, wordsOf}
 use Rattle.tables.specs.Layout.{whole, held, filled}
-use Rattle.tables.specs.Types.{sortAt, tyAt, given, givenBy, Ctx, grow, growAll, noCtx}
+use Rattle.tables.specs.Types.{sortAt, tyAt, given, givenBy, Ctx, noCtx}
 use Rattle.tables.specs.Tables.{checked}
-use Rattle.tables.proofs.Kept.{no-yes}
+use Rattle.tables.proofs.Kept.{no-yes, neither}
 use Rattle.tables.proofs.Facts.{OkUnary, OkValue, OkExpr, Ok, AllOk}
+use Rattle.tables.proofs.Entries.{ok-append}
 use Rattle.tables.proofs.Encoding.{lines-accepted}
 use Rattle.circuits.specs.Layout.{Layout, typeAt, lineTypeIn, placeOf, lay, layAll}
 use Rattle.circuits.proofs.Placing.{lay-ctx}
@@ -25,7 +26,7 @@ use Rattle.programs.specs.Uses.{looseLine, looseExpr, hasNeedingUse}
 use Rattle.programs.specs.Translation.{Known, info, noneKnown, operandWidth, operandNumber, looseOf, withMask, renumbered, instructionsOf, arraySortLine, hasArray, translateFrom, translate}
 use Rattle.programs.proofs.Grew.{lines, grew-line, new-type}
 use Rattle.programs.proofs.Laid.{Laid, sort-of-width, Fresh, puts}
-use Rattle.programs.proofs.LaidLines.{and-never, typed, sorted, fresh-input, fresh-state, fresh-val, laid-line, lines-more, or-none, laid-start}
+use Rattle.programs.proofs.LaidLines.{and-never, typed, sorted, fresh-input, fresh-state, fresh-val, laid-line, lines-more, laid-start}
 use Rattle.programs.proofs.Once.{Once, once-start, once-quiet, once-init-next}
 
 -- ---- a value instruction with its mask
@@ -132,17 +133,12 @@ module _ {Y Z : Layout} {J : List Known} (v : Laid Y Z J) (o : Once Y Z J) where
 
 -- ---- all lines
 
--- the context of a layout is the lines' context
-ok-append : (p : Bool) (c : Ctx) (xs ys : List Line) → AllOk p c xs → AllOk p (growAll p c xs) ys → AllOk p c (xs ++ ys)
-ok-append p c [] ys h k = k
-ok-append p c (x ∷ xs) ys h k = (h .0, ok-append p (grow p c x) xs ys (h .1) k)
-
 all-ok : {Y Z : Layout} {J : List Known} (N : ℕ → Bool) (b : ℕ) (ls : List Line) → Laid Y Z J → Once Y Z J → b ≡ lines Z → AllOk false (Y .ctx) ls → hasArray ls ≡ false
     → AllOk true (Z .ctx) (translateFrom N J b ls)
 all-ok N b [] v o e k f = tt
 all-ok {Y} {Z} {J} N b (l ∷ ls) v o e k f =
     let c = instructionsOf N J b l in
-    let g = or-none (arraySortLine l) (hasArray ls) f in
+    let g = neither (arraySortLine l) (hasArray ls) f in
     ok-append true (Z .ctx) (c .code) (translateFrom N (J ++ (c .info ∷ [])) (b + length (c .code)) ls) (line-ok v o N b l e (k .0) (g .0))
     (subst (λ (x : Ctx). AllOk true x (translateFrom N (J ++ (c .info ∷ [])) (b + length (c .code)) ls)) (lay-ctx true Z (c .code))
     (all-ok N (b + length (c .code)) ls (laid-line v N b l e (k .0) (g .0)) (once-line v o N b l e (k .0) (g .0)) (omega (arith, lines-more true Z (v .evenZ) (c .code))) (k .1) (g .1)))

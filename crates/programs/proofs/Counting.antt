@@ -118,4 +118,4 @@ module _ {z : ℕ} {t : List ℕ} {n i b : ℕ} {wd num lo : List ℕ} (K : Walk
 
 -- the mark of the line at hand
 pub need-here : {t : List ℕ} {n : ℕ} {ms : List ℕ} → Prepared t n ms → (i : ℕ) → i < n → {nd : Bool} → nd ≡ flagAt ms (i + 1) → nd ≡ hasNeedingUse (linesOf false t n) (i + 1)
-need-here {t} {n} P i l e = e ∙ P .marked .at (i + 1) (omega (arith, few-here t n i (P .accepted) l))
+need-here {t} {n} P i l e = e ∙ P .needing .at (i + 1) (omega (arith, few-here t n i (P .accepted) l))

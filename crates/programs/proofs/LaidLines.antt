@@ -1,7 +1,7 @@
 -- Every line of a flat circuit keeps its layout and its program's together: `laid-line`, `laid-all`, and the counts of the whole, `same-counts`. Assumes nothing.
 use Prim.Native.Nat.{ℕ, zero, suc, _+_, _^_, _≤_}
 use mathlib.Core.Path.{_≡_, refl, sym, ap, ap₂, _∙_, subst⁻¹}
-use mathlib.Core.Bool.{Bool, true, false, not, _&&_, _||_}
+use mathlib.Core.Bool.{Bool, true, false, not, _&&_}
 use mathlib.Core.List.{List, [], _∷_, _++_}
 use native.Mathlib.Omega.{arith}
 use lib.Dec.{eqb}
@@ -10,7 +10,7 @@ use Rattle.tables.specs.declared.Ty.{Ty}
 use Rattle.tables.specs.Lines.{Line, Expr, bitvec, array, input, state, value, initOrNext, signal, output, unknown, const, unary, binary, equality, ite, read, write}
 use Rattle.tables.specs.Types.{ty, noTy, sortAt, tyAt, given, noCtx}
 use Rattle.tables.specs.Pick.{pick}
-use Rattle.tables.proofs.Kept.{no-yes}
+use Rattle.tables.proofs.Kept.{no-yes, neither}
 use Rattle.tables.proofs.Facts.{Ok, OkExpr, AllOk}
 use Rattle.tables.proofs.Values.{val-iw, val-w, val-value, val-most}
 use Rattle.circuits.specs.Layout.{Layout, typeAt, placeAt, lineTypeIn, placeOf, size, lay, layAll, noLayout, layout}
@@ -156,10 +156,6 @@ pub lines-more : (p : Bool) (Z : Layout) → Even Z → (ls : List Line) → lin
 lines-more p Z ev [] = omega arith
 lines-more p Z ev (l ∷ ls) = omega (arith, lines-more p (lay p Z l) (even-line p ev l) ls, line-more p ev l)
 
-pub or-none : (a b : Bool) → (a || b) ≡ false → (a ≡ false) × (b ≡ false)
-or-none true b e = absurd (no-yes (sym e))
-or-none false b e = (refl, e)
-
 -- as many state words, inputs and signals
 pub record SameCounts (Y Z : Layout) : Type 0 where
   pub states : Z .counts .states ≡ Y .counts .states
@@ -171,7 +167,7 @@ laid-all : {Y Z : Layout} {J : List Known} (N : ℕ → Bool) (b : ℕ) (ls : Li
 laid-all N b [] v e k f = record { states = v .states; inputs = v .inputs; signals = v .signals }
 laid-all {Y} {Z} {J} N b (l ∷ ls) v e k f =
     let c = instructionsOf N J b l in
-    let g = or-none (arraySortLine l) (hasArray ls) f in
+    let g = neither (arraySortLine l) (hasArray ls) f in
     rw (layAll-append true Z (c .code)) (laid-all N (b + length (c .code)) ls (laid-line v N b l e (k .0) (g .0)) (omega (arith, lines-more true Z (v .evenZ) (c .code))) (k .1) (g .1))
 
 pub laid-start : Laid noLayout noLayout (noneKnown ∷ [])

@@ -20,7 +20,7 @@ use Rattle.tables.proofs.Showing.{by-place}
 use Rattle.programs.specs.Uses.{when, needs, hasNeedingUse}
 use Rattle.programs.specs.Translation.{arraySortLine, hasArray}
 use Rattle.programs.specs.Model.Kinds.{secondLine, usesOf, markIf, usesMarked, flagAt}
-use Rattle.programs.specs.Model.Passes.{Marked}
+use Rattle.programs.specs.Model.Passes.{Needing}
 use Rattle.programs.proofs.Reading.{need-row₁, need-row₂}
 use Rattle.programs.proofs.Modelled.{needs-words, array-words}
 use Rattle.programs.proofs.Keeping.{zeros-count, line-at, no-line}
@@ -51,9 +51,9 @@ mark-length v a ms = go (eqb v 1)
     go false = refl
 
 -- the marks of a record are the lines that its line needs clean
-marked-law : (l : Line) (r ms : List ℕ) → needs l ≡ when (needKind₁ (kindIn r)) (firstIn r) ++ when (needKind₂ (kindIn r) && secondLine (kindIn r)) (secondIn r) → kindIn r ≤ 55
+needing-law : (l : Line) (r ms : List ℕ) → needs l ≡ when (needKind₁ (kindIn r)) (firstIn r) ++ when (needKind₂ (kindIn r) && secondLine (kindIn r)) (secondIn r) → kindIn r ≤ 55
     → (j : ℕ) → j < length ms → flagAt (usesMarked r ms) j ≡ (flagAt ms j || among j (needs l))
-marked-law l r ms e k j h =
+needing-law l r ms e k j h =
     let u = usesOf (kindIn r) in
     let m₁ = markIf (getD u 0 0) (firstIn r) ms in
     let w₁ = when (needKind₁ (kindIn r)) (firstIn r) in
@@ -91,13 +91,13 @@ module _ {t : List ℕ} {n i : ℕ} {ms : List ℕ} (M : Marking t n i ms) (e : 
         most = omega arith;
         at = λ j h.
             ap (λ (y : List ℕ). flagAt y j || hasNeedingUse R j) p
-            ∙ ap (λ (b : Bool). b || hasNeedingUse R j) (marked-law (x .line) (recordAt false t i) ms w (x .kind) j (omega (arith, M .size)))
+            ∙ ap (λ (b : Bool). b || hasNeedingUse R j) (needing-law (x .line) (recordAt false t i) ms w (x .kind) j (omega (arith, M .size)))
             ∙ or-assoc (flagAt ms j) (among j (needs (x .line))) (hasNeedingUse R j)
             ∙ sym (ap (λ (y : List Line). flagAt ms j || hasNeedingUse y j) (x .rest))
             ∙ M .at j h;
       }
 
-pub marking-end : {t : List ℕ} {n i : ℕ} {ms : List ℕ} → Marking t n i ms → n ≤ i → Marked (linesOf false t n) ms
+pub marking-end : {t : List ℕ} {n i : ℕ} {ms : List ℕ} → Marking t n i ms → n ≤ i → Needing (linesOf false t n) ms
 marking-end {t} {n} {i} {ms} M l = record { size = M .size; at = λ j h. sym (or-false (flagAt ms j)) ∙ sym (ap (λ (y : List Line). flagAt ms j || hasNeedingUse y j) (no-line t n i l)) ∙ M .at j h }
 
 -- ---- an array sort among the lines

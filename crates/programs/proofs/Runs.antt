@@ -10,7 +10,7 @@ use lib.Seq.{getD-at}
 use lib.Pow.{pow-pos}
 use Rattle.tables.specs.Lines.{Line, bitvec, array, input, state, value, initOrNext, signal, output, unknown}
 use Rattle.tables.specs.Types.{tyAt, noCtx}
-use Rattle.tables.proofs.Kept.{no-yes}
+use Rattle.tables.proofs.Kept.{no-yes, neither}
 use Rattle.tables.proofs.Facts.{AllOk}
 use Rattle.circuits.specs.Layout.{Layout, typeAt, size, lay, layAll, noLayout, layout}
 use Rattle.circuits.specs.Meaning.{Signal, Frame, evalLine, evalAll, noFrame, step}
@@ -18,7 +18,7 @@ use Rattle.circuits.specs.Run.{rowLength, start, steps, run, bytes, firstBad}
 use Rattle.programs.specs.Uses.{hasNeedingUse}
 use Rattle.programs.specs.Translation.{Known, noneKnown, instructionsOf, arraySortLine, hasArray, translateFrom, translate}
 use Rattle.programs.proofs.Grew.{lines, Even, even-line, grew-line}
-use Rattle.programs.proofs.LaidLines.{laid-start, lines-more, or-none, same-counts}
+use Rattle.programs.proofs.LaidLines.{laid-start, lines-more, same-counts}
 use Rattle.programs.proofs.Held.{Alike}
 use Rattle.programs.proofs.Needs.{MetAll, met-needed}
 use Rattle.programs.proofs.StepLines.{eval-lay, Reads, alike-line}
@@ -104,7 +104,7 @@ module _ (g : Bool) (σ ι Ws : List ℕ) (N : ℕ → Bool) (tame : g ≡ false
   alike-all b pre [] v e k f m q n h = record { sts = v .sts; sigs = v .sigs; count = v .count; fit = v .fit }
   alike-all {A} {B} {J} b pre (l ∷ ls) v e k f m q n h =
       let c = instructionsOf N J b l in
-      let d = or-none (arraySortLine l) (hasArray ls) f in
+      let d = neither (arraySortLine l) (hasArray ls) f in
       let flat : ((s : ℕ) → typeAt (A .lay) s .iw ≡ 0) = λ s. v .laid .rel s .flat in
       let r = reads (A .lay) pre l ls (v .laid .evenY) q n h flat in
       rw (eval-append true g σ ι B (c .code))

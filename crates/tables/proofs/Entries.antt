@@ -47,7 +47,7 @@ entry p c (l ∷ ls) k (suc i) h =
     let z : length (grow p c l .tys) + i ≡ length (c .tys) + suc i = omega (arith, grown p c l) in
     subst (λ (n : ℕ). Entry p (growAll p (grow p c l) ls) n (getD ls i Line.unknown)) z (entry p (grow p c l) ls (k .1) i (omega arith))
 
--- one line more keeps the rules
-pub ok-snoc : (p : Bool) (c : Ctx) (ls : List Line) (l : Line) → AllOk p c ls → Ok p (tyAt (growAll p c ls)) (given (growAll p c ls)) l → AllOk p c (ls ++ (l ∷ []))
-ok-snoc p c [] l k h = (h, tt)
-ok-snoc p c (x ∷ ls) l k h = (k .0, ok-snoc p (grow p c x) ls l (k .1) h)
+-- lines that keep the rules behind others that do
+pub ok-append : (p : Bool) (c : Ctx) (xs ys : List Line) → AllOk p c xs → AllOk p (growAll p c xs) ys → AllOk p c (xs ++ ys)
+ok-append p c [] ys h k = k
+ok-append p c (x ∷ xs) ys h k = (h .0, ok-append p (grow p c x) xs ys (h .1) k)

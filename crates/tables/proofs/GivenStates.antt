@@ -3,12 +3,12 @@ use Prim.Native.Nat.{ℕ}
 use mathlib.Core.Path.{_≡_, refl, sym, ap, _∙_}
 use mathlib.Core.Bool.{Bool, true, false, _||_}
 use mathlib.Core.List.{List, [], _∷_, _++_, append-nil}
-use lib.Dec.{eqb}
 use borrow.Author.Tests.{eq-eqb, ne-eqb}
 use Rattle.tables.specs.Pick.{pick, among, alike}
 use Rattle.tables.specs.Lines.{Line}
 use Rattle.tables.specs.Types.{tyAt, given, givenBy, givenAfter, Ctx, grow}
 use Rattle.tables.proofs.Kept.{no-yes}
+use Rattle.tables.proofs.Showing.{among-join}
 use Rattle.tables.proofs.Facts.{Ok}
 
 -- the state that the line l gives words, if it gives any
@@ -38,21 +38,9 @@ more-given f c (Line.signal m a) = sym (append-nil (givenBy f c))
 more-given f c (Line.output a) = sym (append-nil (givenBy f c))
 more-given f c Line.unknown = sym (append-nil (givenBy f c))
 
-among-join : (q : ℕ) (xs ys : List ℕ) → among q (xs ++ ys) ≡ (among q xs || among q ys)
-among-join q [] ys = refl
-among-join q (x ∷ xs) ys = step (eqb q x) (among q xs) (among q ys) (among-join q xs ys)
-  where
-    step : (a b c : Bool) {d : Bool} → d ≡ (b || c) → (a || d) ≡ ((a || b) || c)
-    step true b c e = refl
-    step false b c e = e
-
 pub given-more : (p f : Bool) (c : Ctx) (l : Line) (q : ℕ) → given (grow p c l) f q ≡ (given c f q || among q (givesTo f l))
 given-more p true c l q = ap (among q) (more-given true c l) ∙ among-join q (c .inits) (givesTo true l)
 given-more p false c l q = ap (among q) (more-given false c l) ∙ among-join q (c .nexts) (givesTo false l)
-
-pub neither : (a b : Bool) → (a || b) ≡ false → (a ≡ false) × (b ≡ false)
-neither true b e = absurd (no-yes (sym e))
-neither false b e = (refl, e)
 
 -- a state that has been given words is given no others: it has one init and one next
 another : (c : Ctx) (f m : Bool) (x q : ℕ) → given c m x ≡ false → given c f q ≡ true → among q (pick (alike f m) (x ∷ []) []) ≡ false

@@ -1,6 +1,6 @@
 -- What it takes for a record to keep the rules. Assumes nothing.
 use Prim.Native.Nat.{ℕ, _≤_}
-use mathlib.Core.Path.{_≡_, refl, subst}
+use mathlib.Core.Path.{_≡_, refl, sym, subst}
 use mathlib.Core.Bool.{Bool, true, false, _&&_, _||_}
 use mathlib.Core.List.{List}
 use native.Mathlib.Omega.{arith}
@@ -25,6 +25,10 @@ both false b e = absurd (no-yes e)
 pub either : (a b : Bool) {P : Type 0} → (a || b) ≡ true → (a ≡ true → P) → (b ≡ true → P) → P
 either true b e f g = f refl
 either false b e f g = g e
+
+pub neither : (a b : Bool) → (a || b) ≡ false → (a ≡ false) × (b ≡ false)
+neither true b e = absurd (no-yes (sym e))
+neither false b e = (refl, e)
 
 -- a kind that is known has a row
 pub known-range : (p : Bool) (k : ℕ) → known p k ≡ true → (1 ≤ k) × (k ≤ 56)

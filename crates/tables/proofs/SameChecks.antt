@@ -14,7 +14,7 @@ use Rattle.tables.specs.Search.{searched, lawfulBySearch, checkedBySearc
 use Rattle.tables.proofs.Facts.{Ok, AllOk}
 use Rattle.tables.proofs.Sound.{sound}
 use Rattle.tables.proofs.Contexts.{grow-snoc}
-use Rattle.tables.proofs.Entries.{ok-snoc}
+use Rattle.tables.proofs.Entries.{ok-append}
 use Rattle.tables.proofs.Marks.{searched-types}
 
 -- accepted lines, and one more
@@ -25,7 +25,7 @@ module _ (p : Bool) (C : List Line) (l : Line) where
 
   pub ok-more : AllOk p noCtx C → Ok p (tyAt (context p C)) (given (context p C)) l → AllOk p noCtx (C ++ (l ∷ []))
   unfolding context
-  ok-more k h = ok-snoc p noCtx C l k h
+  ok-more k h = ok-append p noCtx C (l ∷ []) k (h, tt)
 
 module _ (p : Bool) where
   same-record : (C : List Line) → AllOk p noCtx C → (r : List ℕ)

@@ -18,8 +18,8 @@ use Rattle.tables.proofs.Sound.{all-sound}
 use Rattle.tables.proofs.Marks.{marks-exactly}
 
 -- the marks of lines of a circuit, as they are kept
-abbrev marksOf : List (List ℕ) → List ℕ → List Bool
-marksOf rs vs = map (λ v. marked (tyAt (context false (map lineOf rs)) v)) vs
+abbrev keptMarks : List (List ℕ) → List ℕ → List Bool
+keptMarks rs vs = map (λ v. marked (tyAt (context false (map lineOf rs)) v)) vs
 
 -- ---- a register file: 1 sort bitvec 4, 2 input 1, 3 constd 1 5, 4 add 1 3 3, 5 add 1 2 3, 6 state 1, 7 init 1 6 4, 8 state 1
 
@@ -35,7 +35,7 @@ unfolding fault suits rowOf
 registers-ok = all-sound false noCtx registers refl
 
 -- of its value lines 2, 5, 6 and 8 are marked, 3 and 4 are not; a search of their cones finds the same
-registers-marks : marksOf registers (2 ∷ 3 ∷ 4 ∷ 5 ∷ 6 ∷ 8 ∷ []) ≡ true ∷ false ∷ false ∷ true ∷ true ∷ true ∷ []
+registers-marks : keptMarks registers (2 ∷ 3 ∷ 4 ∷ 5 ∷ 6 ∷ 8 ∷ []) ≡ true ∷ false ∷ false ∷ true ∷ true ∷ true ∷ []
 unfolding context
 registers-marks = refl
 
@@ -58,7 +58,7 @@ deep = fields 1 0 1 0 0 ∷ fields 5 1 0 0 0 ∷ fields 3 1 1 0 0 ∷ fields 35 
 
 -- 4 has it as its second operand: by the first alone it is not marked; 5 and 6 have it two and three lines beneath them: one line deep they are not; none of the three is a
 -- state itself
-deep-marks : marksOf deep (2 ∷ 3 ∷ 4 ∷ 5 ∷ 6 ∷ 7 ∷ []) ≡ true ∷ false ∷ true ∷ true ∷ true ∷ false ∷ []
+deep-marks : keptMarks deep (2 ∷ 3 ∷ 4 ∷ 5 ∷ 6 ∷ 7 ∷ []) ≡ true ∷ false ∷ true ∷ true ∷ true ∷ false ∷ []
 unfolding context
 deep-marks = refl
 

@@ -18,7 +18,7 @@ use Rattle.tables.specs.Types.{ty, noTy, isState, sortAt, recordType, li
 use Rattle.tables.specs.Rules.{suits, classes, fault}
 use Rattle.tables.specs.Tables.{formed, keeps}
 use Rattle.tables.specs.Model.Notes.{blank, noteAt, lookIn, flagIn, givenIn, Shows, typed, withFlag, flaggedBy, noted}
-use Rattle.tables.proofs.Laws.{or-true, or-false}
+use Rattle.tables.proofs.Laws.{or-true, or-false, or-assoc}
 use Rattle.tables.proofs.Shapes.{KindOf, kind-of, line-as, no-unknown}
 use Rattle.tables.proofs.Answers.{passed}
 use Rattle.tables.proofs.Kept.{both}
@@ -39,13 +39,12 @@ by-place {P} a n f g = go (eqb a n) refl
     go true e = f (eqb-true a n e)
     go false e = g (eqb-false a n e)
 
+pub among-join : (n : ℕ) (xs ys : List ℕ) → among n (xs ++ ys) ≡ (among n xs || among n ys)
+among-join n [] ys = refl
+among-join n (x ∷ xs) ys = ap (λ (b : Bool). eqb n x || b) (among-join n xs ys) ∙ or-assoc (eqb n x) (among n xs) (among n ys)
+
 pub among-snoc : (n : ℕ) (xs : List ℕ) (q : ℕ) → among n (xs ++ (q ∷ [])) ≡ (among n xs || eqb n q)
-among-snoc n [] q = or-false (eqb n q)
-among-snoc n (x ∷ xs) q = step (eqb n x) (among n xs) (eqb n q) (among-snoc n xs q)
-  where
-    step : (b w z : Bool) {y : Bool} → y ≡ (w || z) → (b || y) ≡ ((b || w) || z)
-    step true w z e = refl
-    step false w z e = e
+among-snoc n xs q = among-join n xs (q ∷ []) ∙ ap (λ (b : Bool). among n xs || b) (or-false (eqb n q))
 
 -- ---- the states that have an init or a next line
 

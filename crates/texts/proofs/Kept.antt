@@ -8,7 +8,7 @@ use lib.Dec.{T, eqb, leb, ltb}
 use lib.ListN.{length, getD, set, length-set, length-take}
 use lib.Seq.{getD-set-other}
 use mir.Facts.{and-yes}
-use borrow.Author.Tests.{eqb-true, eqb-false, eq-eqb, ltb-true, leb-true}
+use borrow.Author.Tests.{eqb-true, eqb-false, eq-eqb, ltb-true, leb-true, not-false}
 use Rattle.tables.specs.declared.Ty.{Ty}
 use Rattle.tables.specs.Pick.{pick, all, inside}
 use Rattle.tables.specs.Kinds.{rowOf, sortClass, firstClass, secondClass, thirdClass}
@@ -18,6 +18,7 @@ use Rattle.tables.specs.Rules.{fault}
 use Rattle.tables.specs.Tables.{known, unused, tidy, formed, keeps}
 use Rattle.tables.specs.Ids.{follows}
 use Rattle.tables.proofs.Every.{every, at-each}
+use Rattle.tables.proofs.Kept.{neither}
 use Rattle.tables.proofs.Places.{fields-of}
 use Rattle.texts.specs.declared.Num.{Num}
 use Rattle.texts.specs.declared.Num.the-variants.{Bad, Big, Is}
@@ -240,14 +241,6 @@ first-low r = go (eqb (sortClass r) 0)
 
 -- ---- a line that gives a record has none of the refusals
 
-not-not : (b : Bool) → not b ≡ false → b ≡ true
-not-not true h = refl
-not-not false h = let z : _≡_ {A = ℕ} 0 1 = cc in absurd (omega arith)
-
-first-not : (a b : Bool) → (a || b) ≡ false → a ≡ false
-first-not true b h = h
-first-not false b h = refl
-
 module _ (L : ℕ → Ty) (G : Bool → ℕ → Bool) where
   no-fault : (rec : List ℕ) → eqb (fault false L G rec) 8 ≡ false → eqb (fault false L G rec) 9 ≡ false → eqb (fault false L G rec) 10 ≡ false → eqb (fault false L G rec) 0 ≡ true
   no-fault rec x y z = go (eqb (fault false L G rec) 0) refl
@@ -267,10 +260,10 @@ module _ (L : ℕ → Ty) (G : Bool → ℕ → Bool) where
       is-record = got-none (refusals L G m ds t (formOf w) (behind w)) (recordIn L ds (formOf w) (behind w)) r e .1
 
       line-id : isNext (decimal t) (lastOf 0 ds) ≡ true
-      line-id = not-not (isNext (decimal t) (lastOf 0 ds)) (none .0)
+      line-id = not-false (isNext (decimal t) (lastOf 0 ds)) (none .0)
 
       line-room : length ds < m
-      line-room = ltb-true (length ds) m (not-not (ltb (length ds) m) (none .1 .0))
+      line-room = ltb-true (length ds) m (not-false (ltb (length ds) m) (none .1 .0))
 
       in-forms : (v : Word) → InForms v → eqb (formOf v) 0 ≡ false → (1 ≤ formOf v) × (formOf v ≤ 60)
       in-forms unknown h k = let z : _≡_ {A = ℕ} 0 1 = cc in absurd (omega arith)
@@ -283,7 +276,7 @@ module _ (L : ℕ → Ty) (G : Bool → ℕ → Bool) where
           let b = in-forms w forms (none .1 .1 .0) in
           let l = left-written f (behind w) in
           let h = none .1 .1 .1 .1 .1 in
-          let k = no-fault (recordIn L ds f (behind w)) (h .0) (first-not _ _ (h .1 .0)) (h .1 .1 .0) in
+          let k = no-fault (recordIn L ds f (behind w)) (h .0) (neither _ _ (h .1 .0) .0) (h .1 .1 .0) in
           let v = L (sortIn (resolved ds x)) .w in
           let g = settled-formed v f ds x (l .same-length) (taken-formed v f (b .0) (b .1) x l (first-low (formRow f))) in
           subst (λ (y : List ℕ). (keeps false L G y ≡ true) × (length y ≡ recordWords)) is-record

@@ -23,14 +23,14 @@ use Rattle.texts.specs.Search.{searchedTypes, readTextBySearch, readsByS
 use Rattle.texts.proofs.Kept.{got-gives}
 
 -- the records so far are those of accepted lines, and c is their context
-record Sofar (c : Ctx) (rs : List (List ℕ)) : Type 0 where
+record Taken (c : Ctx) (rs : List (List ℕ)) : Type 0 where
   is : c ≡ context false (map lineOf rs)
   ok : AllOk false noCtx (map lineOf rs)
 
-same-types : {c : Ctx} {rs : List (List ℕ)} → Sofar c rs → searchedTypes rs c ≡ tyAt c
+same-types : {c : Ctx} {rs : List (List ℕ)} → Taken c rs → searchedTypes rs c ≡ tyAt c
 same-types {rs = rs} S = subst (λ (x : Ctx). searched (map lineOf rs) (tyAt x) ≡ tyAt x) (sym (S .is)) (searched-types false (map lineOf rs) (S .ok))
 
-one-more : {c : Ctx} {rs : List (List ℕ)} (r : List ℕ) → Sofar c rs → keeps false (tyAt c) (given c) r ≡ true → Sofar (grow false c (lineOf r)) (rs ++ (r ∷ []))
+one-more : {c : Ctx} {rs : List (List ℕ)} (r : List ℕ) → Taken c rs → keeps false (tyAt c) (given c) r ≡ true → Taken (grow false c (lineOf r)) (rs ++ (r ∷ []))
 one-more {c} {rs} r S k =
     let C = map lineOf rs in
     let h : Ok false (tyAt (context false C)) (given (context false C)) (lineOf r) =
@@ -41,7 +41,7 @@ one-more {c} {rs} r S k =
       ok = subst (AllOk false noCtx) (sym (map-snoc rs r)) (ok-more false C (lineOf r) (S .ok) h);
     }
 
-same-lines : (m l : ℕ) (c : Ctx) (rs : List (List ℕ)) (ds : List ℕ) (xs : List (List ℕ)) → Sofar c rs → readLinesBy searchedTypes m l c rs ds xs ≡ readLines m l c rs ds xs
+same-lines : (m l : ℕ) (c : Ctx) (rs : List (List ℕ)) (ds : List ℕ) (xs : List (List ℕ)) → Taken c rs → readLinesBy searchedTypes m l c rs ds xs ≡ readLines m l c rs ds xs
 unfolding readLinesBy
 same-lines m l c rs ds [] S = refl
 same-lines m l c rs ds (x ∷ xs) S =
@@ -52,7 +52,7 @@ same-lines m l c rs ds (x ∷ xs) S =
     same = ap (λ (L : ℕ → Ty). readLine L (given c) m ds (lineTokens x)) (same-types S)
 
     go : (y : Reply) → readLine (tyAt c) (given c) m ds (lineTokens x) ≡ y → readLinesBy searchedTypes m (suc l) c rs ds xs ≡ readLines m (suc l) c rs ds xs
-        → ((r : List ℕ) → Sofar (grow false c (lineOf r)) (rs ++ (r ∷ []))
+        → ((r : List ℕ) → Taken (grow false c (lineOf r)) (rs ++ (r ∷ []))
         → readLinesBy searchedTypes m (suc l) (grow false c (lineOf r)) (rs ++ (r ∷ [])) (ds ++ (lineId (lineTokens x) ∷ [])) xs
         ≡ readLines m (suc l) (grow false c (lineOf r)) (rs ++ (r ∷ [])) (ds ++ (lineId (lineTokens x) ∷ [])) xs)
         → readLinesBy searchedTypes m l c rs ds (x ∷ xs) ≡ readLines m l c rs ds (x ∷ xs)
@@ -60,7 +60,7 @@ same-lines m l c rs ds (x ∷ xs) S =
     go (no r) h f g = rw (same ∙ h, h, readLinesBy) refl
     go (got r) h f g = rw (same ∙ h, h, readLinesBy) (g r (one-more r S (got-gives (tyAt c) (given c) m ds (lineTokens x) r h .rules)))
 
-at-first : Sofar noCtx []
+at-first : Taken noCtx []
 unfolding context
 at-first = record { is = refl; ok = tt }
 

@@ -13,6 +13,7 @@ use borrow.Author.Tests.{eq-eqb, ne-eqb, le-leb, lt-leb}
 use Rattle.tables.specs.Pick.{pick}
 use Rattle.tables.specs.Kinds.{rows, rowOf, wordOf, operandCount}
 use Rattle.tables.proofs.Every.{every, at-each}
+use Rattle.tables.proofs.Laws.{not-of}
 use Rattle.texts.specs.Forms.{extra, formRow, kindOf, sorted, sortWord}
 use Rattle.texts.specs.Split.{sameBytes, tokens}
 use Rattle.texts.specs.Reading.{findIn, Word, word, unknown, formWord, sortWords, wordIn}
@@ -239,10 +240,6 @@ cleanb (c ∷ t) = (not (eqb c 10) && (not (eqb c 32) && not (eqb c 59))) && cle
 abbrev tokb : List ℕ → Bool
 tokb [] = false
 tokb (c ∷ t) = cleanb (c ∷ t)
-
-not-of : (b : Bool) → T (not b) → b ≡ false
-not-of true t = absurd t
-not-of false t = refl
 
 clean-of : (t : List ℕ) → T (cleanb t) → Clean t
 clean-of [] h = tt

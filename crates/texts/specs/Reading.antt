@@ -232,12 +232,12 @@ abbrev pub keptTypes : List (List ℕ) → Ctx → ℕ → Ty
 keptTypes rs c = tyAt c
 
 -- a text, by any way to look the types up
-module _ (T : List (List ℕ) → Ctx → ℕ → Ty) where
+module _ (types : List (List ℕ) → Ctx → ℕ → Ty) where
   -- the lines from the line l on, after the records rs with the ids ds, whose context is c
   unfoldable pub readLinesBy : (m l : ℕ) (c : Ctx) (rs : List (List ℕ)) (ds : List ℕ) → List (List ℕ) → Text
   readLinesBy m l c rs ds [] = done rs ds
   readLinesBy m l c rs ds (x ∷ xs) =
-      elim (readLine (T rs c) (given c) m ds (lineTokens x)) [
+      elim (readLine (types rs c) (given c) m ds (lineTokens x)) [
         | skip ↦ readLinesBy m (suc l) c rs ds xs
         | no r ↦ refused r l
         | got rec ↦ readLinesBy m (suc l) (grow false c (lineOf rec)) (rs ++ (rec ∷ [])) (ds ++ (lineId (lineTokens x) ∷ [])) xs

@@ -94,10 +94,10 @@ fn marked_two(a: Ty, b: Ty) -> bool
 fn marked_three(a: Ty, b: Ty, c: Ty) -> bool
     ensures { λ r. ⌜ r ≡ (markedOf a || (markedOf b || markedOf c)) ⌝ }
 {
-    if 3 <= a.role {
+    if marked_two(a, b) {
         return true;
     }
-    marked_two(b, c)
+    3 <= c.role
 }
 
 // A value of the sort t, marked or not.

@@ -37,7 +37,7 @@ same-length : tie.Need-same-length Inv-loop μ-loop
 same-length c = zeros-length (c .before .loop .marks) (c .before .before .before .before .before .args .marks .now) (c .before .before .before .before .before .pre .1) (c .before .loop .inv .size)
 
 returns : tie.Need-returns Inv-loop μ-loop
-returns c = record { accepted = c .before .before .before .before .before .pre .0; marked = marking-end (c .before .loop .inv) (c .loop-test .left) }
+returns c = record { accepted = c .before .before .before .before .before .pre .0; needing = marking-end (c .before .loop .inv) (c .loop-test .left) }
 
 pub needing-spec : {M : Type 1} → statement M
 needing-spec =

@@ -18,7 +18,7 @@ use Rattle.programs.specs.Model.Kinds.{flagAt}
 use Rattle.programs.specs.Model.Records.{maskRecord}
 
 -- the marks are at the lines that have a needing use
-pub record Marked (F : List Line) (ms : List ℕ) : Type 0 where
+pub record Needing (F : List Line) (ms : List ℕ) : Type 0 where
   pub size : length ms ≡ 16385
   pub at : (i : ℕ) → i < 16385 → flagAt ms i ≡ hasNeedingUse F i
 
@@ -36,7 +36,7 @@ emittedTo e i w b t = pick (eqb e 0) t (pick (eqb e 2) (recorded true (recorded 
 -- the table is accepted, and the marks are those of its lines
 pub record Prepared (t : List ℕ) (n : ℕ) (ms : List ℕ) : Type 0 where
   pub accepted : checked false t n ≡ Accepted
-  pub marked : Marked (linesOf false t n) ms
+  pub needing : Needing (linesOf false t n) ms
 
 -- and the target is zero and holds as many records as the program has
 pub record Fitted (t : List ℕ) (n : ℕ) (ms target : List ℕ) : Type 0 where
