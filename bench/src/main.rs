@@ -3,7 +3,8 @@
 //! Reading, writing, flattening, translating and conversions are compared with the independent implementation of
 //! rust/tests, runs with the two interpreters of this crate. Each is measured at three sizes, the sides taking turns. Texts
 //! with gaps in their ids are measured beside texts of the same lines without, register files with inits beside the same
-//! files with nexts, which need no cone; the independent implementation searches the cone of each init value.
+//! files with nexts, which need no cone; the independent implementation searches the cone of each init value. Texts with
+//! minus operands stand by themselves (`minus.rs`).
 //! `bash bench/run -- write` measures one operation alone, `-- edges` the inputs that could take long. `bench profile write` calls the proved one at its largest size
 //! and measures nothing; `bench/profile` runs that under callgrind.
 #![allow(dead_code, unused_imports)]
@@ -22,6 +23,7 @@ mod generator;
 #[path = "../../rust/tests/independent/mod.rs"]
 mod independent;
 mod interpreter;
+mod minus;
 
 use generator::Random;
 use gofeshan::interface as proved;
@@ -196,14 +198,22 @@ fn read_rows() {
 
 #[cfg(feature = "read")]
 fn read_row(table: &mut Table, name: &str, size: &str, lines: &Lines) {
-    let (text, n) = (generator::plain_text(lines), lines.records.len());
-    let (mut a, mut b) = (vec![1; RECORD * n], vec![2; RECORD * n]);
+    let text = generator::plain_text(lines);
+    let size = format!("{size}{} bytes, {} lines", text.len(), lines.records.len());
+    text_row(table, name, &size, &text, lines);
+}
+
+/// The row of a text and of the records that it gives.
+#[cfg(feature = "read")]
+fn text_row(table: &mut Table, name: &str, size: &str, text: &[u8], lines: &Lines) {
+    let words = lines.words();
+    let (mut a, mut b) = (vec![1; words.len()], vec![2; words.len()]);
     let (mut x, mut y) = ([1; 3], [2; 3]);
-    let times = measure([&mut || assert_eq!(proved::read(&text, &mut a, &mut x), 0), &mut || {
-        assert_eq!(independent::read(&text, &mut b, &mut y), 0)
+    let times = measure([&mut || assert_eq!(proved::read(text, &mut a, &mut x), 0), &mut || {
+        assert_eq!(independent::read(text, &mut b, &mut y), 0)
     }]);
-    assert!(a == b && x == y && a == lines.words());
-    table.row(name, &format!("{size}{} bytes, {n} lines", text.len()), text.len() as f64, "byte", &times);
+    assert!(a == b && x == y && a == words);
+    table.row(name, size, text.len() as f64, "byte", &times);
 }
 
 /// The ids of so many lines: 1, 2, 3; 2, 4, 6; or anywhere up to 4,294,967,295, so that a gap is some millions.
@@ -576,14 +586,16 @@ fn main() {
     );
     println!("Runs: `plain` decodes the lines once, `same shape` walks the columns and looks up places and widths, as the proved run does.");
     println!("Circuits of one kind of line (`adds alone`) stand beside those of all kinds, where branches are hard to foresee.");
+    println!("Minus operands: `ites` are lines `n ite 1 -2 -2 -2`, `mixed` are lines of all kinds in which about every second operand that may have a minus has one.");
     println!("Register files, as texts and as tables: the values are all the last line of one chain (`chain`), or each a line over the one before (`deep`).\n");
     println!(
         "{:<12} {:<34} {:>10} {:>10} {:>6} {:>10} {:>6} {:>24} {:>6} {:>6}",
         "operation", "size", "proved", "plain", "ratio", "same shape", "ratio", "proved per unit", "growth", "plain"
     );
-    let rows: [(&str, fn()); 11] = [
+    let rows: [(&str, fn()); 12] = [
         ("read", read_rows),
         ("read_gaps", gap_rows),
+        ("read_minus", minus::rows),
         ("read_inits", init_rows),
         ("check_inits", check_rows),
         ("write", write_rows),

@@ -3,14 +3,14 @@
 //!
 //! `catbtor` parses and prints the text of each circuit and of its flat circuit; it has to print the same tokens. `btorsim`
 //! gets the first counted bad of each run as a witness, with all start and input words, and has to agree; a witness that
-//! claims the bad one step earlier has to be refused.
+//! claims the bad one step earlier has to be refused. Every second circuit has minus operands in its text.
 
 #[path = "../tests/generator/mod.rs"]
 mod generator;
 #[path = "../tests/independent/mod.rs"]
 mod independent;
 
-use generator::Random;
+use generator::{minus, Random};
 use independent::rules::{Lines, Sort};
 use std::path::Path;
 use std::process::{Command, Output};
@@ -81,16 +81,25 @@ fn main() {
     let (mut texts, mut runs, mut wrong) = (0, 0, 0);
     for case in 0..cases {
         let size = generator::size(&mut random);
-        let lines = generator::circuit(&mut random, size);
-        let (table, count) = (lines.words(), lines.records.len());
+        let mut lines = generator::circuit(&mut random, size);
+        let (mut table, mut count) = (lines.words(), lines.records.len());
+        let mut circuit_text = text(&table, count);
+        if case % 2 == 1 {
+            lines.ids = (1..=count as u64).collect();
+            let printed = minus::with_minus(&mut random, lines, 3).plain_text();
+            table = vec![0; 4 * gofeshan::RECORD * count];
+            count = gofeshan::read(&printed, &mut table).unwrap();
+            lines = independent::rules::check_table(&table, count).unwrap();
+            circuit_text = String::from_utf8(printed).unwrap();
+        }
         let mut flat = vec![0; gofeshan::RECORD * independent::MOST_RECORDS];
         let Ok(flat_count) = gofeshan::flatten(&table, count, &mut flat) else { continue };
         let steps = 1 + random.below(6);
         let (starts, inputs) = (random.words(lines.state_cells()), random.words(steps * lines.inputs()));
         let (mut signals, mut work) = (vec![0; steps * lines.signals()], vec![0; lines.work()]);
         let bad = gofeshan::run_circuit(&table, count, steps, &starts, &inputs, &mut signals, &mut work).unwrap();
-        for (table, count) in [(&table, count), (&flat, flat_count)] {
-            let written = text(table, count);
+        let flat_text = text(&flat, flat_count);
+        for (table, count, written) in [(&table, count, circuit_text), (&flat, flat_count, flat_text)] {
             std::fs::write(&btor, &written).unwrap();
             if cat {
                 let said = run("catbtor", &[&btor]).unwrap();

@@ -17,8 +17,11 @@
 //!
 //! A record's number is its place, from 1, and records tell lines by their
 //! places. Ids only rise, from 1 up to 4,294,967,295 ([`MOST_ID`]),
-//! with or without gaps; the operands of a text's lines name ids. Flat circuits
-//! and written texts are numbered 1, 2, 3.
+//! with or without gaps; the operands of a text's lines name ids. An operand
+//! with a minus is the complement of the line that it names: for each, reading
+//! puts a not record with the id 0 before the line's own record. Only not records
+//! may have that id, and no operand names it. Flat circuits and written texts are
+//! numbered 1, 2, 3, their not lines too.
 //!
 //! Every operation ends with a listed answer. A refusal is a number
 //! ([`Refusal::number`], documented by [`Refusal::reason`]); after it
@@ -162,8 +165,9 @@ pub mod interface {
         }
     }
 
-    /// Reads a text into a table. `answer[0]` is the number of records, or with
-    /// a refusal from 3 to 10 the text line's number, from 1.
+    /// Reads a text into a table. `answer[0]` is the number of records, one for each
+    /// line and one for each minus operand, or with a refusal from 3 to 10 the text
+    /// line's number, from 1.
     #[cfg(feature = "read")]
     pub fn read(text: &[u8], table: &mut [u64], answer: &mut [u64]) -> u64 {
         // SAFETY: each pointer comes with the length of its slice.
@@ -359,7 +363,7 @@ impl Refusal {
             5 => "the word is unknown or missing",
             6 => "an operand is missing or malformed, or there are two extra tokens",
             7 => "a number is too large, or a bitvec width is not 1 to 64",
-            8 => "an operand is not the id of an earlier line of the right class",
+            8 => "an operand is not the id of an earlier line of the right class, or may not have a minus",
             9 => "sorts, widths, bounds or a constant do not fit",
             10 => "a second init or next of a state, or the init rule",
             11 => "the count exceeds the table, a record breaks a rule, or its id does",
@@ -411,7 +415,8 @@ fn first_bad(number: u64, answer: [u64; 3]) -> Result<Option<FirstBad>, Refusal>
     }
 }
 
-/// Reads a text into a table and gives the number of records.
+/// Reads a text into a table and gives the number of records: one for each line and, before it, one for each of its minus
+/// operands.
 #[cfg(feature = "read")]
 pub fn read(text: &[u8], table: &mut [u64]) -> Result<usize, Refusal> {
     let mut answer = [0; 3];

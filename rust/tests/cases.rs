@@ -23,6 +23,7 @@ use std::path::Path;
 #[derive(Default)]
 struct Lists {
     text: Vec<u8>,
+    kept: Vec<u8>,
     table: Table,
     target: Vec<u64>,
     starts: Vec<u64>,
@@ -124,7 +125,7 @@ const CHANGES: [(&str, fn(&[u64], usize, &mut [u64], &mut [u64]) -> u64); 6] = [
 
 /// What one line prints.
 fn call(line: &str, lists: &mut Lists) -> Vec<String> {
-    let Lists { text, table, target, starts, inputs } = lists;
+    let Lists { text, kept, table, target, starts, inputs } = lists;
     if let Some(more) = line.strip_prefix('|').or(line.strip_prefix('.')) {
         text.extend(more.bytes());
         text.extend(line.starts_with('|').then_some(b'\n'));
@@ -137,6 +138,8 @@ fn call(line: &str, lists: &mut Lists) -> Vec<String> {
     let told = |number: u64, answer: [u64; 3]| vec![format!("{number}; {} {} {}", answer[0], answer[1], answer[2])];
     match word {
         "text" => text.clear(),
+        "keep" => *kept = text.clone(),
+        "again" => *text = kept.clone(),
         "bytes" => text.extend(given.iter().map(|&word| u8::try_from(word).unwrap())),
         "table" => *table = Table::default(),
         "words" => table.add(given, false),

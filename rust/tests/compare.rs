@@ -13,6 +13,8 @@
 
 mod generator;
 mod independent;
+#[path = "compare/minus.rs"]
+mod minus;
 
 use generator::*;
 use gofeshan::interface as proved;
@@ -830,37 +832,42 @@ fn ids_and_lengths_make_no_difference() {
 
 /// A circuit, its flat circuit and its program give the same signals and the same first counted bad.
 #[cfg(all(feature = "flatten", feature = "translate", feature = "run_circuit", feature = "run_program"))]
+fn alike(random: &mut Random, lines: &Lines) -> u64 {
+    let (c, n) = (roomy(random, lines), lines.records.len());
+    let Some(known) = flat_of(lines) else { return 12 };
+    let room = known.records.len() + random.below(3);
+    let mut f = random.words(RECORD * room);
+    let flat = gofeshan::flatten(&c, n, &mut f).unwrap();
+    // A mask behind each line at the most.
+    let mut p = random.words(PROGRAM_RECORD * (2 * flat).min(16_384));
+    let Ok(program) = gofeshan::translate(&f, flat, &mut p) else { return 12 };
+    let k = 1 + random.below(12);
+    let (starts, inputs) = (random.words(lines.state_cells()), random.words(k * lines.inputs()));
+    let length = k * lines.signals();
+    let run = |of: usize, random: &mut Random| {
+        let (mut signals, mut work) = (random.bytes(length), random.words(3 * room.max(lines.work())));
+        let bad = match of {
+            0 => gofeshan::run_circuit(&c, n, k, &starts, &inputs, &mut signals, &mut work),
+            1 => gofeshan::run_circuit(&f, flat, k, &starts, &inputs, &mut signals, &mut work),
+            _ => gofeshan::run_program(&p, program, k, &starts, &inputs, &mut signals, &mut work),
+        };
+        (signals, bad.unwrap())
+    };
+    let (of_c, of_f, of_p) = (run(0, random), run(1, random), run(2, random));
+    assert!(of_c == of_f && of_f == of_p, "{of_c:?}\n{of_f:?}\n{of_p:?}\n{}", show(&c, n, false));
+    let signals = lines.run(k, &starts, &inputs);
+    let bad = lines.first_bad(k, &signals).map(|(step, place)| gofeshan::FirstBad { step, place });
+    assert!(of_c == (signals, bad));
+    100 * u64::from(bad.is_some())
+}
+
+#[cfg(all(feature = "flatten", feature = "translate", feature = "run_circuit", feature = "run_program"))]
 #[test]
 fn circuit_flat_circuit_and_program() {
     cases("C, F and P", 10_000, &[0, 100], |random| {
         let size = size(random);
         let lines = circuit(random, size);
-        let (c, n) = (roomy(random, &lines), lines.records.len());
-        let Some(known) = flat_of(&lines) else { return 12 };
-        let room = known.records.len() + random.below(3);
-        let mut f = random.words(RECORD * room);
-        let flat = gofeshan::flatten(&c, n, &mut f).unwrap();
-        // A mask behind each line at the most.
-        let mut p = random.words(PROGRAM_RECORD * (2 * flat).min(16_384));
-        let Ok(program) = gofeshan::translate(&f, flat, &mut p) else { return 12 };
-        let k = 1 + random.below(12);
-        let (starts, inputs) = (random.words(lines.state_cells()), random.words(k * lines.inputs()));
-        let length = k * lines.signals();
-        let run = |of: usize, random: &mut Random| {
-            let (mut signals, mut work) = (random.bytes(length), random.words(3 * room.max(lines.work())));
-            let bad = match of {
-                0 => gofeshan::run_circuit(&c, n, k, &starts, &inputs, &mut signals, &mut work),
-                1 => gofeshan::run_circuit(&f, flat, k, &starts, &inputs, &mut signals, &mut work),
-                _ => gofeshan::run_program(&p, program, k, &starts, &inputs, &mut signals, &mut work),
-            };
-            (signals, bad.unwrap())
-        };
-        let (of_c, of_f, of_p) = (run(0, random), run(1, random), run(2, random));
-        assert!(of_c == of_f && of_f == of_p, "{of_c:?}\n{of_f:?}\n{of_p:?}\n{}", show(&c, n, false));
-        let signals = lines.run(k, &starts, &inputs);
-        let bad = lines.first_bad(k, &signals).map(|(step, place)| gofeshan::FirstBad { step, place });
-        assert!(of_c == (signals, bad));
-        100 * u64::from(bad.is_some())
+        alike(random, &lines)
     });
 }
 
@@ -923,27 +930,25 @@ fn reading_register_files() {
     many_cases("read register files", 10_000, &[0, 10], 25, read_file_case);
 }
 
+/// An operation on a table; `lines` are those that it holds, or about as many. Gives 11 or, for all other answers, 0.
 #[cfg(all(feature = "write", feature = "flatten", feature = "translate", feature = "run_circuit"))]
-fn table_file_case(random: &mut Random) -> u64 {
-    let arrays = random.below(3) > 0;
-    let lines = register_file(random, arrays);
-    let (table, n) = (roomy(random, &lines), lines.records.len());
+fn both_take(random: &mut Random, lines: &Lines, table: &[u64], n: usize) -> u64 {
     let number = match random.below(4) {
         0 => {
             let length = independent::texts::print(&lines.records).len();
-            both_write(random, &table, n, length, 3)
+            both_write(random, table, n, length, 3)
         }
         1 => {
-            let room = flat_of(&lines).map_or(0, |flat| flat.records.len());
-            both_change(random, (independent::flatten, proved::flatten), &table, n, RECORD * room, 3)
+            let room = flat_of(lines).map_or(0, |flat| flat.records.len());
+            both_change(random, (independent::flatten, proved::flatten), table, n, RECORD * room, 3)
         }
         2 => {
             let room = (2 * n).min(16_384);
-            both_change(random, (independent::translate, proved::translate), &table, n, PROGRAM_RECORD * room, 3)
+            both_change(random, (independent::translate, proved::translate), table, n, PROGRAM_RECORD * room, 3)
         }
         _ => {
-            let run = run_of(random, &lines);
-            both_run(random, (independent::run_circuit, proved::run_circuit), (&table, n, false), &run)
+            let run = run_of(random, lines);
+            both_run(random, (independent::run_circuit, proved::run_circuit), (table, n, false), &run)
         }
     };
     if number == 11 {
@@ -951,6 +956,14 @@ fn table_file_case(random: &mut Random) -> u64 {
     } else {
         0
     }
+}
+
+#[cfg(all(feature = "write", feature = "flatten", feature = "translate", feature = "run_circuit"))]
+fn table_file_case(random: &mut Random) -> u64 {
+    let arrays = random.below(3) > 0;
+    let lines = register_file(random, arrays);
+    let table = roomy(random, &lines);
+    both_take(random, &lines, &table, lines.records.len())
 }
 
 /// An answer other than 11 counts as 0.
@@ -983,6 +996,27 @@ fn programs_of_register_files() {
 // Peek.
 
 #[cfg(feature = "peek")]
+fn both_peek(
+    random: &mut Random,
+    (table, count): (&[u64], usize),
+    (line, cell): (usize, usize),
+    (starts, row): (&[u64], &[u64]),
+    answer: usize,
+) -> u64 {
+    let dirt = random.words(answer);
+    let mut words = dirt.clone();
+    let number = independent::peek(table, count, line, cell, starts, row, &mut words);
+    let ours = Told { number, words: vec![words], bytes: vec![] };
+    let mut words = dirt;
+    let number = proved::peek(table, count, line, cell, starts, row, &mut words);
+    let theirs = Told { number, words: vec![words], bytes: vec![] };
+    same(&ours, &theirs, || {
+        format!("peek, line {line}, cell {cell}, starts {starts:?}, row {row:?}\n{}", show(table, count, false))
+    });
+    ours.number
+}
+
+#[cfg(feature = "peek")]
 fn peek_case(random: &mut Random) -> u64 {
     let lines = {
         let size =
@@ -1002,17 +1036,8 @@ fn peek_case(random: &mut Random) -> u64 {
     let (starts, row) = (lines.state_cells(), lines.inputs());
     let (starts, row) = if random.one_in(4) { (length(random, starts), length(random, row)) } else { (starts, row) };
     let answer = answer_length(random);
-    let (starts, row, dirt) = (random.words(starts), random.words(row), random.words(answer));
-    let mut words = dirt.clone();
-    let number = independent::peek(&table, count, line, cell, &starts, &row, &mut words);
-    let ours = Told { number, words: vec![words], bytes: vec![] };
-    let mut words = dirt;
-    let number = proved::peek(&table, count, line, cell, &starts, &row, &mut words);
-    let theirs = Told { number, words: vec![words], bytes: vec![] };
-    same(&ours, &theirs, || {
-        format!("peek, line {line}, cell {cell}, starts {starts:?}, row {row:?}\n{}", show(&table, count, false))
-    });
-    ours.number
+    let (starts, row) = (random.words(starts), random.words(row));
+    both_peek(random, (&table, count), (line, cell), (&starts, &row), answer)
 }
 
 #[cfg(feature = "peek")]
@@ -1054,6 +1079,30 @@ fn peeking_at_doubling_lines() {
 // Name.
 
 #[cfg(feature = "name")]
+fn both_name(random: &mut Random, text: &[u8], id: u64, answer: usize) -> u64 {
+    let dirt = random.words(answer);
+    let (mut ours, mut theirs) = (dirt.clone(), dirt);
+    let number = independent::name(text, id, &mut ours);
+    let other = proved::name(text, id, &mut theirs);
+    if number == 0 && ours[1] == 0 && other == 0 && theirs[1] == 0 {
+        // Where the empty part stands is free.
+        assert!(theirs[0] <= text.len() as u64);
+        theirs[0] = 0;
+    }
+    let named = u64::from(number == 0 && ours[1] > 0);
+    same(
+        &Told { number, words: vec![ours], bytes: vec![] },
+        &Told { number: other, words: vec![theirs], bytes: vec![] },
+        || format!("name of {id}\n{}", String::from_utf8_lossy(text)),
+    );
+    if named == 1 {
+        100
+    } else {
+        number
+    }
+}
+
+#[cfg(feature = "name")]
 fn name_case(random: &mut Random) -> u64 {
     let size = size(random);
     let lines = circuit(random, size);
@@ -1079,26 +1128,7 @@ fn name_case(random: &mut Random) -> u64 {
         _ => random.pick(&lines.ids),
     };
     let answer = answer_length(random);
-    let dirt = random.words(answer);
-    let (mut ours, mut theirs) = (dirt.clone(), dirt);
-    let number = independent::name(&text, id, &mut ours);
-    let other = proved::name(&text, id, &mut theirs);
-    if number == 0 && ours[1] == 0 && other == 0 && theirs[1] == 0 {
-        // Where the empty part stands is free.
-        assert!(theirs[0] <= text.len() as u64);
-        theirs[0] = 0;
-    }
-    let named = u64::from(number == 0 && ours[1] > 0);
-    same(
-        &Told { number, words: vec![ours], bytes: vec![] },
-        &Told { number: other, words: vec![theirs], bytes: vec![] },
-        || format!("name of {id}\n{}", String::from_utf8_lossy(&text)),
-    );
-    if named == 1 {
-        100
-    } else {
-        number
-    }
+    both_name(random, &text, id, answer)
 }
 
 #[cfg(feature = "name")]

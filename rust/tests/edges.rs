@@ -47,6 +47,20 @@ fn lines_with_gaps(first: u64, gap: u64) -> (Vec<u8>, usize) {
     unreachable!("a text has an end")
 }
 
+/// As many lines as a text holds that each have three minus operands, and so four records; the number of records, and of
+/// lines.
+fn minus_lines(gap: u64) -> (Vec<u8>, usize, u64) {
+    let mut text = format!("1 sort bitvec 1\n{} input 1\n", 1 + gap).into_bytes();
+    for lines in 2.. {
+        let line = format!("{} ite 1 -{operand} -{operand} -{operand}\n", 1 + gap * lines, operand = 1 + gap);
+        if text.len() + line.len() > gofeshan::MOST_TEXT {
+            return (text, 4 * lines as usize - 6, lines);
+        }
+        text.extend(line.bytes());
+    }
+    unreachable!("a text has an end")
+}
+
 /// A register file of so many lines: first lines that each use the line before twice, over a constant or an input, half of
 /// all; then states, each with its init by the last of those. A search that comes to a line once for each use does not end.
 fn doubling_registers(lines: u64, input: bool) -> Vec<independent::Record> {
@@ -83,6 +97,8 @@ fn reading() {
         let ((small, small_count), (large, large_count)) =
             (lines_with_gaps(1000, 3), lines_with_gaps(1 << 31, 1 << 19));
         let ((constant, count, _), (input, _, first)) = (doubling_text(false), doubling_text(true));
+        let ((minus, minus_count, _), (minus_gaps, gaps_count, _)) = (minus_lines(1), minus_lines(3));
+        assert!((13_000..13_400).contains(&minus_count));
         let texts = [
             ("semicolons", full("", b';'), Ok(0)),
             ("spaces", full("", b' '), Ok(0)),
@@ -102,6 +118,8 @@ fn reading() {
             ("lines with large gaps", large, Ok(large_count)),
             ("inits over doubling lines", constant, Ok(count)),
             ("inits over doubling lines and an input", input, Err((10, first))),
+            ("lines with three minus operands", minus, Ok(minus_count)),
+            ("lines with three minus operands and gaps", minus_gaps, Ok(gaps_count)),
         ];
         let mut table = vec![1; gofeshan::RECORD * gofeshan::MOST_RECORDS];
         for (name, text, told) in texts {
@@ -111,6 +129,24 @@ fn reading() {
             assert_eq!(answer.map_err(|r| (r.number, r.line)), told, "{name}");
             println!("reading {name}, {} bytes: {took:?}", text.len());
             assert!(took < MOST, "reading {name} took {took:?}");
+        }
+    });
+}
+
+/// Lines of three minus operands in a table that lacks one place: 4 comes last, and all of it is zero.
+#[cfg(feature = "read")]
+#[test]
+fn reading_into_one_place_too_few() {
+    on_stack(|| {
+        for gap in [1, 3] {
+            let (text, count, lines) = minus_lines(gap);
+            let mut table = vec![1; gofeshan::RECORD * (count - 1)];
+            let mut answer = Ok(0);
+            let took = least(|| answer = gofeshan::read(&text, &mut table));
+            assert_eq!(answer.map_err(|r| (r.number, r.line)), Err((4, lines)));
+            assert!(table.iter().all(|&word| word == 0));
+            println!("reading {lines} lines into {} records: {took:?}", count - 1);
+            assert!(took < MOST, "reading took {took:?}");
         }
     });
 }

@@ -136,7 +136,28 @@ fn accepted() {
         assert_eq!((&gaps.flat, &gaps.program), (&worked.flat, &worked.program));
         assert_eq!((gofeshan::name(&gaps.text, 71), gofeshan::name(&gaps.text, 8)), (&b"store"[..], &b""[..]));
         assert_eq!(gaps.run(3, &[0, 0], &[0, 0, 1]), Some(FirstBad { step: 1, place: 1 }));
-        for example in [counter, fifo, lfsr, caption, own, alu, registers, worked, gaps] {
+
+        // Minus operands: the table has a not record of the id 0 for each, and the flat circuit a not line.
+        let minus = Example::new("minus.btor2");
+        let nots = minus.lines.records.iter().zip(&minus.lines.ids).filter(|(r, id)| (r[0], **id) == (11, 0));
+        let complemented: Vec<u64> = nots.map(|(r, _)| minus.lines.ids[r[2] as usize - 1]).collect();
+        assert_eq!(complemented, [30, 30, 21, 50, 60, 63, 65]);
+        assert_eq!((gofeshan::name(&minus.text, 64), gofeshan::name(&minus.text, 40)), (&b"overload"[..], &b""[..]));
+        // A page of eight lamps is drawn at step 0 and shown from step 1 on, unless the display is blank then.
+        let full = |swap: u64, blank: u64| {
+            move |name: &[u8], k: u64| match name {
+                b"drawn" => 255,
+                b"swap" => u64::from(k == swap),
+                _ => u64::from(k == blank),
+            }
+        };
+        assert_eq!(minus.driven(9, full(0, 9)), Some((1, 2)));
+        assert_eq!(minus.driven(9, full(3, 4)), Some((5, 2)));
+        assert_eq!(minus.driven(9, full(9, 9)), None);
+        // Seven lamps are not too many; a swap of a blank display breaks the constraint.
+        assert_eq!(minus.driven(9, |name, _| if name == b"drawn" { 254 } else { u64::from(name == b"swap") }), None);
+        assert_eq!(minus.driven(9, full(0, 0)), None);
+        for example in [counter, fifo, lfsr, caption, own, alu, registers, worked, gaps, minus] {
             example.tried();
         }
     });

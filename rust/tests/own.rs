@@ -3,6 +3,8 @@
 
 mod generator;
 mod independent;
+#[path = "own/minus.rs"]
+mod minus;
 
 use independent::meaning;
 use independent::*;

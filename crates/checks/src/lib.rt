@@ -1,6 +1,7 @@
 // The check of a table with its count: a circuit's (1, 11) and a program's (1, 20).
 use records::ids;
 use records::kinds;
+use records::kinds::NOT;
 use records::notes;
 use records::notes::BYTES;
 use tables::Checked;
@@ -14,8 +15,8 @@ ghost use lib.ListN.{length};
 ghost use Rattle.tables.specs.Tables.{known as knownOf, unused as unusedOf, tidy as tidyOf, keeps, lawful, checked, broken};
 ghost use Rattle.tables.specs.Pick.{all};
 ghost use Rattle.tables.specs.Lines.{lineOf, kindIn, firstIn};
-ghost use Rattle.tables.specs.Layout.{held, recordsOf, linesOf, idsOf};
-ghost use Rattle.tables.specs.Ids.{rising, idsRight};
+ghost use Rattle.tables.specs.Layout.{held, recordsOf, linesOf};
+ghost use Rattle.tables.specs.Ids.{idsRight};
 ghost use Rattle.tables.specs.Types.{recordType, noCtx, context};
 ghost use Rattle.tables.specs.Model.Notes.{lookIn, noted, givenIn, Shows, Fresh};
 ghost use Rattle.tables.specs.Kinds.{rows};
@@ -153,7 +154,7 @@ fn lines(
     true
 }
 
-// The ids of a circuit's records only rise; a program has none.
+// The ids of a circuit's records keep their rules; a program has none.
 fn ids_right(program: bool, table: &[u64], count: usize) -> bool
     requires { ⌜ count ≤ held program (length (now table)) ⌝ }
     ensures { λ r. ⌜ r ≡ idsRight program (now (table .entry)) count ⌝ }
@@ -164,20 +165,24 @@ fn ids_right(program: bool, table: &[u64], count: usize) -> bool
     ids_rise(table, count)
 }
 
-// The ids of so many records only rise.
+// Of so many records only not records hold id 0, and the other ids rise.
 fn ids_rise(table: &[u64], count: usize) -> bool
     requires { ⌜ count ≤ held false (length (now table)) ⌝ }
-    ensures { λ r. ⌜ r ≡ rising 0 (idsOf (now (table .entry)) count) ⌝ }
+    ensures { λ r. ⌜ r ≡ idsRight false (now (table .entry)) count ⌝ }
 {
     let h = records::step(false, table.len());
     let mut last: u64 = 0;
     let mut i: usize = 0;
     while i < count {
         let d = records::id(table, h, i);
-        if !ids::follows(last, d) {
+        if d != 0 {
+            if !ids::follows(last, d) {
+                return false;
+            }
+            last = d;
+        } else if records::kind(false, table, i) != NOT {
             return false;
         }
-        last = d;
         i += 1;
     }
     true

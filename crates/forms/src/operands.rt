@@ -1,22 +1,27 @@
-// The numbers of a line.
+// The numbers of a line, and their signs.
+use records::kinds::NONE;
+use records::kinds::NUM;
 use tables::WORDS;
 use texts::Num;
+use texts::Signed;
 use texts::Taken;
 use tokens::numbers;
 ghost use mathlib.Core.Path.{_≡_};
-ghost use mathlib.Core.Bool.{false};
+ghost use mathlib.Core.Bool.{false, _&&_};
 ghost use Prim.Native.Nat.{_+_, _≤_};
 ghost use lib.ListN.{drop};
-ghost use Rattle.texts.specs.Reading.{numberAt};
+ghost use Rattle.texts.specs.Forms.{formRow};
+ghost use Rattle.texts.specs.Reading.{leadsMinus, signAt, plainAt, numberAt, noSigns};
 ghost use Rattle.texts.specs.Model.Stages.{operands as operandsOf};
+ghost use Rattle.tables.specs.Kinds.{classAt, namesLine};
 ghost use Rattle.tables.specs.Lines.{kindIn};
 ghost use Rattle.tables.specs.Layout.{recordWords};
 ghost use Rattle.texts.specs.Split.{tokens as tokensIn};
 ghost use Rattle.texts.specs.Model.Structs.{asTook};
 
-// The number that a token is, at the place j of a line of the form f.
+// The number that a token without a sign is, at the place j of a line of the form f.
 fn number(f: usize, j: usize, t: &[u8]) -> Num
-    ensures { λ r. ⌜ r ≡ numberAt f j (now (t .entry)) ⌝ }
+    ensures { λ r. ⌜ r ≡ plainAt f j (now (t .entry)) ⌝ }
 {
     if j == 2 {
         if f == 56 {
@@ -30,15 +35,70 @@ fn number(f: usize, j: usize, t: &[u8]) -> Num
     numbers::decimal(t)
 }
 
-// m numbers from the place i of the line on, to the places j and up of a record.
-pub fn operands(l: &[u8], i: usize, f: usize, m: usize, j: usize, start: [u64; WORDS]) -> Taken
-    requires { do ⌜ (i ≤ (← ⟦l.len()⟧)) × ((1 ≤ j) × (j + m ≤ recordWords)) ⌝ }
+// The class of the place j of a record.
+fn class_at(row: [u8; 16], j: usize) -> u8
+    requires { ⌜ (1 ≤ j) × (j ≤ 4) ⌝ }
+    ensures { λ r. ⌜ r ≡ classAt row j ⌝ }
+{
+    if j == 1 {
+        return row[11];
+    }
+    row[11 + j]
+}
+
+// A token for the place j of a record has a minus, which only one that names a line may have.
+fn has_minus(row: [u8; 16], j: usize, t: &[u8]) -> bool
+    requires { ⌜ (1 ≤ j) × (j ≤ 4) ⌝ }
+    ensures { λ r. ⌜ r ≡ (namesLine (classAt row j) && leadsMinus (now (t .entry))) ⌝ }
+{
+    if t.len() == 0 {
+        return false;
+    }
+    if t[0] != b'-' {
+        return false;
+    }
+    let k = class_at(row, j);
+    if k == NONE {
+        return false;
+    }
+    k < NUM
+}
+
+// The number and the sign of a token, at the place j of a line of the form f, whose row is at hand.
+fn token(row: [u8; 16], f: usize, j: usize, t: &[u8]) -> Signed
+    requires { ⌜ (row ≡ formRow f) × ((1 ≤ j) × (j ≤ 4)) ⌝ }
+    ensures { λ r. ⌜ (r .num ≡ numberAt f j (now (t .entry))) × (r .minus ≡ signAt f j (now (t .entry))) ⌝ }
+{
+    if has_minus(row, j, t) {
+        return Signed {
+            num: numbers::decimal(&t[1..]),
+            minus: true,
+        };
+    }
+    Signed {
+        num: number(f, j, t),
+        minus: false,
+    }
+}
+
+// m numbers from the place i of the line on, to the places j and up of a record, with their signs. The row is that of the form f.
+pub fn operands(
+    l: &[u8],
+    i: usize,
+    row: [u8; 16],
+    f: usize,
+    m: usize,
+    j: usize,
+    start: [u64; WORDS],
+) -> Taken
+    requires { do ⌜ (row ≡ formRow f) × ((i ≤ (← ⟦l.len()⟧)) × ((1 ≤ j) × (j + m ≤ recordWords))) ⌝ }
     ensures { λ r. do
       ⌜ (r .at ≤ (← ⟦l.len()⟧ .entry)) × ((kindIn (r .rec) ≡ kindIn start)
-          × (operandsOf f m j start false 0 (tokensIn (drop i (now (l .entry)))) ≡ asTook (now (l .entry)) r)) ⌝ }
+          × (operandsOf f m j start noSigns false 0 (tokensIn (drop i (now (l .entry)))) ≡ asTook (now (l .entry)) r)) ⌝ }
 {
     let e = j + m;
     let mut rec = start;
+    let mut minus = [false; WORDS];
     let mut at = i;
     let mut big = false;
     let mut len: usize = 0;
@@ -52,10 +112,13 @@ pub fn operands(l: &[u8], i: usize, f: usize, m: usize, j: usize, start: [u64; W
                 len: 0,
                 at: 0,
                 rec: rec,
+                minus: minus,
             };
         }
         let z = tokens::find_byte(l, a, 32);
-        let r = number(f, p, &l[a..z]);
+        let t = token(row, f, p, &l[a..z]);
+        let r = t.num;
+        minus[p] = t.minus;
         len = z - a;
         at = z;
         match r {
@@ -66,6 +129,7 @@ pub fn operands(l: &[u8], i: usize, f: usize, m: usize, j: usize, start: [u64; W
                     len: 0,
                     at: 0,
                     rec: rec,
+                    minus: minus,
                 };
             }
             Num::Big => {
@@ -86,5 +150,6 @@ pub fn operands(l: &[u8], i: usize, f: usize, m: usize, j: usize, start: [u64; W
         len: len,
         at: at,
         rec: rec,
+        minus: minus,
     }
 }

@@ -1,10 +1,11 @@
-// The ids of the lines read so far are the sixth words of their records: an id in the text is looked up in the table itself. Places count the records from 1.
+// The ids of the lines read so far are the sixth words of their records, 0 for a not record that stands for a minus operand: an id in the text is looked up in the table itself.
+// Places count the records from 1.
 use records::kinds::NONE;
 use records::kinds::NUM;
 use tables::WORDS;
 ghost use mathlib.Core.Path.{_≡_};
 ghost use mathlib.Core.Bool.{false};
-ghost use Prim.Native.Nat.{_≤_};
+ghost use Prim.Native.Nat.{_≤_, _<_};
 ghost use lib.ListN.{length};
 ghost use Rattle.tables.specs.Kinds.{rowOf};
 ghost use Rattle.tables.specs.Lines.{kindIn};
@@ -12,6 +13,7 @@ ghost use Rattle.tables.specs.Layout.{held, stepOf, idsOf};
 ghost use Rattle.tables.specs.Model.Risen.{Risen};
 ghost use Rattle.texts.specs.Operands.{placeById, meant as meantBy, resolved};
 ghost use Rattle.texts.specs.Reading.{lastOf};
+ghost use Rattle.texts.specs.Model.Searching.{FirstNamed, GoesOn, Parted};
 
 // The id of the last of n records; 0 where there is none.
 pub fn last(table: &[u64], n: usize) -> u64
@@ -25,28 +27,77 @@ pub fn last(table: &[u64], n: usize) -> u64
     records::id(table, h, n - 1)
 }
 
-// The place of the record among the first n that has the id d, 0 where none has it: by halves. h is the list's step.
+// The first place from i on, counted from 0, whose record has an id that is not 0, or n. h is the list's step.
+fn named(table: &[u64], h: usize, n: usize, i: usize) -> usize
+    requires { ⌜ (h ≡ stepOf false (length (now table))) × ((i ≤ n) × (n ≤ held false (length (now table)))) ⌝ }
+    ensures { λ r. ⌜ FirstNamed (idsOf (now (table .entry)) n) i r ⌝ }
+{
+    let mut o = i;
+    while o < n {
+        if records::id(table, h, o) != 0 {
+            return o;
+        }
+        o += 1;
+    }
+    o
+}
+
+// Where a search for the id d goes on from the place i, counted from 0: behind the first record from there on that has an id, where that id is below d; else before i, and the answer is i itself.
+fn past(table: &[u64], h: usize, n: usize, d: u64, i: usize) -> usize
+    requires { ⌜ (h ≡ stepOf false (length (now table))) × ((1 ≤ d) × ((i < n) × Risen (now table) n)) ⌝ }
+    ensures { λ r. ⌜ GoesOn (idsOf (now (table .entry)) n) d i r ⌝ }
+{
+    let o = named(table, h, n, i);
+    if o == n {
+        return i;
+    }
+    if records::id(table, h, o) < d {
+        return o + 1;
+    }
+    i
+}
+
+// The place of the first record from i on, counted from 0, that has an id, where that id is d; else 0. The ids before i are below d; those from i on are not, but for zeros.
+fn found(table: &[u64], h: usize, n: usize, d: u64, i: usize) -> u64
+    requires { ⌜ (h ≡ stepOf false (length (now table))) × ((1 ≤ d) × ((i ≤ n) × (Risen (now table) n × Parted (idsOf (now table) n) i d))) ⌝ }
+    ensures { λ r. ⌜ r ≡ placeById (idsOf (now (table .entry)) n) d ⌝ }
+{
+    let o = named(table, h, n, i);
+    if o == n {
+        return 0;
+    }
+    if records::id(table, h, o) == d {
+        return o as u64 + 1;
+    }
+    0
+}
+
+// The place of the record among the first n that has the id d, 0 where none has it: by halves, past the not records whose id is 0.
 fn search(table: &[u64], h: usize, n: usize, d: u64) -> u64
-    requires { ⌜ (h ≡ stepOf false (length (now table))) × Risen (now table) n ⌝ }
+    requires { ⌜ (h ≡ stepOf false (length (now table))) × ((1 ≤ d) × Risen (now table) n) ⌝ }
     ensures { λ r. ⌜ r ≡ placeById (idsOf (now (table .entry)) n) d ⌝ }
 {
     let mut lo: usize = 0;
     let mut hi = n;
     while lo < hi {
         let m = lo + (hi - lo) / 2;
-        if records::id(table, h, m) < d {
-            lo = m + 1;
-        } else {
+        let v = records::id(table, h, m);
+        if d <= v {
             hi = m;
+            continue;
+        }
+        if v != 0 {
+            lo = m + 1;
+            continue;
+        }
+        let p = past(table, h, n, d, m);
+        if p == m {
+            hi = m;
+        } else {
+            lo = p;
         }
     }
-    if lo == n {
-        return 0;
-    }
-    if records::id(table, h, lo) == d {
-        return lo as u64 + 1;
-    }
-    0
+    found(table, h, n, d, lo)
 }
 
 // The same, where the record is first looked for at the place d: there it stands in a table without gaps.
@@ -54,12 +105,13 @@ fn place_of(table: &[u64], h: usize, n: usize, d: u64) -> u64
     requires { ⌜ (h ≡ stepOf false (length (now table))) × Risen (now table) n ⌝ }
     ensures { λ r. ⌜ r ≡ placeById (idsOf (now (table .entry)) n) d ⌝ }
 {
-    if 1 <= d {
-        let i = d - 1;
-        if i < n as u64 {
-            if records::id(table, h, i as usize) == d {
-                return d;
-            }
+    if d == 0 {
+        return 0; // no token names 0
+    }
+    let i = d - 1;
+    if i < n as u64 {
+        if records::id(table, h, i as usize) == d {
+            return d;
         }
     }
     search(table, h, n, d)

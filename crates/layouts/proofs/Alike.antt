@@ -10,7 +10,7 @@ use Rattle.tables.specs.declared.Refusal.the-variants.{NotATable}
 use Rattle.tables.specs.declared.Checked.the-variants.{Accepted, Refused}
 use Rattle.tables.specs.Pick.{pick}
 use Rattle.tables.specs.Layout.{Placing, recordWords, recordSize, whole, room, wordsFrom, rowsFrom}
-use Rattle.tables.specs.Ids.{rising, idsRightBy}
+use Rattle.tables.specs.Ids.{rightIds, idsRightBy}
 use Rattle.tables.specs.Types.{noCtx}
 use Rattle.tables.specs.Tables.{lawful, broken, checkedBy}
 use Rattle.tables.proofs.Layouts.{words-in}
@@ -32,7 +32,7 @@ module _ (f g : Placing) (p : Bool) (t u : List ℕ) (n : ℕ) (e : rowsFrom f (
 
 ids-alike : (f g : Placing) (p : Bool) (t u : List ℕ) (n : ℕ) → rowsFrom f (recordSize p) t 0 n ≡ rowsFrom g (recordSize p) u 0 n → idsRightBy f p t n ≡ idsRightBy g p u n
 ids-alike f g true t u n e = refl
-ids-alike f g false t u n e = ap (rising 0) (ids-rows f t 0 n ∙ (ap (map idIn) e ∙ sym (ids-rows g u 0 n)))
+ids-alike f g false t u n e = ap₂ rightIds (records-alike f g false t u n e) (ids-rows f t 0 n ∙ (ap (map idIn) e ∙ sym (ids-rows g u 0 n)))
 
 pub check-alike : (f g : Placing) (p : Bool) (t u : List ℕ) (n : ℕ) → whole p (length t) ≡ whole p (length u) → leb n (room p (length t)) ≡ leb n (room p (length u))
     → rowsFrom f (recordSize p) t 0 n ≡ rowsFrom g (recordSize p) u 0 n → checkedBy f p t n ≡ checkedBy g p u n

@@ -1,4 +1,4 @@
-// The lines of a text, one after the other: 3, 4 and 5, then what stands behind the word.
+// The lines of a text, one after the other: 3, 4 and 5, then what stands behind the word, and 4 again.
 use forms::heads;
 use records::notes::BYTES;
 use tables::Answer;
@@ -8,16 +8,15 @@ use texts::Readout;
 ghost use mathlib.Core.Path.{_≡_};
 ghost use mathlib.Core.Bool.{false};
 ghost use mathlib.Core.List.{[], _∷_};
-ghost use Prim.Native.Nat.{ℕ, _≤_, _+_, _<_};
+ghost use Prim.Native.Nat.{ℕ, _≤_};
 ghost use lib.ListN.{length, replicate};
-ghost use Rattle.tables.specs.Model.Notes.{lookIn, givenIn, noted, Shows};
+ghost use Rattle.tables.specs.Model.Notes.{lookIn, givenIn, Shows};
 ghost use Rattle.texts.specs.Split.{tokens as tokensIn};
 ghost use Rattle.texts.specs.Reading.{lineId, linesRead, outcomeOf};
 ghost use Rattle.texts.specs.Model.Stages.{stagedLine};
 ghost use Rattle.texts.specs.Model.Structs.{asRead, withNumber};
 ghost use Rattle.tables.specs.Kinds.{rows};
-ghost use Rattle.tables.specs.Lines.{kindIn, firstIn};
-ghost use Rattle.tables.specs.Layout.{room as roomOf, idsOf, withId, recorded};
+ghost use Rattle.tables.specs.Layout.{idsOf};
 ghost use Rattle.tables.specs.Model.Risen.{Risen};
 ghost use Rattle.tables.specs.Answers.{told};
 ghost use Rattle.tables.specs.Types.{noCtx};
@@ -28,10 +27,12 @@ fn numbered(r: Readout, id: u64) -> Readout
 {
     let code = r.code;
     let rec = r.rec;
+    let minus = r.minus;
     Readout {
         what: r.what,
         code: code,
         rec: rec,
+        minus: minus,
         id: id,
     }
 }
@@ -56,6 +57,7 @@ fn read_line(
             what: 1,
             code: Refusal::NotATable,
             rec: [0; WORDS],
+            minus: [false; WORDS],
             id: 0,
         };
     }
@@ -73,18 +75,7 @@ fn read_line(
         return stages::refuse(Refusal::UnknownWord);
     }
     let r = stages::rest(l, kinds, w.form, w.at, table, n, notes);
-    numbered(r, id)
-}
-
-// The record of the line n + 1 goes to the table, and the line is noted.
-fn take(table: &mut [u64], n: usize, rec: [u64; WORDS], id: u64, notes: &mut [[u8; BYTES]])
-    requires { ⌜ (n < roomOf false (length (now table))) × (kindIn rec ≡ 1 → firstIn rec ≤ 64) ⌝ }
-    ensures { λ _. ⌜ (now (table .exit) ≡ recorded false (now (table .entry)) n (withId rec id))
-        × (now (notes .exit) ≡ noted false rec (n + 1) (now (notes .entry))) ⌝ }
-{
-    records::put_line(table, n, rec, id);
-    let place = (n + 1) as u64;
-    checks::note(false, rec, place, notes);
+    numbered(line_records::fit(r, n, room), id)
 }
 
 // The lines of a text, into a table of zeros; kinds are the rows of all kinds.
@@ -116,9 +107,9 @@ pub fn read_lines(
         line += 1;
         if r.what == 0 {
             let rec = r.rec;
+            let minus = r.minus;
             let id = r.id;
-            take(table, n, rec, id, notes);
-            n += 1;
+            n = line_records::put_line(table, n, rec, minus, id, notes);
             continue;
         }
     }

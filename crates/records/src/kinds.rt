@@ -25,6 +25,9 @@ pub const SORT: u8 = 7;
 // no line, but a number that stays as it is written
 pub const NUM: u8 = 8;
 
+// The kind of a not record.
+pub const NOT: u64 = 11;
+
 // A row: the word's length, its letters in ten places, the class of the sort, the number of operands, their classes in three places.
 pub const KINDS: [[u8; 16]; 55] = [
     // 1 to 5: sorts, constants, inputs, states

@@ -1,5 +1,7 @@
 // What stands behind the word of a line: the refusals 6 to 10 in their order. The table holds the records so far, with their ids, and the notes what is known of their lines.
 use forms::operands;
+use records::kinds::NONE;
+use records::kinds::VALUE;
 use records::notes;
 use records::notes::BYTES;
 use tables::Refusal;
@@ -10,9 +12,10 @@ ghost use mathlib.Core.Path.{_≡_};
 ghost use Prim.Native.Nat.{_-_, _^_, _≤_, ℕ};
 ghost use lib.ListN.{drop};
 ghost use Rattle.texts.specs.Operands.{resolved};
-ghost use Rattle.texts.specs.Reading.{no, settled};
-ghost use Rattle.texts.specs.Model.Stages.{ruled as ruledBy, judged, concluded, large as largeOf, ended, takenIn};
+ghost use Rattle.texts.specs.Reading.{minusFits, minusesBy, no, settled};
+ghost use Rattle.texts.specs.Model.Stages.{ruled as ruledBy, judged, allowed, concluded, large as largeOf, ended, takenIn};
 ghost use Rattle.texts.specs.Model.Structs.{asRead, asTook};
+ghost use Rattle.tables.specs.Pick.{all};
 ghost use Rattle.tables.specs.Kinds.{rows, rowOf};
 ghost use Rattle.tables.specs.Lines.{kindIn};
 ghost use Rattle.tables.specs.Layout.{idsOf};
@@ -28,19 +31,21 @@ pub fn refuse(r: Refusal) -> Readout
         what: 2,
         code: r,
         rec: [0; WORDS],
+        minus: [false; WORDS],
         id: 0,
     }
 }
 
-// 9, 10, or the record.
-fn ruled(a: u64, rec: [u64; WORDS]) -> Readout
-    ensures { λ x. ⌜ x ≡ asRead 0 (ruledBy a rec) ⌝ }
+// 9, 10, or the record with its signs.
+fn ruled(a: u64, rec: [u64; WORDS], minus: [bool; WORDS]) -> Readout
+    ensures { λ x. ⌜ x ≡ asRead 0 (ruledBy a rec minus) ⌝ }
 {
     if a == 0 {
         return Readout {
             what: 0,
             code: Refusal::NotATable,
             rec: rec,
+            minus: minus,
             id: 0,
         };
     }
@@ -78,10 +83,17 @@ fn settle(w: u8, f: usize, rec: [u64; WORDS]) -> [u64; WORDS]
     t
 }
 
-// 8, 9 and 10. The row is that of the record's kind.
-fn judge(row: [u8; 16], f: usize, len: usize, rec: [u64; WORDS], notes: &[[u8; BYTES]]) -> Readout
+// 8, but for the minuses, 9 and 10. The row is that of the record's kind.
+fn judge(
+    row: [u8; 16],
+    f: usize,
+    len: usize,
+    rec: [u64; WORDS],
+    minus: [bool; WORDS],
+    notes: &[[u8; BYTES]],
+) -> Readout
     requires { ⌜ row ≡ rowOf (kindIn rec) ⌝ }
-    ensures { λ r. ⌜ r ≡ asRead 0 (judged (lookIn (now (notes .entry))) (givenIn (now (notes .entry))) f len rec) ⌝ }
+    ensures { λ r. ⌜ r ≡ asRead 0 (judged (lookIn (now (notes .entry))) (givenIn (now (notes .entry))) f len rec minus) ⌝ }
 {
     let a = rules::fault(false, row, rec, notes);
     if a == 8 {
@@ -92,9 +104,63 @@ fn judge(row: [u8; 16], f: usize, len: usize, rec: [u64; WORDS], notes: &[[u8; B
         if len != w as usize {
             return refuse(Refusal::Misfit);
         }
-        return ruled(a, rec);
+        return ruled(a, rec, minus);
     }
-    ruled(a, rec)
+    ruled(a, rec, minus)
+}
+
+// The line a, in a place of the given class of a record of the kind k, may have the sign that it has: a minus stands before a word, in no init.
+fn sign_fits(k: u64, class: u8, a: u64, minus: bool, notes: &[[u8; BYTES]]) -> bool
+    ensures { λ r. ⌜ r ≡ minusFits k class (lookIn (now (notes .entry)) a) minus ⌝ }
+{
+    if !minus {
+        return true;
+    }
+    if class == NONE {
+        return false;
+    }
+    if VALUE < class {
+        return false;
+    }
+    if k == 6 {
+        return false;
+    }
+    types::is_word(notes::look(notes, a))
+}
+
+// Each minus of a record stands where it may, by a row.
+fn signs_fit(row: [u8; 16], rec: [u64; WORDS], minus: [bool; WORDS], notes: &[[u8; BYTES]]) -> bool
+    ensures { λ r. ⌜ r ≡ all (minusesBy row (lookIn (now (notes .entry))) minus rec) ⌝ }
+{
+    let k = rec[0];
+    if !sign_fits(k, row[11], rec[1], minus[1], notes) {
+        return false;
+    }
+    if !sign_fits(k, row[13], rec[2], minus[2], notes) {
+        return false;
+    }
+    if !sign_fits(k, row[14], rec[3], minus[3], notes) {
+        return false;
+    }
+    sign_fits(k, row[15], rec[4], minus[4], notes)
+}
+
+// 8 for a minus that stands where none may, and what follows. The row is that of the record's kind.
+fn allow(
+    row: [u8; 16],
+    f: usize,
+    len: usize,
+    rec: [u64; WORDS],
+    minus: [bool; WORDS],
+    notes: &[[u8; BYTES]],
+) -> Readout
+    requires { ⌜ row ≡ rowOf (kindIn rec) ⌝ }
+    ensures { λ r. ⌜ r ≡ asRead 0 (allowed (lookIn (now (notes .entry))) (givenIn (now (notes .entry))) f len rec minus) ⌝ }
+{
+    if !signs_fit(row, rec, minus, notes) {
+        return refuse(Refusal::WrongClass);
+    }
+    judge(row, f, len, rec, minus, notes)
 }
 
 // The places of the lines that a record names, the value of one and ones, and what follows. The row is that of the record's kind.
@@ -102,18 +168,19 @@ fn conclude(
     row: [u8; 16],
     f: usize,
     rec: [u64; WORDS],
+    minus: [bool; WORDS],
     len: usize,
     table: &[u64],
     n: usize,
     notes: &[[u8; BYTES]],
 ) -> Readout
     requires { ⌜ (row ≡ rowOf (kindIn rec)) × (((a : ℕ) → lookIn (now notes) a .w ≤ 64) × Risen (now table) n) ⌝ }
-    ensures { λ r. ⌜ r ≡ asRead 0 (concluded (lookIn (now (notes .entry))) (givenIn (now (notes .entry))) f len (resolved (idsOf (now (table .entry)) n) rec)) ⌝ }
+    ensures { λ r. ⌜ r ≡ asRead 0 (concluded (lookIn (now (notes .entry))) (givenIn (now (notes .entry))) f len (resolved (idsOf (now (table .entry)) n) rec) minus) ⌝ }
 {
     let p = ids::resolve(row, rec, table, n);
     let w = notes::look(notes, p[1]).w;
     let t = settle(w, f, p);
-    judge(row, f, len, t, notes)
+    allow(row, f, len, t, minus, notes)
 }
 
 // 7, and what follows.
@@ -121,6 +188,7 @@ fn large(
     row: [u8; 16],
     f: usize,
     rec: [u64; WORDS],
+    minus: [bool; WORDS],
     big: bool,
     len: usize,
     table: &[u64],
@@ -128,7 +196,7 @@ fn large(
     notes: &[[u8; BYTES]],
 ) -> Readout
     requires { ⌜ (row ≡ rowOf (kindIn rec)) × (((a : ℕ) → lookIn (now notes) a .w ≤ 64) × Risen (now table) n) ⌝ }
-    ensures { λ r. ⌜ r ≡ asRead 0 (largeOf (lookIn (now (notes .entry))) (givenIn (now (notes .entry))) (idsOf (now (table .entry)) n) f rec big len) ⌝ }
+    ensures { λ r. ⌜ r ≡ asRead 0 (largeOf (lookIn (now (notes .entry))) (givenIn (now (notes .entry))) (idsOf (now (table .entry)) n) f rec minus big len) ⌝ }
 {
     if big {
         return refuse(Refusal::NumberTooLarge);
@@ -138,7 +206,7 @@ fn large(
             return refuse(Refusal::NumberTooLarge);
         }
     }
-    conclude(row, f, rec, len, table, n, notes)
+    conclude(row, f, rec, minus, len, table, n, notes)
 }
 
 // What stands behind the numbers, 6, and what follows.
@@ -162,7 +230,8 @@ fn finish(
         return refuse(Refusal::BadOperand);
     }
     let rec = t.rec;
-    large(row, f, rec, t.big, t.len, table, n, notes)
+    let minus = t.minus;
+    large(row, f, rec, minus, t.big, t.len, table, n, notes)
 }
 
 // The line behind its word, whose form is f; kinds are the rows of all kinds, and the table holds the n records so far.
@@ -183,7 +252,7 @@ pub fn rest(
     let s = forms::sorted(row);
     let c = row[12] as usize;
     let k = forms::kind_of(f);
-    let t = operands::operands(l, at, f, s + c, 2 - s, records::of(k, 0, 0, 0, 0));
+    let t = operands::operands(l, at, row, f, s + c, 2 - s, records::of(k, 0, 0, 0, 0));
     let own = forms::kind_row(kinds, f, row);
     finish(l, own, f, t, table, n, notes)
 }

@@ -1,4 +1,4 @@
--- Ids: rows with ids in a list, read again as records and ids; and 1, 2, 3, which rise. Assumes nothing.
+-- Ids: rows with ids in a list, read again as records and ids; and 1, 2, 3, which rise and hold no 0. Assumes nothing.
 use Prim.Native.Nat.{ℕ, zero, suc, _+_, _-_, _<_, _≤_}
 use mathlib.Core.Path.{_≡_, refl, sym, ap, ap₂, _∙_}
 use mathlib.Core.Bool.{Bool, true, false, _&&_}
@@ -6,9 +6,11 @@ use mathlib.Core.List.{List, [], _∷_, _++_, map}
 use native.Mathlib.Omega.{arith}
 use lib.ListN.{length, getD, take, length-append}
 use lib.Seq.{take-all, take-append-seam}
-use borrow.Author.Tests.{lt-ltb, le-leb}
-use Rattle.tables.specs.Layout.{Placing, recordWords, recordSize, held, placing, rowBy, rowsFrom, idAt, idsBy, idsFrom, idsOf, withId, withIds, from, numbered, recordsOf, filled}
-use Rattle.tables.specs.Ids.{mostId, follows, rising, idsRight}
+use borrow.Author.Tests.{eq-eqb, ne-eqb, lt-ltb, le-leb}
+use Rattle.tables.specs.Lines.{kindIn}
+use Rattle.tables.specs.Layout.{Placing, recordWords, recordSize, held, placing, rowBy, rowsFrom, idAt, idsBy, idsFrom, idsOf, withId, withIds, from, numbered, recordAt, recordsOf, filled}
+use Rattle.tables.specs.Ids.{mostId, follows, rising, notKind, zerosOnNots, rightIds, idsRight}
+use Rattle.tables.proofs.Laws.{and-false}
 use Rattle.tables.proofs.Layouts.{placed, words-in}
 use Rattle.tables.proofs.Putting.{SizedBy, take-whole, rows-filled}
 use Rattle.tables.proofs.Places.{Sized}
@@ -31,31 +33,57 @@ from-append b (suc m) n =
     let z : suc b + m ≡ b + suc m = omega arith in
     ap (from b) q ∙ ap (λ (l : List ℕ). b ∷ l) (from-append (suc b) m n ∙ ap (λ (k : ℕ). from (suc b) m ++ from k n) z)
 
--- ids from 1 on rise
+-- ids from 1 on rise, and none is 0
 rising-after : (l n : ℕ) → l + n ≤ mostId → rising l (from (suc l) n) ≡ true
 rising-after l zero h = refl
-rising-after l (suc n) h = rw (lt-ltb l (suc l) (omega arith), le-leb (suc l) mostId (omega arith)) (rising-after (suc l) n (omega arith))
+rising-after l (suc n) h = rw (ne-eqb (suc l) 0 (λ e. omega arith), lt-ltb l (suc l) (omega arith), le-leb (suc l) mostId (omega arith)) (rising-after (suc l) n (omega arith))
 
 pub rising-from : (n : ℕ) → n ≤ 16384 → rising 0 (from 1 n) ≡ true
 rising-from n h = rising-after 0 n (omega arith)
 
--- ---- the ids of a list, one after the other: d is that of the record i of n
+zeros-from : (l n : ℕ) (rs : List (List ℕ)) → zerosOnNots rs (from (suc l) n) ≡ true
+zeros-from l n [] = refl
+zeros-from l zero (r ∷ rs) = refl
+zeros-from l (suc n) (r ∷ rs) = rw (ne-eqb (suc l) 0 (λ e. omega arith)) (zeros-from (suc l) n rs)
 
+pub right-from : (rs : List (List ℕ)) (n : ℕ) → n ≤ 16384 → rightIds rs (from 1 n) ≡ true
+right-from rs n h = rw (rising-from n h) (zeros-from 0 n rs)
+
+-- ---- the ids of a list, one after the other
+
+-- both rules, of m records from the record i on; last is the last id before it that is not 0
+abbrev pub rightFrom : List ℕ → (last i m : ℕ) → Bool
+rightFrom t last i m = rising last (idsFrom t i m) && zerosOnNots (rowsFrom (placing false) recordWords t i m) (idsFrom t i m)
+
+-- d is the id of the record i of n
 module _ (t : List ℕ) (n i last d : ℕ) (h : i < n) (e : d ≡ idAt t i) where
-  next-id : rising last (idsFrom t i (n - i)) ≡ (follows last d && rising d (idsFrom t (i + 1) (n - (i + 1))))
-  next-id =
+  abbrev later : (last : ℕ) → Bool
+  later last = rightFrom t last (i + 1) (n - (i + 1))
+
+  next-id : (x : Bool) → (rising last (d ∷ idsFrom t (i + 1) (n - (i + 1)))
+      && zerosOnNots (recordAt false t i ∷ rowsFrom (placing false) recordWords t (i + 1) (n - (i + 1))) (d ∷ idsFrom t (i + 1) (n - (i + 1)))) ≡ x
+      → rightFrom t last i (n - i) ≡ x
+  next-id x g =
       let q : n - i ≡ suc (n - (i + 1)) = omega arith in
       let z : suc i ≡ i + 1 = omega arith in
-      ap (λ (m : ℕ). rising last (idsFrom t i m)) q ∙ ap₂ (λ (x j : ℕ). follows last x && rising x (idsFrom t j (n - (i + 1)))) (sym e) z
+      ap (rightFrom t last i) q
+      ∙ (ap₂ (λ (y j : ℕ). rising last (y ∷ idsFrom t j (n - (i + 1))) && zerosOnNots (recordAt false t i ∷ rowsFrom (placing false) recordWords t j (n - (i + 1))) (y ∷ idsFrom t j (n - (i + 1)))) (sym e) z
+      ∙ g)
 
-  pub id-stops : false ≡ follows last d → rising last (idsFrom t i (n - i)) ≡ false
-  id-stops f = next-id ∙ rw (sym f) refl
+  pub id-stops : (d ≡ 0 → ⊥) → false ≡ follows last d → rightFrom t last i (n - i) ≡ false
+  id-stops f g = next-id false (rw (ne-eqb d 0 f, sym g) refl)
 
-  pub id-follows : true ≡ follows last d → rising last (idsFrom t i (n - i)) ≡ rising d (idsFrom t (i + 1) (n - (i + 1)))
-  id-follows f = next-id ∙ rw (sym f) refl
+  pub id-follows : (d ≡ 0 → ⊥) → true ≡ follows last d → rightFrom t last i (n - i) ≡ later d
+  id-follows f g = next-id (later d) (rw (ne-eqb d 0 f, sym g) refl)
 
-pub ids-end : (t : List ℕ) (n i last : ℕ) → n ≤ i → rising last (idsFrom t i (n - i)) ≡ true
-ids-end t n i last h = let q : n - i ≡ 0 = omega arith in ap (λ (m : ℕ). rising last (idsFrom t i m)) q
+  pub zero-stops : d ≡ 0 → (kindIn (recordAt false t i) ≡ notKind → ⊥) → rightFrom t last i (n - i) ≡ false
+  zero-stops f g = next-id false (rw (eq-eqb d 0 f, ne-eqb (kindIn (recordAt false t i)) notKind g) (and-false (rising last (idsFrom t (i + 1) (n - (i + 1))))))
+
+  pub zero-follows : d ≡ 0 → kindIn (recordAt false t i) ≡ notKind → rightFrom t last i (n - i) ≡ later last
+  zero-follows f g = next-id (later last) (rw (eq-eqb d 0 f, eq-eqb (kindIn (recordAt false t i)) notKind g) refl)
+
+pub ids-end : (t : List ℕ) (n i last : ℕ) → n ≤ i → rightFrom t last i (n - i) ≡ true
+ids-end t n i last h = let q : n - i ≡ 0 = omega arith in ap (rightFrom t last i) q
 
 -- ---- rows with ids
 
@@ -142,5 +170,7 @@ records-filled false len rs z h = records-with len rs (from 1 (length rs)) z (sy
 records-filled true len rs z h = rows-filled (placed true) (words-in true) (omega arith) len rs h z ∙ take-whole recordWords rs z
 
 pub ids-filled : (p : Bool) (len : ℕ) (rs : List (List ℕ)) → Sized rs → length rs ≤ held p len → length rs ≤ 16384 → idsRight p (filled p len (numbered p rs)) (length rs) ≡ true
-ids-filled false len rs z h few = ap (rising 0) (ids-with len rs (from 1 (length rs)) z (sym (length-from 1 (length rs))) h) ∙ rising-from (length rs) few
+ids-filled false len rs z h few =
+    let t = filled false len (withIds rs (from 1 (length rs))) in
+    ap (rightIds (recordsOf false t (length rs))) (ids-with len rs (from 1 (length rs)) z (sym (length-from 1 (length rs))) h) ∙ right-from (recordsOf false t (length rs)) (length rs) few
 ids-filled true len rs z h few = refl

@@ -1,10 +1,11 @@
 -- What it takes for a record to keep the rules. Assumes nothing.
-use Prim.Native.Nat.{ℕ, _≤_}
+use Prim.Native.Nat.{ℕ, zero, suc, _≤_}
 use mathlib.Core.Path.{_≡_, refl, sym, subst}
 use mathlib.Core.Bool.{Bool, true, false, _&&_, _||_}
-use mathlib.Core.List.{List}
+use mathlib.Core.List.{List, [], _∷_}
 use native.Mathlib.Omega.{arith}
 use lib.Dec.{eqb}
+use lib.ListN.{getD}
 use borrow.Author.Tests.{eqb-true}
 use Rattle.tables.specs.declared.Ty.{Ty}
 use Rattle.tables.specs.Pick.{all, inside}
@@ -21,6 +22,12 @@ no-yes z = let q : _≡_ {A = ℕ} 0 1 = cc in omega arith
 pub both : (a b : Bool) → (a && b) ≡ true → (a ≡ true) × (b ≡ true)
 both true b e = (refl, e)
 both false b e = absurd (no-yes e)
+
+-- each test of a list that holds
+pub all-at : (bs : List Bool) → all bs ≡ true → (j : ℕ) → getD bs j true ≡ true
+all-at [] h j = refl
+all-at (b ∷ bs) h zero = both b _ h .0
+all-at (b ∷ bs) h (suc j) = all-at bs (both b _ h .1) j
 
 pub either : (a b : Bool) {P : Type 0} → (a || b) ≡ true → (a ≡ true → P) → (b ≡ true → P) → P
 either true b e f g = f refl

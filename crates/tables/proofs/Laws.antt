@@ -9,6 +9,12 @@ use native.Mathlib.Omega.{arith}
 use lib.Arith.{lt-of-le-ne}
 use lib.Dec.{T, eqb, ltb}
 use borrow.Author.Tests.{eq-eqb, ne-eqb, ltb-true, ltb-false}
+use Rattle.tables.specs.Pick.{pick}
+
+-- what holds of both choices holds of the one that is picked
+pub by-pick : {A : Type 0} (P : A → Type 0) (b : Bool) {x y : A} → (b ≡ true → P x) → (b ≡ false → P y) → P (pick b x y)
+by-pick P true f g = f refl
+by-pick P false f g = g refl
 
 pub and-true : (b : Bool) → (b && true) ≡ b
 and-true true = refl

@@ -25,6 +25,8 @@ pub mod Entries
 pub mod Cones
 pub mod Marks
 pub mod SameChecks
+pub mod OwnSorts
+pub mod Replaced
 pub mod SampleMarks
 pub mod GivenStates
 pub mod GivenLines

@@ -6,7 +6,7 @@ use mathlib.Core.Bool.{Bool, true, false, not, _||_}
 use mathlib.Core.List.{List}
 use lib.Dec.{T, T-not, leb, eqb, leb→le}
 use Rattle.tables.proofs.Every.{at-each}
-use Rattle.tables.proofs.Laws.{past}
+use Rattle.tables.proofs.Laws.{by-pick, past}
 use mir.Facts.{and-yes}
 use borrow.Author.Tests.{le-leb, lt-leb, ne-eqb, eqb-true, eqb-false}
 use native.Mathlib.Omega.{arith}
@@ -69,10 +69,6 @@ KindOf isUnknown k = Unit {0}
 KindOf (isInitOrNext m) k = k ≡ initOrNextKind m
 KindOf (isSignal m) k = k ≡ signalKind m
 KindOf (isEquality e) k = k ≡ equalityKind e
-
-by-pick : (P : Shape → Type 0) (b : Bool) {x y : Shape} → (b ≡ true → P x) → (b ≡ false → P y) → P (pick b x y)
-by-pick P true f g = f refl
-by-pick P false f g = g refl
 
 pub range : (i j k : ℕ) → inside i j k ≡ true → (i ≤ k) × (k ≤ j)
 range i j k e = let h = and-yes (leb i k) (leb k j) (subst T (sym e) tt) in (leb→le i k (h .0), leb→le k j (h .1))

@@ -76,6 +76,17 @@ ids : checked false (ofIds (5 ∷ 4294967295 ∷ [])) 2 ∷ checked false (ofIds
 unfolding checked fault suits rowOf filledBy
 ids = refl
 
+-- 1 sort bitvec 1, 2 input 1, 3 not 1 2, 4 not 1 3 with these ids
+abbrev withNots : List ℕ → List ℕ
+withNots ds = filled false (wordsFor false 4) (withIds (fields 1 0 1 0 0 ∷ fields 4 1 0 0 0 ∷ fields 11 1 2 0 0 ∷ fields 11 1 3 0 0 ∷ []) ds)
+
+-- nots of id 0, one used by the other and the last by none; a not with an id of its own; an id that does not rise above the last that is not 0; id 0 on an input
+zero-ids : checked false (withNots (5 ∷ 6 ∷ 0 ∷ 0 ∷ [])) 4 ∷ checked false (withNots (5 ∷ 6 ∷ 0 ∷ 7 ∷ [])) 4 ∷ checked false (withNots (5 ∷ 6 ∷ 0 ∷ 6 ∷ [])) 4
+    ∷ checked false (withNots (5 ∷ 0 ∷ 6 ∷ 7 ∷ [])) 4 ∷ []
+    ≡ Accepted ∷ Accepted ∷ Refused BadTable ∷ Refused BadTable ∷ []
+unfolding checked fault suits rowOf filledBy
+zero-ids = refl
+
 -- 30 words are five records of a circuit and six of a program
 sizes : held false 30 ∷ held true 30 ∷ [] ≡ 5 ∷ 6 ∷ []
 sizes = refl

@@ -1,12 +1,13 @@
 -- The one constant table of the kinds: for each of the kinds 1 to 55, in order, its word, the class of its sort and those of its operands. Five more words for a
 -- constant, kind 3, are known to the reader alone: texts/specs/Forms has them. Assumes nothing.
-use Prim.Native.Nat.{ℕ, zero, suc, _-_}
+use Prim.Native.Nat.{ℕ, zero, suc, _+_, _-_}
 use Prim.Native.Char.{code}
 use Prim.Native.String.{String, [] as []ˢ, _∷_ as _∷ˢ_}
+use mathlib.Core.Bool.{Bool}
 use mathlib.Core.List.{List, [], _∷_, _++_}
 use lib.Dec.{eqb}
 use lib.ListN.{length, getD, take, drop}
-use Rattle.tables.specs.Pick.{pick}
+use Rattle.tables.specs.Pick.{pick, inside}
 
 -- ---- the class of a place: what may stand as a line's sort, or as an operand of it
 
@@ -157,3 +158,11 @@ secondClass r = getD r 14 0
 
 abbrev pub thirdClass : List ℕ → ℕ
 thirdClass r = getD r 15 0
+
+-- the class of the place j of a record: the sort's where j is 1, an operand's from 2 on
+abbrev pub classAt : List ℕ → (j : ℕ) → ℕ
+classAt r j = getD r (11 + pick (eqb j 1) 0 j) 0
+
+-- a place of the class k names a line; else it holds a plain number, or the line has no such place
+abbrev pub namesLine : (k : ℕ) → Bool
+namesLine k = inside word anySort k

@@ -1,25 +1,29 @@
 -- What reading leaves is an accepted table: with the round trip, a table is accepted just where the text printed from it gives it back. Assumes nothing.
 use Prim.Native.Nat.{ℕ, suc, _≤_}
-use mathlib.Core.Path.{_≡_, refl, sym, ap, _∙_, subst}
-use mathlib.Core.Bool.{Bool, true, false}
-use mathlib.Core.List.{List, [], _∷_, _++_, append-nil, append-assoc}
+use mathlib.Core.Path.{_≡_, refl, sym, ap, ap₂, _∙_, subst}
+use mathlib.Core.Bool.{Bool, true, false, not, _||_}
+use mathlib.Core.List.{List, [], _∷_, _++_, map, append-nil, append-assoc}
 use native.Mathlib.Omega.{arith}
-use lib.Dec.{leb}
-use lib.ListN.{length, length-append}
+use lib.Dec.{eqb, leb}
+use lib.ListN.{length, replicate, length-append, length-replicate}
 use borrow.Author.Tests.{leb-true, leb-false}
 use Rattle.tables.specs.declared.Refusal.{Refusal}
 use Rattle.tables.specs.declared.Checked.the-variants.{Accepted}
-use Rattle.tables.specs.Lines.{lineOf}
+use Rattle.tables.specs.Lines.{lineOf, kindIn}
 use Rattle.tables.specs.Layout.{whole, room, recordsOf, idsOf, withIds, filled}
-use Rattle.tables.specs.Ids.{rising}
-use Rattle.tables.specs.Types.{Ctx, noCtx, tyAt, given, grow}
-use Rattle.tables.specs.Tables.{lawful, checked}
+use Rattle.tables.specs.Ids.{rising, notKind, zerosOnNots, rightIds}
+use Rattle.tables.specs.Types.{Ctx, noCtx, tyAt, given, grow, growAll}
+use Rattle.tables.specs.Tables.{keeps, lawful, checked}
+use Rattle.tables.proofs.Kept.{both}
 use Rattle.tables.proofs.Checking.{is-lawful, roomy}
-use Rattle.tables.proofs.Places.{Sized, length-filled}
+use Rattle.tables.proofs.Places.{Sized, sized-append, length-filled}
 use Rattle.tables.proofs.Ids.{records-with, ids-with}
+use Rattle.tables.proofs.OwnSorts.{OwnSorts, sorts-none, sorts-all}
 use Rattle.texts.specs.Split.{split}
-use Rattle.texts.specs.Reading.{Reply, skip, no, got, lastOf, lineId, lineTokens, readLine, done, refused, readLinesBy, readLines, readText, tableOf}
+use Rattle.texts.specs.Reading.{Reply, skip, no, got, minuses, lineRecords, lineIds, lastOf, lineId, lineTokens, readLine, done, refused, readLinesBy, readLines, readText, tableOf}
 use Rattle.texts.proofs.Kept.{Gives, got-gives}
+use Rattle.texts.proofs.NextIds.{follows-some, last-line, rising-line}
+use Rattle.texts.proofs.Nots.{line-kept, spread-length, spread-zeros}
 use Rattle.texts.proofs.Reached.{step-got, step-skip, step-no, text-1, text-2, text-lines}
 
 -- the records that lines have added to others, rs, in the context c, and their ids, added to ds
@@ -31,31 +35,49 @@ record Added (m : ℕ) (c : Ctx) (rs : List (List ℕ)) (ds : List ℕ) (out : L
   newIds : List ℕ
   allIds : ids ≡ ds ++ newIds
   rise : rising (lastOf 0 ds) newIds ≡ true
+  zeros : zerosOnNots new newIds ≡ true
   same : length new ≡ length newIds
   most : length ds ≤ m → length ids ≤ m
 
-last-more : (l : ℕ) (ds : List ℕ) (d : ℕ) → lastOf l (ds ++ (d ∷ [])) ≡ d
-last-more l [] d = refl
-last-more l (e ∷ ds) d = last-more e ds d
+lawful-append : (c : Ctx) (ls ns : List (List ℕ)) → lawful false c ls ≡ true → lawful false (growAll false c (map lineOf ls)) ns ≡ true → lawful false c (ls ++ ns) ≡ true
+lawful-append c [] ns h k = k
+lawful-append c (l ∷ ls) ns h k = let q = both (keeps false (tyAt c) (given c) l) _ h in rw (q .0) (lawful-append (grow false c (lineOf l)) ls ns (q .1) k)
 
-added-one : {m : ℕ} {c : Ctx} {rs : List (List ℕ)} {ds : List ℕ} {out : List (List ℕ)} {ids : List ℕ} {ts : List (List ℕ)} (r : List ℕ) → Gives (tyAt c) (given c) m ds ts r
-    → Added m (grow false c (lineOf r)) (rs ++ (r ∷ [])) (ds ++ (lineId ts ∷ [])) out ids → Added m c rs ds out ids
-added-one {rs = rs} {ds = ds} {ts = ts} r g a =
+zeros-append : (ls : List (List ℕ)) (es : List ℕ) (ns : List (List ℕ)) (is : List ℕ) → length ls ≡ length es → zerosOnNots ls es ≡ true → zerosOnNots ns is ≡ true → zerosOnNots (ls ++ ns) (es ++ is) ≡ true
+zeros-append [] [] ns is e h k = k
+zeros-append [] (x ∷ es) ns is e h k = absurd (omega arith)
+zeros-append (l ∷ ls) [] ns is e h k = absurd (omega arith)
+zeros-append (l ∷ ls) (x ∷ es) ns is e h k = let q = both (not (eqb x 0) || eqb (kindIn l) notKind) _ h in rw (q .0) (zeros-append ls es ns is (omega arith) (q .1) k)
+
+-- those of a line, and what the lines behind it have added
+added-line : {m : ℕ} {c : Ctx} {rs : List (List ℕ)} {ds : List ℕ} {out : List (List ℕ)} {ids : List ℕ} {ts : List (List ℕ)} (r : List ℕ) (s : List Bool) → OwnSorts c rs
+    → Gives (tyAt c) (given c) m ds ts r s
+    → Added m (growAll false c (map lineOf (lineRecords s rs r))) (rs ++ lineRecords s rs r) (ds ++ lineIds s (lineId ts)) out ids → Added m c rs ds out ids
+added-line {rs = rs} {ds = ds} {ts = ts} r s O g a =
+    let k = line-kept O g in
+    let ls : List (List ℕ) = lineRecords s rs r in
+    let d : ℕ = lineId ts in
+    let es : List ℕ = lineIds s d in
+    let long : length ls ≡ length es = spread-length s 3 2 rs r ∙ sym (length-append (replicate (minuses s) 0) (d ∷ []) ∙ (omega (arith, length-replicate {A = ℕ} (minuses s) 0))) in
+    let some = follows-some (lastOf 0 ds) d (g .next) in
     record {
-      new = r ∷ a .new;
-      all = a .all ∙ append-assoc rs (r ∷ []) (a .new);
-      sized = (g .sized, a .sized);
-      law = rw (g .rules, a .law) refl;
-      newIds = lineId ts ∷ a .newIds;
-      allIds = a .allIds ∙ append-assoc ds (lineId ts ∷ []) (a .newIds);
-      rise = rw (g .next) (subst (λ (l : ℕ). rising l (a .newIds) ≡ true) (last-more 0 ds (lineId ts)) (a .rise));
-      same = ap suc (a .same);
-      most = λ x. a .most (omega (arith, length-append ds (lineId ts ∷ []), g .left));
+      new = ls ++ a .new;
+      all = a .all ∙ append-assoc rs ls (a .new);
+      sized = sized-append ls (a .new) (k .1) (a .sized);
+      law = lawful-append _ ls (a .new) (k .0) (a .law);
+      newIds = es ++ a .newIds;
+      allIds = a .allIds ∙ append-assoc ds es (a .newIds);
+      rise =
+          subst (λ (xs : List ℕ). rising (lastOf 0 ds) xs ≡ true) (sym (append-assoc (replicate (minuses s) 0) (d ∷ []) (a .newIds)))
+          (rising-line (lastOf 0 ds) (minuses s) d (a .newIds) (g .next) (subst (λ (l : ℕ). rising l (a .newIds) ≡ true) (last-line 0 ds (minuses s) d) (a .rise)));
+      zeros = zeros-append ls es (a .new) (a .newIds) long (spread-zeros s 3 2 rs r d some) (a .zeros);
+      same = length-append ls (a .new) ∙ (omega (arith, long, a .same, length-append es (a .newIds)));
+      most = λ x. a .most (omega (arith, length-append ds es, spread-length s 3 2 rs r, long, g .left));
     }
 
-adds : (m l : ℕ) (c : Ctx) (rs : List (List ℕ)) (ds : List ℕ) (xs out : List (List ℕ)) (ids : List ℕ) → readLines m l c rs ds xs ≡ done out ids → Added m c rs ds out ids
+adds : (m l : ℕ) (c : Ctx) (rs : List (List ℕ)) (ds : List ℕ) (xs out : List (List ℕ)) (ids : List ℕ) → OwnSorts c rs → readLines m l c rs ds xs ≡ done out ids → Added m c rs ds out ids
 unfolding readLinesBy
-adds m l c rs ds [] out ids q =
+adds m l c rs ds [] out ids O q =
     let b : rs ≡ out = cc in
     let d : ds ≡ ids = cc in
     record {
@@ -66,19 +88,24 @@ adds m l c rs ds [] out ids q =
       newIds = [];
       allIds = sym d ∙ sym (append-nil ds);
       rise = refl;
+      zeros = refl;
       same = refl;
       most = λ h. subst (λ (x : List ℕ). length x ≤ m) d h;
     }
-adds m l c rs ds (x ∷ xs) out ids q =
-    go (readLine (tyAt c) (given c) m ds (lineTokens x)) refl (adds m (suc l) c rs ds xs out ids)
-    (λ r. adds m (suc l) (grow false c (lineOf r)) (rs ++ (r ∷ [])) (ds ++ (lineId (lineTokens x) ∷ [])) xs out ids)
+adds m l c rs ds (x ∷ xs) out ids O q =
+    go (readLine (tyAt c) (given c) m ds (lineTokens x)) refl (adds m (suc l) c rs ds xs out ids O)
+    (λ r s. adds m (suc l) (growAll false c (map lineOf (lineRecords s rs r))) (rs ++ lineRecords s rs r) (ds ++ lineIds s (lineId (lineTokens x))) xs out ids)
   where
     go : (y : Reply) → readLine (tyAt c) (given c) m ds (lineTokens x) ≡ y → (readLines m (suc l) c rs ds xs ≡ done out ids → Added m c rs ds out ids)
-        → ((r : List ℕ) → readLines m (suc l) (grow false c (lineOf r)) (rs ++ (r ∷ [])) (ds ++ (lineId (lineTokens x) ∷ [])) xs ≡ done out ids
-        → Added m (grow false c (lineOf r)) (rs ++ (r ∷ [])) (ds ++ (lineId (lineTokens x) ∷ [])) out ids) → Added m c rs ds out ids
+        → ((r : List ℕ) (s : List Bool) → OwnSorts (growAll false c (map lineOf (lineRecords s rs r))) (rs ++ lineRecords s rs r)
+        → readLines m (suc l) (growAll false c (map lineOf (lineRecords s rs r))) (rs ++ lineRecords s rs r) (ds ++ lineIds s (lineId (lineTokens x))) xs ≡ done out ids
+        → Added m (growAll false c (map lineOf (lineRecords s rs r))) (rs ++ lineRecords s rs r) (ds ++ lineIds s (lineId (lineTokens x))) out ids) → Added m c rs ds out ids
     go skip h f g = f (sym (step-skip m l c rs ds x xs h) ∙ q)
     go (no r) h f g = let z : refused r l ≡ done out ids = sym (step-no m l c rs ds x xs r h) ∙ q in let w : _≡_ {A = ℕ} 0 1 = cc in absurd (omega arith)
-    go (got r) h f g = added-one r (got-gives (tyAt c) (given c) m ds (lineTokens x) r h) (g r (sym (step-got m l c rs ds x xs r h) ∙ q))
+    go (got r s) h f g =
+        let o = got-gives (tyAt c) (given c) m ds (lineTokens x) r s h in
+        let k = line-kept O o in
+        added-line r s O o (g r s (sorts-all c rs (lineRecords s rs r) O (k .1) (k .0)) (sym (step-got m l c rs ds x xs r s h) ∙ q))
 
 -- the table after reading is accepted with the count that was answered
 pub read-accepted : (len : ℕ) (s : List ℕ) (rs : List (List ℕ)) (ds : List ℕ) → readText len s ≡ done rs ds → checked false (tableOf len (done rs ds)) (length rs) ≡ Accepted
@@ -99,9 +126,10 @@ read-accepted len s rs ds q = go (whole false len) (leb (length s) 65536) refl r
         let d : idsOf t (length rs) ≡ ds = ids-with len rs ds sz long fits in
         sym
         (is-lawful false t (length rs) (ap (whole false) lt ∙ w) (subst (λ (k : ℕ). length rs ≤ room false k) (sym lt) few) (sym (ap (lawful false noCtx) (e ∙ a .all) ∙ a .law))
-        (sym (ap (rising 0) (d ∙ a .allIds) ∙ a .rise)))
+        (sym
+        (ap₂ rightIds (e ∙ a .all) (d ∙ a .allIds) ∙ rw (a .rise) (a .zeros))))
 
     go : (x y : Bool) → whole false len ≡ x → leb (length s) 65536 ≡ y → checked false (tableOf len (done rs ds)) (length rs) ≡ Accepted
     go false y h k = no-text (text-1 len s h)
     go true false h k = no-text (text-2 len s h (leb-false (length s) 65536 k))
-    go true true h k = taken h (adds (room false len) 1 noCtx [] [] (split 10 s) rs ds (sym (text-lines len s h (leb-true (length s) 65536 k)) ∙ q))
+    go true true h k = taken h (adds (room false len) 1 noCtx [] [] (split 10 s) rs ds sorts-none (sym (text-lines len s h (leb-true (length s) 65536 k)) ∙ q))

@@ -25,7 +25,7 @@ use Rattle.texts.specs.Writing.{writeFrom, writeText}
 use Rattle.texts.specs.Naming.{lineFrom, nameOf, namePlace}
 use Rattle.texts.proofs.Round.{round-trip}
 
-pub bytes : String → List ℕ
+unfoldable pub bytes : String → List ℕ
 bytes end = []
 bytes (c then s) = code c ∷ bytes s
 

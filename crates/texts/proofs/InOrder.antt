@@ -22,10 +22,11 @@ use Rattle.tables.proofs.Kept.{both, kept-fault}
 use Rattle.tables.proofs.Answers.{passed}
 use Rattle.tables.proofs.Places.{fields-of, fields-eq}
 use Rattle.tables.proofs.Showing.{earlier}
+use Rattle.tables.proofs.OwnSorts.{Counted}
 use Rattle.tables.proofs.Ids.{length-from, from-at}
-use Rattle.texts.specs.Operands.{placeByIdFrom, meant, resolved}
+use Rattle.texts.specs.Operands.{placeByIdFrom, placeById, meant, resolved}
 use Rattle.texts.specs.Reading.{lastOf}
-use Rattle.texts.proofs.Resolving.{place-first}
+use Rattle.texts.proofs.Resolving.{place-first, place-named}
 
 -- ---- 1, 2, 3
 
@@ -72,12 +73,12 @@ pub record Numbered (L : ℕ → Ty) (n : ℕ) : Type 0 where
 meant-same : (L : ℕ → Ty) (n : ℕ) → Numbered L n → (k v : ℕ) → k ≤ 8 → suits k (L v) ≡ true → meant k (from 1 n) v ≡ v
 meant-same L n N k v l h = go (eqb k 0 || eqb k 8) refl
   where
-    go : (q : Bool) → (eqb k 0 || eqb k 8) ≡ q → pick (eqb k 0 || eqb k 8) v (placeByIdFrom 1 (from 1 n) v) ≡ v
+    go : (q : Bool) → (eqb k 0 || eqb k 8) ≡ q → pick (eqb k 0 || eqb k 8) v (placeById (from 1 n) v) ≡ v
     go true e = rw e refl
     go false e =
         let r = suits-role k (L v) l e h in
         let most = N .most v r in
-        rw e (place-from 1 n v (N .least v r) (omega arith))
+        rw e (place-named (from 1 n) v (N .least v r) ∙ place-from 1 n v (N .least v r) (omega arith))
 
 -- ---- a record: the classes of a row are at most 8, one computed test
 
@@ -115,20 +116,6 @@ resolved-same L G n r N l kp =
     ∙ sym (fields-of r l)
 
 -- ---- the lines of a context
-
-pub record Counted (c : Ctx) (n : ℕ) : Type 0 where
-  pub first : tyAt c 0 ≡ noTy
-  pub size : length (c .tys) ≡ suc n
-
-pub counted-none : Counted noCtx 0
-counted-none = record { first = refl; size = refl }
-
-pub counted-more : (c : Ctx) (n : ℕ) (l : Line) → Counted c n → Counted (grow false c l) (suc n)
-counted-more c n l C =
-    record {
-      first = List·getD-append (c .tys) _ noTy 0 (omega (arith, C .size)) ∙ C .first;
-      size = length-append (c .tys) _ ∙ omega (arith, C .size);
-    }
 
 pub numbered-lines : (c : Ctx) (n : ℕ) → Counted c n → Numbered (tyAt c) n
 numbered-lines c n C = record { least = least; most = λ a h. omega (arith, earlier (c .tys) a h, C .size) }

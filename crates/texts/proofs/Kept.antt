@@ -1,11 +1,11 @@
 -- A record that reading gives keeps the rules: its kind is known, the words that its line does not use are 0, and 8, 9 and 10 do not hold of it. Assumes nothing.
 use Prim.Native.Nat.{ℕ, zero, suc, _+_, _-_, _^_, _≤_, _<_}
-use mathlib.Core.Path.{_≡_, refl, sym, ap, _∙_, subst}
+use mathlib.Core.Path.{_≡_, refl, sym, ap, ap₂, _∙_, subst}
 use mathlib.Core.Bool.{Bool, true, false, not, _&&_, _||_}
 use mathlib.Core.List.{List, [], _∷_}
 use native.Mathlib.Omega.{arith}
 use lib.Dec.{T, eqb, leb, ltb}
-use lib.ListN.{length, getD, set, length-set, length-take}
+use lib.ListN.{length, drop, getD, set, length-set, length-take}
 use lib.Seq.{getD-set-other}
 use mir.Facts.{and-yes}
 use borrow.Author.Tests.{eqb-true, eqb-false, eq-eqb, ltb-true, leb-true, not-false}
@@ -25,7 +25,7 @@ use Rattle.texts.specs.declared.Num.the-variants.{Bad, Big, Is}
 use Rattle.texts.specs.Forms.{formRow, kindOf, firstOf, numbersOf}
 use Rattle.texts.specs.Decimal.{decimal}
 use Rattle.texts.specs.Operands.{meant, resolved}
-use Rattle.texts.specs.Reading.{Word, word, unknown, wordIn, formOf, behind, numbersFrom, placed, numberTokens, numbersIn, lastOf, fresh, writtenRecord, settled, recordIn, isNext, valueOf, lineId, refusals, got, lowest, readLine}
+use Rattle.texts.specs.Reading.{Word, word, unknown, wordIn, formOf, behind, numbersFrom, placed, numberTokens, numbersIn, lastOf, signsIn, fresh, writtenRecord, settled, recordIn, minusesFit, minuses, isNext, valueOf, lineId, refusals, got, lowest, replyIn, readLine}
 use Rattle.texts.proofs.Words.{InForms, word-forms}
 use Rattle.texts.proofs.Steps.{settled-one, settled-ones, settled-other, settled-kind}
 use Rattle.texts.proofs.Lowest.{NoneHolds, got-none}
@@ -251,19 +251,38 @@ module _ (L : ℕ → Ty) (G : Bool → ℕ → Bool) where
 
   module _ (m : ℕ) (ds : List ℕ) where
     -- of a word that is known
-    module _ (t : List ℕ) (w : Word) (forms : InForms w) (r : List ℕ)
-        (e : lowest (refusals L G m ds t (formOf w) (behind w)) (recordIn L ds (formOf w) (behind w)) ≡ got r) where
+    module _ (t : List ℕ) (w : Word) (forms : InForms w) (r : List ℕ) (s : List Bool)
+        (e : lowest (refusals L G m ds t (formOf w) (behind w)) (replyIn L ds (formOf w) (behind w)) ≡ got r s) where
+      gives-all : NoneHolds (refusals L G m ds t (formOf w) (behind w)) × (replyIn L ds (formOf w) (behind w) ≡ got r s)
+      gives-all = got-none (refusals L G m ds t (formOf w) (behind w)) (replyIn L ds (formOf w) (behind w)) r s e
+
       none : NoneHolds (refusals L G m ds t (formOf w) (behind w))
-      none = got-none (refusals L G m ds t (formOf w) (behind w)) (recordIn L ds (formOf w) (behind w)) r e .0
+      none = gives-all .0
 
       is-record : recordIn L ds (formOf w) (behind w) ≡ r
-      is-record = got-none (refusals L G m ds t (formOf w) (behind w)) (recordIn L ds (formOf w) (behind w)) r e .1
+      is-record = let q = gives-all .1 in cc
+
+      are-signs : signsIn (formOf w) (behind w) ≡ s
+      are-signs = let q = gives-all .1 in cc
 
       line-id : isNext (decimal t) (lastOf 0 ds) ≡ true
       line-id = not-false (isNext (decimal t) (lastOf 0 ds)) (none .0)
 
-      line-room : length ds < m
-      line-room = ltb-true (length ds) m (not-false (ltb (length ds) m) (none .1 .0))
+      -- the refusals from 8 on
+      from-eight : NoneHolds (drop 5 (refusals L G m ds t (formOf w) (behind w)))
+      from-eight = none .1 .1 .1 .1 .1
+
+      line-room : length ds + minuses s < m
+      line-room =
+          let n : ℕ = length ds + minuses (signsIn (formOf w) (behind w)) in
+          subst (λ (x : List Bool). length ds + minuses x < m) are-signs (ltb-true n m (not-false (ltb n m) (from-eight .1 .1 .1 .0)))
+
+      line-minus : all (minusesFit L s r) ≡ true
+      line-minus =
+          let f : ℕ = formOf w in
+          let x = recordIn L ds f (behind w) in
+          let h = neither (eqb (fault false L G x) 8) _ (from-eight .0) .1 in
+          ap₂ (λ (y : List Bool) (z : List ℕ). all (minusesFit L y z)) (sym are-signs) (sym is-record) ∙ not-false (all (minusesFit L (signsIn f (behind w)) x)) h
 
       in-forms : (v : Word) → InForms v → eqb (formOf v) 0 ≡ false → (1 ≤ formOf v) × (formOf v ≤ 60)
       in-forms unknown h k = let z : _≡_ {A = ℕ} 0 1 = cc in absurd (omega arith)
@@ -275,18 +294,20 @@ module _ (L : ℕ → Ty) (G : Bool → ℕ → Bool) where
           let x : List ℕ = writtenRecord f (behind w) in
           let b = in-forms w forms (none .1 .1 .0) in
           let l = left-written f (behind w) in
-          let h = none .1 .1 .1 .1 .1 in
-          let k = no-fault (recordIn L ds f (behind w)) (h .0) (neither _ _ (h .1 .0) .0) (h .1 .1 .0) in
+          let h = from-eight in
+          let k = no-fault (recordIn L ds f (behind w)) (neither _ _ (h .0) .0) (neither _ _ (h .1 .0) .0) (h .1 .1 .0) in
           let v = L (sortIn (resolved ds x)) .w in
           let g = settled-formed v f ds x (l .same-length) (taken-formed v f (b .0) (b .1) x l (first-low (formRow f))) in
           subst (λ (y : List ℕ). (keeps false L G y ≡ true) × (length y ≡ recordWords)) is-record
           (both-true (formed false (recordIn L ds f (behind w))) _ g k, value-length v f (resolved ds x) ∙ resolved-length ds x)
 
-    -- a line that gives a record has an id and a word: its record keeps the rules, there is room for it, and its id follows
-    pub record Gives (ts : List (List ℕ)) (rec : List ℕ) : Type 0 where
+    -- A line that gives a record has an id and a word: its record keeps the rules, and its minuses stand where they may; there is room for it with its not records; its id
+    -- follows.
+    pub record Gives (ts : List (List ℕ)) (rec : List ℕ) (s : List Bool) : Type 0 where
       pub rules : keeps false L G rec ≡ true
       pub sized : length rec ≡ recordWords
-      pub left : length ds < m
+      pub minus : all (minusesFit L s rec) ≡ true
+      pub left : length ds + minuses s < m
       pub next : follows (lastOf 0 ds) (lineId ts) ≡ true
 
     next-value : (x : Num) (l : ℕ) → isNext x l ≡ true → follows l (valueOf x) ≡ true
@@ -294,14 +315,15 @@ module _ (L : ℕ → Ty) (G : Bool → ℕ → Bool) where
     next-value Big l h = let z : _≡_ {A = ℕ} 0 1 = cc in absurd (omega arith)
     next-value (Is v) l h = h
 
-    pub got-gives : (ts : List (List ℕ)) (rec : List ℕ) → readLine L G m ds ts ≡ got rec → Gives ts rec
+    pub got-gives : (ts : List (List ℕ)) (rec : List ℕ) (s : List Bool) → readLine L G m ds ts ≡ got rec s → Gives ts rec s
     unfolding readLine
-    got-gives [] rec e = let z : _≡_ {A = ℕ} 0 1 = cc in absurd (omega arith)
-    got-gives (t ∷ ts) rec e =
-        let k = line-keeps t (wordIn ts) (word-forms ts) rec e in
+    got-gives [] rec s e = let z : _≡_ {A = ℕ} 0 1 = cc in absurd (omega arith)
+    got-gives (t ∷ ts) rec s e =
+        let k = line-keeps t (wordIn ts) (word-forms ts) rec s e in
         record {
           rules = k .0;
           sized = k .1;
-          left = line-room t (wordIn ts) (word-forms ts) rec e;
-          next = next-value (decimal t) (lastOf 0 ds) (line-id t (wordIn ts) (word-forms ts) rec e);
+          minus = line-minus t (wordIn ts) (word-forms ts) rec s e;
+          left = line-room t (wordIn ts) (word-forms ts) rec s e;
+          next = next-value (decimal t) (lastOf 0 ds) (line-id t (wordIn ts) (word-forms ts) rec s e);
         }

@@ -8,12 +8,17 @@ pub mod Resolving
 pub mod Lowest
 pub mod Staged
 pub mod Kept
+pub mod Nots
+pub mod NextIds
+pub mod Holding
+pub mod Filled
 pub mod Readouts
 pub mod Reached
 pub mod InOrder
 pub mod Bounded
 pub mod Round
 pub mod Examples
+pub mod SampleMinus
 pub mod Printed
 pub mod Named
 pub mod Located

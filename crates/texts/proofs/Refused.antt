@@ -2,7 +2,7 @@
 use Prim.Native.Nat.{ℕ, suc, _+_, _≤_, _<_}
 use mathlib.Core.Path.{_≡_, refl, sym, _∙_, subst}
 use mathlib.Core.Bool.{Bool, true, false}
-use mathlib.Core.List.{List, [], _∷_, _++_}
+use mathlib.Core.List.{List, [], _∷_, _++_, map}
 use native.Mathlib.Omega.{arith}
 use lib.Dec.{eqb, leb, lit≤}
 use lib.ListN.{length}
@@ -13,9 +13,9 @@ use Rattle.tables.specs.declared.Refusal.the-variants.{NotATable, TextTooLong}
 use Rattle.tables.specs.Refusals.{numberOf}
 use Rattle.tables.specs.Lines.{lineOf}
 use Rattle.tables.specs.Layout.{whole, room}
-use Rattle.tables.specs.Types.{Ctx, noCtx, tyAt, given, grow}
+use Rattle.tables.specs.Types.{Ctx, noCtx, tyAt, given, growAll}
 use Rattle.texts.specs.Split.{glue, split}
-use Rattle.texts.specs.Reading.{formOf, behind, wordIn, recordIn, refusals, Reply, skip, no, got, lowest, lineId, lineTokens, readLine, refused, readLinesBy, readLines, readText}
+use Rattle.texts.specs.Reading.{formOf, behind, wordIn, signsIn, recordIn, lineRecords, lineIds, refusals, Reply, skip, no, got, lowest, lineId, lineTokens, readLine, refused, readLinesBy, readLines, readText}
 use Rattle.texts.proofs.Lowest.{holds, passes}
 use Rattle.texts.proofs.Reached.{step-got, step-skip, step-no, text-1, text-2, text-lines}
 
@@ -25,24 +25,24 @@ abbrev UpToTen : List (Refusal × Bool) → Type 0
 UpToTen [] = Unit {0}
 UpToTen (x ∷ xs) = (numberOf (x .0) ≤ 10) × UpToTen xs
 
-lowest-no : (xs : List (Refusal × Bool)) (rec : List ℕ) (r : Refusal) → UpToTen xs → lowest xs rec ≡ no r → numberOf r ≤ 10
+lowest-no : (xs : List (Refusal × Bool)) (rec : List ℕ) (s : List Bool) (r : Refusal) → UpToTen xs → lowest xs (got rec s) ≡ no r → numberOf r ≤ 10
 unfolding lowest
-lowest-no [] rec r h e = let w : _≡_ {A = ℕ} 0 1 = cc in absurd (omega arith)
-lowest-no (x ∷ xs) rec r h e = go (x .1) refl (lowest-no xs rec r (h .1))
+lowest-no [] rec s r h e = let w : _≡_ {A = ℕ} 0 1 = cc in absurd (omega arith)
+lowest-no (x ∷ xs) rec s r h e = go (x .1) refl (lowest-no xs rec s r (h .1))
   where
-    go : (b : Bool) → x .1 ≡ b → (lowest xs rec ≡ no r → numberOf r ≤ 10) → numberOf r ≤ 10
+    go : (b : Bool) → x .1 ≡ b → (lowest xs (got rec s) ≡ no r → numberOf r ≤ 10) → numberOf r ≤ 10
     go true q f =
-        let z : no (x .0) ≡ no r = sym (holds (x .0) (x .1) xs rec q) ∙ e in
+        let z : no (x .0) ≡ no r = sym (holds (x .0) (x .1) xs (got rec s) q) ∙ e in
         let w : x .0 ≡ r = cc in
         subst (λ (y : Refusal). numberOf y ≤ 10) w (h .0)
-    go false q f = f (sym (passes (x .0) (x .1) xs rec q) ∙ e)
+    go false q f = f (sym (passes (x .0) (x .1) xs (got rec s) q) ∙ e)
 
 line-no : (L : ℕ → Ty) (G : Bool → ℕ → Bool) (m : ℕ) (ds : List ℕ) (ts : List (List ℕ)) (r : Refusal) → readLine L G m ds ts ≡ no r → numberOf r ≤ 10
 unfolding readLine
 line-no L G m ds [] r e = let w : _≡_ {A = ℕ} 0 1 = cc in absurd (omega arith)
 line-no L G m ds (t ∷ ts) r e =
-    lowest-no (refusals L G m ds t (formOf (wordIn ts)) (behind (wordIn ts))) (recordIn L ds (formOf (wordIn ts)) (behind (wordIn ts))) r
-    (lit≤ tt, (lit≤ tt, (lit≤ tt, (lit≤ tt, (lit≤ tt, (lit≤ tt, (lit≤ tt, (lit≤ tt, tt)))))))) e
+    lowest-no (refusals L G m ds t (formOf (wordIn ts)) (behind (wordIn ts))) (recordIn L ds (formOf (wordIn ts)) (behind (wordIn ts))) (signsIn (formOf (wordIn ts)) (behind (wordIn ts))) r
+    (lit≤ tt, (lit≤ tt, (lit≤ tt, (lit≤ tt, (lit≤ tt, (lit≤ tt, (lit≤ tt, (lit≤ tt, (lit≤ tt, tt))))))))) e
 
 -- ---- the line
 
@@ -63,15 +63,15 @@ lines-no : (m l : ℕ) (c : Ctx) (rs : List (List ℕ)) (ds : List ℕ) (xs : Li
 unfolding readLinesBy
 lines-no m l c rs ds [] r k e = let w : _≡_ {A = ℕ} 0 1 = cc in absurd (omega arith)
 lines-no m l c rs ds (x ∷ xs) r k e =
-    go (readLine (tyAt c) (given c) m ds (lineTokens x)) refl (lines-no m (suc l) c rs ds xs r k) (λ q. lines-no m (suc l) (grow false c (lineOf q)) (rs ++ (q ∷ [])) (ds ++ (lineId (lineTokens x) ∷ [])) xs r k)
+    go (readLine (tyAt c) (given c) m ds (lineTokens x)) refl (lines-no m (suc l) c rs ds xs r k) (λ q s. lines-no m (suc l) (growAll false c (map lineOf (lineRecords s rs q))) (rs ++ lineRecords s rs q) (ds ++ lineIds s (lineId (lineTokens x))) xs r k)
   where
     on : (numberOf r ≤ 10) × (k < suc l + length xs) → (numberOf r ≤ 10) × (k < l + length (x ∷ xs))
     on h = (h .0, omega (arith, h .1))
 
     go : (y : Reply) → readLine (tyAt c) (given c) m ds (lineTokens x) ≡ y → (readLines m (suc l) c rs ds xs ≡ refused r k → (numberOf r ≤ 10) × (k < suc l + length xs))
-        → ((q : List ℕ) → readLines m (suc l) (grow false c (lineOf q)) (rs ++ (q ∷ [])) (ds ++ (lineId (lineTokens x) ∷ [])) xs ≡ refused r k → (numberOf r ≤ 10) × (k < suc l + length xs)) → (numberOf r ≤ 10) × (k < l + length (x ∷ xs))
+        → ((q : List ℕ) (s : List Bool) → readLines m (suc l) (growAll false c (map lineOf (lineRecords s rs q))) (rs ++ lineRecords s rs q) (ds ++ lineIds s (lineId (lineTokens x))) xs ≡ refused r k → (numberOf r ≤ 10) × (k < suc l + length xs)) → (numberOf r ≤ 10) × (k < l + length (x ∷ xs))
     go skip h f g = on (f (sym (step-skip m l c rs ds x xs h) ∙ e))
-    go (got q) h f g = on (g q (sym (step-got m l c rs ds x xs q h) ∙ e))
+    go (got q s) h f g = on (g q s (sym (step-got m l c rs ds x xs q s h) ∙ e))
     go (no q) h f g =
         let z : refused q l ≡ refused r k = sym (step-no m l c rs ds x xs q h) ∙ e in
         let w : q ≡ r = cc in

@@ -1,7 +1,7 @@
 -- Ids and places: where an id stands among ids that rise, and what a record names. Assumes nothing.
 use Prim.Native.Nat.{ℕ, zero, suc, _+_, _<_, _≤_}
-use mathlib.Core.Path.{_≡_, refl, ap, _∙_}
-use mathlib.Core.Bool.{Bool, true, false}
+use mathlib.Core.Path.{_≡_, refl, ap, _∙_, subst}
+use mathlib.Core.Bool.{Bool, true, false, _&&_}
 use mathlib.Core.List.{List, [], _∷_}
 use mathlib.Core.Logic.{⊎-elim}
 use native.Mathlib.Nat.{eq-or-lt-of-le}
@@ -9,13 +9,16 @@ use native.Mathlib.Omega.{arith}
 use lib.Dec.{leb, ltb}
 use lib.ListN.{length, getD}
 use borrow.Author.Tests.{ltb-true, ltb-false, eq-eqb, ne-eqb}
+use Rattle.tables.specs.Pick.{pick}
 use Rattle.tables.specs.Kinds.{none, number, rowOf, sortClass, firstClass, secondClass, thirdClass}
 use Rattle.tables.specs.Lines.{fields, kindIn, sortIn, firstIn, secondIn, thirdIn}
 use Rattle.tables.specs.Layout.{idAt, idsFrom, idsOf}
 use Rattle.tables.specs.Ids.{mostId, follows, rising}
 use Rattle.tables.proofs.Kept.{both}
+use Rattle.tables.proofs.Showing.{by-place}
 use Rattle.texts.specs.Operands.{placeByIdFrom, placeById, meant, resolved}
 use Rattle.texts.specs.Reading.{lastOf}
+use Rattle.texts.specs.Model.Searching.{Named, AllBelow, NoneBelow, AllZero, FirstNamed, Parted}
 
 -- ---- the ids of a list's records, one by one
 
@@ -41,24 +44,38 @@ last-at z (d ∷ []) (suc i) e = absurd (omega arith)
 last-at z (d ∷ f ∷ ds) zero e = absurd (omega arith)
 last-at z (d ∷ f ∷ ds) (suc i) e = last-at d (f ∷ ds) i (omega arith)
 
--- ---- ids that rise
+-- ---- ids that rise, but for zeros
 
-after : (l d : ℕ) (ds : List ℕ) → rising l (d ∷ ds) ≡ true → (l < d) × (rising d ds ≡ true)
-after l d ds r = let p = both (follows l d) (rising d ds) r in (ltb-true l d (both (ltb l d) (leb d mostId) (p .0) .0), p .1)
+after-zero : (l d : ℕ) (ds : List ℕ) → d ≡ 0 → rising l (d ∷ ds) ≡ true → rising l ds ≡ true
+after-zero l d ds z r = subst (λ (q : Bool). pick q (rising l ds) (follows l d && rising d ds) ≡ true) (eq-eqb d 0 z) r
 
-above : (l : ℕ) (ds : List ℕ) → rising l ds ≡ true → (i : ℕ) → i < length ds → l < getD ds i 0
-above l [] r i h = absurd (omega arith)
-above l (d ∷ ds) r zero h = after l d ds r .0
-above l (d ∷ ds) r (suc i) h = let p = after l d ds r in omega (arith, above d ds (p .1) i (omega arith))
+after : (l d : ℕ) (ds : List ℕ) → (d ≡ 0 → ⊥) → rising l (d ∷ ds) ≡ true → (l < d) × (rising d ds ≡ true)
+after l d ds n r =
+    let p = both (follows l d) (rising d ds) (subst (λ (q : Bool). pick q (rising l ds) (follows l d && rising d ds) ≡ true) (ne-eqb d 0 n) r) in
+    (ltb-true l d (both (ltb l d) (leb d mostId) (p .0) .0), p .1)
 
-rises : (l : ℕ) (ds : List ℕ) → rising l ds ≡ true → (i j : ℕ) → i < j → j < length ds → getD ds i 0 < getD ds j 0
-rises l [] r i j h k = absurd (omega arith)
-rises l (d ∷ ds) r i zero h k = absurd (omega arith)
-rises l (d ∷ ds) r zero (suc j) h k = above d ds (after l d ds r .1) j (omega arith)
-rises l (d ∷ ds) r (suc i) (suc j) h k = rises d ds (after l d ds r .1) i j (omega arith) (omega arith)
+above : (l : ℕ) (ds : List ℕ) → rising l ds ≡ true → (i : ℕ) → i < length ds → Named ds i → l < getD ds i 0
+above l [] r i h n = absurd (omega arith)
+above l (d ∷ ds) r zero h n = after l d ds n r .0
+above l (d ∷ ds) r (suc i) h n =
+    by-place d 0
+    (λ z. above l ds (after-zero l d ds z r) i (omega arith) n)
+    (λ z. let p = after l d ds z r in omega (arith, p .0, above d ds (p .1) i (omega arith) n))
 
-ordered : (l : ℕ) (ds : List ℕ) → rising l ds ≡ true → (i j : ℕ) → i ≤ j → j < length ds → getD ds i 0 ≤ getD ds j 0
-ordered l ds r i j h k = ⊎-elim (λ (e : i ≡ j). omega (arith, ap (λ (m : ℕ). getD ds m 0) e)) (λ (q : i < j). omega (arith, rises l ds r i j q k)) (eq-or-lt-of-le h)
+rises : (l : ℕ) (ds : List ℕ) → rising l ds ≡ true → (i j : ℕ) → i < j → j < length ds → Named ds j → getD ds i 0 < getD ds j 0
+rises l [] r i j h k n = absurd (omega arith)
+rises l (d ∷ ds) r i zero h k n = absurd (omega arith)
+rises l (d ∷ ds) r zero (suc j) h k n =
+    by-place d 0
+    (λ z. let g = above l ds (after-zero l d ds z r) j (omega arith) n in omega arith)
+    (λ z. above d ds (after l d ds z r .1) j (omega arith) n)
+rises l (d ∷ ds) r (suc i) (suc j) h k n =
+    by-place d 0
+    (λ z. rises l ds (after-zero l d ds z r) i j (omega arith) (omega arith) n)
+    (λ z. rises d ds (after l d ds z r .1) i j (omega arith) (omega arith) n)
+
+ordered : (l : ℕ) (ds : List ℕ) → rising l ds ≡ true → (i j : ℕ) → i ≤ j → j < length ds → Named ds j → getD ds i 0 ≤ getD ds j 0
+ordered l ds r i j h k n = ⊎-elim (λ (e : i ≡ j). omega (arith, ap (λ (m : ℕ). getD ds m 0) e)) (λ (q : i < j). omega (arith, rises l ds r i j q k n)) (eq-or-lt-of-le h)
 
 -- ---- the place of an id
 
@@ -76,37 +93,42 @@ place-missing : (b : ℕ) (ds : List ℕ) (d : ℕ) → Without ds (length ds) d
 place-missing b [] d w = refl
 place-missing b (f ∷ ds) d w = rw (ne-eqb f d (w 0 (omega arith))) (place-missing (suc b) ds d (λ j k. w (suc j) (omega arith)))
 
--- the ids before lo are below d, those from hi on are not
-abbrev pub AllBelow : (ds : List ℕ) (lo d : ℕ) → Type 0
-AllBelow ds lo d = (j : ℕ) → j < lo → getD ds j 0 < d
+-- no token names 0
+pub place-zero : (ds : List ℕ) (d : ℕ) → d ≡ 0 → placeById ds d ≡ 0
+place-zero ds d e = rw (eq-eqb d 0 e) refl
 
-abbrev pub NoneBelow : (ds : List ℕ) (hi d : ℕ) → Type 0
-NoneBelow ds hi d = (j : ℕ) → hi ≤ j → j < length ds → d ≤ getD ds j 0
+pub place-named : (ds : List ℕ) (d : ℕ) → 1 ≤ d → placeById ds d ≡ placeByIdFrom 1 ds d
+place-named ds d h = rw (ne-eqb d 0 (λ e. omega arith)) refl
 
--- where the ids rise
-module _ (ds : List ℕ) (r : rising 0 ds ≡ true) (d : ℕ) where
-  -- so it is with one id more
-  pub below-on : (m : ℕ) → m < length ds → getD ds m 0 < d → AllBelow ds (m + 1) d
-  below-on m h k j q = omega (arith, ordered 0 ds r j m (omega arith) h)
+-- where the ids rise, and d is one that a token may name
+module _ (ds : List ℕ) (r : rising 0 ds ≡ true) (d : ℕ) (least : 1 ≤ d) where
+  -- so it is with one id more, and past zeros
+  pub below-on : (m : ℕ) → m < length ds → Named ds m → getD ds m 0 < d → AllBelow ds (m + 1) d
+  below-on m h n k j q = omega (arith, ordered 0 ds r j m (omega arith) h n)
 
-  pub not-below-on : (m : ℕ) → d ≤ getD ds m 0 → NoneBelow ds m d
-  not-below-on m k j q h = omega (arith, ordered 0 ds r m j q h)
+  pub not-below-on : (m o : ℕ) → AllZero ds m o → (o < length ds → d ≤ getD ds o 0) → NoneBelow ds m d
+  not-below-on m o z k j q h n = go (ltb j o) refl
+    where
+      go : (t : Bool) → ltb j o ≡ t → d ≤ getD ds j 0
+      go true e = absurd (n (z j q (ltb-true j o e)))
+      go false e = let g = ltb-false j o e in omega (arith, k (omega arith), ordered 0 ds r o j g h n)
 
   -- an id that stands at i, which is counted from 0
   pub place-at : (i : ℕ) → i < length ds → getD ds i 0 ≡ d → placeById ds d ≡ 1 + i
-  place-at i h e = place-first 1 ds d i (λ j k x. omega (arith, rises 0 ds r j i k h)) h e
+  place-at i h e = place-named ds d least ∙ place-first 1 ds d i (λ j k x. omega (arith, rises 0 ds r j i k h (λ z. omega arith))) h e
 
-  -- one that would stand at i, and does not
-  pub place-none : (i : ℕ) → AllBelow ds i d → NoneBelow ds i d → (i < length ds → getD ds i 0 ≡ d → ⊥) → placeById ds d ≡ 0
-  place-none i b a n = place-missing 1 ds d (λ j h x. go j h x (ltb j i) refl)
+  -- one that would stand at o, the first from i on that is not 0, and does not
+  pub place-none : (i o : ℕ) → Parted ds i d → FirstNamed ds i o → (o < length ds → getD ds o 0 ≡ d → ⊥) → placeById ds d ≡ 0
+  place-none i o p f n = place-named ds d least ∙ place-missing 1 ds d (λ j h x. go j h x (ltb j i) (ltb j o) refl refl)
     where
-      go : (j : ℕ) → j < length ds → getD ds j 0 ≡ d → (t : Bool) → ltb j i ≡ t → ⊥
-      go j h x true q = omega (arith, b j (ltb-true j i q))
-      go j h x false q =
+      go : (j : ℕ) → j < length ds → getD ds j 0 ≡ d → (t u : Bool) → ltb j i ≡ t → ltb j o ≡ u → ⊥
+      go j h x true u p₁ q = omega (arith, p .below j (ltb-true j i p₁))
+      go j h x false true p₁ q = omega (arith, f .zeros j (ltb-false j i p₁) (ltb-true j o q))
+      go j h x false false p₁ q =
           ⊎-elim
-          (λ (e : i ≡ j). n (omega arith) (ap (λ (m : ℕ). getD ds m 0) e ∙ x))
-          (λ (p : i < j). omega (arith, rises 0 ds r i j p h, a i (omega arith) (omega arith)))
-          (eq-or-lt-of-le (ltb-false j i q))
+          (λ (e : o ≡ j). n (omega arith) (ap (λ (m : ℕ). getD ds m 0) e ∙ x))
+          (λ (k : o < j). omega (arith, rises 0 ds r o j k h (λ w. omega arith), p .above o (f .least) (omega arith) (f .named (omega arith))))
+          (eq-or-lt-of-le (ltb-false j o q))
 
 -- ---- what a record's numbers mean, by their classes
 

@@ -13,7 +13,7 @@ use Rattle.tables.specs.declared.Ty.{Ty}
 use Rattle.tables.specs.declared.Refusal.the-variants.{TextBuffer}
 use Rattle.tables.specs.declared.Checked.{Checked}
 use Rattle.tables.specs.declared.Checked.the-variants.{Accepted, Refused}
-use Rattle.tables.specs.Pick.{pick, inside}
+use Rattle.tables.specs.Pick.{pick, inside, all}
 use Rattle.tables.specs.Kinds.{rowOf, sortClass, operandCount, firstClass, secondClass, thirdClass}
 use Rattle.tables.specs.Lines.{isBitvec, shapeOf, lineOf, fields, kindIn, sortIn, firstIn, secondIn, thirdIn}
 use Rattle.tables.specs.Layout.{recordWords, whole, room, recordsOf, from}
@@ -22,7 +22,7 @@ use Rattle.tables.specs.Types.{Ctx, noCtx, tyAt, given, grow}
 use Rattle.tables.specs.Rules.{fault}
 use Rattle.tables.specs.Tables.{known, unused, formed, keeps, lawful, checked}
 use Rattle.tables.proofs.Every.{every, at-each}
-use Rattle.tables.proofs.Laws.{and-true}
+use Rattle.tables.proofs.Laws.{and-true, or-false}
 use Rattle.tables.proofs.Shapes.{fits-as, range}
 use Rattle.tables.proofs.Answers.{passed}
 use Rattle.tables.proofs.Kept.{both}
@@ -30,21 +30,22 @@ use Rattle.tables.proofs.Checking.{roomy}
 use Rattle.tables.proofs.Places.{fields-of, fields-eq, length-records}
 use Rattle.tables.proofs.Ids.{length-from, from-append}
 use Rattle.tables.proofs.Sound.{accepted-room, accepted-lawful}
+use Rattle.tables.proofs.OwnSorts.{Counted, counted-none, counted-more}
 use Rattle.texts.specs.declared.Num.{Num}
 use Rattle.texts.specs.declared.Num.the-variants.{Is}
 use Rattle.texts.specs.Forms.{formRow, kindOf, firstOf, numbersOf}
 use Rattle.texts.specs.Split.{split, join}
 use Rattle.texts.specs.Decimal.{decimal, digits}
 use Rattle.texts.specs.Operands.{resolved}
-use Rattle.texts.specs.Reading.{Word, word, wordIn, formOf, behind, numberAt, numbersFrom, anyBad, anyBig, placed, lastOf, numberTokens, extraTokens, numbersIn, fresh, writtenRecord, settled, recordIn, isNext, valueOf, lineId, misfit, refusals, got, lowest, readLine, done, lineTokens, readLines, readText}
+use Rattle.texts.specs.Reading.{Word, word, wordIn, formOf, behind, numberAt, numbersFrom, anyBad, anyBig, placed, lastOf, numberTokens, extraTokens, numbersIn, signsFrom, noSigns, signsIn, fresh, writtenRecord, settled, recordIn, minusesFit, minuses, isNext, valueOf, lineId, wrongClass, misfit, noRecordsLeft, refusals, got, lowest, replyIn, readLine, done, lineTokens, readLines, readText}
 use Rattle.texts.specs.Writing.{numbers, kindTokens, tokensOf, writeFrom, writeText, wrote, refuse, fitted, writeTable}
 use Rattle.texts.proofs.Splitting.{Toks, toks-append, tokens-join, lines-join}
 use Rattle.texts.proofs.Decimals.{digits-tok, decimal-digits}
 use Rattle.texts.proofs.Words.{word-found, word-toks, row-kind, kind-low}
-use Rattle.texts.proofs.Scan.{number-other}
+use Rattle.texts.proofs.Scan.{number-other, without-sign, number-plain, Plain, sign-none, signs-none}
 use Rattle.texts.proofs.Steps.{settled-other}
 use Rattle.texts.proofs.Lowest.{NoneHolds, none-holds}
-use Rattle.texts.proofs.InOrder.{last-from, Numbered, resolved-same, Counted, counted-none, counted-more, numbered-lines}
+use Rattle.texts.proofs.InOrder.{last-from, Numbered, resolved-same, numbered-lines}
 use Rattle.texts.proofs.Bounded.{Good, good-lawful}
 use Rattle.texts.proofs.Reached.{step-got, lines-end, text-lines}
 
@@ -78,11 +79,18 @@ placed-values (suc m) j rec d = placed-values m (suc j) rec (set d j (getD rec j
 
 module _ (k : ℕ) (low : k ≤ 55) (rec : List ℕ) (words : (j : ℕ) → getD rec j 0 < 2 ^ 64) where
   number-read : (j : ℕ) → numberAt k j (digits (getD rec j 0)) ≡ Is (getD rec j 0)
-  number-read j = number-other k j (digits (getD rec j 0)) (λ e. omega arith) (λ e. omega arith) ∙ decimal-digits (getD rec j 0) (words j)
+  number-read j =
+      let d = decimal-digits (getD rec j 0) (words j) in
+      without-sign k j (digits (getD rec j 0)) (sign-none k j (digits (getD rec j 0)) (number-plain (digits (getD rec j 0)) (getD rec j 0) d))
+      ∙ (number-other k j (digits (getD rec j 0)) (λ e. omega arith) (λ e. omega arith) ∙ d)
 
   numbers-read : (m j : ℕ) → numbersFrom k j (numbers m j rec) ≡ values m j rec
   numbers-read zero j = refl
   numbers-read (suc m) j = ap₂ (λ (x : Num) (xs : List Num). x ∷ xs) (number-read j) (numbers-read m (suc j))
+
+  numbers-plain : (m j : ℕ) → Plain (numbers m j rec)
+  numbers-plain zero j = tt
+  numbers-plain (suc m) j = (number-plain (digits (getD rec j 0)) (getD rec j 0) (decimal-digits (getD rec j 0) (words j)), numbers-plain m (suc j))
 
 -- ---- the words that a line does not use are 0, so nothing of a formed record is lost
 
@@ -207,6 +215,11 @@ module _ (L : ℕ → Ty) (G : Bool → ℕ → Bool) (r : List ℕ) (sized : le
       ap (numbersFrom (kindIn r) (firstOf (formRow (kindIn r)))) all-taken
       ∙ (ap (λ (x : List ℕ). numbersFrom (kindIn r) (firstOf x) printed) own-row ∙ numbers-read (kindIn r) most r words (numbersOf row) (firstOf row))
 
+  no-signs : signsIn (kindIn r) printed ≡ noSigns
+  no-signs =
+      ap (λ (x : List (List ℕ)). signsFrom (kindIn r) (firstOf (formRow (kindIn r))) x noSigns) all-taken
+      ∙ signs-none (kindIn r) (firstOf (formRow (kindIn r))) printed (numbers-plain (kindIn r) most r words (numbersOf row) (firstOf row))
+
   written-same : writtenRecord (kindIn r) printed ≡ r
   written-same =
       ap (λ (ns : List Num). placed (firstOf (formRow (kindIn r))) ns (fresh (kindOf (kindIn r)))) are-values
@@ -253,19 +266,27 @@ module _ (L : ℕ → Ty) (G : Bool → ℕ → Bool) (r : List ℕ) (sized : le
         ap not (lt-ltb (length ids) m (omega (arith, length-from 1 n))),
         (
           ne-eqb (kindIn r) 0 (λ e. omega (arith, least)),
-          (operands-fit, (numbers-fit, (other-fault 8 (λ e. omega arith), (no-misfit, (other-fault 10 (λ e. omega arith), tt))))),
+          (operands-fit, (numbers-fit, (right-class, (no-misfit, (other-fault 10 (λ e. omega arith), (all-left, tt)))))),
         ),
       ),
     )
       where
+        right-class : wrongClass L G m ids (digits (suc n)) (kindIn r) printed ≡ false
+        right-class =
+            ap (λ (s : List Bool). eqb (fault false L G (recordIn L ids (kindIn r) printed)) 8 || not (all (minusesFit L s (recordIn L ids (kindIn r) printed)))) no-signs
+            ∙ (or-false (eqb (fault false L G (recordIn L ids (kindIn r) printed)) 8) ∙ other-fault 8 (λ e. omega arith))
+
+        all-left : noRecordsLeft L G m ids (digits (suc n)) (kindIn r) printed ≡ false
+        all-left = ap (λ (s : List Bool). not (ltb (length ids + minuses s) m)) no-signs ∙ ap not (lt-ltb (length ids + 0) m (omega (arith, length-from 1 n)))
+
         no-misfit : misfit L G m ids (digits (suc n)) (kindIn r) printed ≡ false
         no-misfit = rw (other-fault 9 (λ e. omega arith), ne-eqb (kindIn r) 56 (λ e. omega (arith, most))) refl
 
-    pub line-read : (m : ℕ) → n < m → readLine L G m ids (tokensOf (suc n) r) ≡ got r
+    pub line-read : (m : ℕ) → n < m → readLine L G m ids (tokensOf (suc n) r) ≡ got r noSigns
     unfolding readLine
     line-read m h =
-        ap (λ (w : Word). lowest (refusals L G m ids (digits (suc n)) (formOf w) (behind w)) (recordIn L ids (formOf w) (behind w))) (kind-word (kindIn r) least most printed)
-        ∙ (none-holds (refusals L G m ids (digits (suc n)) (kindIn r) printed) (recordIn L ids (kindIn r) printed) (none-refused m h) ∙ ap got record-same)
+        ap (λ (w : Word). lowest (refusals L G m ids (digits (suc n)) (formOf w) (behind w)) (replyIn L ids (formOf w) (behind w))) (kind-word (kindIn r) least most printed)
+        ∙ (none-holds (refusals L G m ids (digits (suc n)) (kindIn r) printed) (replyIn L ids (kindIn r) printed) (none-refused m h) ∙ ap₂ got record-same no-signs)
 
 -- ---- the lines, the text
 
@@ -281,7 +302,7 @@ lines-read m l n c es (r ∷ rs) q h b g w =
     let more : from 1 n ++ (suc n ∷ []) ≡ from 1 (suc n) = (let z : n + 1 ≡ suc n = omega arith in let y : suc n ≡ 1 + n = omega arith in ap (λ (x : ℕ). from 1 n ++ (x ∷ [])) y ∙ (sym (from-append 1 n 1) ∙ ap (from 1) z)) in
     let all : suc n + length rs ≡ n + suc (length rs) = omega arith in
     ap (readLines m l c es (from 1 n)) (lines-join (tokensOf (suc n) r) (writeFrom (suc (suc n)) rs) ts)
-    ∙ (step-got m l c es (from 1 n) (join (tokensOf (suc n) r)) (split 10 (writeFrom (suc (suc n)) rs)) r
+    ∙ (step-got m l c es (from 1 n) (join (tokensOf (suc n) r)) (split 10 (writeFrom (suc (suc n)) rs)) r noSigns
     (rw j (line-read (tyAt c) (given c) r (g .0 .0) (g .0 .1) (k .0) n (numbered-lines c n q) (omega arith) m (omega arith)))
     ∙ (ap (λ (ds : List ℕ). readLines m (suc l) (grow false c (lineOf r)) (es ++ (r ∷ [])) ds (split 10 (writeFrom (suc (suc n)) rs))) (ap (λ (d : ℕ). from 1 n ++ (d ∷ [])) id ∙ more)
     ∙ (lines-read m (suc l) (suc n) (grow false c (lineOf r)) (es ++ (r ∷ [])) rs (counted-more c n (lineOf r) q) (omega arith) b (g .1) (k .1)

@@ -3,24 +3,27 @@
 use Prim.Native.Nat.{ℕ, suc}
 use mathlib.Core.Path.{_≡_, refl, sym, ap, _∙_, subst}
 use mathlib.Core.Bool.{Bool, true, false}
-use mathlib.Core.List.{List, [], _∷_, _++_, map}
+use mathlib.Core.List.{List, [], _∷_, _++_, map, append-nil, append-assoc}
 use lib.Dec.{leb}
 use lib.ListN.{length}
 use Rattle.tables.specs.declared.Ty.{Ty}
 use Rattle.tables.specs.Lines.{lineOf}
 use Rattle.tables.specs.Layout.{whole, room}
-use Rattle.tables.specs.Types.{Ctx, noCtx, tyAt, given, grow, context}
+use Rattle.tables.specs.Types.{Ctx, noCtx, tyAt, given, grow, growAll, context}
 use Rattle.tables.specs.Search.{searched}
-use Rattle.tables.specs.Tables.{keeps}
+use Rattle.tables.specs.Tables.{keeps, lawful}
+use Rattle.tables.proofs.Kept.{both}
 use Rattle.tables.proofs.Facts.{Ok, AllOk}
 use Rattle.tables.proofs.Sound.{sound}
 use Rattle.tables.proofs.Contexts.{map-snoc}
 use Rattle.tables.proofs.Marks.{searched-types}
 use Rattle.tables.proofs.SameChecks.{context-more, ok-more}
+use Rattle.tables.proofs.OwnSorts.{OwnSorts, sorts-none, sorts-all}
 use Rattle.texts.specs.Split.{split}
-use Rattle.texts.specs.Reading.{Reply, skip, no, got, lineId, lineTokens, readLine, readLinesBy, readLines, readTextBy, readText, outcomeOf, reads}
+use Rattle.texts.specs.Reading.{Reply, skip, no, got, lineRecords, lineIds, lineId, lineTokens, readLine, readLinesBy, readLines, readTextBy, readText, outcomeOf, reads}
 use Rattle.texts.specs.Search.{searchedTypes, readTextBySearch, readsBySearch}
 use Rattle.texts.proofs.Kept.{got-gives}
+use Rattle.texts.proofs.Nots.{line-kept}
 
 -- the records so far are those of accepted lines, and c is their context
 record Taken (c : Ctx) (rs : List (List ℕ)) : Type 0 where
@@ -41,24 +44,34 @@ one-more {c} {rs} r S k =
       ok = subst (AllOk false noCtx) (sym (map-snoc rs r)) (ok-more false C (lineOf r) (S .ok) h);
     }
 
-same-lines : (m l : ℕ) (c : Ctx) (rs : List (List ℕ)) (ds : List ℕ) (xs : List (List ℕ)) → Taken c rs → readLinesBy searchedTypes m l c rs ds xs ≡ readLines m l c rs ds xs
+-- and the records of a line
+line-more : (c : Ctx) (rs ls : List (List ℕ)) → Taken c rs → lawful false c ls ≡ true → Taken (growAll false c (map lineOf ls)) (rs ++ ls)
+line-more c rs [] S k = subst (Taken c) (sym (append-nil rs)) S
+line-more c rs (r ∷ ls) S k =
+    let h = both (keeps false (tyAt c) (given c) r) _ k in
+    subst (Taken (growAll false (grow false c (lineOf r)) (map lineOf ls))) (append-assoc rs (r ∷ []) ls) (line-more (grow false c (lineOf r)) (rs ++ (r ∷ [])) ls (one-more r S (h .0)) (h .1))
+
+same-lines : (m l : ℕ) (c : Ctx) (rs : List (List ℕ)) (ds : List ℕ) (xs : List (List ℕ)) → Taken c rs → OwnSorts c rs → readLinesBy searchedTypes m l c rs ds xs ≡ readLines m l c rs ds xs
 unfolding readLinesBy
-same-lines m l c rs ds [] S = refl
-same-lines m l c rs ds (x ∷ xs) S =
-    go (readLine (tyAt c) (given c) m ds (lineTokens x)) refl (same-lines m (suc l) c rs ds xs S)
-    (λ r. same-lines m (suc l) (grow false c (lineOf r)) (rs ++ (r ∷ [])) (ds ++ (lineId (lineTokens x) ∷ [])) xs)
+same-lines m l c rs ds [] S O = refl
+same-lines m l c rs ds (x ∷ xs) S O =
+    go (readLine (tyAt c) (given c) m ds (lineTokens x)) refl (same-lines m (suc l) c rs ds xs S O)
+    (λ r s. same-lines m (suc l) (growAll false c (map lineOf (lineRecords s rs r))) (rs ++ lineRecords s rs r) (ds ++ lineIds s (lineId (lineTokens x))) xs)
   where
     same : readLine (searchedTypes rs c) (given c) m ds (lineTokens x) ≡ readLine (tyAt c) (given c) m ds (lineTokens x)
     same = ap (λ (L : ℕ → Ty). readLine L (given c) m ds (lineTokens x)) (same-types S)
 
     go : (y : Reply) → readLine (tyAt c) (given c) m ds (lineTokens x) ≡ y → readLinesBy searchedTypes m (suc l) c rs ds xs ≡ readLines m (suc l) c rs ds xs
-        → ((r : List ℕ) → Taken (grow false c (lineOf r)) (rs ++ (r ∷ []))
-        → readLinesBy searchedTypes m (suc l) (grow false c (lineOf r)) (rs ++ (r ∷ [])) (ds ++ (lineId (lineTokens x) ∷ [])) xs
-        ≡ readLines m (suc l) (grow false c (lineOf r)) (rs ++ (r ∷ [])) (ds ++ (lineId (lineTokens x) ∷ [])) xs)
+        → ((r : List ℕ) (s : List Bool) → Taken (growAll false c (map lineOf (lineRecords s rs r))) (rs ++ lineRecords s rs r)
+        → OwnSorts (growAll false c (map lineOf (lineRecords s rs r))) (rs ++ lineRecords s rs r)
+        → readLinesBy searchedTypes m (suc l) (growAll false c (map lineOf (lineRecords s rs r))) (rs ++ lineRecords s rs r) (ds ++ lineIds s (lineId (lineTokens x))) xs
+        ≡ readLines m (suc l) (growAll false c (map lineOf (lineRecords s rs r))) (rs ++ lineRecords s rs r) (ds ++ lineIds s (lineId (lineTokens x))) xs)
         → readLinesBy searchedTypes m l c rs ds (x ∷ xs) ≡ readLines m l c rs ds (x ∷ xs)
     go skip h f g = rw (same ∙ h, h, readLinesBy) f
     go (no r) h f g = rw (same ∙ h, h, readLinesBy) refl
-    go (got r) h f g = rw (same ∙ h, h, readLinesBy) (g r (one-more r S (got-gives (tyAt c) (given c) m ds (lineTokens x) r h .rules)))
+    go (got r s) h f g =
+        let k = line-kept O (got-gives (tyAt c) (given c) m ds (lineTokens x) r s h) in
+        rw (same ∙ h, h, readLinesBy) (g r s (line-more c rs (lineRecords s rs r) S (k .0)) (sorts-all c rs (lineRecords s rs r) O (k .1) (k .0)))
 
 at-first : Taken noCtx []
 unfolding context
@@ -71,7 +84,7 @@ same-reading len s = go (whole false len) (leb (length s) 65536) refl refl
     go : (x y : Bool) → whole false len ≡ x → leb (length s) 65536 ≡ y → readTextBySearch len s ≡ readText len s
     go false y h k = rw (h, readTextBy) refl
     go true false h k = rw (h, k, readTextBy) refl
-    go true true h k = rw (h, k, readTextBy) (same-lines (room false len) 1 noCtx [] [] (split 10 s) at-first)
+    go true true h k = rw (h, k, readTextBy) (same-lines (room false len) 1 noCtx [] [] (split 10 s) at-first sorts-none)
 
 pub same-outcome : (len : ℕ) (s : List ℕ) → readsBySearch len s ≡ reads len s
 unfolding reads

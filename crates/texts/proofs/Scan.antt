@@ -6,14 +6,17 @@ use Prim.Native.Nat.{ℕ, zero, suc, _+_, _-_, _*_, _/_, _^_, _≤_, _<_}
 use native.Mathlib.Omega.{arith}
 use native.Mathlib.Numerals.{add-one}
 use native.Mathlib.Nat.{le-refl, le-trans, mul-suc, suc-mul, mul-assoc, pow-zero, pow-succ', pow-le-pow-right, mul-le-mul-right, one-mul, le-div-iff-mul-le, div-lt-iff-lt-mul}
-use lib.Dec.{eqb, ltb, lit≤}
-use lib.ListN.{length, drop, getD, drop-of-length-le}
+use lib.Dec.{eqb, leb, ltb, lit≤}
+use lib.ListN.{length, drop, getD, set, replicate, drop-of-length-le}
 use lib.Seq.{drop-cons}
-use borrow.Author.Tests.{eq-eqb, ne-eqb, lt-ltb, le-ltb, le-leb, lt-leb, ltb-true}
+use borrow.Author.Tests.{eq-eqb, ne-eqb, eqb-true, lt-ltb, le-ltb, le-leb, lt-leb, ltb-true, ltb-false}
+use Rattle.tables.specs.Kinds.{classAt, namesLine}
+use Rattle.tables.proofs.Laws.{and-false}
 use Rattle.texts.specs.declared.Num.the-variants.{Bad, Big, Is}
 use Rattle.texts.specs.Split.{split, upTo, tokens}
 use Rattle.texts.specs.Decimal.{digit, allIn, valueFrom, valued, scanned, decimal, digitsIn}
-use Rattle.texts.specs.Reading.{numberAt}
+use Rattle.texts.specs.Forms.{formRow}
+use Rattle.texts.specs.Reading.{leadsMinus, signAt, plainAt, numberAt, signsFrom, noSigns}
 
 module _ (b : ℕ) (s : List ℕ) (i : ℕ) where
   pub upTo-hit : i < length s → getD s i 0 ≡ b → upTo b (drop i s) ≡ []
@@ -189,18 +192,90 @@ digits-ok b m t p r n h l =
     let o : 1 * b ^ length t ≡ b ^ length t = one-mul (b ^ length t) in
     digits-is b m t n h l ∙ sym (rw (lt-ltb (valueFrom b 0 t) (2 ^ 64) (omega arith), valued) refl)
 
-pub number-binary : (f j : ℕ) (t : List ℕ) → f ≡ 56 → j ≡ 2 → numberAt f j t ≡ digitsIn 2 64 t
-number-binary f j t e k = rw (eq-eqb f 56 e, eq-eqb j 2 k, numberAt) refl
+pub number-binary : (f j : ℕ) (t : List ℕ) → f ≡ 56 → j ≡ 2 → plainAt f j t ≡ digitsIn 2 64 t
+number-binary f j t e k = rw (eq-eqb f 56 e, eq-eqb j 2 k, plainAt) refl
 
-pub number-hex : (f j : ℕ) (t : List ℕ) → f ≡ 57 → j ≡ 2 → numberAt f j t ≡ digitsIn 16 16 t
-number-hex f j t e k = rw (ne-eqb f 56 (λ x. omega arith), eq-eqb f 57 e, eq-eqb j 2 k, numberAt) refl
+pub number-hex : (f j : ℕ) (t : List ℕ) → f ≡ 57 → j ≡ 2 → plainAt f j t ≡ digitsIn 16 16 t
+number-hex f j t e k = rw (ne-eqb f 56 (λ x. omega arith), eq-eqb f 57 e, eq-eqb j 2 k, plainAt) refl
 
-pub number-other : (f j : ℕ) (t : List ℕ) → (f ≡ 56 → ⊥) → (f ≡ 57 → ⊥) → numberAt f j t ≡ decimal t
-number-other f j t e k = rw (ne-eqb f 56 e, ne-eqb f 57 k, numberAt) refl
+pub number-other : (f j : ℕ) (t : List ℕ) → (f ≡ 56 → ⊥) → (f ≡ 57 → ⊥) → plainAt f j t ≡ decimal t
+number-other f j t e k = rw (ne-eqb f 56 e, ne-eqb f 57 k, plainAt) refl
 
-pub number-first : (f j : ℕ) (t : List ℕ) → (j ≡ 2 → ⊥) → numberAt f j t ≡ decimal t
-number-first f j t e = rw (ne-eqb j 2 e, and-false (eqb f 56), numberAt) (rw (ne-eqb j 2 e, and-false (eqb f 57)) refl)
+pub number-first : (f j : ℕ) (t : List ℕ) → (j ≡ 2 → ⊥) → plainAt f j t ≡ decimal t
+number-first f j t e = rw (ne-eqb j 2 e, and-false (eqb f 56), plainAt) (rw (ne-eqb j 2 e, and-false (eqb f 57)) refl)
+
+-- ---- signs
+
+pub minus-none : (t : List ℕ) → length t ≡ 0 → leadsMinus t ≡ false
+minus-none [] h = refl
+minus-none (c ∷ t) h = absurd (omega arith)
+
+pub minus-other : (t : List ℕ) → (getD t 0 0 ≡ 45 → ⊥) → leadsMinus t ≡ false
+minus-other [] n = refl
+minus-other (c ∷ t) n = ne-eqb c 45 n
+
+pub minus-first : (t : List ℕ) → getD t 0 0 ≡ 45 → leadsMinus t ≡ true
+minus-first [] h = absurd (omega arith)
+minus-first (c ∷ t) h = eq-eqb c 45 h
+
+pub minus-some : (t : List ℕ) → leadsMinus t ≡ true → 1 ≤ length t
+minus-some [] h = let z : _≡_ {A = ℕ} 0 1 = cc in absurd (omega arith)
+minus-some (c ∷ t) h = omega arith
+
+-- the class of a place, and whether it names a line
+pub class-sort : (r : List ℕ) (j : ℕ) → j ≡ 1 → getD r 11 0 ≡ classAt r j
+class-sort r j e = rw (eq-eqb j 1 e) refl
+
+pub class-operand : (r : List ℕ) (j : ℕ) → (j ≡ 1 → ⊥) → getD r (11 + j) 0 ≡ classAt r j
+class-operand r j n = rw (ne-eqb j 1 n) refl
+
+pub names-none : (k : ℕ) → k ≡ 0 → namesLine k ≡ false
+names-none k e = ap namesLine e
+
+pub names-some : (k : ℕ) → (k ≡ 0 → ⊥) → ltb k 8 ≡ namesLine k
+names-some k n = go (ltb k 8) refl
   where
-    and-false : (q : Bool) → (q && false) ≡ false
-    and-false true = refl
-    and-false false = refl
+    go : (b : Bool) → ltb k 8 ≡ b → b ≡ namesLine k
+    go true e = sym (rw (le-leb 1 k (omega arith), le-leb k 7 (omega (arith, ltb-true k 8 e))) refl)
+    go false e = sym (rw (lt-leb k 7 (omega (arith, ltb-false k 8 e))) (and-false (leb 1 k)))
+
+module _ (f j : ℕ) (t : List ℕ) where
+  pub by-row : (row : List ℕ) → row ≡ formRow f → (namesLine (classAt row j) && leadsMinus t) ≡ signAt f j t
+  by-row row e = ap (λ (r : List ℕ). namesLine (classAt r j) && leadsMinus t) e
+
+  pub with-sign : signAt f j t ≡ true → numberAt f j t ≡ decimal (drop 1 t)
+  with-sign e = rw (e, numberAt) refl
+
+  pub without-sign : signAt f j t ≡ false → numberAt f j t ≡ plainAt f j t
+  without-sign e = rw (e, numberAt) refl
+
+-- a number in digits has no sign
+pub number-plain : (t : List ℕ) (v : ℕ) → decimal t ≡ Is v → leadsMinus t ≡ false
+unfolding decimal scanned allIn digit
+number-plain [] v e = refl
+number-plain (c ∷ t) v e = go (eqb c 45) refl
+  where
+    minus-bad : (t : List ℕ) → decimal (45 ∷ t) ≡ Bad
+    minus-bad [] = refl
+    minus-bad (d ∷ t) = refl
+
+    go : (b : Bool) → eqb c 45 ≡ b → b ≡ false
+    go true h = let z : Bad ≡ Is v = sym (ap (λ (x : ℕ). decimal (x ∷ t)) (eqb-true c 45 h) ∙ minus-bad t) ∙ e in let w : _≡_ {A = ℕ} 0 1 = cc in absurd (omega arith)
+    go false h = refl
+
+-- tokens of which none begins with a minus have no signs
+abbrev pub Plain : List (List ℕ) → Type 0
+Plain [] = Unit {0}
+Plain (t ∷ ts) = (leadsMinus t ≡ false) × Plain ts
+
+pub sign-none : (f j : ℕ) (t : List ℕ) → leadsMinus t ≡ false → signAt f j t ≡ false
+sign-none f j t h = rw h (and-false (namesLine (classAt (formRow f) j)))
+
+set-none : (n j : ℕ) → set (replicate n false) j false ≡ replicate n false
+set-none zero j = refl
+set-none (suc n) zero = refl
+set-none (suc n) (suc j) = ap (λ (l : List Bool). false ∷ l) (set-none n j)
+
+pub signs-none : (f j : ℕ) (ts : List (List ℕ)) → Plain ts → signsFrom f j ts noSigns ≡ noSigns
+signs-none f j [] p = refl
+signs-none f j (t ∷ ts) p = ap (λ (b : Bool). signsFrom f (suc j) ts (set noSigns j b)) (sign-none f j t (p .0)) ∙ (ap (signsFrom f (suc j) ts) (set-none 5 j) ∙ signs-none f (suc j) ts (p .1))

@@ -20,12 +20,12 @@ use Rattle.texts.specs.declared.Num.the-variants.{Bad, Big, Is}
 use Rattle.texts.specs.Forms.{formRow, kindOf, firstOf, numbersOf}
 use Rattle.texts.specs.Decimal.{decimal}
 use Rattle.texts.specs.Operands.{resolved}
-use Rattle.texts.specs.Reading.{Word, word, unknown, wordIn, formOf, behind, numberAt, numbersFrom, anyBad, anyBig, placed, lastOf, numberTokens, extraTokens, numbersIn, fresh, writtenRecord, settled, recordIn, isNext, lowest, readLine}
-use Rattle.texts.specs.Model.Stages.{Took, operands, takenIn, judged, concluded, large, ended, worded, stagedLine}
+use Rattle.texts.specs.Reading.{Word, word, unknown, wordIn, formOf, behind, numberAt, numbersFrom, anyBad, anyBig, placed, lastOf, numberTokens, extraTokens, numbersIn, signAt, signsFrom, noSigns, signsIn, fresh, writtenRecord, settled, recordIn, minusesFit, isNext, got, lowest, replyIn, readLine}
+use Rattle.texts.specs.Model.Stages.{Took, operands, takenIn, judged, allowed, concluded, large, ended, worded, fitted, stagedLine}
 use Rattle.texts.specs.Model.Structs.{tookAt, several}
 use Rattle.texts.proofs.Words.{InForms, word-forms}
-use Rattle.texts.proofs.Steps.{ruled-got, ruled-9, ruled-10, large-big, large-wide, large-fits, large-other, ended-bad, ended-many, ended-few}
-use Rattle.texts.proofs.Lowest.{holds, passes}
+use Rattle.texts.proofs.Steps.{ruled-got, ruled-9, ruled-10, minus-8, minus-fits, large-big, large-wide, large-fits, large-other, ended-bad, ended-many, ended-few}
+use Rattle.texts.proofs.Lowest.{holds, passes, fitted-last}
 
 -- ---- numbers taken one after the other, and all at once
 
@@ -53,21 +53,30 @@ or-false : (b : Bool) → (b || false) ≡ b
 or-false true = refl
 or-false false = refl
 
--- the numbers ns for the places j and up; `less` says that there are fewer tokens than numbers
-abbrev at-once : (less : Bool) (j : ℕ) (ns : List Num) (rec : List ℕ) (big : Bool) (len : ℕ) (rest : List (List ℕ)) → Took
-at-once less j ns rec big len rest = tookAt (not (less || anyBad ns)) (placed j ns rec) (big || anyBig ns) len rest
+-- the numbers ns for the places j and up, and the signs s; `less` says that there are fewer tokens than numbers
+abbrev at-once : (less : Bool) (j : ℕ) (ns : List Num) (rec : List ℕ) (s : List Bool) (big : Bool) (len : ℕ) (rest : List (List ℕ)) → Took
+at-once less j ns rec s big len rest = tookAt (not (less || anyBad ns)) (placed j ns rec) s (big || anyBig ns) len rest
 
-taken-at : (f m j : ℕ) (rec : List ℕ) (big : Bool) (len : ℕ) (ts : List (List ℕ))
-    → operands f m j rec big len ts ≡ at-once (ltb (length ts) m) j (numbersFrom f j (take m ts)) rec big (lastLength len (take m ts)) (drop m ts)
+taken-at : (f m j : ℕ) (rec : List ℕ) (s : List Bool) (big : Bool) (len : ℕ) (ts : List (List ℕ))
+    → operands f m j rec s big len ts ≡ at-once (ltb (length ts) m) j (numbersFrom f j (take m ts)) rec (signsFrom f j (take m ts) s) big (lastLength len (take m ts)) (drop m ts)
 unfolding operands
-taken-at f zero j rec big len ts = rw (le-ltb (length ts) 0 (omega arith), or-false big) refl
-taken-at f (suc m) j rec big len [] = rw (lt-ltb 0 (suc m) (omega arith)) refl
-taken-at f (suc m) j rec big len (t ∷ ts) = go (numberAt f j t) refl (λ b. taken-at f m (suc j) rec b (length t) ts) (λ v. taken-at f m (suc j) (set rec j v) big (length t) ts)
+taken-at f zero j rec s big len ts = rw (le-ltb (length ts) 0 (omega arith), or-false big) refl
+taken-at f (suc m) j rec s big len [] = rw (lt-ltb 0 (suc m) (omega arith)) refl
+taken-at f (suc m) j rec s big len (t ∷ ts) =
+    go (numberAt f j t) refl (λ b. taken-at f m (suc j) rec s₁ b (length t) ts) (λ v. taken-at f m (suc j) (set rec j v) s₁ big (length t) ts)
   where
+    s₁ : List Bool
+    s₁ = set s j (signAt f j t)
+
+    -- the tokens behind t, taken after the record r
+    rest : (r : List ℕ) (b : Bool) → Took
+    rest r b = at-once (ltb (length ts) m) (suc j) (numbersFrom f (suc j) (take m ts)) r (signsFrom f (suc j) (take m ts) s₁) b (lastLength (length t) (take m ts)) (drop m ts)
+
     go : (x : Num) → numberAt f j t ≡ x
-        → ((b : Bool) → operands f m (suc j) rec b (length t) ts ≡ at-once (ltb (length ts) m) (suc j) (numbersFrom f (suc j) (take m ts)) rec b (lastLength (length t) (take m ts)) (drop m ts))
-        → ((v : ℕ) → operands f m (suc j) (set rec j v) big (length t) ts ≡ at-once (ltb (length ts) m) (suc j) (numbersFrom f (suc j) (take m ts)) (set rec j v) big (lastLength (length t) (take m ts)) (drop m ts))
-        → operands f (suc m) j rec big len (t ∷ ts) ≡ at-once (ltb (length (t ∷ ts)) (suc m)) j (x ∷ numbersFrom f (suc j) (take m ts)) rec big (lastLength (length t) (take m ts)) (drop m ts)
+        → ((b : Bool) → operands f m (suc j) rec s₁ b (length t) ts ≡ rest rec b)
+        → ((v : ℕ) → operands f m (suc j) (set rec j v) s₁ big (length t) ts ≡ rest (set rec j v) big)
+        → operands f (suc m) j rec s big len (t ∷ ts)
+        ≡ at-once (ltb (length (t ∷ ts)) (suc m)) j (x ∷ numbersFrom f (suc j) (take m ts)) rec (signsFrom f (suc j) (take m ts) s₁) big (lastLength (length t) (take m ts)) (drop m ts)
     go Bad e a b = rw (e, operands) (rw (or-true (ltb (length (t ∷ ts)) (suc m))) refl)
     go Big e a b = rw (e, operands) (a true ∙ rw (fewer m t ts, or-true big) refl)
     go (Is v) e a b = rw (e, operands) (b v ∙ rw (fewer m t ts) refl)
@@ -94,28 +103,44 @@ module _ (L : ℕ → Ty) (G : Bool → ℕ → Bool) where
   uneven f len rec = eqb f 56 && not (eqb len (L (sortIn rec) .w))
 
   abbrev judgements : (f len : ℕ) → List ℕ → List (Refusal × Bool)
-  judgements f len rec =
-      (WrongClass, eqb (fault false L G rec) 8) ∷ (Misfit, eqb (fault false L G rec) 9 || uneven f len rec) ∷ (InitOrNext, eqb (fault false L G rec) 10) ∷ []
+  judgements f len rec = (Misfit, eqb (fault false L G rec) 9 || uneven f len rec) ∷ (InitOrNext, eqb (fault false L G rec) 10) ∷ []
 
-  judged-first : (f len : ℕ) (rec : List ℕ) → judged L G f len rec ≡ lowest (judgements f len rec) rec
+  -- with 8, which a minus may give as well
+  abbrev classed : (f len : ℕ) → List ℕ → List Bool → List (Refusal × Bool)
+  classed f len rec s = (WrongClass, eqb (fault false L G rec) 8 || not (all (minusesFit L s rec))) ∷ judgements f len rec
+
+  judged-first : (f len : ℕ) (rec : List ℕ) (s : List Bool) → judged L G f len rec s ≡ lowest ((WrongClass, eqb (fault false L G rec) 8) ∷ judgements f len rec) (got rec s)
   unfolding judged lowest
-  judged-first f len rec = go (eqb (fault false L G rec) 8) (uneven f len rec) (eqb (fault false L G rec) 9) (eqb (fault false L G rec) 0) refl refl refl refl
+  judged-first f len rec s = go (eqb (fault false L G rec) 8) (uneven f len rec) (eqb (fault false L G rec) 9) (eqb (fault false L G rec) 0) refl refl refl refl
     where
       go : (p q r z : Bool) → eqb (fault false L G rec) 8 ≡ p → uneven f len rec ≡ q → eqb (fault false L G rec) 9 ≡ r → eqb (fault false L G rec) 0 ≡ z
-          → judged L G f len rec ≡ lowest (judgements f len rec) rec
+          → judged L G f len rec s ≡ lowest ((WrongClass, eqb (fault false L G rec) 8) ∷ judgements f len rec) (got rec s)
       go true q r z ep eq er ez = rw (ep, judged, lowest) refl
       go false true r z ep eq er ez = rw (ep, judged, lowest) (rw (eq, or-true (eqb (fault false L G rec) 9)) refl)
-      go false false true z ep eq er ez = rw (ep, judged, lowest) (rw (eq, er) (ruled-9 (fault false L G rec) rec (eqb-true _ 9 er)))
+      go false false true z ep eq er ez = rw (ep, judged, lowest) (rw (eq, er) (ruled-9 (fault false L G rec) rec s (eqb-true _ 9 er)))
       go false false false true ep eq er ez =
           let h = eqb-true (fault false L G rec) 0 ez in
-          rw (ep, judged, lowest) (rw (eq, er, ne-eqb (fault false L G rec) 10 (λ e. omega (arith, h))) (ruled-got (fault false L G rec) rec h))
+          rw (ep, judged, lowest) (rw (eq, er, ne-eqb (fault false L G rec) 10 (λ e. omega (arith, h))) (ruled-got (fault false L G rec) rec s h))
       go false false false false ep eq er ez =
           let t = last-rule rec (eqb-false _ 0 ez) (eqb-false _ 8 ep) (eqb-false _ 9 er) in
-          rw (ep, judged, lowest) (rw (eq, er, eq-eqb (fault false L G rec) 10 t) (ruled-10 (fault false L G rec) rec (eqb-false _ 0 ez) (eqb-false _ 9 er)))
+          rw (ep, judged, lowest) (rw (eq, er, eq-eqb (fault false L G rec) 10 t) (ruled-10 (fault false L G rec) rec s (eqb-false _ 0 ez) (eqb-false _ 9 er)))
 
-  concluded-first : (f len : ℕ) (rec : List ℕ) → concluded L G f len rec ≡ lowest (judgements f len (settled (L (sortIn rec) .w) f rec)) (settled (L (sortIn rec) .w) f rec)
+  allowed-first : (f len : ℕ) (rec : List ℕ) (s : List Bool) → allowed L G f len rec s ≡ lowest (classed f len rec s) (got rec s)
+  allowed-first f len rec s = go (all (minusesFit L s rec)) refl
+    where
+      go : (b : Bool) → all (minusesFit L s rec) ≡ b → allowed L G f len rec s ≡ lowest (classed f len rec s) (got rec s)
+      go true e =
+          minus-fits L G f rec s len e
+          ∙ (judged-first f len rec s ∙ ap (λ (b : Bool). lowest ((WrongClass, b) ∷ judgements f len rec) (got rec s)) (sym (rw e (or-false (eqb (fault false L G rec) 8)))))
+      go false e = minus-8 L G f rec s len e ∙ sym (holds _ _ _ _ (rw e (or-true (eqb (fault false L G rec) 8))))
+
+  -- the record with the value of one and ones
+  abbrev withValue : (f : ℕ) (rec : List ℕ) → List ℕ
+  withValue f rec = settled (L (sortIn rec) .w) f rec
+
+  concluded-first : (f len : ℕ) (rec : List ℕ) (s : List Bool) → concluded L G f len rec s ≡ lowest (classed f len (withValue f rec) s) (got (withValue f rec) s)
   unfolding concluded
-  concluded-first f len rec = judged-first f len (settled (L (sortIn rec) .w) f rec)
+  concluded-first f len rec s = allowed-first f len (withValue f rec) s
 
   several-two : (ts : List (List ℕ)) → leb 2 (length ts) ≡ several ts
   several-two [] = refl
@@ -126,20 +151,18 @@ module _ (L : ℕ → Ty) (G : Bool → ℕ → Bool) where
   module _ (ds : List ℕ) where
     -- ---- 7
 
-    large-first : (f : ℕ) (rec : List ℕ) (big : Bool) (len : ℕ)
-        → large L G ds f rec big len
-        ≡ lowest ((NumberTooLarge, big || (eqb f 1 && not (inside 1 64 (firstIn rec)))) ∷ judgements f len (settled (L (sortIn (resolved ds rec)) .w) f (resolved ds rec)))
-        (settled (L (sortIn (resolved ds rec)) .w) f (resolved ds rec))
-    large-first f rec true len = large-big L G f rec len ds true refl ∙ sym (holds _ _ _ _ refl)
-    large-first f rec false len = go (eqb f 1) (inside 1 64 (firstIn rec)) refl refl
+    large-first : (f : ℕ) (rec : List ℕ) (s : List Bool) (big : Bool) (len : ℕ)
+        → large L G ds f rec s big len
+        ≡ lowest ((NumberTooLarge, big || (eqb f 1 && not (inside 1 64 (firstIn rec)))) ∷ classed f len (withValue f (resolved ds rec)) s) (got (withValue f (resolved ds rec)) s)
+    large-first f rec s true len = large-big L G f rec s len ds true refl ∙ sym (holds _ _ _ _ refl)
+    large-first f rec s false len = go (eqb f 1) (inside 1 64 (firstIn rec)) refl refl
       where
         go : (p q : Bool) → eqb f 1 ≡ p → inside 1 64 (firstIn rec) ≡ q
-            → large L G ds f rec false len
-            ≡ lowest ((NumberTooLarge, eqb f 1 && not (inside 1 64 (firstIn rec))) ∷ judgements f len (settled (L (sortIn (resolved ds rec)) .w) f (resolved ds rec)))
-            (settled (L (sortIn (resolved ds rec)) .w) f (resolved ds rec))
-        go false q ep eq = large-other L G f rec len ds false refl (eqb-false f 1 ep) ∙ (concluded-first f len (resolved ds rec) ∙ sym (passes _ _ _ _ (rw ep refl)))
-        go true false ep eq = large-wide L G f rec len ds false refl (eqb-true f 1 ep) eq ∙ sym (holds _ _ _ _ (rw (ep, eq) refl))
-        go true true ep eq = large-fits L G f rec len ds false refl (eqb-true f 1 ep) eq ∙ (concluded-first f len (resolved ds rec) ∙ sym (passes _ _ _ _ (rw (ep, eq) refl)))
+            → large L G ds f rec s false len
+            ≡ lowest ((NumberTooLarge, eqb f 1 && not (inside 1 64 (firstIn rec))) ∷ classed f len (withValue f (resolved ds rec)) s) (got (withValue f (resolved ds rec)) s)
+        go false q ep eq = large-other L G f rec s len ds false refl (eqb-false f 1 ep) ∙ (concluded-first f len (resolved ds rec) s ∙ sym (passes _ _ _ _ (rw ep refl)))
+        go true false ep eq = large-wide L G f rec s len ds false refl (eqb-true f 1 ep) eq ∙ sym (holds _ _ _ _ (rw (ep, eq) refl))
+        go true true ep eq = large-fits L G f rec s len ds false refl (eqb-true f 1 ep) eq ∙ (concluded-first f len (resolved ds rec) s ∙ sym (passes _ _ _ _ (rw (ep, eq) refl)))
 
     -- ---- 6
 
@@ -153,47 +176,47 @@ module _ (L : ℕ → Ty) (G : Bool → ℕ → Bool) where
       abbrev digits : ℕ
       digits = length (lastOf [] (numberTokens f ts))
 
-      taken-once : takenIn f ts ≡ at-once less (firstOf (formRow f)) (numbersIn f ts) (fresh (kindOf f)) false digits (extraTokens f ts)
+      taken-once : takenIn f ts ≡ at-once less (firstOf (formRow f)) (numbersIn f ts) (fresh (kindOf f)) (signsIn f ts) false digits (extraTokens f ts)
       taken-once =
-          taken-at f (numbersOf (formRow f)) (firstOf (formRow f)) (fresh (kindOf f)) false 0 ts
-          ∙ ap (λ (len : ℕ). at-once less (firstOf (formRow f)) (numbersIn f ts) (fresh (kindOf f)) false len (extraTokens f ts)) (last-length [] (numberTokens f ts))
+          taken-at f (numbersOf (formRow f)) (firstOf (formRow f)) (fresh (kindOf f)) noSigns false 0 ts
+          ∙ ap (λ (len : ℕ). at-once less (firstOf (formRow f)) (numbersIn f ts) (fresh (kindOf f)) (signsIn f ts) false len (extraTokens f ts)) (last-length [] (numberTokens f ts))
 
       -- what is left after the refusals 3 to 6
       abbrev laterTests : List (Refusal × Bool)
       laterTests =
-          (NumberTooLarge, anyBig (numbersIn f ts) || (eqb f 1 && not (inside 1 64 (firstIn (writtenRecord f ts))))) ∷ judgements f digits (recordIn L ds f ts)
+          (NumberTooLarge, anyBig (numbersIn f ts) || (eqb f 1 && not (inside 1 64 (firstIn (writtenRecord f ts))))) ∷ classed f digits (recordIn L ds f ts) (signsIn f ts)
 
-      ended-first : ended L G ds f (takenIn f ts) ≡ lowest ((BadOperand, unfit) ∷ laterTests) (recordIn L ds f ts)
+      ended-first : ended L G ds f (takenIn f ts) ≡ lowest ((BadOperand, unfit) ∷ laterTests) (replyIn L ds f ts)
       ended-first = ap (ended L G ds f) taken-once ∙ go less (anyBad (numbersIn f ts)) (several (extraTokens f ts)) refl refl refl
         where
           go : (p q r : Bool) → ltb (length ts) (numbersOf (formRow f)) ≡ p → anyBad (numbersIn f ts) ≡ q → several (extraTokens f ts) ≡ r
-              → ended L G ds f (at-once less (firstOf (formRow f)) (numbersIn f ts) (fresh (kindOf f)) false digits (extraTokens f ts))
-              ≡ lowest ((BadOperand, unfit) ∷ laterTests) (recordIn L ds f ts)
+              → ended L G ds f (at-once less (firstOf (formRow f)) (numbersIn f ts) (fresh (kindOf f)) (signsIn f ts) false digits (extraTokens f ts))
+              ≡ lowest ((BadOperand, unfit) ∷ laterTests) (replyIn L ds f ts)
           go true q r ep eq er =
               let k : not (less || anyBad (numbersIn f ts)) ≡ false = rw ep refl in
               let h : unfit ≡ true = rw ep refl in
-              ended-bad L G f (writtenRecord f ts) digits ds _ _ (extraTokens f ts) k ∙ sym (holds _ _ _ _ h)
+              ended-bad L G f (writtenRecord f ts) (signsIn f ts) digits ds _ _ (extraTokens f ts) k ∙ sym (holds _ _ _ _ h)
           go false true r ep eq er =
               let k : not (less || anyBad (numbersIn f ts)) ≡ false = rw (ep, eq) refl in
               let h : unfit ≡ true = rw (ep, eq) refl in
-              ended-bad L G f (writtenRecord f ts) digits ds _ _ (extraTokens f ts) k ∙ sym (holds _ _ _ _ h)
+              ended-bad L G f (writtenRecord f ts) (signsIn f ts) digits ds _ _ (extraTokens f ts) k ∙ sym (holds _ _ _ _ h)
           go false false true ep eq er =
               let k : not (less || anyBad (numbersIn f ts)) ≡ true = rw (ep, eq) refl in
               let h : unfit ≡ true = rw (ep, eq) (several-two (extraTokens f ts) ∙ er) in
-              ended-many L G f (writtenRecord f ts) digits ds _ _ (extraTokens f ts) k er ∙ sym (holds _ _ _ _ h)
+              ended-many L G f (writtenRecord f ts) (signsIn f ts) digits ds _ _ (extraTokens f ts) k er ∙ sym (holds _ _ _ _ h)
           go false false false ep eq er =
               let k : not (less || anyBad (numbersIn f ts)) ≡ true = rw (ep, eq) refl in
               let h : unfit ≡ false = rw (ep, eq) (several-two (extraTokens f ts) ∙ er) in
-              ended-few L G f (writtenRecord f ts) digits ds _ _ (extraTokens f ts) k er ∙ (large-first f (writtenRecord f ts) (anyBig (numbersIn f ts)) digits ∙ sym (passes _ _ _ _ h))
+              ended-few L G f (writtenRecord f ts) (signsIn f ts) digits ds _ _ (extraTokens f ts) k er ∙ (large-first f (writtenRecord f ts) (signsIn f ts) (anyBig (numbersIn f ts)) digits ∙ sym (passes _ _ _ _ h))
 
     -- ---- 5
 
     worded-first : (w : Word) → InForms w
-        → worded L G ds w ≡ lowest ((UnknownWord, eqb (formOf w) 0) ∷ (BadOperand, unfit (formOf w) (behind w)) ∷ laterTests (formOf w) (behind w)) (recordIn L ds (formOf w) (behind w))
+        → worded L G ds w ≡ lowest ((UnknownWord, eqb (formOf w) 0) ∷ (BadOperand, unfit (formOf w) (behind w)) ∷ laterTests (formOf w) (behind w)) (replyIn L ds (formOf w) (behind w))
     worded-first unknown h = sym (holds _ _ _ _ refl)
     worded-first (word f ts) h = ended-first f ts ∙ sym (passes _ _ _ _ (ne-eqb f 0 (λ e. omega (arith, h .0))))
 
-    -- ---- 3 and 4: all of a line
+    -- ---- 3 and 4, and 4 again: all of a line
 
     pub staged : (m : ℕ) (ts : List (List ℕ)) → stagedLine L G ds m ts ≡ readLine L G m ds ts
     unfolding stagedLine readLine
@@ -203,4 +226,6 @@ module _ (L : ℕ → Ty) (G : Bool → ℕ → Bool) where
         go : (p q : Bool) → isNext (decimal t) (lastOf 0 ds) ≡ p → ltb (length ds) m ≡ q → stagedLine L G ds m (t ∷ ts) ≡ readLine L G m ds (t ∷ ts)
         go false q ep eq = rw (ep, stagedLine) (sym (holds _ _ _ _ refl))
         go true false ep eq = rw (ep, eq, stagedLine) (sym (passes _ _ _ _ refl ∙ holds _ _ _ _ refl))
-        go true true ep eq = rw (ep, eq, stagedLine) (worded-first (wordIn ts) (word-forms ts) ∙ sym (passes _ _ _ _ refl ∙ passes _ _ _ _ refl))
+        go true true ep eq =
+            rw (ep, eq, stagedLine)
+            (ap (fitted (length ds) m) (worded-first (wordIn ts) (word-forms ts)) ∙ (fitted-last (length ds) m _ _ _ ∙ sym (passes _ _ _ _ refl ∙ passes _ _ _ _ refl)))

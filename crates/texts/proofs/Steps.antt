@@ -7,23 +7,25 @@ use native.Mathlib.Omega.{arith}
 use native.Mathlib.Numerals.{add-one}
 use lib.Dec.{eqb, leb, ltb}
 use lib.ListN.{length, drop, getD, set}
-use borrow.Author.Tests.{ltb-true, eq-eqb, ne-eqb, lt-ltb, le-ltb}
+use borrow.Author.Tests.{ltb-true, eq-eqb, ne-eqb, lt-ltb, le-ltb, le-leb, lt-leb}
 use Rattle.tables.specs.declared.Ty.{Ty}
 use Rattle.tables.specs.declared.Refusal.the-variants.{WrongId, NoRecordLeft, UnknownWord, BadOperand, NumberTooLarge, WrongClass, Misfit, InitOrNext}
-use Rattle.tables.specs.Pick.{inside}
-use Rattle.tables.specs.Lines.{kindIn, sortIn, firstIn}
+use Rattle.tables.specs.Pick.{inside, all}
+use Rattle.tables.specs.Lines.{kindIn, sortIn, firstIn, secondIn, thirdIn}
 use Rattle.tables.specs.Rules.{fault}
 use Rattle.tables.specs.Ids.{mostId, follows}
+use Rattle.tables.specs.Types.{isWord}
+use Rattle.tables.proofs.Laws.{and-true, and-false}
 use Rattle.tables.proofs.Kept.{both}
 use Rattle.texts.specs.declared.Num.{Num}
 use Rattle.texts.specs.declared.Num.the-variants.{Bad, Big, Is}
-use Rattle.tables.specs.Kinds.{operandCount}
+use Rattle.tables.specs.Kinds.{rowOf, sortClass, firstClass, secondClass, thirdClass, operandCount}
 use Rattle.texts.specs.Forms.{formRow, kindOf, sorted, firstOf, numbersOf}
 use Rattle.texts.specs.Split.{tokens}
 use Rattle.texts.specs.Decimal.{decimal}
 use Rattle.texts.specs.Operands.{resolved}
-use Rattle.texts.specs.Reading.{wordIn, numberAt, fresh, settled, no, got, skip, isNext, valueOf, lastOf}
-use Rattle.texts.specs.Model.Stages.{Took, took, malformed, operands, takenIn, ruled, judged, concluded, large, ended, worded, stagedLine}
+use Rattle.texts.specs.Reading.{wordIn, signAt, numberAt, noSigns, fresh, settled, minusAt, minusFits, minusesBy, minusesFit, minuses, Reply, no, got, skip, isNext, valueOf, lastOf}
+use Rattle.texts.specs.Model.Stages.{Took, took, malformed, operands, takenIn, ruled, judged, allowed, concluded, large, ended, worded, fitted, stagedLine}
 use Rattle.texts.specs.declared.Readout.{Readout}
 use Rattle.texts.specs.declared.Taken.{Taken}
 use Rattle.texts.specs.declared.Form.{Form}
@@ -31,43 +33,43 @@ use Rattle.texts.specs.Model.Structs.{wordWith, asWord, tookAt, asTook, 
 
 -- ---- operands
 
-module _ (f e p : ℕ) (rec : List ℕ) (big : Bool) (len : ℕ) where
-  pub op-end : (ts : List (List ℕ)) → e ≤ p → operands f (e - p) p rec big len ts ≡ took rec big len ts
+module _ (f e p : ℕ) (rec : List ℕ) (s : List Bool) (big : Bool) (len : ℕ) where
+  pub op-end : (ts : List (List ℕ)) → e ≤ p → operands f (e - p) p rec s big len ts ≡ took rec s big len ts
   unfolding operands
-  op-end ts h = let q : e - p ≡ 0 = omega arith in ap (λ (m : ℕ). operands f m p rec big len ts) q
+  op-end ts h = let q : e - p ≡ 0 = omega arith in ap (λ (m : ℕ). operands f m p rec s big len ts) q
 
-  pub op-none : p < e → operands f (e - p) p rec big len [] ≡ malformed
+  pub op-none : p < e → operands f (e - p) p rec s big len [] ≡ malformed
   unfolding operands
-  op-none h = let q : e - p ≡ suc (e - (p + 1)) = omega arith in ap (λ (m : ℕ). operands f m p rec big len []) q
+  op-none h = let q : e - p ≡ suc (e - (p + 1)) = omega arith in ap (λ (m : ℕ). operands f m p rec s big len []) q
 
   module _ (t : List ℕ) (ts : List (List ℕ)) (h : p < e) where
-    op-step : operands f (e - p) p rec big len (t ∷ ts) ≡ operands f (suc (e - (p + 1))) p rec big len (t ∷ ts)
-    op-step = let q : e - p ≡ suc (e - (p + 1)) = omega arith in ap (λ (m : ℕ). operands f m p rec big len (t ∷ ts)) q
+    op-step : operands f (e - p) p rec s big len (t ∷ ts) ≡ operands f (suc (e - (p + 1))) p rec s big len (t ∷ ts)
+    op-step = let q : e - p ≡ suc (e - (p + 1)) = omega arith in ap (λ (m : ℕ). operands f m p rec s big len (t ∷ ts)) q
 
-    pub op-bad : numberAt f p t ≡ Bad → operands f (e - p) p rec big len (t ∷ ts) ≡ malformed
+    pub op-bad : numberAt f p t ≡ Bad → operands f (e - p) p rec s big len (t ∷ ts) ≡ malformed
     unfolding operands
     op-bad k = op-step ∙ rw (k, operands) refl
 
-    pub op-big : numberAt f p t ≡ Big → operands f (e - p) p rec big len (t ∷ ts) ≡ operands f (e - (p + 1)) (p + 1) rec true (length t) ts
+    pub op-big : numberAt f p t ≡ Big → operands f (e - p) p rec s big len (t ∷ ts) ≡ operands f (e - (p + 1)) (p + 1) rec (set s p (signAt f p t)) true (length t) ts
     unfolding operands
-    op-big k = op-step ∙ rw (k, operands) (ap (λ (x : ℕ). operands f (e - (p + 1)) x rec true (length t) ts) (sym (add-one p)))
+    op-big k = op-step ∙ rw (k, operands) (ap (λ (x : ℕ). operands f (e - (p + 1)) x rec (set s p (signAt f p t)) true (length t) ts) (sym (add-one p)))
 
-    pub op-is : (v : ℕ) → numberAt f p t ≡ Is v → operands f (e - p) p rec big len (t ∷ ts) ≡ operands f (e - (p + 1)) (p + 1) (set rec p v) big (length t) ts
+    pub op-is : (v : ℕ) → numberAt f p t ≡ Is v → operands f (e - p) p rec s big len (t ∷ ts) ≡ operands f (e - (p + 1)) (p + 1) (set rec p v) (set s p (signAt f p t)) big (length t) ts
     unfolding operands
-    op-is v k = op-step ∙ rw (k, operands) (ap (λ (x : ℕ). operands f (e - (p + 1)) x (set rec p v) big (length t) ts) (sym (add-one p)))
+    op-is v k = op-step ∙ rw (k, operands) (ap (λ (x : ℕ). operands f (e - (p + 1)) x (set rec p v) (set s p (signAt f p t)) big (length t) ts) (sym (add-one p)))
 
 -- ---- the rules
 
-module _ (a : ℕ) (rec : List ℕ) where
-  pub ruled-got : a ≡ 0 → ruled a rec ≡ got rec
+module _ (a : ℕ) (rec : List ℕ) (s : List Bool) where
+  pub ruled-got : a ≡ 0 → ruled a rec s ≡ got rec s
   unfolding ruled
   ruled-got h = rw (eq-eqb a 0 h, ruled) refl
 
-  pub ruled-9 : a ≡ 9 → ruled a rec ≡ no Misfit
+  pub ruled-9 : a ≡ 9 → ruled a rec s ≡ no Misfit
   unfolding ruled
   ruled-9 h = rw (ne-eqb a 0 (λ e. omega arith), eq-eqb a 9 h, ruled) refl
 
-  pub ruled-10 : (a ≡ 0 → ⊥) → (a ≡ 9 → ⊥) → ruled a rec ≡ no InitOrNext
+  pub ruled-10 : (a ≡ 0 → ⊥) → (a ≡ 9 → ⊥) → ruled a rec s ≡ no InitOrNext
   unfolding ruled
   ruled-10 h k = rw (ne-eqb a 0 h, ne-eqb a 9 k, ruled) refl
 
@@ -98,60 +100,106 @@ module _ (w f : ℕ) (rec : List ℕ) where
       go false true x y = rw (x, y, settled) (after-set (2 ^ w - 1) rec)
       go false false x y = rw (x, y, settled) refl
 
-module _ (L : ℕ → Ty) (G : Bool → ℕ → Bool) (f : ℕ) (rec : List ℕ) (len : ℕ) where
-  pub judged-8 : fault false L G rec ≡ 8 → judged L G f len rec ≡ no WrongClass
+-- ---- where a minus may stand
+
+module _ (k q : ℕ) (a : Ty) (b : Bool) (minus : b ≡ true) where
+  pub sign-no-line : q ≡ 0 → false ≡ minusFits k q a b
+  sign-no-line e = sym (rw (minus, e) refl)
+
+  pub sign-other : 3 < q → false ≡ minusFits k q a b
+  sign-other h = sym (rw (minus, lt-leb q 3 h, and-false (leb 1 q)) refl)
+
+  pub sign-init : k ≡ 6 → false ≡ minusFits k q a b
+  sign-init e = sym (rw (minus, eq-eqb k 6 e, and-false (isWord a), and-false (inside 1 3 q)) refl)
+
+  pub sign-word : (q ≡ 0 → ⊥) → q ≤ 3 → (k ≡ 6 → ⊥) → isWord a ≡ minusFits k q a b
+  sign-word n h i = sym (rw (minus, le-leb 1 q (omega arith), le-leb q 3 h, ne-eqb k 6 i) (and-true (isWord a)))
+
+-- place by place
+module _ (row : List ℕ) (L : ℕ → Ty) (s : List Bool) (rec : List ℕ) where
+  abbrev signFits : (k j : ℕ) → (a : ℕ) → Bool
+  signFits k j a = minusFits (kindIn rec) k (L a) (minusAt s j)
+
+  pub sort-stops : signFits (sortClass row) 1 (sortIn rec) ≡ false → false ≡ all (minusesBy row L s rec)
+  sort-stops h = sym (rw h refl)
+
+  module _ (p : signFits (sortClass row) 1 (sortIn rec) ≡ true) where
+    pub first-stops : signFits (firstClass row) 2 (firstIn rec) ≡ false → false ≡ all (minusesBy row L s rec)
+    first-stops h = sym (rw (p, h) refl)
+
+    module _ (q : signFits (firstClass row) 2 (firstIn rec) ≡ true) where
+      pub second-stops : signFits (secondClass row) 3 (secondIn rec) ≡ false → false ≡ all (minusesBy row L s rec)
+      second-stops h = sym (rw (p, q, h) refl)
+
+      pub third-decides : signFits (secondClass row) 3 (secondIn rec) ≡ true → {b : Bool} → b ≡ signFits (thirdClass row) 4 (thirdIn rec) → b ≡ all (minusesBy row L s rec)
+      third-decides h e = e ∙ sym (rw (p, q, h) (and-true (signFits (thirdClass row) 4 (thirdIn rec))))
+
+module _ (L : ℕ → Ty) (G : Bool → ℕ → Bool) (f : ℕ) (rec : List ℕ) (s : List Bool) (len : ℕ) where
+  pub judged-8 : fault false L G rec ≡ 8 → judged L G f len rec s ≡ no WrongClass
   unfolding judged
   judged-8 h = rw (eq-eqb (fault false L G rec) 8 h, judged) refl
 
-  pub judged-9 : (fault false L G rec ≡ 8 → ⊥) → f ≡ 56 → (len ≡ L (sortIn rec) .w → ⊥) → judged L G f len rec ≡ no Misfit
+  pub judged-9 : (fault false L G rec ≡ 8 → ⊥) → f ≡ 56 → (len ≡ L (sortIn rec) .w → ⊥) → judged L G f len rec s ≡ no Misfit
   unfolding judged
   judged-9 h k n = rw (ne-eqb (fault false L G rec) 8 h, judged) (rw (eq-eqb f 56 k, ne-eqb len (L (sortIn rec) .w) n) refl)
 
-  pub judged-const : (fault false L G rec ≡ 8 → ⊥) → f ≡ 56 → len ≡ L (sortIn rec) .w → judged L G f len rec ≡ ruled (fault false L G rec) rec
+  pub judged-const : (fault false L G rec ≡ 8 → ⊥) → f ≡ 56 → len ≡ L (sortIn rec) .w → judged L G f len rec s ≡ ruled (fault false L G rec) rec s
   unfolding judged
   judged-const h k n = rw (ne-eqb (fault false L G rec) 8 h, judged) (rw (eq-eqb f 56 k, eq-eqb len (L (sortIn rec) .w) n) refl)
 
-  pub judged-other : (fault false L G rec ≡ 8 → ⊥) → (f ≡ 56 → ⊥) → judged L G f len rec ≡ ruled (fault false L G rec) rec
+  pub judged-other : (fault false L G rec ≡ 8 → ⊥) → (f ≡ 56 → ⊥) → judged L G f len rec s ≡ ruled (fault false L G rec) rec s
   unfolding judged
   judged-other h k = rw (ne-eqb (fault false L G rec) 8 h, judged) (rw (ne-eqb f 56 k) refl)
 
-  pub is-concluded : {t : List ℕ} {w : ℕ} {x : Readout} → x ≡ asRead 0 (judged L G f len t) → t ≡ settled w f rec → w ≡ L (sortIn rec) .w → x ≡ asRead 0 (concluded L G f len rec)
+  pub minus-8 : all (minusesFit L s rec) ≡ false → allowed L G f len rec s ≡ no WrongClass
+  unfolding allowed
+  minus-8 h = rw (h, allowed) refl
+
+  pub minus-fits : all (minusesFit L s rec) ≡ true → allowed L G f len rec s ≡ judged L G f len rec s
+  unfolding allowed
+  minus-fits h = rw (h, allowed) refl
+
+  -- the tests by a row are those of the kind where it is the kind's
+  pub by-own-row : {row : List ℕ} {b : Bool} → row ≡ rowOf (kindIn rec) → b ≡ all (minusesBy row L s rec) → b ≡ all (minusesFit L s rec)
+  by-own-row e h = h ∙ ap (λ (r : List ℕ). all (minusesBy r L s rec)) e
+
+  pub is-concluded : {t : List ℕ} {w : ℕ} {x : Readout} → x ≡ asRead 0 (allowed L G f len t s) → t ≡ settled w f rec → w ≡ L (sortIn rec) .w → x ≡ asRead 0 (concluded L G f len rec s)
   unfolding concluded
-  is-concluded a b c = a ∙ ap (λ (r : List ℕ). asRead 0 (judged L G f len r)) (b ∙ ap (λ (v : ℕ). settled v f rec) c)
+  is-concluded a b c = a ∙ ap (λ (r : List ℕ). asRead 0 (allowed L G f len r s)) (b ∙ ap (λ (v : ℕ). settled v f rec) c)
 
   module _ (ds : List ℕ) where
-    pub large-big : (b : Bool) → b ≡ true → large L G ds f rec b len ≡ no NumberTooLarge
+    pub large-big : (b : Bool) → b ≡ true → large L G ds f rec s b len ≡ no NumberTooLarge
     unfolding large
     large-big b h = rw h refl
 
-    pub large-wide : (b : Bool) → b ≡ false → f ≡ 1 → inside 1 64 (firstIn rec) ≡ false → large L G ds f rec b len ≡ no NumberTooLarge
+    pub large-wide : (b : Bool) → b ≡ false → f ≡ 1 → inside 1 64 (firstIn rec) ≡ false → large L G ds f rec s b len ≡ no NumberTooLarge
     unfolding large
     large-wide b z h k = rw z (rw (eq-eqb f 1 h, k, large) refl)
 
-    pub large-fits : (b : Bool) → b ≡ false → f ≡ 1 → inside 1 64 (firstIn rec) ≡ true → large L G ds f rec b len ≡ concluded L G f len (resolved ds rec)
+    pub large-fits : (b : Bool) → b ≡ false → f ≡ 1 → inside 1 64 (firstIn rec) ≡ true → large L G ds f rec s b len ≡ concluded L G f len (resolved ds rec) s
     unfolding large
     large-fits b z h k = rw z (rw (eq-eqb f 1 h, k, large) refl)
 
-    pub large-other : (b : Bool) → b ≡ false → (f ≡ 1 → ⊥) → large L G ds f rec b len ≡ concluded L G f len (resolved ds rec)
+    pub large-other : (b : Bool) → b ≡ false → (f ≡ 1 → ⊥) → large L G ds f rec s b len ≡ concluded L G f len (resolved ds rec) s
     unfolding large
     large-other b z h = rw z (rw (ne-eqb f 1 h, large) refl)
 
     module _ (b ok : Bool) (ts : List (List ℕ)) where
-      pub ended-bad : ok ≡ false → ended L G ds f (tookAt ok rec b len ts) ≡ no BadOperand
+      pub ended-bad : ok ≡ false → ended L G ds f (tookAt ok rec s b len ts) ≡ no BadOperand
       ended-bad h = rw h refl
 
-      pub ended-many : ok ≡ true → several ts ≡ true → ended L G ds f (tookAt ok rec b len ts) ≡ no BadOperand
+      pub ended-many : ok ≡ true → several ts ≡ true → ended L G ds f (tookAt ok rec s b len ts) ≡ no BadOperand
       ended-many h k = rw h (go ts k)
         where
-          go : (ts : List (List ℕ)) → several ts ≡ true → ended L G ds f (took rec b len ts) ≡ no BadOperand
+          go : (ts : List (List ℕ)) → several ts ≡ true → ended L G ds f (took rec s b len ts) ≡ no BadOperand
           go [] k = let z : _≡_ {A = ℕ} 0 1 = cc in absurd (omega arith)
           go (x ∷ []) k = let z : _≡_ {A = ℕ} 0 1 = cc in absurd (omega arith)
           go (x ∷ y ∷ r) k = refl
 
-      pub ended-few : ok ≡ true → several ts ≡ false → ended L G ds f (tookAt ok rec b len ts) ≡ large L G ds f rec b len
+      pub ended-few : ok ≡ true → several ts ≡ false → ended L G ds f (tookAt ok rec s b len ts) ≡ large L G ds f rec s b len
       ended-few h k = rw h (go ts k)
         where
-          go : (ts : List (List ℕ)) → several ts ≡ false → ended L G ds f (took rec b len ts) ≡ large L G ds f rec b len
+          go : (ts : List (List ℕ)) → several ts ≡ false → ended L G ds f (took rec s b len ts) ≡ large L G ds f rec s b len
           go [] k = refl
           go (x ∷ []) k = refl
           go (x ∷ y ∷ r) k = let z : _≡_ {A = ℕ} 0 1 = cc in absurd (omega arith)
@@ -159,26 +207,26 @@ module _ (L : ℕ → Ty) (G : Bool → ℕ → Bool) (f : ℕ) (rec : List ℕ)
 -- the stage that a Taken stands for
 module _ (L : ℕ → Ty) (G : Bool → ℕ → Bool) (ds : List ℕ) (f : ℕ) (l : List ℕ) (t : Taken) {x : Readout} where
   pub taken-bad : x ≡ asRead 0 (no BadOperand) → t .ok ≡ false → x ≡ asRead 0 (ended L G ds f (asTook l t))
-  taken-bad e h = e ∙ ap (asRead 0) (sym (ended-bad L G f (t .rec) (t .len) ds (t .big) (t .ok) (tokens (drop (t .at) l)) h))
+  taken-bad e h = e ∙ ap (asRead 0) (sym (ended-bad L G f (t .rec) (t .minus) (t .len) ds (t .big) (t .ok) (tokens (drop (t .at) l)) h))
 
   pub taken-many : x ≡ asRead 0 (no BadOperand) → t .ok ≡ true → several (tokens (drop (t .at) l)) ≡ true → x ≡ asRead 0 (ended L G ds f (asTook l t))
-  taken-many e h k = e ∙ ap (asRead 0) (sym (ended-many L G f (t .rec) (t .len) ds (t .big) (t .ok) (tokens (drop (t .at) l)) h k))
+  taken-many e h k = e ∙ ap (asRead 0) (sym (ended-many L G f (t .rec) (t .minus) (t .len) ds (t .big) (t .ok) (tokens (drop (t .at) l)) h k))
 
-  pub taken-few : x ≡ asRead 0 (large L G ds f (t .rec) (t .big) (t .len)) → t .ok ≡ true → several (tokens (drop (t .at) l)) ≡ false → x ≡ asRead 0 (ended L G ds f (asTook l t))
-  taken-few e h k = e ∙ ap (asRead 0) (sym (ended-few L G f (t .rec) (t .len) ds (t .big) (t .ok) (tokens (drop (t .at) l)) h k))
+  pub taken-few : x ≡ asRead 0 (large L G ds f (t .rec) (t .minus) (t .big) (t .len)) → t .ok ≡ true → several (tokens (drop (t .at) l)) ≡ false → x ≡ asRead 0 (ended L G ds f (asTook l t))
+  taken-few e h k = e ∙ ap (asRead 0) (sym (ended-few L G f (t .rec) (t .minus) (t .len) ds (t .big) (t .ok) (tokens (drop (t .at) l)) h k))
 
   -- the numbers were taken from a line of the form f, whose row is row
-  pub taken-from : (row start : List ℕ) (k s i : ℕ) → x ≡ asRead 0 (ended L G ds f (asTook l t)) → operands f (s + operandCount row) (2 - s) start false 0 (tokens (drop i l)) ≡ asTook l t
+  pub taken-from : (row start : List ℕ) (k s i : ℕ) → x ≡ asRead 0 (ended L G ds f (asTook l t)) → operands f (s + operandCount row) (2 - s) start noSigns false 0 (tokens (drop i l)) ≡ asTook l t
       → start ≡ fresh k → s ≡ sorted row → row ≡ formRow f → k ≡ kindOf f → x ≡ asRead 0 (ended L G ds f (takenIn f (tokens (drop i l))))
   taken-from row start k s i e o eb es er ek =
       let ts : List (List ℕ) = tokens (drop i l) in
       e
       ∙ ap (λ (u : Took). asRead 0 (ended L G ds f u))
       (sym o
-      ∙ (ap (λ (r : List ℕ). operands f (s + operandCount row) (2 - s) r false 0 ts) eb
-      ∙ (ap (λ (m : ℕ). operands f (m + operandCount row) (2 - m) (fresh k) false 0 ts) es
-      ∙ (ap (λ (r : List ℕ). operands f (sorted r + operandCount r) (2 - sorted r) (fresh k) false 0 ts) er
-      ∙ ap (λ (m : ℕ). operands f (numbersOf (formRow f)) (firstOf (formRow f)) (fresh m) false 0 ts) ek))))
+      ∙ (ap (λ (r : List ℕ). operands f (s + operandCount row) (2 - s) r noSigns false 0 ts) eb
+      ∙ (ap (λ (m : ℕ). operands f (m + operandCount row) (2 - m) (fresh k) noSigns false 0 ts) es
+      ∙ (ap (λ (r : List ℕ). operands f (sorted r + operandCount r) (2 - sorted r) (fresh k) noSigns false 0 ts) er
+      ∙ ap (λ (m : ℕ). operands f (numbersOf (formRow f)) (firstOf (formRow f)) (fresh m) noSigns false 0 ts) ek))))
 
 -- ---- the id
 
@@ -205,7 +253,7 @@ module _ (L : ℕ → Ty) (G : Bool → ℕ → Bool) (ds : List ℕ) (m : ℕ) 
     unfolding stagedLine
     line-4 h k = rw (h, le-ltb (length ds) m k, stagedLine) refl
 
-    pub line-word : isNext (decimal t) (lastOf 0 ds) ≡ true → length ds < m → stagedLine L G ds m (t ∷ ts) ≡ worded L G ds (wordIn ts)
+    pub line-word : isNext (decimal t) (lastOf 0 ds) ≡ true → length ds < m → stagedLine L G ds m (t ∷ ts) ≡ fitted (length ds) m (worded L G ds (wordIn ts))
     unfolding stagedLine
     line-word h k = rw (h, lt-ltb (length ds) m k, stagedLine) refl
 
@@ -234,10 +282,15 @@ module _ (L : ℕ → Ty) (G : Bool → ℕ → Bool) (ds : List ℕ) (m : ℕ) 
 
     pub read-5 : isNext (decimal t) (lastOf 0 ds) ≡ true → length ds < m → (w : Form) → wordIn (tokens (drop z l)) ≡ asWord l w → w .form ≡ 0 → x ≡ asRead d (no UnknownWord)
         → x ≡ asRead d (stagedLine L G ds m (tokens l))
+    unfolding fitted
     read-5 a b w k q h =
-        h ∙ ap (asRead d) (sym (ap (stagedLine L G ds m) e ∙ (line-word L G ds m t (tokens (drop z l)) a b ∙ (ap (worded L G ds) k ∙ word-no L G ds l (w .form) (w .at) q))))
+        h
+        ∙ ap (asRead d)
+        (sym (ap (stagedLine L G ds m) e ∙ (line-word L G ds m t (tokens (drop z l)) a b ∙ ap (fitted (length ds) m) (ap (worded L G ds) k ∙ word-no L G ds l (w .form) (w .at) q))))
 
     pub read-on : isNext (decimal t) (lastOf 0 ds) ≡ true → length ds < m → (w : Form) → wordIn (tokens (drop z l)) ≡ asWord l w → (w .form ≡ 0 → ⊥)
-        → x ≡ asRead d (ended L G ds (w .form) (takenIn (w .form) (tokens (drop (w .at) l)))) → x ≡ asRead d (stagedLine L G ds m (tokens l))
+        → x ≡ asRead d (fitted (length ds) m (ended L G ds (w .form) (takenIn (w .form) (tokens (drop (w .at) l))))) → x ≡ asRead d (stagedLine L G ds m (tokens l))
     read-on a b w k q h =
-        h ∙ ap (asRead d) (sym (ap (stagedLine L G ds m) e ∙ (line-word L G ds m t (tokens (drop z l)) a b ∙ (ap (worded L G ds) k ∙ word-form L G ds l (w .form) (w .at) q))))
+        h
+        ∙ ap (asRead d)
+        (sym (ap (stagedLine L G ds m) e ∙ (line-word L G ds m t (tokens (drop z l)) a b ∙ ap (fitted (length ds) m) (ap (worded L G ds) k ∙ word-form L G ds l (w .form) (w .at) q))))

@@ -1,3 +1,5 @@
 pub mod Stages
 pub mod Structs
 pub mod Ends
+pub mod Filling
+pub mod Searching

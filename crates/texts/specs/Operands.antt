@@ -12,8 +12,9 @@ abbrev pub placeByIdFrom : (n : ℕ) → List ℕ → (d : ℕ) → ℕ
 placeByIdFrom n [] d = 0
 placeByIdFrom n (e ∷ ds) d = pick (eqb e d) n (placeByIdFrom (suc n) ds d)
 
+-- no token names 0: that is the id of the not records that stand for minus operands
 abbrev pub placeById : List ℕ → (d : ℕ) → ℕ
-placeById ds d = placeByIdFrom 1 ds d
+placeById ds d = pick (eqb d 0) 0 (placeByIdFrom 1 ds d)
 
 -- what the number v is in a place of the class k: the place of the line that it names; where the class is none or a plain number, v itself
 abbrev pub meant : (k : ℕ) → List ℕ → (v : ℕ) → ℕ

@@ -1,22 +1,22 @@
--- Reading a text: its lines are parted at LF, cut at the first semicolon, and parted into tokens at spaces. Of a line the first of the refusals 3 to 10 that holds is
--- answered, of a text the first line's that has one. Assumes nothing.
-use Prim.Native.Nat.{ℕ, zero, suc, _-_, _^_}
+-- Reading a text: its lines are parted at LF, cut at the first semicolon, and parted into tokens at spaces. Of a line the first of the refusals 3 to 10, and 4 again, that holds is
+-- answered, of a text the first line's that has one. A line gives its own record and, before it, a not record for each minus operand. Assumes nothing.
+use Prim.Native.Nat.{ℕ, zero, suc, _+_, _-_, _^_}
 use mathlib.Core.Bool.{Bool, true, false, _&&_, _||_, not}
-use mathlib.Core.List.{List, [], _∷_, _++_}
+use mathlib.Core.List.{List, [], _∷_, _++_, map}
 use lib.Dec.{eqb, leb, ltb}
-use lib.ListN.{length, take, drop, set, replicate}
+use lib.ListN.{length, take, drop, getD, set, replicate}
 use Rattle.tables.specs.declared.Ty.{Ty}
 use Rattle.tables.specs.declared.Refusal.{Refusal}
 use Rattle.tables.specs.declared.Refusal.the-variants.{NotATable, TextTooLong, WrongId, NoRecordLeft, UnknownWord, BadOperand, NumberTooLarge, WrongClass, Misfit, InitOrNext}
 use Rattle.tables.specs.declared.Answer.{Answer}
 use Rattle.tables.specs.declared.Answer.the-variants.{Done, Refused}
-use Rattle.tables.specs.Pick.{inside}
-use Rattle.tables.specs.Kinds.{wordOf}
-use Rattle.tables.specs.Lines.{lineOf, fields, sortIn, firstIn}
-use Rattle.tables.specs.Types.{Ctx, noCtx, tyAt, given, grow}
+use Rattle.tables.specs.Pick.{pick, inside, all}
+use Rattle.tables.specs.Kinds.{word as wordClass, value, rowOf, wordOf, sortClass, firstClass, secondClass, thirdClass, classAt, namesLine}
+use Rattle.tables.specs.Lines.{lineOf, fields, kindIn, sortIn, firstIn, secondIn, thirdIn}
+use Rattle.tables.specs.Types.{isWord, Ctx, noCtx, tyAt, given, growAll}
 use Rattle.tables.specs.Rules.{fault}
-use Rattle.tables.specs.Layout.{whole, room, withIds, filled}
-use Rattle.tables.specs.Ids.{follows}
+use Rattle.tables.specs.Layout.{recordWords, whole, room, withIds, filled}
+use Rattle.tables.specs.Ids.{follows, notKind}
 use Rattle.tables.specs.Answers.{Outcome, told}
 use Rattle.texts.specs.declared.Num.{Num}
 use Rattle.texts.specs.declared.Num.the-variants.{Bad, Big, Is}
@@ -61,13 +61,26 @@ behind (word f ts) = ts
 
 -- ---- the numbers: a line's sort, where it has one, and its operands
 
--- the number that a token is, for the place j of a record: the value of const is in binary, that of consth in hexadecimal digits
-abbrev pub numberAt : ℕ → ℕ → List ℕ → Num
-numberAt f j t =
+-- the token begins with a minus
+abbrev pub leadsMinus : List ℕ → Bool
+leadsMinus [] = false
+leadsMinus (c ∷ t) = eqb c 45
+
+-- "An operand token yields a line and a sign": a token for the place j of a record has a minus, which only one that names a line may have
+abbrev pub signAt : (f j : ℕ) → List ℕ → Bool
+signAt f j t = namesLine (classAt (formRow f) j) && leadsMinus t
+
+-- a number without a sign: the value of const is in binary, that of consth in hexadecimal digits
+abbrev pub plainAt : (f j : ℕ) → List ℕ → Num
+plainAt f j t =
     elim (eqb f 56 && eqb j 2) [
       | true ↦ digitsIn 2 64 t
       | false ↦ elim (eqb f 57 && eqb j 2) [ true ↦ digitsIn 16 16 t | false ↦ decimal t ]
     ]
+
+-- the number that a token is, for the place j of a record: that of its digits, behind the minus where it has one
+abbrev pub numberAt : (f j : ℕ) → List ℕ → Num
+numberAt f j t = elim (signAt f j t) [ true ↦ decimal (drop 1 t) | false ↦ plainAt f j t ]
 
 -- tokens as numbers for the places j and up
 abbrev pub numbersFrom : (f j : ℕ) → List (List ℕ) → List Num
@@ -94,6 +107,17 @@ placed j (Bad ∷ ns) rec = placed (suc j) ns rec
 placed j (Big ∷ ns) rec = placed (suc j) ns rec
 placed j (Is v ∷ ns) rec = placed (suc j) ns (set rec j v)
 
+-- which places of a record have a minus: the signs of tokens at the places j and up, the other places as in s
+abbrev pub signsFrom : (f j : ℕ) → List (List ℕ) → List Bool → List Bool
+signsFrom f j [] s = s
+signsFrom f j (t ∷ ts) s = signsFrom f (suc j) ts (set s j (signAt f j t))
+
+abbrev pub noSigns : List Bool
+noSigns = replicate recordWords false
+
+abbrev pub minusAt : List Bool → (j : ℕ) → Bool
+minusAt s j = getD s j false
+
 -- the last of a list, or t where it is empty
 abbrev pub lastOf : {A : Type 0} → A → List A → A
 lastOf t [] = t
@@ -111,7 +135,10 @@ extraTokens f ts = drop (numbersOf (formRow f)) ts
 abbrev pub numbersIn : ℕ → List (List ℕ) → List Num
 numbersIn f ts = numbersFrom f (firstOf (formRow f)) (numberTokens f ts)
 
--- the record as it is written: all places but the kind are 0 before the numbers are put
+abbrev pub signsIn : ℕ → List (List ℕ) → List Bool
+signsIn f ts = signsFrom f (firstOf (formRow f)) (numberTokens f ts) noSigns
+
+-- the record as it is written, signs left out: all places but the kind are 0 before the numbers are put
 abbrev pub fresh : ℕ → List ℕ
 fresh k = fields k 0 0 0 0
 
@@ -129,6 +156,54 @@ placedRecord ds f ts = resolved ds (writtenRecord f ts)
 -- the line's record, after lines whose types are L
 abbrev pub recordIn : (ℕ → Ty) → (ds : List ℕ) → ℕ → List (List ℕ) → List ℕ
 recordIn L ds f ts = settled (L (sortIn (placedRecord ds f ts)) .w) f (placedRecord ds f ts)
+
+-- ---- minus operands
+
+-- "The minus is refused by 8 before a sort, an array, an init value, or the state that an init or next sets": it may stand before a word, in a place of the class k of a line
+-- that is no init; a is the type of the operand. The classes from word to value name values, the others states and sorts.
+abbrev pub mayTakeMinus : (kind k : ℕ) → (a : Ty) → Bool
+mayTakeMinus kind k a = inside wordClass value k && (isWord a && not (eqb kind 6))
+
+abbrev pub minusFits : (kind k : ℕ) → (a : Ty) → (minus : Bool) → Bool
+minusFits kind k a minus = not minus || mayTakeMinus kind k a
+
+-- each minus of a record stands where it may, after lines whose types are L: the sort's place and the operands', by the row of the record's kind
+abbrev pub minusesBy : (row : List ℕ) → (ℕ → Ty) → List Bool → List ℕ → List Bool
+minusesBy row L s r =
+    minusFits (kindIn r) (sortClass row) (L (sortIn r)) (minusAt s 1)
+    ∷ minusFits (kindIn r) (firstClass row) (L (firstIn r)) (minusAt s 2)
+    ∷ minusFits (kindIn r) (secondClass row) (L (secondIn r)) (minusAt s 3)
+    ∷ minusFits (kindIn r) (thirdClass row) (L (thirdIn r)) (minusAt s 4)
+    ∷ []
+
+abbrev pub minusesFit : (ℕ → Ty) → List Bool → List ℕ → List Bool
+minusesFit L s r = minusesBy (rowOf (kindIn r)) L s r
+
+-- how many of m operands from the place j on have a minus, and of all three
+abbrev pub minusesFrom : List Bool → (m j : ℕ) → ℕ
+minusesFrom s zero j = 0
+minusesFrom s (suc m) j = pick (minusAt s j) 1 0 + minusesFrom s m (suc j)
+
+abbrev pub minuses : List Bool → ℕ
+minuses s = minusesFrom s 3 2
+
+-- "a not record of that operand's sort": for the line at the place a after the records rs, the sort that its own record names
+abbrev pub notOf : List (List ℕ) → (a : ℕ) → List ℕ
+notOf rs a = fields notKind (sortIn (getD rs (a - 1) [])) a 0 0
+
+-- The records of a line after the records rs: for each minus operand, of m from the place j on, a not record; then the line's own, which has the not record's place in the
+-- operand's stead.
+abbrev pub spread : List Bool → (m j : ℕ) (rs : List (List ℕ)) → (rec : List ℕ) → List (List ℕ)
+spread s zero j rs rec = rec ∷ []
+spread s (suc m) j rs rec =
+    pick (minusAt s j) (notOf rs (getD rec j 0) ∷ spread s m (suc j) (rs ++ (notOf rs (getD rec j 0) ∷ [])) (set rec j (suc (length rs)))) (spread s m (suc j) rs rec)
+
+abbrev pub lineRecords : List Bool → (rs : List (List ℕ)) (rec : List ℕ) → List (List ℕ)
+lineRecords s rs rec = spread s 3 2 rs rec
+
+-- their ids: d is the line's, a not record has 0
+abbrev pub lineIds : List Bool → (d : ℕ) → List ℕ
+lineIds s d = replicate (minuses s) 0 ++ (d ∷ [])
 
 -- ---- the id
 
@@ -174,9 +249,9 @@ module _ (L : ℕ → Ty) (G : Bool → ℕ → Bool) (m : ℕ) (ds : List ℕ) 
   abbrev pub numberTooLarge : Bool
   numberTooLarge = anyBig (numbersIn f ts) || (eqb f 1 && not (inside 1 64 (firstIn (writtenRecord f ts))))
 
-  -- 8: an operand does not name an earlier line of the right class
+  -- 8: an operand does not name an earlier line of the right class, or a minus stands where none may
   abbrev pub wrongClass : Bool
-  wrongClass = eqb (fault false L G (recordIn L ds f ts)) 8
+  wrongClass = eqb (fault false L G (recordIn L ds f ts)) 8 || not (all (minusesFit L (signsIn f ts) (recordIn L ds f ts)))
 
   -- 9: sorts, widths, bounds or a constant misfit; a const token, the last of its numbers, has as many digits as its width
   abbrev pub misfit : Bool
@@ -186,7 +261,11 @@ module _ (L : ℕ → Ty) (G : Bool → ℕ → Bool) (m : ℕ) (ds : List ℕ) 
   abbrev pub initOrNext : Bool
   initOrNext = eqb (fault false L G (recordIn L ds f ts)) 10
 
-  -- all of them, lowest number first
+  -- 4 again: no record is left for the line with its not records
+  abbrev pub noRecordsLeft : Bool
+  noRecordsLeft = not (ltb (length ds + minuses (signsIn f ts)) m)
+
+  -- all of them, in their order
   abbrev pub refusals : List (Refusal × Bool)
   refusals =
       (WrongId, wrongId)
@@ -197,28 +276,33 @@ module _ (L : ℕ → Ty) (G : Bool → ℕ → Bool) (m : ℕ) (ds : List ℕ) 
       ∷ (WrongClass, wrongClass)
       ∷ (Misfit, misfit)
       ∷ (InitOrNext, initOrNext)
+      ∷ (NoRecordLeft, noRecordsLeft)
       ∷ []
 
 -- ---- a line
 
--- a blank line, a refusal, or a record
+-- a blank line, a refusal, or a record with its signs
 pub data Reply : Type 0 where
   skip : Reply
   no : (r : Refusal) → Reply
-  got : (rec : List ℕ) → Reply
+  got : (rec : List ℕ) (s : List Bool) → Reply
 
--- the first refusal whose test holds, else the record
-unfoldable pub lowest : List (Refusal × Bool) → (rec : List ℕ) → Reply
-lowest [] rec = got rec
-lowest (x ∷ xs) rec = elim (x .1) [ true ↦ no (x .0) | false ↦ lowest xs rec ]
+-- the first refusal whose test holds, else y
+unfoldable pub lowest : List (Refusal × Bool) → (y : Reply) → Reply
+lowest [] y = y
+lowest (x ∷ xs) y = elim (x .1) [ true ↦ no (x .0) | false ↦ lowest xs y ]
 
 -- a line's tokens: a semicolon starts a comment to the line's end
 abbrev pub lineTokens : List ℕ → List (List ℕ)
 lineTokens l = tokens (upTo 59 l)
 
+-- the record of a form and the tokens behind its word, with its signs
+abbrev pub replyIn : (ℕ → Ty) → (ds : List ℕ) (f : ℕ) → List (List ℕ) → Reply
+replyIn L ds f ts = got (recordIn L ds f ts) (signsIn f ts)
+
 unfoldable pub readLine : (ℕ → Ty) → (Bool → ℕ → Bool) → (m : ℕ) (ds : List ℕ) → List (List ℕ) → Reply
 readLine L G m ds [] = skip
-readLine L G m ds (t ∷ ts) = lowest (refusals L G m ds t (formOf (wordIn ts)) (behind (wordIn ts))) (recordIn L ds (formOf (wordIn ts)) (behind (wordIn ts)))
+readLine L G m ds (t ∷ ts) = lowest (refusals L G m ds t (formOf (wordIn ts)) (behind (wordIn ts))) (replyIn L ds (formOf (wordIn ts)) (behind (wordIn ts)))
 
 -- ---- a text
 
@@ -240,7 +324,8 @@ module _ (types : List (List ℕ) → Ctx → ℕ → Ty) where
       elim (readLine (types rs c) (given c) m ds (lineTokens x)) [
         | skip ↦ readLinesBy m (suc l) c rs ds xs
         | no r ↦ refused r l
-        | got rec ↦ readLinesBy m (suc l) (grow false c (lineOf rec)) (rs ++ (rec ∷ [])) (ds ++ (lineId (lineTokens x) ∷ [])) xs
+        | got rec s ↦
+            readLinesBy m (suc l) (growAll false c (map lineOf (lineRecords s rs rec))) (rs ++ lineRecords s rs rec) (ds ++ lineIds s (lineId (lineTokens x))) xs
       ]
 
   -- all lines of the text s, into a table of len words

@@ -15,20 +15,29 @@ pub struct Form {
     pub at: usize,
 }
 
-// A line's numbers in its record: whether all were there and well formed, whether one was too large, how long the last was, and the place behind it.
+// A token as a number and whether it has a minus.
+pub struct Signed {
+    pub num: Num,
+    pub minus: bool,
+}
+
+// A line's numbers in its record: whether all were there and well formed, whether one was too large, how long the last was, and the place behind it; and which places of
+// the record have a minus.
 pub struct Taken {
     pub ok: bool,
     pub big: bool,
     pub len: usize,
     pub at: usize,
     pub rec: [u64; WORDS],
+    pub minus: [bool; WORDS],
 }
 
-// What a line gives: 0, its record and its id, 1 for a blank line, 2 and its refusal.
+// What a line gives: 0, its record with the places that have a minus, and its id, 1 for a blank line, 2 and its refusal.
 pub struct Readout {
     pub what: u64,
     pub code: Refusal,
     pub rec: [u64; WORDS],
+    pub minus: [bool; WORDS],
     pub id: u64,
 }
 

@@ -3,6 +3,10 @@
 //! Records are made, and damaged, one behind the other (`rows`); a list of them is laid out in columns when it is whole.
 #![allow(dead_code)]
 
+pub mod minus;
+pub mod minus_edges;
+pub mod zero_ids;
+
 use crate::independent::kinds::{is_value, row, Place, KINDS};
 use crate::independent::rules::{check_program, check_table, ones, Lines, Sort};
 use crate::independent::{columns, ids, layout, records, size as record_size, Record, MOST_ID, MOST_RECORDS};
@@ -566,6 +570,11 @@ pub fn size(random: &mut Random) -> Size {
 
 /// The text of records in some style: constants in any form, names, comments, blank lines, spaces.
 pub fn text(random: &mut Random, lines: &Lines) -> Vec<u8> {
+    text_by(random, lines, |_, _| {})
+}
+
+/// The same with tokens that a function changes: it is given a line's number, from 0, and its tokens up to the operands.
+fn text_by(random: &mut Random, lines: &Lines, change: impl Fn(usize, &mut Vec<Vec<u8>>)) -> Vec<u8> {
     let style = random.below(3);
     let mut text = Vec::new();
     for (i, r) in lines.records.iter().enumerate() {
@@ -576,12 +585,9 @@ pub fn text(random: &mut Random, lines: &Lines) -> Vec<u8> {
         if r[0] == 3 {
             constant_form(random, &mut tokens, r[2], lines.sort(r[1]).width());
         }
+        change(i, &mut tokens);
         if style > 0 && random.one_in(3) {
-            tokens.push(
-                random
-                    .pick(&[&b"name"[..], b"7", b"0", b"\t", b"\r", b"\xff\x00", b"bad", b"a_long_name.with[4]"])
-                    .to_vec(),
-            );
+            tokens.push(random.pick(NAMES).to_vec());
         }
         let space =
             |random: &mut Random| vec![b' '; if style == 2 && random.one_in(4) { 1 + random.below(4) } else { 1 }];
@@ -648,6 +654,9 @@ fn constant_form(random: &mut Random, tokens: &mut Vec<Vec<u8>>, value: u64, w: 
         _ => {}
     }
 }
+
+const NAMES: &[&[u8]] =
+    &[b"name", b"7", b"0", b"\t", b"\r", b"\xff\x00", b"bad", b"a_long_name.with[4]", b"-7", b"-", b"--x"];
 
 /// Tokens that may stand in for others.
 pub const STRANGE: &[&[u8]] = &[

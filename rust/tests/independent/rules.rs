@@ -48,8 +48,10 @@ pub struct Line {
 pub struct Lines {
     pub lines: Vec<Line>,
     pub records: Vec<Record>,
-    /// The ids as written, rising. A program's are of no use.
+    /// The ids as written, rising; 0 for the not record of a minus operand. A program's are of no use.
     pub ids: Vec<u64>,
+    /// The last id that is not 0.
+    pub last_id: u64,
     /// The sort words are widths, as in programs.
     pub program: bool,
 }
@@ -59,14 +61,18 @@ impl Lines {
         self.lines.get(usize::try_from(number.checked_sub(1)?).ok()?)
     }
 
-    /// Whether a line may have this id: above the one before, and not too large.
-    pub fn id_fits(&self, id: u64) -> bool {
-        self.ids.last().copied().unwrap_or(0) < id && id <= MOST_ID
+    /// Whether the next line of a text may have this id: above the one before, and not too large.
+    pub fn id_rises(&self, id: u64) -> bool {
+        self.last_id < id && id <= MOST_ID
     }
 
-    /// The place of the line with an id; 0 where there is none.
-    pub fn place(&self, id: u64) -> u64 {
-        self.ids.binary_search(&id).map_or(0, |i| i as u64 + 1)
+    /// Whether the next record of a table may have this id: 0 is for not records alone.
+    pub fn id_fits(&self, kind: u64, id: u64) -> bool {
+        if id == 0 {
+            kind == 11
+        } else {
+            self.id_rises(id)
+        }
     }
 
     /// The records of the lines one behind the other, a circuit's with their ids.
@@ -191,7 +197,7 @@ impl Lines {
 
     /// Adds a line that breaks no rule, with the next number as its id.
     pub fn add(&mut self, r: Record) {
-        self.add_as(r, self.ids.last().copied().unwrap_or(0) + 1);
+        self.add_as(r, self.last_id + 1);
     }
 
     /// Adds a line that breaks no rule.
@@ -210,6 +216,9 @@ impl Lines {
         self.lines.push(Line { kind: r[0], sort, init: false, next: false });
         self.records.push(r);
         self.ids.push(id);
+        if id > 0 {
+            self.last_id = id;
+        }
     }
 
     fn accepts(&self, r: &Record) -> bool {
@@ -237,7 +246,7 @@ fn check(list: &[u64], count: usize, program: bool) -> Option<Lines> {
     let mut lines = Lines { program, ..Lines::default() };
     let ids = if program { (1..=count as u64).collect() } else { ids(list, count) };
     for (r, id) in records(list, count, program).into_iter().zip(ids) {
-        if !lines.id_fits(id) || !lines.accepts(&r) {
+        if !lines.id_fits(r[0], id) || !lines.accepts(&r) {
             return None;
         }
         lines.add_as(r, id);

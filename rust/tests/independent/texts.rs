@@ -95,13 +95,58 @@ fn digits_number(token: &[u8], base: u32, most: usize) -> Number {
     }
 }
 
-/// The record of a line and its id, or the refusal's number.
-fn record(tokens: &[&[u8]], lines: &Lines, room: usize) -> Result<(Record, u64), u64> {
+/// A token that names a line: the number, and whether a minus stands before it.
+fn operand(token: &[u8]) -> (Number, bool) {
+    match token.strip_prefix(b"-") {
+        Some(digits) => (number(digits), true),
+        None => (number(token), false),
+    }
+}
+
+/// The lines read so far.
+#[derive(Default)]
+struct Known {
+    lines: Lines,
+    /// The ids as written, rising, each with its line's place.
+    named: Vec<(u64, u64)>,
+}
+
+impl Known {
+    /// The place of the line that a number names; 0 where it names none.
+    fn place(&self, id: u64) -> u64 {
+        self.named.binary_search_by_key(&id, |named| named.0).map_or(0, |i| self.named[i].1)
+    }
+
+    /// The minus is refused before a sort, an array, an init value, and the state that an init or next sets. `at` is the
+    /// operand's place in the record, of which rule 8 holds.
+    fn bars_minus(&self, r: &Record, at: usize) -> bool {
+        let line = self.lines.line(r[at]).unwrap();
+        let sort = line.kind <= 2;
+        let array = matches!(line.sort, Some(Sort::Array(..)));
+        let init_value = r[0] == 6 && at == 3;
+        let state = matches!(r[0], 6 | 7) && at == 2;
+        sort || array || init_value || state
+    }
+
+    fn add(&mut self, records: Vec<(Record, u64)>) {
+        for (r, id) in records {
+            self.lines.add_as(r, id);
+            if id > 0 {
+                self.named.push((id, self.lines.records.len() as u64));
+            }
+        }
+    }
+}
+
+/// The records that a line adds, each with its id: a not record for each minus operand, then its own; or the refusal's
+/// number.
+fn records(tokens: &[&[u8]], known: &Known, room: usize) -> Result<Vec<(Record, u64)>, u64> {
+    let lines = &known.lines;
     let id = match number(tokens[0]) {
-        Number::Is(id) if lines.id_fits(id) => id,
+        Number::Is(id) if lines.id_rises(id) => id,
         _ => return Err(3),
     };
-    if lines.lines.len() >= room {
+    if lines.records.len() >= room {
         return Err(4);
     }
     let form = form(tokens).ok_or(5u64)?;
@@ -110,21 +155,22 @@ fn record(tokens: &[&[u8]], lines: &Lines, room: usize) -> Result<(Record, u64),
     if rest.len() < places.len() || rest.len() > places.len() + 1 {
         return Err(6);
     }
-    let numbers: Vec<Number> = (0..places.len())
+    let numbers: Vec<(Number, bool)> = (0..places.len())
         .map(|i| match (form.constant, i) {
-            (Constant::Binary, 1) => digits_number(rest[i], 2, 64),
-            (Constant::Hex, 1) => digits_number(rest[i], 16, 16),
-            _ => number(rest[i]),
+            (Constant::Binary, 1) => (digits_number(rest[i], 2, 64), false),
+            (Constant::Hex, 1) => (digits_number(rest[i], 16, 16), false),
+            _ if places[i] == Place::Number => (number(rest[i]), false),
+            _ => operand(rest[i]),
         })
         .collect();
-    if numbers.iter().any(|n| matches!(n, Number::Malformed)) {
+    if numbers.iter().any(|(n, _)| matches!(n, Number::Malformed)) {
         return Err(6);
     }
-    let mut r: Record = [form.kind, 0, 0, 0, 0];
+    let (mut r, mut minus): (Record, [bool; 5]) = ([form.kind, 0, 0, 0, 0], [false; 5]);
     let first = if row(form.kind).sort.is_some() { 1 } else { 2 };
-    for (i, n) in numbers.iter().enumerate() {
+    for (at, (n, sign)) in (first..).zip(&numbers) {
         match n {
-            Number::Is(v) => r[first + i] = *v,
+            Number::Is(v) => (r[at], minus[at]) = (*v, *sign),
             _ => return Err(7),
         }
     }
@@ -133,9 +179,9 @@ fn record(tokens: &[&[u8]], lines: &Lines, room: usize) -> Result<(Record, u64),
     }
     // Tokens name ids, the record holds places.
     for i in (0..places.len()).filter(|&i| places[i] != Place::Number) {
-        r[first + i] = lines.place(r[first + i]);
+        r[first + i] = known.place(r[first + i]);
     }
-    if !lines.classes_fit(&r) {
+    if !lines.classes_fit(&r) || (0..5).any(|at| minus[at] && known.bars_minus(&r, at)) {
         return Err(8);
     }
     if form.kind == 3 {
@@ -153,7 +199,18 @@ fn record(tokens: &[&[u8]], lines: &Lines, room: usize) -> Result<(Record, u64),
     if !lines.states_fit(&r) {
         return Err(10);
     }
-    Ok((r, id))
+    let mut added = Vec::new();
+    for at in (2..5).filter(|&at| minus[at]) {
+        let sort = lines.records[r[at] as usize - 1][1];
+        added.push(([11, sort, r[at], 0, 0], 0));
+        r[at] = (lines.records.len() + added.len()) as u64;
+    }
+    added.push((r, id));
+    // Only the added records lack a place: 4 comes last.
+    if lines.records.len() + added.len() > room {
+        return Err(4);
+    }
+    Ok(added)
 }
 
 /// answer[0] is the count, or the text line with 3 to 10.
@@ -167,21 +224,21 @@ pub fn read(text: &[u8], table: &mut [u64], answer: &mut [u64]) -> u64 {
         return 2;
     }
     let room = room(table, false);
-    let mut known = Lines::default();
+    let mut known = Known::default();
     for (number, tokens) in lines(text) {
         if tokens.is_empty() {
             continue;
         }
-        match record(&tokens, &known, room) {
-            Ok((r, id)) => known.add_as(r, id),
+        match records(&tokens, &known, room) {
+            Ok(added) => known.add(added),
             Err(refusal) => {
                 answer[0] = number;
                 return refusal;
             }
         }
     }
-    store(&known.rows(), table, false);
-    answer[0] = known.records.len() as u64;
+    store(&known.lines.rows(), table, false);
+    answer[0] = known.lines.records.len() as u64;
     0
 }
 

@@ -26,13 +26,13 @@ look-requires c κs = search needs
 settle-requires : tie.Need-settle-requires
 settle-requires c κs = subst (λ (w : ℕ). w ≤ 64) (sym (ap (λ (t : Ty). t .w) (c .look .ensures))) (c .before .before .before .pre .1 .0 _)
 
-judge-requires : tie.Need-judge-requires
-judge-requires c κs = c .before .before .before .before .pre .0 ∙ ap rowOf (sym (ap kindIn (c .settle .ensures) ∙ (settled-kind _ _ _ ∙ (ap kindIn (c .before .before .resolve .ensures) ∙ resolved-kind _ _))))
+allow-requires : tie.Need-allow-requires
+allow-requires c κs = c .before .before .before .before .pre .0 ∙ ap rowOf (sym (ap kindIn (c .settle .ensures) ∙ (settled-kind _ _ _ ∙ (ap kindIn (c .before .before .resolve .ensures) ∙ resolved-kind _ _))))
 
 returns : tie.Need-returns
 returns c = let s = c .before .before .before .before .before .args in
-    is-concluded (lookIn (s .notes .now)) (givenIn (s .notes .now)) (s .f) (c .before .before .before .resolve .result) (s .len) (c .judge .ensures) (c .before .settle .ensures) (ap (λ (t : Ty). t .w) (c .before .before .look .ensures))
-    ∙ ap (λ (r : List ℕ). asRead 0 (concluded (lookIn (s .notes .now)) (givenIn (s .notes .now)) (s .f) (s .len) r)) (c .before .before .before .resolve .ensures)
+    is-concluded (lookIn (s .notes .now)) (givenIn (s .notes .now)) (s .f) (c .before .before .before .resolve .result) (s .minus) (s .len) (c .allow .ensures) (c .before .settle .ensures) (ap (λ (t : Ty). t .w) (c .before .before .look .ensures))
+    ∙ ap (λ (r : List ℕ). asRead 0 (concluded (lookIn (s .notes .now)) (givenIn (s .notes .now)) (s .f) (s .len) r (s .minus))) (c .before .before .before .resolve .ensures)
 
 pub conclude-spec : {M : Type 1} → statement M
 conclude-spec =
@@ -42,5 +42,5 @@ conclude-spec =
     array-read-look
     look-requires
     settle-requires
-    judge-requires
+    allow-requires
     returns)

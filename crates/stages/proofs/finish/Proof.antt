@@ -25,11 +25,11 @@ returns-2 c = let s = c .before .before .before .before .before .before .before 
     taken-many (lookIn (s .notes .now)) (givenIn (s .notes .now)) (idsOf (s .table .now) (s .n)) (s .f) (s .l .now) (s .t) (c .refuse2 .ensures) (not-false _ (c .before .before .before .if1 .left)) (sym (c .before .before .crowded .ensures) ∙ c .before .if2 .taken)
 
 large-requires : tie.Need-large-requires
-large-requires c κs = c .before .before .before .before .before .before .before .pre .1
+large-requires c κs = c .before .before .before .before .before .before .before .before .pre .1
 
 returns-3 : tie.Need-returns-3
-returns-3 c = let s = c .before .before .before .before .before .before .before .before .args in
-    taken-few (lookIn (s .notes .now)) (givenIn (s .notes .now)) (idsOf (s .table .now) (s .n)) (s .f) (s .l .now) (s .t) (c .large .ensures) (not-false _ (c .before .before .before .before .if1 .left)) (sym (c .before .before .before .crowded .ensures) ∙ c .before .before .if2 .left)
+returns-3 c = let s = c .before .before .before .before .before .before .before .before .before .args in
+    taken-few (lookIn (s .notes .now)) (givenIn (s .notes .now)) (idsOf (s .table .now) (s .n)) (s .f) (s .l .now) (s .t) (c .large .ensures) (not-false _ (c .before .before .before .before .before .if1 .left)) (sym (c .before .before .before .before .crowded .ensures) ∙ c .before .before .before .if2 .left)
 
 pub finish-spec : {M : Type 1} → statement M
 finish-spec =

@@ -40,7 +40,7 @@ of-requires c κs = tt
 operands-requires : tie.Need-operands-requires
 operands-requires c κs = let g = subst (λ (r : List ℕ). operandCount r ≤ 3) (sym (c .before .before .before .row .ensures)) (row-shape (c .before .before .before .before .before .before .args .f) (omega arith) (omega arith) .1) in
     let h = sorted-most (c .before .before .before .row .result) in
-    (c .before .before .before .before .before .before .pre .1 .0, (omega (arith, c .before .before .sorted .ensures), omega (arith, c .before .before .sorted .ensures)))
+    (c .before .before .before .row .ensures, (c .before .before .before .before .before .before .pre .1 .0, (omega (arith, c .before .before .sorted .ensures), omega (arith, c .before .before .sorted .ensures))))
 
 kind-row-requires : tie.Need-kind-row-requires
 kind-row-requires c κs =

@@ -11,11 +11,12 @@ use Rattle.tables.specs.Model.Notes.{lookIn, givenIn}
 use Rattle.texts.specs.Split.{tokens}
 use Rattle.texts.specs.Decimal.{decimal}
 use Rattle.texts.specs.Reading.{isNext, lineId}
-use Rattle.texts.specs.Model.Stages.{stagedLine}
+use Rattle.texts.specs.Model.Stages.{takenIn, ended, fitted, stagedLine}
+use Rattle.texts.specs.Model.Structs.{asRead, fittedRead}
 use Rattle.texts.proofs.Places.{no-token, next-token}
 use Rattle.texts.proofs.Resolving.{ids-length}
 use Rattle.texts.proofs.Steps.{read-skip, read-3, read-4, read-5, read-on}
-use Rattle.texts.proofs.Readouts.{blank-line, refused-line, read-line}
+use Rattle.texts.proofs.Readouts.{blank-line, refused-line, read-line, fitted-read}
 use Rattle.reading.proofs.lines.read_line.Statement.{statement}
 use Rattle.reading.proofs.lines.read_line.Tie as tie
 
@@ -116,30 +117,39 @@ rest-requires c κs =
     let h : (w .result .form ≡ 0 → ⊥) = c .if4 .left in
     (p .0, (w .ensures .0, (omega arith, (w .ensures .1 .0, (p .1 .1, p .1 .0)))))
 
+fit-requires : tie.Need-fit-requires
+fit-requires c κs = omega (arith, c .before .before .before .before .if3 .left)
+
 numbered-requires : tie.Need-numbered-requires
 numbered-requires c κs = search needs
 
 returns-5 : tie.Need-returns-5
 returns-5 c =
-    let s = c .before .before .before .before .before .before .before .before .before .before .before .before .before .before .before .args in
+    let s = c .before .before .before .before .before .before .before .before .before .before .before .before .before .before .before .before .args in
     let l = s .l .now in
     let L = lookIn (s .notes .now) in
     let G = givenIn (s .notes .now) in
     let ids = idsOf (s .table .now) (s .n) in
-    let a = c .before .before .before .before .before .before .before .before .before .before .before .before .skip .result in
-    let z = c .before .before .before .before .before .before .before .before .before .before .find-byte .result in
+    let a = c .before .before .before .before .before .before .before .before .before .before .before .before .before .skip .result in
+    let z = c .before .before .before .before .before .before .before .before .before .before .before .find-byte .result in
     let t = take (z - a) (drop a l) in
-    let on : a < length l = omega (arith, c .before .before .before .before .before .before .before .before .before .before .before .before .skip .ensures .1 .0, c .before .before .before .before .before .before .before .before .before .before .before .if1 .left) in
-    let e = sym (c .before .before .before .before .before .before .before .before .before .before .before .before .skip .ensures .1 .1 .0) ∙ next-token l a z on (c .before .before .before .before .before .before .before .before .before .before .before .before .skip .ensures .1 .1 .1 on) (c .before .before .before .before .before .before .before .before .before .before .find-byte .ensures .1 .1) in
-    let i = c .before .before .before .before .before .before .before .next-id in
-    let p = i .ensures .1 (c .before .before .before .before .before .before .if2 .left) in
-    let q = subst (λ (k : ℕ). isNext (decimal t) k ≡ true) (c .before .before .before .before .before .before .before .before .before .last .ensures) (p .0) in
-    let left : s .n < s .room = omega (arith, c .before .before .before .before .before .if3 .left) in
+    let on : a < length l = omega (arith, c .before .before .before .before .before .before .before .before .before .before .before .before .before .skip .ensures .1 .0, c .before .before .before .before .before .before .before .before .before .before .before .before .if1 .left) in
+    let e = sym (c .before .before .before .before .before .before .before .before .before .before .before .before .before .skip .ensures .1 .1 .0) ∙ next-token l a z on (c .before .before .before .before .before .before .before .before .before .before .before .before .before .skip .ensures .1 .1 .1 on) (c .before .before .before .before .before .before .before .before .before .before .before .find-byte .ensures .1 .1) in
+    let i = c .before .before .before .before .before .before .before .before .next-id in
+    let p = i .ensures .1 (c .before .before .before .before .before .before .before .if2 .left) in
+    let q = subst (λ (k : ℕ). isNext (decimal t) k ≡ true) (c .before .before .before .before .before .before .before .before .before .before .last .ensures) (p .0) in
+    let left : s .n < s .room = omega (arith, c .before .before .before .before .before .before .if3 .left) in
     let some = subst (λ (k : ℕ). k < s .room) (sym (ids-length (s .table .now) (s .n))) left in
-    let w = c .before .before .before .before .word in
-    let r = c .before .rest in
-    read-line _ (stagedLine L G ids (s .room) (tokens l)) (lineId (tokens l)) (r .result) (i .result) (c .numbered .ensures)
-    (read-on L G ids (s .room) l 0 t z e q some (w .result) (w .ensures .1 .1) (c .before .before .if4 .left) (r .ensures)) (p .1 ∙ sym (ap lineId e))
+    let w = c .before .before .before .before .before .word in
+    let r = c .before .before .rest in
+    let y = ended L G ids (w .result .form) (takenIn (w .result .form) (tokens (drop (w .result .at) l))) in
+    let fits =
+    c .before .fit .ensures
+    ∙ (ap (fittedRead (s .n) (s .room)) (r .ensures)
+    ∙ (fitted-read (s .n) (s .room) y ∙ ap (λ (k : ℕ). asRead 0 (fitted k (s .room) y)) (sym (ids-length (s .table .now) (s .n)))))
+    in
+    read-line _ (stagedLine L G ids (s .room) (tokens l)) (lineId (tokens l)) (c .before .fit .result) (i .result) (c .numbered .ensures)
+    (read-on L G ids (s .room) l 0 t z e q some (w .result) (w .ensures .1 .1) (c .before .before .before .if4 .left) fits) (p .1 ∙ sym (ap lineId e))
 
 pub read-line-spec : {M : Type 1} → statement M
 read-line-spec =
@@ -161,5 +171,6 @@ read-line-spec =
     refuse-requires-3
     returns-4
     rest-requires
+    fit-requires
     numbered-requires
     returns-5)

@@ -2,14 +2,16 @@
 use Prim.Native.Nat.{ℕ, _-_}
 use mathlib.Core.Path.{_≡_, refl, sym, ap, _∙_}
 use mathlib.Core.Bool.{false}
-use mathlib.Core.List.{List, [], _∷_, _++_}
+use mathlib.Core.List.{List, [], _++_, map}
 use native.Mathlib.Nat.{le-trans}
 use native.Mathlib.Omega.{arith}
 use lib.ListN.{length, replicate}
 use Rattle.tables.specs.Lines.{lineOf}
 use Rattle.tables.specs.Layout.{room as roomOf}
-use Rattle.tables.specs.Types.{Ctx, noCtx, grow}
-use Rattle.texts.proofs.Reached.{Reached, table-size, risen, at-start, at-end, at-no, at-skip, at-got, narrow-noted, fits-record, sort-fits, out-refused, out-done}
+use Rattle.tables.specs.Types.{Ctx, noCtx, growAll}
+use Rattle.texts.specs.Reading.{lineRecords, lineIds}
+use Rattle.texts.proofs.Holding.{table-size, risen, narrow-noted}
+use Rattle.texts.proofs.Reached.{Reached, at-start, at-end, at-no, at-skip, at-got, is-ready, out-refused, out-done}
 use Rattle.reading.proofs.lines.read_lines.Statement.{statement}
 use Rattle.reading.proofs.lines.read_lines.Tie as tie
 
@@ -44,7 +46,7 @@ part-read-line-end c = le-trans (c .cut .ensures .1 .0) (c .before .find-byte .e
 read-line-requires : tie.Need-read-line-requires Inv-loop μ-loop
 read-line-requires c κs =
     let R = c .before .before .before .before .before .before .loop .inv .1 .1 .1 .1 in
-    (c .before .before .before .before .before .before .before .before .before .before .pre .1 .1 .1 .1, (risen R, narrow-noted R))
+    (c .before .before .before .before .before .before .before .before .before .before .pre .1 .1 .1 .1, (risen (R .holding), narrow-noted (R .holding)))
 
 after-requires : tie.Need-after-requires Inv-loop μ-loop
 after-requires c κs = tt
@@ -53,10 +55,10 @@ clear-requires : tie.Need-clear-requires Inv-loop μ-loop
 clear-requires c κs = tt
 
 same-length : tie.Need-same-length Inv-loop μ-loop
-same-length c = c .before .before .clear .kept .0 ∙ table-size (c .before .before .before .before .before .before .before .before .before .before .before .before .before .before .loop .inv .1 .1 .1 .1)
+same-length c = c .before .before .clear .kept .0 ∙ table-size (c .before .before .before .before .before .before .before .before .before .before .before .before .before .before .loop .inv .1 .1 .1 .1 .holding)
 
 same-length-2 : tie.Need-same-length-2 Inv-loop μ-loop
-same-length-2 c = c .before .before .before .before .before .before .before .before .before .before .before .before .before .before .loop .inv .1 .1 .1 .1 .ample ∙ sym (c .before .before .before .before .before .before .before .before .before .before .before .before .before .before .before .before .before .before .pre .1 .1 .0)
+same-length-2 c = c .before .before .before .before .before .before .before .before .before .before .before .before .before .before .loop .inv .1 .1 .1 .1 .holding .ample ∙ sym (c .before .before .before .before .before .before .before .before .before .before .before .before .before .before .before .before .before .before .pre .1 .1 .0)
 
 returns : tie.Need-returns Inv-loop μ-loop
 returns c =
@@ -70,48 +72,53 @@ returns c =
     let on = c .before .before .before .before .before .before .before .before .before .before .before .before .before .loop-test .taken in
     out-refused (length (s .table .now))
     (at-no R (c .before .before .before .before .before .before .before .before .before .before .before .before .before .before .before .room-of .result) (f .result) (z .result) (a .result) (v .inv .0) on (f .ensures .1 .1) (z .ensures .1 .1) (f .ensures .1 .0) (a .ensures) (q .result) (q .ensures .0) (c .before .before .before .before .if1 .taken))
-    (c .before .before .clear .ensures ∙ ap (λ (k : ℕ). replicate {A = ℕ} k 0) (table-size R))
+    (c .before .before .clear .ensures ∙ ap (λ (k : ℕ). replicate {A = ℕ} k 0) (table-size (R .holding)))
 
 add-line : tie.Need-add-line Inv-loop μ-loop
 add-line c =
     let R = c .before .before .before .before .before .before .before .before .before .before .loop .inv .1 .1 .1 .1 in
     omega (arith, R .early, R .within, c .before .before .before .before .before .before .before .before .before .before .before .before .before .before .pre .0)
 
-take-requires : tie.Need-take-requires Inv-loop μ-loop
-take-requires c κs =
-    let s = c .before .before .before .before .before .before .before .before .before .before .before .before .before .before .before .before .before .before .before .args in
-    let v = c .before .before .before .before .before .before .before .before .before .before .before .before .before .before .before .loop in
+put-line-requires : tie.Need-put-line-requires Inv-loop μ-loop
+put-line-requires c κs =
+    let v = c .before .before .before .before .before .before .before .before .before .before .before .before .before .before .before .before .loop in
     let R = v .inv .1 .1 .1 .1 in
-    let f = c .before .before .before .before .before .before .before .before .before .before .before .before .before .find-byte in
-    let z = c .before .before .before .before .before .before .before .before .before .before .before .before .cut in
-    let q = c .before .before .before .before .before .before .before .before .read-line in
-    let a = c .before .before .before .before .before .before .before .after in
-    let on = c .before .before .before .before .before .before .before .before .before .before .before .before .before .before .loop-test .taken in
-    let h = c .before .before .before .if2 .taken in (
-      fits-record R (c .before .before .before .before .before .before .before .before .before .before .before .before .before .before .before .before .room-of .result) (f .result) (z .result) (a .result) (v .inv .0) on (f .ensures .1 .1) (z .ensures .1 .1) (f .ensures .1 .0) (a .ensures) (q .result) (q .ensures .0) h,
-      sort-fits R (c .before .before .before .before .before .before .before .before .before .before .before .before .before .before .before .before .room-of .result) (f .result) (z .result) (a .result) (v .inv .0) on (f .ensures .1 .1) (z .ensures .1 .1) (f .ensures .1 .0) (a .ensures) (q .result) (q .ensures .0) h,
-    )
-
-add-n : tie.Need-add-n Inv-loop μ-loop
-add-n c = omega (arith, c .before .before .before .before .before .before .before .before .before .before .before .before .before .before .before .before .before .before .before .loop .inv .1 .1 .1 .1 .most)
+    let f = c .before .before .before .before .before .before .before .before .before .before .before .before .before .before .find-byte in
+    let z = c .before .before .before .before .before .before .before .before .before .before .before .before .before .cut in
+    let q = c .before .before .before .before .before .before .before .before .before .read-line in
+    let a = c .before .before .before .before .before .before .before .before .after in
+    let on = c .before .before .before .before .before .before .before .before .before .before .before .before .before .before .before .loop-test .taken in
+    let h = c .before .before .before .before .if2 .taken in
+    is-ready R (c .before .before .before .before .before .before .before .before .before .before .before .before .before .before .before .before .before .room-of .result) (f .result) (z .result) (a .result) (v .inv .0) on (f .ensures .1 .1) (z .ensures .1 .1) (f .ensures .1 .0) (a .ensures) (q .result) (q .ensures .0) h
 
 loop-less : tie.Need-loop-less Inv-loop μ-loop
-loop-less c = omega (arith, c .before .before .before .before .before .before .before .before .before .before .before .after .ensures, c .before .before .before .before .before .before .before .before .before .before .before .before .before .before .before .before .before .find-byte .ensures .0, c .before .before .before .before .before .before .before .before .before .before .before .before .before .before .before .before .before .before .loop-test .taken)
+loop-less c = omega (arith, c .before .before .before .before .before .before .before .before .before .before .before .before .after .ensures, c .before .before .before .before .before .before .before .before .before .before .before .before .before .before .before .before .before .before .find-byte .ensures .0, c .before .before .before .before .before .before .before .before .before .before .before .before .before .before .before .before .before .before .before .loop-test .taken)
 
 loop-again : tie.Need-loop-again Inv-loop μ-loop
 loop-again c =
-    let s = c .before .before .before .before .before .before .before .before .before .before .before .before .before .before .before .before .before .before .before .before .before .before .before .args in
-    let v = c .before .before .before .before .before .before .before .before .before .before .before .before .before .before .before .before .before .before .before .loop in
+    let v = c .before .before .before .before .before .before .before .before .before .before .before .before .before .before .before .before .before .before .before .before .loop in
     let R = v .inv .1 .1 .1 .1 in
-    let f = c .before .before .before .before .before .before .before .before .before .before .before .before .before .before .before .before .before .find-byte in
-    let z = c .before .before .before .before .before .before .before .before .before .before .before .before .before .before .before .before .cut in
-    let q = c .before .before .before .before .before .before .before .before .before .before .before .before .read-line in
-    let a = c .before .before .before .before .before .before .before .before .before .before .before .after in
-    let on = c .before .before .before .before .before .before .before .before .before .before .before .before .before .before .before .before .before .before .loop-test .taken in
-    let t = c .before .before .before .take .ensures in
-    let h = c .before .before .before .before .before .before .before .if2 .taken in
+    let f = c .before .before .before .before .before .before .before .before .before .before .before .before .before .before .before .before .before .before .find-byte in
+    let z = c .before .before .before .before .before .before .before .before .before .before .before .before .before .before .before .before .before .cut in
+    let q = c .before .before .before .before .before .before .before .before .before .before .before .before .before .read-line in
+    let a = c .before .before .before .before .before .before .before .before .before .before .before .before .after in
+    let on = c .before .before .before .before .before .before .before .before .before .before .before .before .before .before .before .before .before .before .before .loop-test .taken in
+    let h = c .before .before .before .before .before .before .before .before .if2 .taken in
     let r = q .result in
-    (v .inv .0, (v .inv .1 .0 ++ (r .rec ∷ []), (v .inv .1 .1 .0 ++ (r .id ∷ []), (grow false (v .inv .1 .1 .1 .0) (lineOf (r .rec)), at-got R (c .before .before .before .before .before .before .before .before .before .before .before .before .before .before .before .before .before .before .before .before .room-of .result) (f .result) (z .result) (a .result) (v .inv .0) on (f .ensures .1 .1) (z .ensures .1 .1) (f .ensures .1 .0) (a .ensures) (q .result) (q .ensures .0) h (q .ensures .1 h) (t .0) (t .1)))))
+    let rs = v .inv .1 .0 in
+    let ls = lineRecords (r .minus) rs (r .rec) in (
+      v .inv .0,
+      (
+        rs ++ ls,
+        (
+          v .inv .1 .1 .0 ++ lineIds (r .minus) (r .id),
+          (
+            growAll false (v .inv .1 .1 .1 .0) (map lineOf ls),
+            at-got R (c .before .before .before .before .before .before .before .before .before .before .before .before .before .before .before .before .before .before .before .before .before .room-of .result) (f .result) (z .result) (a .result) (v .inv .0) on (f .ensures .1 .1) (z .ensures .1 .1) (f .ensures .1 .0) (a .ensures) (q .result) (q .ensures .0) h (q .ensures .1 h) (c .before .before .before .put-line .ensures),
+          ),
+        ),
+      ),
+    )
 
 loop-less-2 : tie.Need-loop-less-2 Inv-loop μ-loop
 loop-less-2 c = omega (arith, c .before .before .before .before .after .ensures, c .before .before .before .before .before .before .before .before .before .before .find-byte .ensures .0, c .before .before .before .before .before .before .before .before .before .before .before .loop-test .taken)
@@ -129,16 +136,16 @@ loop-again-2 c =
     (v .inv .0, (v .inv .1 .0, (v .inv .1 .1 .0, (v .inv .1 .1 .1 .0, at-skip R (c .before .before .before .before .before .before .before .before .before .before .before .before .before .room-of .result) (f .result) (z .result) (a .result) (v .inv .0) on (f .ensures .1 .1) (z .ensures .1 .1) (f .ensures .1 .0) (a .ensures) (q .result) (q .ensures .0) (c .if2 .left) (c .before .before .if1 .left)))))
 
 same-length-3 : tie.Need-same-length-3 Inv-loop μ-loop
-same-length-3 c = table-size (c .before .loop .inv .1 .1 .1 .1)
+same-length-3 c = table-size (c .before .loop .inv .1 .1 .1 .1 .holding)
 
 same-length-4 : tie.Need-same-length-4 Inv-loop μ-loop
-same-length-4 c = c .before .loop .inv .1 .1 .1 .1 .ample ∙ sym (c .before .before .before .before .before .pre .1 .1 .0)
+same-length-4 c = c .before .loop .inv .1 .1 .1 .1 .holding .ample ∙ sym (c .before .before .before .before .before .pre .1 .1 .0)
 
 returns-2 : tie.Need-returns-2 Inv-loop μ-loop
 returns-2 c =
     let v = c .before .loop in
     let R = v .inv .1 .1 .1 .1 in
-    out-done (length (c .before .before .before .before .before .args .table .now)) (v .n) (v .inv .1 .0) (v .inv .1 .1 .0) (R .size) (at-end R (c .loop-test .left)) (R .holds)
+    out-done (length (c .before .before .before .before .before .args .table .now)) (v .n) (v .inv .1 .0) (v .inv .1 .1 .0) (R .holding .size) (at-end R (c .loop-test .left)) (R .holding .holds)
 
 pub read-lines-spec : {M : Type 1} → statement M
 read-lines-spec =
@@ -160,8 +167,7 @@ read-lines-spec =
     same-length-2
     returns
     add-line
-    take-requires
-    add-n
+    put-line-requires
     loop-less
     loop-again
     loop-less-2
