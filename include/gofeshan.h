@@ -20,7 +20,10 @@
  * A record's number is its place, from 1, and records tell lines by their
  * places. Ids only rise, from 1 up to 4,294,967,295, with or without gaps: those
  * of a text, whose operand tokens name ids, and those of the counted records of a
- * table. Flat circuits and written texts are numbered 1, 2, 3.
+ * table. An operand token -7 is the complement of the line 7: reading puts a not
+ * record, kind 11, before the line's own record for each of them. Its id is 0,
+ * which no other kind of record may have, and no token names 0. Flat circuits and
+ * written texts are numbered 1, 2, 3, not lines too.
  *
  * A list is passed as a pointer and its length (in elements). Each function
  * returns 0 when done, else the number of the first refusal that holds, in the
@@ -29,15 +32,17 @@
  *    1  a list is no table, or no program, or `answer` has not three words
  *    2  text above 65,536 bytes
  *    3  id is no number above the id before it (0 before the first) and up to 4,294,967,295
- *    4  no record left
+ *    4  no record left; after 10 where there is one, and none for the line with its not records
  *    5  word unknown or missing
  *    6  operand missing or malformed, or two extra tokens
  *    7  number above 2^64 - 1, const above 64 or consth above 16 digits, or bitvec width not 1 to 64
- *    8  operand is not the id of an earlier line of the right class
+ *    8  operand is not the id of an earlier line of the right class, or a minus before a sort, an array, an init value,
+ *       or the state that an init or next sets
  *    9  sorts, widths, bounds or constant misfit
  *   10  second init or next of a state, or the init rule
  *   11  the count exceeds the table (a sixth of its length) or 16,384, or a record breaks a rule, or its id is not above
- *       the one before it, or not 1 to 4,294,967,295; of a conversion the count alone
+ *       the last one before it that is not 0, or above 4,294,967,295, or 0 for another than a not record; of a conversion
+ *       the count alone
  *   12  more records than the target or 16,384 holds
  *   13  steps above 4,096
  *   14  start words: not one for each state cell

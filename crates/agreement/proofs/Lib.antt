@@ -5,3 +5,4 @@ pub mod Ids
 pub mod Sample
 pub mod SampleMasks
 pub mod SampleIds
+pub mod SampleMinus

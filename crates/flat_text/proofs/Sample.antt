@@ -1,4 +1,4 @@
--- The request's example: for its text of 11 lines the flat program prints its 19 lines, and the same where the ids of the text have gaps. Assumes nothing.
+-- The request's example: for its text of 11 lines the flat program prints its 19 lines, and the same where the ids of the text have gaps; of a text with minus operands it prints the not lines. Assumes nothing.
 use Prim.Native.String.{String}
 use mathlib.Core.Path.{_≡_, refl, _∙_}
 use Rattle.tables.specs.Kinds.{letters, rowOf}
@@ -41,6 +41,21 @@ gaps-asked = refl
 
 pub gaps-printed : printed 7800 7800 65536 (letters gaps) ≡ letters flat
 gaps-printed = flat-program (letters gaps) ∙ gaps-asked
+
+-- minus operands: the flat text shows the not lines, with numbers of their own
+abbrev minus : String
+minus = "2 sort bitvec 1\n3 sort bitvec 4\n4 sort bitvec 4\n10 input 3\n11 input 2\n12 state 4\n20 ite 3 -11 -10 12\n21 next 4 12 -20\n30 ult 2 -12 -12\n31 bad -30\n"
+
+abbrev minusFlat : String
+minusFlat = "1 sort bitvec 1\n2 sort bitvec 4\n3 sort bitvec 4\n4 input 2\n5 input 1\n6 state 3\n7 not 1 5\n8 not 2 4\n9 ite 2 7 8 6\n10 not 2 9\n11 next 3 6 10\n12 not 3 6\n13 not 3 6\n14 ult 1 12 13\n15 not 1 14\n16 bad 15\n"
+
+minus-asked : asked 7800 7800 (letters minus) ≡ letters minusFlat
+unfolding asked readTextBy readLinesBy readLine lowest settled resolved wordIn findIn formRow rowOf fault suits split upTo tokens decimal scanned valued digitsIn allIn valueFrom digit
+    flattened checked flatten flatRecords filledBy writeText writeFrom digits digitsF
+minus-asked = refl
+
+pub minus-printed : printed 7800 7800 65536 (letters minus) ≡ letters minusFlat
+minus-printed = flat-program (letters minus) ∙ minus-asked
 
 -- an unknown word in the second line of a text
 refused-asked : asked 7800 7800 (letters "; no record stands here\n1 sort float 8\n") ≡ letters "refused 5 2\n"

@@ -8,10 +8,11 @@ use records::kinds::NUM;
 use records::kinds::WSORT;
 use records::kinds::letters::*;
 ghost use mathlib.Core.Path.{_≡_};
+ghost use mathlib.Core.Bool.{false};
 ghost use Prim.Native.Nat.{_≤_, _+_};
 ghost use lib.ListN.{getD};
 ghost use Rattle.texts.specs.Forms.{extra, formRow, kindOf, sorted as sortedOf, sortWord};
-ghost use Rattle.tables.specs.Kinds.{rows, rowOf, wordOf};
+ghost use Rattle.tables.specs.Kinds.{rows, wordOf};
 ghost use Rattle.texts.specs.Split.{sameBytes};
 ghost use Rattle.texts.specs.Reading.{findIn};
 
@@ -51,17 +52,6 @@ pub fn kind_of(f: usize) -> u64
         return f as u64;
     }
     3
-}
-
-// The row of the kind of the form f, whose own row is at hand; kinds are the rows of all kinds.
-pub fn kind_row(kinds: &[[u8; 16]; 55], f: usize, row: [u8; 16]) -> [u8; 16]
-    requires { ⌜ (now kinds ≡ rows) × ((1 ≤ f) × (row ≡ formRow f)) ⌝ }
-    ensures { λ r. ⌜ r ≡ rowOf (kindOf f) ⌝ }
-{
-    if f <= 55 {
-        return row;
-    }
-    kinds::row_of(kinds, 3)
 }
 
 // 1 where a line has a sort, else 0.
@@ -112,6 +102,21 @@ fn is_sort(t: &[u8]) -> bool
     t[3] == b't'
 }
 
+// The word of the kind j has the first letter and the length of the token t: so most kinds are passed over by one byte of their rows.
+fn begins(kinds: &[[u8; 16]; 55], j: usize, t: &[u8]) -> bool
+    requires { ⌜ (now kinds ≡ rows) × ((1 ≤ j) × (j ≤ 55)) ⌝ }
+    ensures { λ r. ⌜ (r ≡ false → sameBytes (now (t .entry)) (wordOf (formRow j)) ≡ false) ⌝ }
+{
+    if t.len() == 0 {
+        return false;
+    }
+    let r = kinds[j - 1];
+    if t[0] != r[1] {
+        return false;
+    }
+    t.len() == r[0] as usize
+}
+
 // The first of n kinds from k on that has the word t, or 0; kinds are the rows of all kinds.
 fn find_kind(kinds: &[[u8; 16]; 55], t: &[u8], k: usize, n: usize) -> usize
     requires { ⌜ (now kinds ≡ rows) × ((1 ≤ k) × (k + n ≤ 56)) ⌝ }
@@ -120,9 +125,11 @@ fn find_kind(kinds: &[[u8; 16]; 55], t: &[u8], k: usize, n: usize) -> usize
     let e = k + n;
     let mut j = k;
     while j < e {
-        let r = kinds[j - 1];
-        if is_word(t, r) {
-            return j;
+        if begins(kinds, j, t) {
+            let r = kinds[j - 1];
+            if is_word(t, r) {
+                return j;
+            }
         }
         j += 1;
     }

@@ -1,4 +1,5 @@
 // The numbers of a line, and their signs.
+use crate::row;
 use records::kinds::NONE;
 use records::kinds::NUM;
 use tables::WORDS;
@@ -7,13 +8,12 @@ use texts::Signed;
 use texts::Taken;
 use tokens::numbers;
 ghost use mathlib.Core.Path.{_≡_};
-ghost use mathlib.Core.Bool.{false, _&&_};
+ghost use mathlib.Core.Bool.{false};
 ghost use Prim.Native.Nat.{_+_, _≤_};
 ghost use lib.ListN.{drop};
-ghost use Rattle.texts.specs.Forms.{formRow};
-ghost use Rattle.texts.specs.Reading.{leadsMinus, signAt, plainAt, numberAt, noSigns};
+ghost use Rattle.texts.specs.Reading.{signAt, plainAt, numberAt, noSigns};
 ghost use Rattle.texts.specs.Model.Stages.{operands as operandsOf};
-ghost use Rattle.tables.specs.Kinds.{classAt, namesLine};
+ghost use Rattle.tables.specs.Kinds.{rows, classAt};
 ghost use Rattle.tables.specs.Lines.{kindIn};
 ghost use Rattle.tables.specs.Layout.{recordWords};
 ghost use Rattle.texts.specs.Split.{tokens as tokensIn};
@@ -35,21 +35,22 @@ fn number(f: usize, j: usize, t: &[u8]) -> Num
     numbers::decimal(t)
 }
 
-// The class of the place j of a record.
-fn class_at(row: [u8; 16], j: usize) -> u8
+// The class of the place j of a record, by a row.
+fn class_at(r: [u8; 16], j: usize) -> u8
     requires { ⌜ (1 ≤ j) × (j ≤ 4) ⌝ }
-    ensures { λ r. ⌜ r ≡ classAt row j ⌝ }
+    ensures { λ k. ⌜ k ≡ classAt r j ⌝ }
 {
     if j == 1 {
-        return row[11];
+        return r[11];
     }
-    row[11 + j]
+    r[11 + j]
 }
 
-// A token for the place j of a record has a minus, which only one that names a line may have.
-fn has_minus(row: [u8; 16], j: usize, t: &[u8]) -> bool
-    requires { ⌜ (1 ≤ j) × (j ≤ 4) ⌝ }
-    ensures { λ r. ⌜ r ≡ (namesLine (classAt row j) && leadsMinus (now (t .entry))) ⌝ }
+// A token for the place j of a record of the form f has a minus, which only one that names a line may have; kinds are the rows of all kinds, of which one is looked up only for
+// a token that begins with a minus.
+fn has_minus(kinds: &[[u8; 16]; 55], f: usize, j: usize, t: &[u8]) -> bool
+    requires { ⌜ (now kinds ≡ rows) × ((1 ≤ f) × ((f ≤ 60) × ((1 ≤ j) × (j ≤ 4)))) ⌝ }
+    ensures { λ r. ⌜ r ≡ signAt f j (now (t .entry)) ⌝ }
 {
     if t.len() == 0 {
         return false;
@@ -57,19 +58,19 @@ fn has_minus(row: [u8; 16], j: usize, t: &[u8]) -> bool
     if t[0] != b'-' {
         return false;
     }
-    let k = class_at(row, j);
+    let k = class_at(row(kinds, f), j);
     if k == NONE {
         return false;
     }
     k < NUM
 }
 
-// The number and the sign of a token, at the place j of a line of the form f, whose row is at hand.
-fn token(row: [u8; 16], f: usize, j: usize, t: &[u8]) -> Signed
-    requires { ⌜ (row ≡ formRow f) × ((1 ≤ j) × (j ≤ 4)) ⌝ }
+// The number and the sign of a token, at the place j of a line of the form f; kinds are the rows of all kinds.
+fn token(kinds: &[[u8; 16]; 55], f: usize, j: usize, t: &[u8]) -> Signed
+    requires { ⌜ (now kinds ≡ rows) × ((1 ≤ f) × ((f ≤ 60) × ((1 ≤ j) × (j ≤ 4)))) ⌝ }
     ensures { λ r. ⌜ (r .num ≡ numberAt f j (now (t .entry))) × (r .minus ≡ signAt f j (now (t .entry))) ⌝ }
 {
-    if has_minus(row, j, t) {
+    if has_minus(kinds, f, j, t) {
         return Signed {
             num: numbers::decimal(&t[1..]),
             minus: true,
@@ -81,17 +82,17 @@ fn token(row: [u8; 16], f: usize, j: usize, t: &[u8]) -> Signed
     }
 }
 
-// m numbers from the place i of the line on, to the places j and up of a record, with their signs. The row is that of the form f.
+// m numbers from the place i of the line on, to the places j and up of a record of the form f, with their signs; kinds are the rows of all kinds.
 pub fn operands(
     l: &[u8],
     i: usize,
-    row: [u8; 16],
+    kinds: &[[u8; 16]; 55],
     f: usize,
     m: usize,
     j: usize,
     start: [u64; WORDS],
 ) -> Taken
-    requires { do ⌜ (row ≡ formRow f) × ((i ≤ (← ⟦l.len()⟧)) × ((1 ≤ j) × (j + m ≤ recordWords))) ⌝ }
+    requires { do ⌜ (now kinds ≡ rows) × ((1 ≤ f) × ((f ≤ 60) × ((i ≤ (← ⟦l.len()⟧)) × ((1 ≤ j) × (j + m ≤ recordWords))))) ⌝ }
     ensures { λ r. do
       ⌜ (r .at ≤ (← ⟦l.len()⟧ .entry)) × ((kindIn (r .rec) ≡ kindIn start)
           × (operandsOf f m j start noSigns false 0 (tokensIn (drop i (now (l .entry)))) ≡ asTook (now (l .entry)) r)) ⌝ }
@@ -116,7 +117,7 @@ pub fn operands(
             };
         }
         let z = tokens::find_byte(l, a, 32);
-        let t = token(row, f, p, &l[a..z]);
+        let t = token(kinds, f, p, &l[a..z]);
         let r = t.num;
         minus[p] = t.minus;
         len = z - a;

@@ -1,5 +1,6 @@
 // What stands behind the word of a line: the refusals 6 to 10 in their order. The table holds the records so far, with their ids, and the notes what is known of their lines.
 use forms::operands;
+use records::kinds;
 use records::kinds::NONE;
 use records::kinds::VALUE;
 use records::notes;
@@ -14,7 +15,7 @@ ghost use lib.ListN.{drop};
 ghost use Rattle.texts.specs.Operands.{resolved};
 ghost use Rattle.texts.specs.Reading.{minusFits, minusesBy, no, settled};
 ghost use Rattle.texts.specs.Model.Stages.{ruled as ruledBy, judged, allowed, concluded, large as largeOf, ended, takenIn};
-ghost use Rattle.texts.specs.Model.Structs.{asRead, asTook};
+ghost use Rattle.texts.specs.Model.Structs.{asRead, asTook, anySign};
 ghost use Rattle.tables.specs.Pick.{all};
 ghost use Rattle.tables.specs.Kinds.{rows, rowOf};
 ghost use Rattle.tables.specs.Lines.{kindIn};
@@ -145,6 +146,22 @@ fn signs_fit(row: [u8; 16], rec: [u64; WORDS], minus: [bool; WORDS], notes: &[[u
     sign_fits(k, row[15], rec[4], minus[4], notes)
 }
 
+// Some place of a record has a minus.
+fn has_signs(minus: [bool; WORDS]) -> bool
+    ensures { λ r. ⌜ r ≡ anySign minus ⌝ }
+{
+    if minus[1] {
+        return true;
+    }
+    if minus[2] {
+        return true;
+    }
+    if minus[3] {
+        return true;
+    }
+    minus[4]
+}
+
 // 8 for a minus that stands where none may, and what follows. The row is that of the record's kind.
 fn allow(
     row: [u8; 16],
@@ -157,8 +174,10 @@ fn allow(
     requires { ⌜ row ≡ rowOf (kindIn rec) ⌝ }
     ensures { λ r. ⌜ r ≡ asRead 0 (allowed (lookIn (now (notes .entry))) (givenIn (now (notes .entry))) f len rec minus) ⌝ }
 {
-    if !signs_fit(row, rec, minus, notes) {
-        return refuse(Refusal::WrongClass);
+    if has_signs(minus) {
+        if !signs_fit(row, rec, minus, notes) {
+            return refuse(Refusal::WrongClass);
+        }
     }
     judge(row, f, len, rec, minus, notes)
 }
@@ -252,7 +271,7 @@ pub fn rest(
     let s = forms::sorted(row);
     let c = row[12] as usize;
     let k = forms::kind_of(f);
-    let t = operands::operands(l, at, row, f, s + c, 2 - s, records::of(k, 0, 0, 0, 0));
-    let own = forms::kind_row(kinds, f, row);
+    let t = operands::operands(l, at, kinds, f, s + c, 2 - s, records::of(k, 0, 0, 0, 0));
+    let own = kinds::row_of(kinds, k);
     finish(l, own, f, t, table, n, notes)
 }

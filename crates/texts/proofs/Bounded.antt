@@ -37,7 +37,7 @@ pub data Short (b : ℕ) (r : List ℕ) : Type 0 where
   below : (h : Below b r) → Short b r
   constant : (s v : ℕ) (e : r ≡ fields 3 s v 0 0) (hs : s < b) (hv : v < 2 ^ 64) → Short b r
 
-small : (w k s a b c : ℕ) → k < w → s < w → a < w → b < w → c < w → Below w (fields k s a b c)
+pub small : (w k s a b c : ℕ) → k < w → s < w → a < w → b < w → c < w → Below w (fields k s a b c)
 small w k s a b c hk hs ha hb hc zero = hk
 small w k s a b c hk hs ha hb hc (suc zero) = hs
 small w k s a b c hk hs ha hb hc (suc (suc zero)) = ha

@@ -155,7 +155,7 @@ module _ {len n : ℕ} {table : List ℕ} {notes rs : List (List ℕ)} {ds : Lis
 abbrev pub HoldsAll : (len : ℕ) → Filling → (rs : List (List ℕ)) (ds : List ℕ) (c : Ctx) → Type 0
 HoldsAll len F rs ds c = Holding len (F .count) (F .table) (F .notes) rs ds c
 
-by-bool : (P : Bool → Type 0) (b : Bool) → (b ≡ true → P true) → (b ≡ false → P false) → P b
+pub by-bool : (P : Bool → Type 0) (b : Bool) → (b ≡ true → P true) → (b ≡ false → P false) → P b
 by-bool P true f g = f refl
 by-bool P false f g = g refl
 

@@ -256,13 +256,13 @@ module _ (L : ℕ → Ty) (G : Bool → ℕ → Bool) where
       gives-all : NoneHolds (refusals L G m ds t (formOf w) (behind w)) × (replyIn L ds (formOf w) (behind w) ≡ got r s)
       gives-all = got-none (refusals L G m ds t (formOf w) (behind w)) (replyIn L ds (formOf w) (behind w)) r s e
 
-      none : NoneHolds (refusals L G m ds t (formOf w) (behind w))
+      pub none : NoneHolds (refusals L G m ds t (formOf w) (behind w))
       none = gives-all .0
 
-      is-record : recordIn L ds (formOf w) (behind w) ≡ r
+      pub is-record : recordIn L ds (formOf w) (behind w) ≡ r
       is-record = let q = gives-all .1 in cc
 
-      are-signs : signsIn (formOf w) (behind w) ≡ s
+      pub are-signs : signsIn (formOf w) (behind w) ≡ s
       are-signs = let q = gives-all .1 in cc
 
       line-id : isNext (decimal t) (lastOf 0 ds) ≡ true
@@ -284,7 +284,7 @@ module _ (L : ℕ → Ty) (G : Bool → ℕ → Bool) where
           let h = neither (eqb (fault false L G x) 8) _ (from-eight .0) .1 in
           ap₂ (λ (y : List Bool) (z : List ℕ). all (minusesFit L y z)) (sym are-signs) (sym is-record) ∙ not-false (all (minusesFit L (signsIn f (behind w)) x)) h
 
-      in-forms : (v : Word) → InForms v → eqb (formOf v) 0 ≡ false → (1 ≤ formOf v) × (formOf v ≤ 60)
+      pub in-forms : (v : Word) → InForms v → eqb (formOf v) 0 ≡ false → (1 ≤ formOf v) × (formOf v ≤ 60)
       in-forms unknown h k = let z : _≡_ {A = ℕ} 0 1 = cc in absurd (omega arith)
       in-forms (word f ts) h k = h
 

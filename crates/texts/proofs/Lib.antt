@@ -25,5 +25,11 @@ pub mod Located
 pub mod Ends
 pub mod Accepted
 pub mod SameReading
+pub mod Taking
+pub mod OutTokens
+pub mod OwnNumbers
+pub mod OwnLine
+pub mod NotRecords
+pub mod SameRecords
 pub mod Lengths
 pub mod Refused

@@ -37,7 +37,7 @@ use Rattle.texts.proofs.Kept.{Gives}
 abbrev pub MinusesFit : (ℕ → Ty) → List Bool → (rec : List ℕ) (j : ℕ) → Type 0
 MinusesFit L s rec j = (i : ℕ) → j ≤ i → i ≤ 4 → minusAt s i ≡ true → mayTakeMinus (kindIn rec) (classAt (rowOf (kindIn rec)) i) (L (getD rec i 0)) ≡ true
 
-fits-there : (k q : ℕ) (a : Ty) (b : Bool) → minusFits k q a b ≡ true → b ≡ true → mayTakeMinus k q a ≡ true
+pub fits-there : (k q : ℕ) (a : Ty) (b : Bool) → minusFits k q a b ≡ true → b ≡ true → mayTakeMinus k q a ≡ true
 fits-there k q a true h e = h
 fits-there k q a false h e = absurd (no-yes e)
 
@@ -85,7 +85,7 @@ suits-word (suc (suc (suc (suc k)))) y t i h g w = let z = range 1 3 (suc (suc (
 -- ---- one not record
 
 module _ (c : Ctx) (rs : List (List ℕ)) (S : OwnSorts c rs) (a : ℕ) (word : isWord (tyAt c a) ≡ true) where
-  is-value : 2 ≤ tyAt c a .role
+  pub is-value : 2 ≤ tyAt c a .role
   is-value = leb-true 2 (tyAt c a .role) (both (isValue (tyAt c a)) _ word .0)
 
   flat : tyAt c a .iw ≡ 0
@@ -155,7 +155,7 @@ module _ (c : Ctx) (rs : List (List ℕ)) (S : OwnSorts c rs) (rec : List ℕ) (
   abbrev after : Ctx
   after = grow false c (lineOf (notOf rs (getD rec j 0)))
 
-  ok : Takes (kindIn rec) (classAt (rowOf (kindIn rec)) j) (tyAt c (getD rec j 0))
+  pub ok : Takes (kindIn rec) (classAt (rowOf (kindIn rec)) j) (tyAt c (getD rec j 0))
   ok = takes (kindIn rec) (classAt (rowOf (kindIn rec)) j) (tyAt c (getD rec j 0)) may
 
   pub here : getD rec₁ j 0 ≡ suc (length rs)

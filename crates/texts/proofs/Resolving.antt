@@ -12,9 +12,10 @@ use borrow.Author.Tests.{ltb-true, ltb-false, eq-eqb, ne-eqb}
 use Rattle.tables.specs.Pick.{pick}
 use Rattle.tables.specs.Kinds.{none, number, rowOf, sortClass, firstClass, secondClass, thirdClass}
 use Rattle.tables.specs.Lines.{fields, kindIn, sortIn, firstIn, secondIn, thirdIn}
-use Rattle.tables.specs.Layout.{idAt, idsFrom, idsOf}
+use Rattle.tables.specs.Layout.{recordWords, idAt, idsFrom, idsOf}
 use Rattle.tables.specs.Ids.{mostId, follows, rising}
 use Rattle.tables.proofs.Kept.{both}
+use Rattle.tables.proofs.Places.{fields-of}
 use Rattle.tables.proofs.Showing.{by-place}
 use Rattle.texts.specs.Operands.{placeByIdFrom, placeById, meant, resolved}
 use Rattle.texts.specs.Reading.{lastOf}
@@ -150,3 +151,8 @@ is-resolved ds r row e p q x y = rw (p, q, x, y, e) refl
 pub resolved-kind : (ds r : List ℕ) → kindIn (resolved ds r) ≡ kindIn r
 unfolding resolved
 resolved-kind ds r = refl
+
+-- numbers that mean what they are
+pub all-same : (ds r row : List ℕ) → length r ≡ recordWords → row ≡ rowOf (kindIn r) → sortIn r ≡ meant (sortClass row) ds (sortIn r) → firstIn r ≡ meant (firstClass row) ds (firstIn r)
+    → secondIn r ≡ meant (secondClass row) ds (secondIn r) → thirdIn r ≡ meant (thirdClass row) ds (thirdIn r) → r ≡ resolved ds r
+all-same ds r row l e p q x y = fields-of r l ∙ is-resolved ds r row e p q x y

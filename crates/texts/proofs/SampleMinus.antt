@@ -15,6 +15,7 @@ use Rattle.texts.specs.Split.{split, upTo, tokens}
 use Rattle.texts.specs.Decimal.{digit, allIn, valueFrom, valued, scanned, decimal, digitsIn, digits, digitsF}
 use Rattle.texts.specs.Operands.{resolved}
 use Rattle.texts.specs.Reading.{findIn, wordIn, settled, lowest, readLine, readLinesBy, readTextBy, readText, Text, done, refused}
+use Rattle.texts.specs.WrittenOut.{WrittenOut}
 use Rattle.texts.proofs.Examples.{bytes}
 
 -- ---- a circuit with minus operands: one record for each, of the operand's sort, before the line's own
@@ -92,3 +93,16 @@ late = refl
 pub zero-named : after-them ("9 bad -3\n10 bad 0" ∷ "9 bad -3\n10 bad -0" ∷ []) ≡ replicate 2 (refused WrongClass 9)
 unfolding after-them bytes readTextBy readLinesBy readLine lowest settled resolved wordIn findIn formRow rowOf fault suits split upTo tokens decimal scanned valued digitsIn allIn valueFrom digit
 zero-named = refl
+
+-- ---- the first text with its minus operands written out
+
+abbrev outText : String
+outText = "; written out\n1 sort bitvec 1\n2 sort bitvec 4\n3 sort bitvec 4\n4 input 2\n5 input 1\n6 state 3\n\n7 not 1 5\n8 not 2 4\n9 ite 2 7 8 6\n10 not 2 9\n11 next 3 6 10\n12 not 3 6\n13 not 3 6\n14 ult 1 12 13\n15 not 1 14\n16 bad 15\n"
+
+pub minus-out : WrittenOut (bytes minusText) (bytes outText)
+unfolding bytes wordIn findIn formRow rowOf split upTo tokens decimal scanned valued digitsIn allIn valueFrom digit digits digitsF
+minus-out = refl
+
+pub out-read : readText (wordsFor false 16) (bytes outText) ≡ done minusRecords (from 1 16)
+unfolding bytes readTextBy readLinesBy readLine lowest settled resolved wordIn findIn formRow rowOf fault suits split upTo tokens decimal scanned valued digitsIn allIn valueFrom digit
+out-read = refl

@@ -240,9 +240,6 @@ names-some k n = go (ltb k 8) refl
     go false e = sym (rw (lt-leb k 7 (omega (arith, ltb-false k 8 e))) (and-false (leb 1 k)))
 
 module _ (f j : ℕ) (t : List ℕ) where
-  pub by-row : (row : List ℕ) → row ≡ formRow f → (namesLine (classAt row j) && leadsMinus t) ≡ signAt f j t
-  by-row row e = ap (λ (r : List ℕ). namesLine (classAt r j) && leadsMinus t) e
-
   pub with-sign : signAt f j t ≡ true → numberAt f j t ≡ decimal (drop 1 t)
   with-sign e = rw (e, numberAt) refl
 

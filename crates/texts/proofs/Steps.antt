@@ -16,7 +16,7 @@ use Rattle.tables.specs.Rules.{fault}
 use Rattle.tables.specs.Ids.{mostId, follows}
 use Rattle.tables.specs.Types.{isWord}
 use Rattle.tables.proofs.Laws.{and-true, and-false}
-use Rattle.tables.proofs.Kept.{both}
+use Rattle.tables.proofs.Kept.{both, neither}
 use Rattle.texts.specs.declared.Num.{Num}
 use Rattle.texts.specs.declared.Num.the-variants.{Bad, Big, Is}
 use Rattle.tables.specs.Kinds.{rowOf, sortClass, firstClass, secondClass, thirdClass, operandCount}
@@ -29,7 +29,7 @@ use Rattle.texts.specs.Model.Stages.{Took, took, malformed, operands, ta
 use Rattle.texts.specs.declared.Readout.{Readout}
 use Rattle.texts.specs.declared.Taken.{Taken}
 use Rattle.texts.specs.declared.Form.{Form}
-use Rattle.texts.specs.Model.Structs.{wordWith, asWord, tookAt, asTook, asRead, NextId, several}
+use Rattle.texts.specs.Model.Structs.{wordWith, asWord, tookAt, asTook, asRead, NextId, anySign, several}
 
 -- ---- operands
 
@@ -115,6 +115,22 @@ module _ (k q : ℕ) (a : Ty) (b : Bool) (minus : b ≡ true) where
   pub sign-word : (q ≡ 0 → ⊥) → q ≤ 3 → (k ≡ 6 → ⊥) → isWord a ≡ minusFits k q a b
   sign-word n h i = sym (rw (minus, le-leb 1 q (omega arith), le-leb q 3 h, ne-eqb k 6 i) (and-true (isWord a)))
 
+-- some place has a minus
+module _ (s : List Bool) where
+  pub at-sort : minusAt s 1 ≡ true → true ≡ anySign s
+  at-sort h = sym (rw h refl)
+
+  module _ (p : minusAt s 1 ≡ false) where
+    pub at-first : minusAt s 2 ≡ true → true ≡ anySign s
+    at-first h = sym (rw (p, h) refl)
+
+    module _ (q : minusAt s 2 ≡ false) where
+      pub at-second : minusAt s 3 ≡ true → true ≡ anySign s
+      at-second h = sym (rw (p, q, h) refl)
+
+      pub at-third : minusAt s 3 ≡ false → minusAt s 4 ≡ anySign s
+      at-third h = sym (rw (p, q, h) refl)
+
 -- place by place
 module _ (row : List ℕ) (L : ℕ → Ty) (s : List Bool) (rec : List ℕ) where
   abbrev signFits : (k j : ℕ) → (a : ℕ) → Bool
@@ -158,6 +174,14 @@ module _ (L : ℕ → Ty) (G : Bool → ℕ → Bool) (f : ℕ) (rec : List ℕ)
   pub minus-fits : all (minusesFit L s rec) ≡ true → allowed L G f len rec s ≡ judged L G f len rec s
   unfolding allowed
   minus-fits h = rw (h, allowed) refl
+
+  -- no minus, no fault
+  pub no-minus : anySign s ≡ false → all (minusesFit L s rec) ≡ true
+  no-minus h =
+      let p = neither (minusAt s 1) _ h in
+      let q = neither (minusAt s 2) _ (p .1) in
+      let r = neither (minusAt s 3) _ (q .1) in
+      rw (p .0, q .0, r .0, r .1) refl
 
   -- the tests by a row are those of the kind where it is the kind's
   pub by-own-row : {row : List ℕ} {b : Bool} → row ≡ rowOf (kindIn rec) → b ≡ all (minusesBy row L s rec) → b ≡ all (minusesFit L s rec)

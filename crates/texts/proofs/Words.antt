@@ -9,11 +9,11 @@ use lib.Dec.{T, eqb, leb, leb→le, eqb→eq}
 use lib.ListN.{length, drop, getD, drop-of-length-le, length-drop}
 use lib.Seq.{drop-cons, length-take-le, getD-take, getD-drop}
 use mir.Facts.{and-yes}
-use borrow.Author.Tests.{eq-eqb, ne-eqb, le-leb, lt-leb}
+use borrow.Author.Tests.{eq-eqb, ne-eqb, le-leb, lt-leb, leb-true, leb-false}
 use Rattle.tables.specs.Pick.{pick}
 use Rattle.tables.specs.Kinds.{rows, rowOf, wordOf, operandCount}
 use Rattle.tables.proofs.Every.{every, at-each}
-use Rattle.tables.proofs.Laws.{not-of}
+use Rattle.tables.proofs.Laws.{not-of, and-false}
 use Rattle.texts.specs.Forms.{extra, formRow, kindOf, sorted, sortWord}
 use Rattle.texts.specs.Split.{sameBytes, tokens}
 use Rattle.texts.specs.Reading.{findIn, Word, word, unknown, formWord, sortWords, wordIn}
@@ -28,10 +28,6 @@ same-not [] [] h = absurd (h refl)
 same-not [] (b ∷ y) h = refl
 same-not (a ∷ x) [] h = refl
 same-not (a ∷ x) (b ∷ y) h = rw (same-not x y (λ e. h (ap suc e))) (and-false (eqb a b))
-  where
-    and-false : (q : Bool) → (q && false) ≡ false
-    and-false true = refl
-    and-false false = refl
 
 module _ (t w : List ℕ) (i : ℕ) (lt : i < length t) (lw : i < length w) where
   pub same-more : getD t i 0 ≡ getD w i 0 → sameBytes (drop i t) (drop i w) ≡ sameBytes (drop (i + 1) t) (drop (i + 1) w)
@@ -42,6 +38,12 @@ module _ (t w : List ℕ) (i : ℕ) (lt : i < length t) (lw : i < length w) wher
 
 pub same-end : (t w : List ℕ) (i : ℕ) → length t ≤ i → length w ≤ i → sameBytes (drop i t) (drop i w) ≡ true
 same-end t w i h k = rw (drop-of-length-le t h, drop-of-length-le w k) refl
+
+-- other first letters
+pub same-first : (t w : List ℕ) → 0 < length t → (getD t 0 0 ≡ getD w 0 0 → ⊥) → 0 < length w → sameBytes t w ≡ false
+same-first [] w h e l = absurd (omega arith)
+same-first (a ∷ t) [] h e l = refl
+same-first (a ∷ t) (b ∷ w) h e l = rw (ne-eqb a b e) refl
 
 -- the word of a row
 pub word-length : (r : List ℕ) → length r ≡ 16 → getD r 0 0 ≤ 10 → length (wordOf r) ≡ getD r 0 0
@@ -200,6 +202,14 @@ kind-low f h = rw (le-leb f 55 h, kindOf) refl
 pub kind-high : (f : ℕ) → 55 < f → kindOf f ≡ 3
 kind-high f h = rw (lt-leb f 55 h, kindOf) refl
 
+-- a form's kind has a row
+pub kind-range : (f : ℕ) → 1 ≤ f → (1 ≤ kindOf f) × (kindOf f ≤ 55)
+kind-range f h = go (leb f 55) refl
+  where
+    go : (b : Bool) → leb f 55 ≡ b → (1 ≤ kindOf f) × (kindOf f ≤ 55)
+    go true e = let l = leb-true f 55 e in let q = kind-low f l in (omega arith, omega arith)
+    go false e = let q = kind-high f (leb-false f 55 e) in (omega arith, omega arith)
+
 -- no row's word is longer than ten bytes, and no row has more than three operands
 shape : ℕ → Bool
 shape i = leb (getD (formRow (suc i)) 0 0) 10 && leb (operandCount (formRow (suc i))) 3
@@ -217,6 +227,37 @@ shaped-at i h =
 pub row-shape : (f : ℕ) → 1 ≤ f → f ≤ 60 → (getD (formRow f) 0 0 ≤ 10) × (operandCount (formRow f) ≤ 3)
 row-shape zero a b = absurd (omega arith)
 row-shape (suc i) a b = shaped-at i (omega arith)
+
+-- a row has sixteen numbers, and its word some letter
+long : ℕ → Bool
+long i = eqb (length (formRow (suc i))) 16 && leb 1 (getD (formRow (suc i)) 0 0)
+
+all-long : T (every long 60)
+unfolding long formRow rowOf
+all-long = tt
+
+row-long : (f : ℕ) → 1 ≤ f → f ≤ 60 → (length (formRow f) ≡ 16) × (1 ≤ getD (formRow f) 0 0)
+unfolding long
+row-long zero a b = absurd (omega arith)
+row-long (suc i) a b =
+    let q = and-yes (eqb (length (formRow (suc i))) 16) _ (at-each long 60 all-long i (omega arith)) in
+    (eqb→eq (length (formRow (suc i))) 16 (q .0), leb→le 1 (getD (formRow (suc i)) 0 0) (q .1))
+
+-- a token of another length, or with another first letter
+module _ (f : ℕ) (least : 1 ≤ f) (most : f ≤ 60) (t : List ℕ) where
+  own-length : length (wordOf (formRow f)) ≡ getD (formRow f) 0 0
+  own-length = word-length (formRow f) (row-long f least most .0) (row-shape f least most .0)
+
+  pub other-length : (length t ≡ getD (formRow f) 0 0 → ⊥) → sameBytes t (wordOf (formRow f)) ≡ false
+  other-length n = same-not t (wordOf (formRow f)) (λ e. n (e ∙ own-length))
+
+  pub no-letter : length t ≡ 0 → sameBytes t (wordOf (formRow f)) ≡ false
+  no-letter e = other-length (λ q. omega (arith, row-long f least most .1))
+
+  pub other-first : 0 < length t → (getD t 0 0 ≡ getD (formRow f) 1 0 → ⊥) → sameBytes t (wordOf (formRow f)) ≡ false
+  other-first h n =
+      let l = row-long f least most .1 in
+      same-first t (wordOf (formRow f)) h (λ q. n (q ∙ word-at (formRow f) 0 (omega arith))) (omega (arith, own-length))
 
 pub sorted-most : (r : List ℕ) → sorted r ≤ 1
 sorted-most r = go (eqb (getD r 11 0) 0)

@@ -4,6 +4,7 @@ pub mod Decimal
 pub mod Operands
 pub mod Reading
 pub mod Search
+pub mod WrittenOut
 pub mod Writing
 pub mod Naming
 pub mod Model

@@ -1,51 +1,38 @@
--- The one place where d can stand is o. Assumes nothing.
+-- The record at i, or what is found from there on. Assumes nothing.
 use Prim.Native.Nat.{ℕ}
 use mathlib.Core.Path.{sym, _∙_}
 use mathlib.Core.List.{List}
 use native.Mathlib.Omega.{arith}
 use borrow.Author.Needs.{needs}
 use Rattle.tables.specs.Layout.{idsOf}
-use Rattle.texts.proofs.Resolving.{ids-length, ids-at, place-at, place-none}
+use Rattle.texts.proofs.Resolving.{ids-length, ids-at, place-at}
 use Rattle.ids.proofs.found.Statement.{statement}
 use Rattle.ids.proofs.found.Tie as tie
 
-named-requires : tie.Need-named-requires
-named-requires c κs = search needs
+id-requires : tie.Need-id-requires
+id-requires c κs = (omega (arith, c .before .before .pre .1 .1 .1 .0 .there), c .before .before .pre .0)
+
+add-result : tie.Need-add-result
+add-result c = search needs
 
 returns : tie.Need-returns
 returns c =
-    let s = c .before .before .before .args in
-    let p = c .before .before .before .pre .1 in
+    let s = c .before .before .before .before .args in
+    let p = c .before .before .before .before .pre .1 in
     let t : List ℕ = s .table .now in
-    let e = ids-length t (s .n) in
-    sym (place-none (idsOf t (s .n)) (p .1 .1 .0 .rise) (s .d) (p .0) (s .i) _ (p .1 .1 .1) (c .before .named .ensures) (λ h. absurd (omega arith)))
+    omega (arith, place-at (idsOf t (s .n)) (p .1 .1 .0 .rise) (s .d) (p .0) (s .i) (omega (arith, ids-length t (s .n))) (ids-at t (s .n) (s .i) (omega arith) ∙ sym (c .before .id .ensures) ∙ c .if2 .taken))
 
-id-requires : tie.Need-id-requires
-id-requires c κs = let s = c .before .before .before .args in
-    (omega (arith, ids-length (s .table .now) (s .n), c .before .named .ensures .most, c .before .before .before .pre .1 .1 .1 .0 .there), c .before .before .before .pre .0)
-
-add-result : tie.Need-add-result
-add-result c = let s = c .before .before .before .before .before .args in
-    omega (arith, ids-length (s .table .now) (s .n), c .before .before .before .named .ensures .most)
+found-past-requires : tie.Need-found-past-requires
+found-past-requires c κs = search needs
 
 returns-2 : tie.Need-returns-2
-returns-2 c =
-    let s = c .before .before .before .before .before .args in
-    let p = c .before .before .before .before .before .pre .1 in
-    let f = c .before .before .before .named in
-    let t : List ℕ = s .table .now in
-    let e = ids-length t (s .n) in
-    let k = f .ensures .most in
-    omega (arith, place-at (idsOf t (s .n)) (p .1 .1 .0 .rise) (s .d) (p .0) (f .result) (omega arith) (ids-at t (s .n) (f .result) (omega arith) ∙ sym (c .before .id .ensures) ∙ c .if2 .taken))
+returns-2 c = search needs
+
+found-past-requires-2 : tie.Need-found-past-requires-2
+found-past-requires-2 c κs = search needs
 
 returns-3 : tie.Need-returns-3
-returns-3 c =
-    let s = c .before .before .before .before .before .args in
-    let p = c .before .before .before .before .before .pre .1 in
-    let f = c .before .before .before .named in
-    let t : List ℕ = s .table .now in
-    let e = ids-length t (s .n) in
-    sym (place-none (idsOf t (s .n)) (p .1 .1 .0 .rise) (s .d) (p .0) (s .i) (f .result) (p .1 .1 .1) (f .ensures) (λ h q. c .if2 .left (c .before .id .ensures ∙ sym (ids-at t (s .n) (f .result) (omega arith)) ∙ q)))
+returns-3 c = search needs
 
 pub found-spec : {M : Type 1} → statement M
-found-spec = tie.close (tie.spec named-requires returns id-requires add-result returns-2 returns-3)
+found-spec = tie.close (tie.spec id-requires add-result returns found-past-requires returns-2 found-past-requires-2 returns-3)

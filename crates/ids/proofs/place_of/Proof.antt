@@ -29,5 +29,11 @@ search-requires c κs = search needs
 returns-3 : tie.Need-returns-3
 returns-3 c = search needs
 
+search-requires-2 : tie.Need-search-requires-2
+search-requires-2 c κs = search needs
+
+returns-4 : tie.Need-returns-4
+returns-4 c = search needs
+
 pub place-of-spec : {M : Type 1} → statement M
-place-of-spec = tie.close (tie.spec returns sub-i id-requires returns-2 search-requires returns-3)
+place-of-spec = tie.close (tie.spec returns sub-i id-requires returns-2 search-requires returns-3 search-requires-2 returns-4)

@@ -1,5 +1,4 @@
--- Each word by its class. Assumes nothing.
-use Rattle.texts.proofs.Resolving.{is-resolved}
+-- The record itself, or each number looked up. Assumes nothing.
 use borrow.Author.Needs.{needs}
 use Rattle.ids.proofs.resolve.Statement.{statement}
 use Rattle.ids.proofs.resolve.Tie as tie
@@ -7,64 +6,18 @@ use Rattle.ids.proofs.resolve.Tie as tie
 step-requires : tie.Need-step-requires
 step-requires c κs = search needs
 
-array-read-meant : tie.Need-array-read-meant
-array-read-meant c = search needs
-
-array-read-meant-2 : tie.Need-array-read-meant-2
-array-read-meant-2 c = search needs
-
-meant-requires : tie.Need-meant-requires
-meant-requires c κs = search needs
-
-array-read-meant-3 : tie.Need-array-read-meant-3
-array-read-meant-3 c = search needs
-
-array-read-meant-4 : tie.Need-array-read-meant-4
-array-read-meant-4 c = search needs
-
-meant-requires-2 : tie.Need-meant-requires-2
-meant-requires-2 c κs = search needs
-
-array-read-meant-5 : tie.Need-array-read-meant-5
-array-read-meant-5 c = search needs
-
-array-read-meant-6 : tie.Need-array-read-meant-6
-array-read-meant-6 c = search needs
-
-meant-requires-3 : tie.Need-meant-requires-3
-meant-requires-3 c κs = search needs
-
-array-read-meant-7 : tie.Need-array-read-meant-7
-array-read-meant-7 c = search needs
-
-array-read-meant-8 : tie.Need-array-read-meant-8
-array-read-meant-8 c = search needs
-
-meant-requires-4 : tie.Need-meant-requires-4
-meant-requires-4 c κs = search needs
-
-array-read-t18 : tie.Need-array-read-t18
-array-read-t18 c = search needs
+all-stay-requires : tie.Need-all-stay-requires
+all-stay-requires c κs = search needs
 
 returns : tie.Need-returns
-returns c = is-resolved _ _ _ (c .before .before .before .before .before .before .pre .0) (c .before .before .before .meant .ensures) (c .before .before .meant2 .ensures) (c .before .meant3 .ensures) (c .meant4 .ensures)
+returns c = c .before .all-stay .ensures (c .if1 .taken)
+
+look-up-requires : tie.Need-look-up-requires
+look-up-requires c κs = search needs
+
+returns-2 : tie.Need-returns-2
+returns-2 c = search needs
 
 pub resolve-spec : {M : Type 1} → statement M
 resolve-spec =
-    tie.close
-    (tie.spec
-    step-requires
-    array-read-meant
-    array-read-meant-2
-    meant-requires
-    array-read-meant-3
-    array-read-meant-4
-    meant-requires-2
-    array-read-meant-5
-    array-read-meant-6
-    meant-requires-3
-    array-read-meant-7
-    array-read-meant-8
-    meant-requires-4
-    array-read-t18
-    returns)
+    tie.close (tie.spec step-requires all-stay-requires returns look-up-requires returns-2)

@@ -7,7 +7,7 @@ use Rattle.tables.specs.Kinds.{rowOf, operandCount}
 use Rattle.tables.specs.Lines.{kindIn}
 use Rattle.tables.specs.Model.Notes.{lookIn, givenIn}
 use Rattle.tables.specs.Layout.{idsOf}
-use Rattle.texts.proofs.Words.{row-shape, sorted-most}
+use Rattle.texts.proofs.Words.{row-shape, sorted-most, kind-range}
 use Rattle.texts.proofs.Steps.{taken-from}
 use borrow.Author.Needs.{needs}
 use Rattle.stages.proofs.rest.Statement.{statement}
@@ -39,15 +39,19 @@ of-requires c κs = tt
 
 operands-requires : tie.Need-operands-requires
 operands-requires c κs = let g = subst (λ (r : List ℕ). operandCount r ≤ 3) (sym (c .before .before .before .row .ensures)) (row-shape (c .before .before .before .before .before .before .args .f) (omega arith) (omega arith) .1) in
+    let p = c .before .before .before .before .before .before .pre in
     let h = sorted-most (c .before .before .before .row .result) in
-    (c .before .before .before .row .ensures, (c .before .before .before .before .before .before .pre .1 .0, (omega (arith, c .before .before .sorted .ensures), omega (arith, c .before .before .sorted .ensures))))
+    (p .0, (p .1 .1 .0, (p .1 .1 .1 .0, (p .1 .0, (omega (arith, c .before .before .sorted .ensures), omega (arith, c .before .before .sorted .ensures))))))
 
-kind-row-requires : tie.Need-kind-row-requires
-kind-row-requires c κs =
-    let s = c .before .before .before .before .before .before .before .pre in (s .0, (s .1 .1 .0, c .before .before .before .before .row .ensures))
+row-of-requires : tie.Need-row-of-requires
+row-of-requires c κs =
+    let s = c .before .before .before .before .before .before .before .pre in
+    let r = kind-range (c .before .before .before .before .before .before .before .args .f) (s .1 .1 .0) in
+    let e = c .before .before .kind-of .ensures in
+    (omega (arith, r .0, e), (omega (arith, r .1, e), s .0))
 
 finish-requires : tie.Need-finish-requires
-finish-requires c κs = (c .before .operands .ensures .0, (c .kind-row .ensures ∙ ap rowOf (sym (c .before .operands .ensures .1 .0 ∙ (ap kindIn (c .before .before .of .ensures) ∙ c .before .before .before .kind-of .ensures))), c .before .before .before .before .before .before .before .before .pre .1 .1 .1 .1))
+finish-requires c κs = (c .before .operands .ensures .0, (c .row-of .ensures ∙ ap rowOf (sym (c .before .operands .ensures .1 .0 ∙ ap kindIn (c .before .before .of .ensures))), c .before .before .before .before .before .before .before .before .pre .1 .1 .1 .1))
 
 returns : tie.Need-returns
 returns c = let s = c .before .before .before .before .before .before .before .before .before .args in
@@ -66,6 +70,6 @@ rest-spec =
     sub-operands
     of-requires
     operands-requires
-    kind-row-requires
+    row-of-requires
     finish-requires
     returns)

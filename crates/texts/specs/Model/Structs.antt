@@ -1,7 +1,7 @@
 -- What the structs that the reader's functions hand on stand for. Assumes nothing.
 use Prim.Native.Nat.{ℕ, zero, suc, _+_}
 use mathlib.Core.Path.{_≡_}
-use mathlib.Core.Bool.{Bool, true, false}
+use mathlib.Core.Bool.{Bool, true, false, _||_}
 use mathlib.Core.List.{List, [], _∷_}
 use lib.Dec.{eqb, ltb}
 use lib.ListN.{drop}
@@ -13,7 +13,7 @@ use Rattle.texts.specs.declared.Form.{Form}
 use Rattle.texts.specs.declared.Taken.{Taken}
 use Rattle.texts.specs.declared.Readout.{Readout}
 use Rattle.texts.specs.Split.{tokens}
-use Rattle.texts.specs.Reading.{Word, word, unknown, noSigns, minuses, isNext, valueOf, Reply, skip, no, got}
+use Rattle.texts.specs.Reading.{Word, word, unknown, noSigns, minusAt, minuses, isNext, valueOf, Reply, skip, no, got}
 use Rattle.texts.specs.Model.Stages.{Took, took, malformed}
 
 -- a form and the place behind its word; 0 for an unknown word
@@ -48,6 +48,10 @@ fittedRead n m r = pick (eqb (r .what) 0) (pick (ltb (n + minuses (r .minus)) m)
 -- r is the id that a token gives a line; 0 where it gives none
 abbrev pub NextId : Num → (last r : ℕ) → Type 0
 NextId n last r = (r ≡ 0 → isNext n last ≡ false) × ((r ≡ 0 → ⊥) → (isNext n last ≡ true) × (r ≡ valueOf n))
+
+-- some place of a record has a minus
+abbrev pub anySign : List Bool → Bool
+anySign s = minusAt s 1 || (minusAt s 2 || (minusAt s 3 || minusAt s 4))
 
 -- two tokens or more
 abbrev pub several : List (List ℕ) → Bool

@@ -8,9 +8,10 @@ use lib.Seq.{take-all}
 use borrow.Author.Needs.{needs}
 use Rattle.tables.specs.Kinds.{classAt, namesLine}
 use Rattle.tables.proofs.Kept.{both}
+use Rattle.texts.specs.Forms.{formRow}
 use Rattle.texts.specs.Decimal.{decimal}
 use Rattle.texts.specs.Reading.{signAt}
-use Rattle.texts.proofs.Scan.{minus-some, by-row, with-sign, without-sign}
+use Rattle.texts.proofs.Scan.{minus-some, with-sign, without-sign}
 use Rattle.forms.proofs.operands.token.Statement.{statement}
 use Rattle.forms.proofs.operands.token.Tie as tie
 
@@ -18,7 +19,7 @@ has-minus-requires : tie.Need-has-minus-requires
 has-minus-requires c κs = search needs
 
 sub-decimal : tie.Need-sub-decimal
-sub-decimal c = let s = c .before .before .before .args in minus-some (s .t .now) (both (namesLine (classAt (s .row) (s .j))) _ (sym (c .before .has-minus .ensures) ∙ c .if1 .taken) .1)
+sub-decimal c = let s = c .before .before .before .args in minus-some (s .t .now) (both (namesLine (classAt (formRow (s .f)) (s .j))) _ (sym (c .before .has-minus .ensures) ∙ c .if1 .taken) .1)
 
 part-decimal-start : tie.Need-part-decimal-start
 part-decimal-start c = sub-decimal c
@@ -32,7 +33,7 @@ decimal-requires c κs = search needs
 returns : tie.Need-returns
 returns c =
     let s = c .before .before .before .before .before .args in
-    let e : signAt (s .f) (s .j) (s .t .now) ≡ true = sym (by-row (s .f) (s .j) (s .t .now) (s .row) (c .before .before .before .before .before .pre .0)) ∙ (sym (c .before .before .before .has-minus .ensures) ∙ c .before .before .if1 .taken) in
+    let e : signAt (s .f) (s .j) (s .t .now) ≡ true = sym (c .before .before .before .has-minus .ensures) ∙ c .before .before .if1 .taken in
     let t = s .t .now in
     let whole : take (length t - 1) (drop 1 t) ≡ drop 1 t = take-all (length t - 1) (drop 1 t) (omega (arith, length-drop 1 t)) in
     (c .decimal .ensures ∙ (ap decimal whole ∙ sym (with-sign (s .f) (s .j) t e)), sym e)
@@ -43,7 +44,7 @@ number-requires c κs = search needs
 returns-2 : tie.Need-returns-2
 returns-2 c =
     let s = c .before .before .before .before .args in
-    let e : signAt (s .f) (s .j) (s .t .now) ≡ false = sym (by-row (s .f) (s .j) (s .t .now) (s .row) (c .before .before .before .before .pre .0)) ∙ (sym (c .before .before .has-minus .ensures) ∙ c .before .if1 .left) in
+    let e : signAt (s .f) (s .j) (s .t .now) ≡ false = sym (c .before .before .has-minus .ensures) ∙ c .before .if1 .left in
     (c .number .ensures ∙ sym (without-sign (s .f) (s .j) (s .t .now) e), sym e)
 
 pub token-spec : {M : Type 1} → statement M
