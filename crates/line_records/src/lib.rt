@@ -12,7 +12,7 @@ ghost use lib.ListN.{length, getD};
 ghost use Rattle.tables.specs.Pick.{pick};
 ghost use Rattle.tables.specs.Lines.{kindIn, firstIn};
 ghost use Rattle.tables.specs.Layout.{room as roomOf};
-ghost use Rattle.texts.specs.Reading.{minuses};
+ghost use Rattle.texts.specs.Minus.{minuses};
 ghost use Rattle.texts.specs.Model.Structs.{fittedRead};
 ghost use Rattle.texts.specs.Model.Filling.{filling, added, notIn, addedFrom, Ready};
 

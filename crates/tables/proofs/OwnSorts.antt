@@ -1,5 +1,5 @@
 -- A value has the widths of the sort that its own record names, in the context of records that keep the rules. Assumes nothing.
-use Prim.Native.Nat.{ℕ, suc, _-_, _≤_, _<_}
+use Prim.Native.Nat.{ℕ, suc, _-_, _≤_}
 use mathlib.Core.Path.{_≡_, refl, sym, ap, _∙_, subst}
 use mathlib.Core.Bool.{Bool, true, false}
 use mathlib.Core.List.{List, [], _∷_, _++_, map, append-assoc, append-nil}
@@ -9,7 +9,7 @@ use lib.Seq.{getD-at}
 use Rattle.tables.specs.declared.Ty.{Ty}
 use Rattle.tables.specs.Lines.{Line, Expr, lineOf, wordsOf, sortIn}
 use Rattle.tables.specs.Layout.{recordWords}
-use Rattle.tables.specs.Types.{noTy, sortAt, lineType, Ctx, noCtx, tyAt, given, grow, growAll}
+use Rattle.tables.specs.Types.{noTy, lineType, Ctx, noCtx, tyAt, given, grow, growAll}
 use Rattle.tables.specs.Tables.{formed, keeps, lawful}
 use Rattle.tables.proofs.Kept.{both}
 use Rattle.tables.proofs.Places.{Sized}

@@ -1,6 +1,6 @@
 -- A record in which operands give way to others of the same widths goes on keeping the rules: these read the widths of lines and the plain numbers, never a line's number.
 -- Inits are left out, whose value has to stand before the state. Assumes nothing.
-use Prim.Native.Nat.{ℕ, zero, suc, _+_, _-_, _≤_}
+use Prim.Native.Nat.{ℕ, zero, suc, _-_, _≤_}
 use mathlib.Core.Path.{_≡_, refl, sym, ap, _∙_, subst}
 use mathlib.Core.Bool.{Bool, true, false, not, _&&_}
 use mathlib.Core.List.{List}
@@ -10,16 +10,16 @@ use lib.ListN.{length, getD}
 use mir.Facts.{and-yes}
 use borrow.Author.Tests.{eqb-true, ne-eqb, leb-true}
 use Rattle.tables.specs.declared.Ty.{Ty}
-use Rattle.tables.specs.Pick.{pick, inside, all}
+use Rattle.tables.specs.Pick.{all}
 use Rattle.tables.specs.Kinds.{rowOf, sortClass, firstClass, secondClass, thirdClass, classAt, namesLine}
 use Rattle.tables.specs.Lines.{Shape, isBitvec, isArray, isConst, isInput, isState, isOutput, isUnary, isBinary, isIte, isRead, isWrite, isUnknown, isInitOrNext, isSignal, isEquality, shapeOf, build, lineOf, fields, kindIn, sortIn, firstIn, secondIn, thirdIn}
 use Rattle.tables.specs.Layout.{recordWords}
 use Rattle.tables.specs.Types.{ty, isSort, isValue}
-use Rattle.tables.specs.Rules.{suits, classes, fitsUnary, fitsBinary, fitsEquality, fitsIte, fitsRead, fitsWrite, fitsInitOrNext, fits, onceRules, fault}
-use Rattle.tables.specs.Tables.{known, unused, tidy, formed, keeps}
+use Rattle.tables.specs.Rules.{suits, classes, fitsUnary, fitsBinary, fitsEquality, fitsIte, fitsRead, fitsWrite, fitsInitOrNext, fits, onceRules}
+use Rattle.tables.specs.Tables.{known, unused, formed, keeps}
 use Rattle.tables.proofs.Every.{at-each}
 use Rattle.tables.proofs.Laws.{not-of}
-use Rattle.tables.proofs.Shapes.{line-as, once-as, no-once, range}
+use Rattle.tables.proofs.Shapes.{once-as, no-once, range}
 use Rattle.tables.proofs.Answers.{Passed, passed, all-passed}
 use Rattle.tables.proofs.Kept.{both, all-at, kept-fault, no-yes}
 use Rattle.tables.proofs.Places.{fields-of}

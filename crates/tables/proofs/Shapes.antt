@@ -11,7 +11,7 @@ use mir.Facts.{and-yes}
 use borrow.Author.Tests.{le-leb, lt-leb, ne-eqb, eqb-true, eqb-false}
 use native.Mathlib.Omega.{arith}
 use Rattle.tables.specs.declared.Ty.{Ty}
-use Rattle.tables.specs.Pick.{pick, inside, all}
+use Rattle.tables.specs.Pick.{inside, all}
 use Rattle.tables.specs.Lines.{Line, Shape, isBitvec, isArray, isConst, isInput, isState, isOutput, isUnary, isBinary, isIte, isRead, isWrite, isUnknown, isInitOrNext, isSignal, isEquality, initOrNextKind, signalKind, equalityKind, shapeOf, build, lineOf, kindIn, sortIn, firstIn, secondIn, thirdIn}
 use Rattle.tables.specs.Types.{ty, noTy, marked, valueRole, typeOf}
 use Rattle.tables.specs.Rules.{fits, onceRules}

@@ -20,7 +20,8 @@ use Rattle.tables.proofs.Places.{Sized, sized-append, length-filled}
 use Rattle.tables.proofs.Ids.{records-with, ids-with}
 use Rattle.tables.proofs.OwnSorts.{OwnSorts, sorts-none, sorts-all}
 use Rattle.texts.specs.Split.{split}
-use Rattle.texts.specs.Reading.{Reply, skip, no, got, minuses, lineRecords, lineIds, lastOf, lineId, lineTokens, readLine, done, refused, readLinesBy, readLines, readText, tableOf}
+use Rattle.texts.specs.Minus.{minuses, lineRecords, lineIds}
+use Rattle.texts.specs.Reading.{Reply, skip, no, got, lastOf, lineId, lineTokens, readLine, done, refused, readLinesBy, readLines, readText, tableOf}
 use Rattle.texts.proofs.Kept.{Gives, got-gives}
 use Rattle.texts.proofs.NextIds.{follows-some, last-line, rising-line}
 use Rattle.texts.proofs.Nots.{line-kept, spread-length, spread-zeros}

@@ -12,7 +12,7 @@ use Rattle.tables.specs.Lines.{fields, kindIn, sortIn, firstIn}
 use Rattle.tables.specs.Layout.{room, recordAt, withId}
 use Rattle.tables.specs.Ids.{notKind}
 use Rattle.tables.proofs.Places.{length-recorded}
-use Rattle.texts.specs.Reading.{minusAt, minusesFrom}
+use Rattle.texts.specs.Minus.{minusAt, minusesFrom}
 use Rattle.texts.specs.Model.Filling.{Filling, filling, added, notIn, addedFrom, Signed, Ready}
 
 -- q is the record of the line at the place a, and r the not record of that line: it is put

@@ -25,10 +25,10 @@ use Rattle.tables.proofs.Answers.{passed, sort-width}
 use Rattle.tables.proofs.Shapes.{range}
 use Rattle.tables.proofs.Showing.{length-noted, shows-more}
 use Rattle.tables.proofs.OwnSorts.{OwnSorts, sorts-none, sorts-more}
-use Rattle.texts.specs.Reading.{minusAt, mayTakeMinus, minusesFrom, minuses, notOf, spread}
+use Rattle.texts.specs.Minus.{minusAt, mayTakeMinus, minusesFrom, minuses, notOf, spread}
 use Rattle.texts.specs.Model.Filling.{Filling, added, notIn, addedFrom, Ready}
 use Rattle.texts.proofs.NextIds.{lastNamed, named-zero, rising-zero, rising-more}
-use Rattle.texts.proofs.Nots.{MinusesFit, takes, own-keeps, not-kept, same-size, sorts-after, fit-after, named}
+use Rattle.texts.proofs.Nots.{MinusesFit, takes, own-keeps, not-kept, same-size, fit-after, named}
 
 -- ---- widths are at most 64
 

@@ -5,15 +5,15 @@ use mathlib.Core.Bool.{Bool, true, false, _&&_, _||_}
 use mathlib.Core.List.{List}
 use native.Mathlib.Omega.{arith}
 use lib.Dec.{T, eqb, leb, leb→le}
-use lib.ListN.{length, getD, length-append, List·getD-append}
+use lib.ListN.{length, getD}
 use mir.Facts.{and-yes}
 use borrow.Author.Tests.{eqb-true, leb-true}
 use Rattle.tables.specs.declared.Ty.{Ty}
 use Rattle.tables.specs.Pick.{pick}
 use Rattle.tables.specs.Kinds.{rowOf, sortClass, firstClass, secondClass, thirdClass}
-use Rattle.tables.specs.Lines.{Line, kindIn, sortIn, firstIn, secondIn, thirdIn}
+use Rattle.tables.specs.Lines.{kindIn, sortIn, firstIn, secondIn, thirdIn}
 use Rattle.tables.specs.Layout.{recordWords, from}
-use Rattle.tables.specs.Types.{noTy, isSort, isValue, Ctx, noCtx, tyAt, grow}
+use Rattle.tables.specs.Types.{isSort, isValue, Ctx, tyAt}
 use Rattle.tables.specs.Rules.{suits}
 use Rattle.tables.specs.Tables.{known, formed, keeps}
 use Rattle.tables.proofs.Every.{every, at-each}

@@ -25,7 +25,8 @@ use Rattle.texts.specs.declared.Num.the-variants.{Bad, Big, Is}
 use Rattle.texts.specs.Forms.{formRow, kindOf, firstOf, numbersOf}
 use Rattle.texts.specs.Decimal.{decimal}
 use Rattle.texts.specs.Operands.{meant, resolved}
-use Rattle.texts.specs.Reading.{Word, word, unknown, wordIn, formOf, behind, numbersFrom, placed, numberTokens, numbersIn, lastOf, signsIn, fresh, writtenRecord, settled, recordIn, minusesFit, minuses, isNext, valueOf, lineId, refusals, got, lowest, replyIn, readLine}
+use Rattle.texts.specs.Minus.{minusesFit, minuses}
+use Rattle.texts.specs.Reading.{Word, word, unknown, wordIn, formOf, behind, numbersFrom, placed, numberTokens, numbersIn, lastOf, signsIn, fresh, writtenRecord, settled, recordIn, isNext, valueOf, lineId, refusals, got, lowest, replyIn, readLine}
 use Rattle.texts.proofs.Words.{InForms, word-forms}
 use Rattle.texts.proofs.Steps.{settled-one, settled-ones, settled-other, settled-kind}
 use Rattle.texts.proofs.Lowest.{NoneHolds, got-none}

@@ -7,7 +7,8 @@ use native.Mathlib.Omega.{arith}
 use lib.Dec.{ltb}
 use Rattle.tables.specs.declared.Refusal.{Refusal}
 use Rattle.tables.specs.declared.Refusal.the-variants.{NoRecordLeft}
-use Rattle.texts.specs.Reading.{minuses, Reply, no, got, lowest}
+use Rattle.texts.specs.Minus.{minuses}
+use Rattle.texts.specs.Reading.{Reply, no, got, lowest}
 use Rattle.texts.specs.Model.Stages.{fitted}
 
 module _ (r : Refusal) (b : Bool) (xs : List (Refusal × Bool)) (y : Reply) where

@@ -11,7 +11,7 @@ use Rattle.tables.specs.Pick.{pick}
 use Rattle.tables.specs.Kinds.{rowOf}
 use Rattle.tables.specs.Lines.{fields, sortIn}
 use Rattle.tables.proofs.OwnSorts.{ownSort}
-use Rattle.texts.specs.Reading.{minusAt, minusesFrom, notOf, spread}
+use Rattle.texts.specs.Minus.{minusAt, minusesFrom, notOf, spread}
 use Rattle.texts.specs.WrittenOut.{notLine}
 use Rattle.texts.specs.Writing.{tokensOf}
 use Rattle.texts.proofs.Holding.{by-bool}

@@ -1,18 +1,18 @@
 -- The records of a line keep the rules, one after the other: a not record of an operand's own sort, and after it the line's own record, in which the not record stands for the
 -- operand. Assumes nothing.
-use Prim.Native.Nat.{ℕ, zero, suc, _+_, _-_, _≤_, _<_}
+use Prim.Native.Nat.{ℕ, zero, suc, _+_, _-_, _≤_}
 use mathlib.Core.Path.{_≡_, refl, sym, ap, _∙_, subst}
-use mathlib.Core.Bool.{Bool, true, false, not, _&&_, _||_}
+use mathlib.Core.Bool.{Bool, true, false, not}
 use mathlib.Core.List.{List, [], _∷_, _++_}
 use native.Mathlib.Omega.{arith}
-use lib.Dec.{eqb, leb, ltb}
+use lib.Dec.{eqb, ltb}
 use lib.ListN.{length, getD, set, replicate, length-set}
 use lib.Seq.{getD-set-same, getD-set-other}
-use borrow.Author.Tests.{eqb-true, eqb-false, eq-eqb, ne-eqb, leb-true, le-leb, not-true}
+use borrow.Author.Tests.{eqb-true, eqb-false, eq-eqb, ne-eqb, leb-true, le-leb}
 use Rattle.tables.specs.declared.Ty.{Ty}
 use Rattle.tables.specs.Pick.{pick, inside, all}
-use Rattle.tables.specs.Kinds.{rowOf, sortClass, firstClass, secondClass, thirdClass, classAt, namesLine}
-use Rattle.tables.specs.Lines.{lineOf, kindIn, sortIn, firstIn, secondIn, thirdIn}
+use Rattle.tables.specs.Kinds.{rowOf, firstClass, secondClass, thirdClass, classAt, namesLine}
+use Rattle.tables.specs.Lines.{lineOf, kindIn, firstIn, secondIn, thirdIn}
 use Rattle.tables.specs.Layout.{recordWords}
 use Rattle.tables.specs.Ids.{zerosOnNots}
 use Rattle.tables.specs.Types.{isValue, isWord, marked, valueRole, Ctx, tyAt, given, grow}
@@ -28,7 +28,7 @@ use Rattle.tables.proofs.Places.{Sized}
 use Rattle.tables.proofs.Facts.{Same}
 use Rattle.tables.proofs.OwnSorts.{OwnSorts, ownSort, sorts-more, type-stays, type-new}
 use Rattle.tables.proofs.Replaced.{Replaces, kept-replaced, suits-role, suits-plain, class-at}
-use Rattle.texts.specs.Reading.{minusAt, mayTakeMinus, minusFits, minusesFit, minusesFrom, notOf, spread, lineRecords}
+use Rattle.texts.specs.Minus.{minusAt, mayTakeMinus, minusFits, minusesFit, minusesFrom, notOf, spread, lineRecords}
 use Rattle.texts.proofs.Kept.{Gives}
 
 -- ---- where a minus may stand

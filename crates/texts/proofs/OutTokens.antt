@@ -16,7 +16,8 @@ use Rattle.texts.specs.declared.Num.the-variants.{Bad, Big, Is}
 use Rattle.texts.specs.Forms.{formRow}
 use Rattle.texts.specs.Decimal.{decimal, digits}
 use Rattle.texts.specs.Operands.{placeByIdFrom, placeById}
-use Rattle.texts.specs.Reading.{plainAt, numberAt, signAt, numbersFrom, anyBad, anyBig, placed, signsFrom, minusAt, valueOf}
+use Rattle.texts.specs.Minus.{minusAt}
+use Rattle.texts.specs.Reading.{plainAt, numberAt, signAt, numbersFrom, anyBad, anyBig, placed, signsFrom, valueOf}
 use Rattle.texts.specs.WrittenOut.{namedPlace, outToken, outTokens, notLine, notLines, notSorts}
 use Rattle.texts.proofs.Decimals.{decimal-digits}
 use Rattle.texts.proofs.Scan.{without-sign, number-plain, sign-none}

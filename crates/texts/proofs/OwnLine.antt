@@ -21,7 +21,8 @@ use Rattle.tables.proofs.Replaced.{suits-role, class-at}
 use Rattle.texts.specs.Forms.{formRow, kindOf, firstOf, numbersOf, sortWord}
 use Rattle.texts.specs.Split.{sameBytes}
 use Rattle.texts.specs.Operands.{placeById, meant, resolved}
-use Rattle.texts.specs.Reading.{Word, word, findIn, formWord, sortWords, wordIn, formOf, behind, signAt, numbersFrom, anyBad, anyBig, placed, signsFrom, noSigns, minusAt, fresh, settled, numberTokens, extraTokens, numbersIn, signsIn, writtenRecord, recordIn, minusesFit, refusals, got, readLine}
+use Rattle.texts.specs.Minus.{noSigns, minusAt, minusesFit}
+use Rattle.texts.specs.Reading.{Word, word, findIn, formWord, sortWords, wordIn, formOf, behind, signAt, numbersFrom, anyBad, anyBig, placed, signsFrom, fresh, settled, numberTokens, extraTokens, numbersIn, signsIn, writtenRecord, recordIn, refusals, got, readLine}
 use Rattle.texts.specs.WrittenOut.{outTokens, notSorts, wordTokens, notsOf, sortPlace, numberTokensIn}
 use Rattle.texts.proofs.Words.{word-sort, word-other, word-forms, kind-high}
 use Rattle.texts.proofs.Steps.{settled-other, settled-one, settled-ones, settled-kind}

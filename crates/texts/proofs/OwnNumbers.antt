@@ -18,7 +18,8 @@ use Rattle.texts.specs.declared.Num.{Num}
 use Rattle.texts.specs.declared.Num.the-variants.{Is}
 use Rattle.texts.specs.Forms.{formRow, kindOf, firstOf, numbersOf}
 use Rattle.texts.specs.Operands.{placeById, meant}
-use Rattle.texts.specs.Reading.{numberAt, signAt, numbersFrom, anyBad, anyBig, placed, signsFrom, noSigns, minusAt, fresh, settled}
+use Rattle.texts.specs.Minus.{noSigns, minusAt}
+use Rattle.texts.specs.Reading.{numberAt, signAt, numbersFrom, anyBad, anyBig, placed, signsFrom, fresh, settled}
 use Rattle.texts.specs.WrittenOut.{namedPlace, outTokens, notLines, notSorts}
 use Rattle.texts.proofs.Steps.{settled-other}
 use Rattle.texts.proofs.OutTokens.{outNumber, number-out, sign-out, named-is, outNots, outNotSorts, aligned-nots, aligned-sorts, operands-of, value-of, none-out}

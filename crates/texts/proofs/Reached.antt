@@ -2,7 +2,7 @@
 use mathlib.Core.Path.{_≡_, refl, sym, ap, ap₂, _∙_, subst}
 use mathlib.Core.Bool.{Bool, true, false}
 use mathlib.Core.List.{List, [], _∷_, _++_, map}
-use Prim.Native.Nat.{ℕ, zero, suc, _+_, _-_, _≤_, _<_, min, zero-le}
+use Prim.Native.Nat.{ℕ, suc, _+_, _-_, _≤_, _<_, min, zero-le}
 use native.Mathlib.Omega.{arith}
 use native.Mathlib.Numerals.{add-one}
 use lib.Dec.{ltb}
@@ -21,7 +21,8 @@ use Rattle.tables.specs.Model.Notes.{lookIn, givenIn, Shows}
 use Rattle.tables.specs.Answers.{Outcome, told}
 use Rattle.texts.specs.declared.Readout.{Readout}
 use Rattle.texts.specs.Split.{split, upTo, tokens}
-use Rattle.texts.specs.Reading.{minuses, lineRecords, lineIds, Reply, skip, no, got, lastOf, lineId, lineTokens, readLine, Text, done, refused, readLinesBy, readLines, linesRead, readTextBy, readText, outcomeOf, reads}
+use Rattle.texts.specs.Minus.{minuses, lineRecords, lineIds}
+use Rattle.texts.specs.Reading.{Reply, skip, no, got, lastOf, lineId, lineTokens, readLine, Text, done, refused, readLinesBy, readLines, linesRead, readTextBy, readText, outcomeOf, reads}
 use Rattle.texts.specs.Model.Stages.{stagedLine}
 use Rattle.texts.specs.Model.Structs.{asRead}
 use Rattle.texts.specs.Model.Filling.{Filling, filling, addedFrom, Ready}

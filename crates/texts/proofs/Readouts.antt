@@ -8,7 +8,8 @@ use Rattle.tables.specs.declared.Refusal.{Refusal}
 use Rattle.tables.specs.declared.Refusal.the-variants.{NoRecordLeft}
 use Rattle.tables.specs.Pick.{pick}
 use Rattle.texts.specs.declared.Readout.{Readout}
-use Rattle.texts.specs.Reading.{minuses, Reply, skip, no, got}
+use Rattle.texts.specs.Minus.{minuses}
+use Rattle.texts.specs.Reading.{Reply, skip, no, got}
 use Rattle.texts.specs.Model.Structs.{asRead, withNumber, fittedRead}
 use Rattle.texts.specs.Model.Stages.{fitted}
 

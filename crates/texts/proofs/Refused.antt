@@ -15,7 +15,8 @@ use Rattle.tables.specs.Lines.{lineOf}
 use Rattle.tables.specs.Layout.{whole, room}
 use Rattle.tables.specs.Types.{Ctx, noCtx, tyAt, given, growAll}
 use Rattle.texts.specs.Split.{glue, split}
-use Rattle.texts.specs.Reading.{formOf, behind, wordIn, signsIn, recordIn, lineRecords, lineIds, refusals, Reply, skip, no, got, lowest, lineId, lineTokens, readLine, refused, readLinesBy, readLines, readText}
+use Rattle.texts.specs.Minus.{lineRecords, lineIds}
+use Rattle.texts.specs.Reading.{formOf, behind, wordIn, signsIn, recordIn, refusals, Reply, skip, no, got, lowest, lineId, lineTokens, readLine, refused, readLinesBy, readLines, readText}
 use Rattle.texts.proofs.Lowest.{holds, passes}
 use Rattle.texts.proofs.Reached.{step-got, step-skip, step-no, text-1, text-2, text-lines}
 

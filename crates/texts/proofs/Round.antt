@@ -37,7 +37,8 @@ use Rattle.texts.specs.Forms.{formRow, kindOf, firstOf, numbersOf}
 use Rattle.texts.specs.Split.{split, join}
 use Rattle.texts.specs.Decimal.{decimal, digits}
 use Rattle.texts.specs.Operands.{resolved}
-use Rattle.texts.specs.Reading.{Word, word, wordIn, formOf, behind, numberAt, numbersFrom, anyBad, anyBig, placed, lastOf, numberTokens, extraTokens, numbersIn, signsFrom, noSigns, signsIn, fresh, writtenRecord, settled, recordIn, minusesFit, minuses, isNext, valueOf, lineId, wrongClass, misfit, noRecordsLeft, refusals, got, lowest, replyIn, readLine, done, lineTokens, readLines, readText}
+use Rattle.texts.specs.Minus.{noSigns, minusesFit, minuses}
+use Rattle.texts.specs.Reading.{Word, word, wordIn, formOf, behind, numberAt, numbersFrom, anyBad, anyBig, placed, lastOf, numberTokens, extraTokens, numbersIn, signsFrom, signsIn, fresh, writtenRecord, settled, recordIn, isNext, valueOf, lineId, wrongClass, misfit, noRecordsLeft, refusals, got, lowest, replyIn, readLine, done, lineTokens, readLines, readText}
 use Rattle.texts.specs.Writing.{numbers, kindTokens, tokensOf, writeFrom, writeText, wrote, refuse, fitted, writeTable}
 use Rattle.texts.proofs.Splitting.{Toks, toks-append, tokens-join, lines-join}
 use Rattle.texts.proofs.Decimals.{digits-tok, decimal-digits}

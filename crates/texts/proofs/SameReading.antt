@@ -20,7 +20,8 @@ use Rattle.tables.proofs.Marks.{searched-types}
 use Rattle.tables.proofs.SameChecks.{context-more, ok-more}
 use Rattle.tables.proofs.OwnSorts.{OwnSorts, sorts-none, sorts-all}
 use Rattle.texts.specs.Split.{split}
-use Rattle.texts.specs.Reading.{Reply, skip, no, got, lineRecords, lineIds, lineId, lineTokens, readLine, readLinesBy, readLines, readTextBy, readText, outcomeOf, reads}
+use Rattle.texts.specs.Minus.{lineRecords, lineIds}
+use Rattle.texts.specs.Reading.{Reply, skip, no, got, lineId, lineTokens, readLine, readLinesBy, readLines, readTextBy, readText, outcomeOf, reads}
 use Rattle.texts.specs.Search.{searchedTypes, readTextBySearch, readsBySearch}
 use Rattle.texts.proofs.Kept.{got-gives}
 use Rattle.texts.proofs.Nots.{line-kept}

@@ -22,7 +22,8 @@ use Rattle.tables.proofs.Entries.{keeps-type}
 use Rattle.tables.proofs.OwnSorts.{Counted, counted-more, ownSort, OwnSorts, sorts-none, sorts-all}
 use Rattle.texts.specs.Split.{split}
 use Rattle.texts.specs.Decimal.{digits}
-use Rattle.texts.specs.Reading.{wordIn, formOf, noSigns, minusAt, minuses, spread, lineRecords, lineIds, valueOf, lineId, got, readLine, done, refused, linesRead, readText}
+use Rattle.texts.specs.Minus.{noSigns, minusAt, minuses, spread, lineRecords, lineIds}
+use Rattle.texts.specs.Reading.{wordIn, formOf, valueOf, lineId, got, readLine, done, refused, linesRead, readText}
 use Rattle.texts.specs.WrittenOut.{notsOf, ownLine, outLines, outIds, outSorts, numberTokensIn, writtenFrom, tokenLines, WrittenOut}
 use Rattle.texts.proofs.Decimals.{decimal-digits}
 use Rattle.texts.proofs.Kept.{Gives, got-gives}

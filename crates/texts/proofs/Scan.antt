@@ -16,7 +16,8 @@ use Rattle.texts.specs.declared.Num.the-variants.{Bad, Big, Is}
 use Rattle.texts.specs.Split.{split, upTo, tokens}
 use Rattle.texts.specs.Decimal.{digit, allIn, valueFrom, valued, scanned, decimal, digitsIn}
 use Rattle.texts.specs.Forms.{formRow}
-use Rattle.texts.specs.Reading.{leadsMinus, signAt, plainAt, numberAt, signsFrom, noSigns}
+use Rattle.texts.specs.Minus.{noSigns}
+use Rattle.texts.specs.Reading.{leadsMinus, signAt, plainAt, numberAt, signsFrom}
 
 module _ (b : ℕ) (s : List ℕ) (i : ℕ) where
   pub upTo-hit : i < length s → getD s i 0 ≡ b → upTo b (drop i s) ≡ []

@@ -20,7 +20,8 @@ use Rattle.texts.specs.declared.Num.the-variants.{Bad, Big, Is}
 use Rattle.texts.specs.Forms.{formRow, kindOf, firstOf, numbersOf}
 use Rattle.texts.specs.Decimal.{decimal}
 use Rattle.texts.specs.Operands.{resolved}
-use Rattle.texts.specs.Reading.{Word, word, unknown, wordIn, formOf, behind, numberAt, numbersFrom, anyBad, anyBig, placed, lastOf, numberTokens, extraTokens, numbersIn, signAt, signsFrom, noSigns, signsIn, fresh, writtenRecord, settled, recordIn, minusesFit, isNext, got, lowest, replyIn, readLine}
+use Rattle.texts.specs.Minus.{noSigns, minusesFit}
+use Rattle.texts.specs.Reading.{Word, word, unknown, wordIn, formOf, behind, numberAt, numbersFrom, anyBad, anyBig, placed, lastOf, numberTokens, extraTokens, numbersIn, signAt, signsFrom, signsIn, fresh, writtenRecord, settled, recordIn, isNext, got, lowest, replyIn, readLine}
 use Rattle.texts.specs.Model.Stages.{Took, operands, takenIn, judged, allowed, concluded, large, ended, worded, fitted, stagedLine}
 use Rattle.texts.specs.Model.Structs.{tookAt, several}
 use Rattle.texts.proofs.Words.{InForms, word-forms}

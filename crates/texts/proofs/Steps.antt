@@ -24,7 +24,8 @@ use Rattle.texts.specs.Forms.{formRow, kindOf, sorted, firstOf, numbersO
 use Rattle.texts.specs.Split.{tokens}
 use Rattle.texts.specs.Decimal.{decimal}
 use Rattle.texts.specs.Operands.{resolved}
-use Rattle.texts.specs.Reading.{wordIn, signAt, numberAt, noSigns, fresh, settled, minusAt, minusFits, minusesBy, minusesFit, minuses, Reply, no, got, skip, isNext, valueOf, lastOf}
+use Rattle.texts.specs.Minus.{noSigns, minusAt, minusFits, minusesBy, minusesFit}
+use Rattle.texts.specs.Reading.{wordIn, signAt, numberAt, fresh, settled, no, got, skip, isNext, valueOf, lastOf}
 use Rattle.texts.specs.Model.Stages.{Took, took, malformed, operands, takenIn, ruled, judged, allowed, concluded, large, ended, worded, fitted, stagedLine}
 use Rattle.texts.specs.declared.Readout.{Readout}
 use Rattle.texts.specs.declared.Taken.{Taken}

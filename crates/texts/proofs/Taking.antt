@@ -8,7 +8,8 @@ use Rattle.tables.specs.declared.Ty.{Ty}
 use Rattle.tables.specs.declared.Refusal.{Refusal}
 use Rattle.tables.specs.Lines.{lineOf}
 use Rattle.tables.specs.Types.{Ctx, tyAt, given, growAll}
-use Rattle.texts.specs.Reading.{lineRecords, lineIds, Reply, skip, no, got, lowest, lineId, lineTokens, readLine, done, refused, readLinesBy, readLines}
+use Rattle.texts.specs.Minus.{lineRecords, lineIds}
+use Rattle.texts.specs.Reading.{Reply, skip, no, got, lowest, lineId, lineTokens, readLine, done, refused, readLinesBy, readLines}
 use Rattle.texts.specs.WrittenOut.{someLines}
 use Rattle.texts.proofs.Lowest.{holds, passes}
 use Rattle.texts.proofs.Reached.{step-got, step-skip, step-no}

@@ -2,6 +2,7 @@ pub mod Forms
 pub mod Split
 pub mod Decimal
 pub mod Operands
+pub mod Minus
 pub mod Reading
 pub mod Search
 pub mod WrittenOut

@@ -4,19 +4,19 @@ use Prim.Native.Nat.{ℕ, zero, suc, _+_, _-_, _^_}
 use mathlib.Core.Bool.{Bool, true, false, _&&_, _||_, not}
 use mathlib.Core.List.{List, [], _∷_, _++_, map}
 use lib.Dec.{eqb, leb, ltb}
-use lib.ListN.{length, take, drop, getD, set, replicate}
+use lib.ListN.{length, take, drop, set, replicate}
 use Rattle.tables.specs.declared.Ty.{Ty}
 use Rattle.tables.specs.declared.Refusal.{Refusal}
 use Rattle.tables.specs.declared.Refusal.the-variants.{NotATable, TextTooLong, WrongId, NoRecordLeft, UnknownWord, BadOperand, NumberTooLarge, WrongClass, Misfit, InitOrNext}
 use Rattle.tables.specs.declared.Answer.{Answer}
 use Rattle.tables.specs.declared.Answer.the-variants.{Done, Refused}
-use Rattle.tables.specs.Pick.{pick, inside, all}
-use Rattle.tables.specs.Kinds.{word as wordClass, value, rowOf, wordOf, sortClass, firstClass, secondClass, thirdClass, classAt, namesLine}
-use Rattle.tables.specs.Lines.{lineOf, fields, kindIn, sortIn, firstIn, secondIn, thirdIn}
-use Rattle.tables.specs.Types.{isWord, Ctx, noCtx, tyAt, given, growAll}
+use Rattle.tables.specs.Pick.{inside, all}
+use Rattle.tables.specs.Kinds.{wordOf, classAt, namesLine}
+use Rattle.tables.specs.Lines.{lineOf, fields, sortIn, firstIn}
+use Rattle.tables.specs.Types.{Ctx, noCtx, tyAt, given, growAll}
 use Rattle.tables.specs.Rules.{fault}
-use Rattle.tables.specs.Layout.{recordWords, whole, room, withIds, filled}
-use Rattle.tables.specs.Ids.{follows, notKind}
+use Rattle.tables.specs.Layout.{whole, room, withIds, filled}
+use Rattle.tables.specs.Ids.{follows}
 use Rattle.tables.specs.Answers.{Outcome, told}
 use Rattle.texts.specs.declared.Num.{Num}
 use Rattle.texts.specs.declared.Num.the-variants.{Bad, Big, Is}
@@ -24,6 +24,7 @@ use Rattle.texts.specs.Forms.{formRow, kindOf, firstOf, numbersOf, sortW
 use Rattle.texts.specs.Split.{split, upTo, tokens, sameBytes}
 use Rattle.texts.specs.Decimal.{decimal, digitsIn}
 use Rattle.texts.specs.Operands.{resolved}
+use Rattle.texts.specs.Minus.{minusesFit, minuses, lineRecords, lineIds, noSigns}
 
 -- ---- the word
 
@@ -112,12 +113,6 @@ abbrev pub signsFrom : (f j : ℕ) → List (List ℕ) → List Bool → List Bo
 signsFrom f j [] s = s
 signsFrom f j (t ∷ ts) s = signsFrom f (suc j) ts (set s j (signAt f j t))
 
-abbrev pub noSigns : List Bool
-noSigns = replicate recordWords false
-
-abbrev pub minusAt : List Bool → (j : ℕ) → Bool
-minusAt s j = getD s j false
-
 -- the last of a list, or t where it is empty
 abbrev pub lastOf : {A : Type 0} → A → List A → A
 lastOf t [] = t
@@ -156,54 +151,6 @@ placedRecord ds f ts = resolved ds (writtenRecord f ts)
 -- the line's record, after lines whose types are L
 abbrev pub recordIn : (ℕ → Ty) → (ds : List ℕ) → ℕ → List (List ℕ) → List ℕ
 recordIn L ds f ts = settled (L (sortIn (placedRecord ds f ts)) .w) f (placedRecord ds f ts)
-
--- ---- minus operands
-
--- "The minus is refused by 8 before a sort, an array, an init value, or the state that an init or next sets": it may stand before a word, in a place of the class k of a line
--- that is no init; a is the type of the operand. The classes from word to value name values, the others states and sorts.
-abbrev pub mayTakeMinus : (kind k : ℕ) → (a : Ty) → Bool
-mayTakeMinus kind k a = inside wordClass value k && (isWord a && not (eqb kind 6))
-
-abbrev pub minusFits : (kind k : ℕ) → (a : Ty) → (minus : Bool) → Bool
-minusFits kind k a minus = not minus || mayTakeMinus kind k a
-
--- each minus of a record stands where it may, after lines whose types are L: the sort's place and the operands', by the row of the record's kind
-abbrev pub minusesBy : (row : List ℕ) → (ℕ → Ty) → List Bool → List ℕ → List Bool
-minusesBy row L s r =
-    minusFits (kindIn r) (sortClass row) (L (sortIn r)) (minusAt s 1)
-    ∷ minusFits (kindIn r) (firstClass row) (L (firstIn r)) (minusAt s 2)
-    ∷ minusFits (kindIn r) (secondClass row) (L (secondIn r)) (minusAt s 3)
-    ∷ minusFits (kindIn r) (thirdClass row) (L (thirdIn r)) (minusAt s 4)
-    ∷ []
-
-abbrev pub minusesFit : (ℕ → Ty) → List Bool → List ℕ → List Bool
-minusesFit L s r = minusesBy (rowOf (kindIn r)) L s r
-
--- how many of m operands from the place j on have a minus, and of all three
-abbrev pub minusesFrom : List Bool → (m j : ℕ) → ℕ
-minusesFrom s zero j = 0
-minusesFrom s (suc m) j = pick (minusAt s j) 1 0 + minusesFrom s m (suc j)
-
-abbrev pub minuses : List Bool → ℕ
-minuses s = minusesFrom s 3 2
-
--- "a not record of that operand's sort": for the line at the place a after the records rs, the sort that its own record names
-abbrev pub notOf : List (List ℕ) → (a : ℕ) → List ℕ
-notOf rs a = fields notKind (sortIn (getD rs (a - 1) [])) a 0 0
-
--- The records of a line after the records rs: for each minus operand, of m from the place j on, a not record; then the line's own, which has the not record's place in the
--- operand's stead.
-abbrev pub spread : List Bool → (m j : ℕ) (rs : List (List ℕ)) → (rec : List ℕ) → List (List ℕ)
-spread s zero j rs rec = rec ∷ []
-spread s (suc m) j rs rec =
-    pick (minusAt s j) (notOf rs (getD rec j 0) ∷ spread s m (suc j) (rs ++ (notOf rs (getD rec j 0) ∷ [])) (set rec j (suc (length rs)))) (spread s m (suc j) rs rec)
-
-abbrev pub lineRecords : List Bool → (rs : List (List ℕ)) (rec : List ℕ) → List (List ℕ)
-lineRecords s rs rec = spread s 3 2 rs rec
-
--- their ids: d is the line's, a not record has 0
-abbrev pub lineIds : List Bool → (d : ℕ) → List ℕ
-lineIds s d = replicate (minuses s) 0 ++ (d ∷ [])
 
 -- ---- the id
 

@@ -81,6 +81,26 @@ fn scan(t: &[u8], base: u64) -> Num
     Num::Bad
 }
 
+// The same in base ten, in one pass: as long as the value is below 1844674407370955161, a tenth of 2^64, one more digit fits.
+fn tens(t: &[u8]) -> Num
+    ensures { λ r. ⌜ r ≡ scanned 10 (now (t .entry)) ⌝ }
+{
+    let mut v: u64 = 0;
+    let mut i: usize = 0;
+    while i < t.len() {
+        let d = digit(t[i]);
+        if 10 <= d {
+            return Num::Bad;
+        }
+        if 1844674407370955161 <= v {
+            return scan(t, 10);
+        }
+        v = v * 10 + d;
+        i += 1;
+    }
+    Num::Is(v)
+}
+
 // A decimal number without leading zeros.
 pub fn decimal(t: &[u8]) -> Num
     ensures { λ r. ⌜ r ≡ decimalOf (now (t .entry)) ⌝ }
@@ -89,12 +109,12 @@ pub fn decimal(t: &[u8]) -> Num
         return Num::Bad;
     }
     if t.len() == 1 {
-        return scan(t, 10);
+        return tens(t);
     }
     if t[0] == 48 {
         return Num::Bad;
     }
-    scan(t, 10)
+    tens(t)
 }
 
 // Digits of a base other than ten, at most `most` of them.

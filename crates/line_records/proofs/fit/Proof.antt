@@ -2,7 +2,7 @@ use Prim.Native.Nat.{_+_}
 use native.Mathlib.Omega.{arith}
 use borrow.Author.Needs.{needs}
 use borrow.Author.Tests.{eq-eqb, ne-eqb, lt-ltb, le-ltb}
-use Rattle.texts.specs.Reading.{minuses}
+use Rattle.texts.specs.Minus.{minuses}
 use Rattle.line_records.proofs.fit.Statement.{statement}
 use Rattle.line_records.proofs.fit.Tie as tie
 

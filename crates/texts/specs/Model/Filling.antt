@@ -9,7 +9,7 @@ use Rattle.tables.specs.Lines.{fields, kindIn, sortIn, firstIn}
 use Rattle.tables.specs.Layout.{recordAt, withId, recorded}
 use Rattle.tables.specs.Ids.{notKind}
 use Rattle.tables.specs.Model.Notes.{noted}
-use Rattle.texts.specs.Reading.{minusAt, minusesFrom}
+use Rattle.texts.specs.Minus.{minusAt, minusesFrom}
 
 -- a table that holds so many records, and the notes of their lines
 pub record Filling : Type 0 where

@@ -13,7 +13,8 @@ use Rattle.texts.specs.declared.Num.the-variants.{Bad, Big, Is}
 use Rattle.texts.specs.Forms.{formRow, kindOf, firstOf, numbersOf}
 use Rattle.texts.specs.Decimal.{decimal}
 use Rattle.texts.specs.Operands.{resolved}
-use Rattle.texts.specs.Reading.{Word, word, unknown, wordIn, signAt, numberAt, noSigns, fresh, settled, minusesFit, minuses, isNext, lastOf, Reply, skip, no, got}
+use Rattle.texts.specs.Minus.{noSigns, minusesFit, minuses}
+use Rattle.texts.specs.Reading.{Word, word, unknown, wordIn, signAt, numberAt, fresh, settled, isNext, lastOf, Reply, skip, no, got}
 
 -- the record, its signs, whether a number was too large, how many bytes the last number has, and the tokens left
 pub data Took : Type 0 where

@@ -13,7 +13,8 @@ use Rattle.texts.specs.declared.Form.{Form}
 use Rattle.texts.specs.declared.Taken.{Taken}
 use Rattle.texts.specs.declared.Readout.{Readout}
 use Rattle.texts.specs.Split.{tokens}
-use Rattle.texts.specs.Reading.{Word, word, unknown, noSigns, minusAt, minuses, isNext, valueOf, Reply, skip, no, got}
+use Rattle.texts.specs.Minus.{noSigns, minusAt, minuses}
+use Rattle.texts.specs.Reading.{Word, word, unknown, isNext, valueOf, Reply, skip, no, got}
 use Rattle.texts.specs.Model.Stages.{Took, took, malformed}
 
 -- a form and the place behind its word; 0 for an unknown word

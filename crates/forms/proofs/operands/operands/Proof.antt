@@ -10,7 +10,7 @@ use lib.Seq.{getD-set-other, length-take-le}
 use lib.Arith.{lt-of-le-ne}
 use Rattle.tables.specs.Layout.{recordWords}
 use Rattle.texts.specs.Split.{tokens}
-use Rattle.texts.specs.Reading.{noSigns}
+use Rattle.texts.specs.Minus.{noSigns}
 use Rattle.texts.specs.Model.Stages.{operands}
 use Rattle.texts.proofs.Places.{next-token, no-token}
 use Rattle.texts.proofs.Steps.{op-end, op-none, op-bad, op-big, op-is}

@@ -9,7 +9,7 @@ use lib.ListN.{length, replicate}
 use Rattle.tables.specs.Lines.{lineOf}
 use Rattle.tables.specs.Layout.{room as roomOf}
 use Rattle.tables.specs.Types.{Ctx, noCtx, growAll}
-use Rattle.texts.specs.Reading.{lineRecords, lineIds}
+use Rattle.texts.specs.Minus.{lineRecords, lineIds}
 use Rattle.texts.proofs.Holding.{table-size, risen, narrow-noted}
 use Rattle.texts.proofs.Reached.{Reached, at-start, at-end, at-no, at-skip, at-got, is-ready, out-refused, out-done}
 use Rattle.reading.proofs.lines.read_lines.Statement.{statement}
