@@ -95,7 +95,7 @@ pub fn read_lines(
     let mut n: usize = 0;
     let mut line: usize = 1;
     while i < text.len() {
-        let e = tokens::find_byte(text, i, 10);
+        let e = tokens::find_far(text, i, 10);
         let z = tokens::cut(text, i, e);
         let r = read_line(&text[i..z], kinds, table, n, room, notes);
         i = tokens::after(e, text.len());

@@ -22,6 +22,28 @@ pub fn find_byte(s: &[u8], i: usize, b: u8) -> usize
     j
 }
 
+// The same, two bytes at a time: for ways that are long.
+pub fn find_far(s: &[u8], i: usize, b: u8) -> usize
+    requires { do ⌜ i ≤ (← ⟦s.len()⟧) ⌝ }
+    ensures { λ r. do ⌜ (i ≤ r) × ((r ≤ (← ⟦s.len()⟧ .entry)) × (r ≡ i + length (upTo b (drop i (now (s .entry)))))) ⌝ }
+{
+    if s.len() == 0 {
+        return i;
+    }
+    let e = s.len() - 1;
+    let mut j = i;
+    while j < e {
+        if s[j] == b {
+            return j;
+        }
+        if s[j + 1] == b {
+            return j + 1;
+        }
+        j += 2;
+    }
+    find_byte(s, j, b)
+}
+
 // The first place from i on that holds no space, or the length of s.
 pub fn skip(s: &[u8], i: usize) -> usize
     requires { do ⌜ i ≤ (← ⟦s.len()⟧) ⌝ }
@@ -45,7 +67,7 @@ pub fn cut(s: &[u8], i: usize, e: usize) -> usize
     requires { do ⌜ (i ≤ e) × (e ≤ (← ⟦s.len()⟧)) ⌝ }
     ensures { λ r. ⌜ (i ≤ r) × ((r ≤ e) × (take (r - i) (drop i (now (s .entry))) ≡ upTo 59 (take (e - i) (drop i (now (s .entry)))))) ⌝ }
 {
-    let c = find_byte(&s[i..e], 0, 59);
+    let c = find_far(&s[i..e], 0, 59);
     i + c
 }
 

@@ -11,17 +11,17 @@ use borrow.Author.Needs.{needs}
 use Rattle.tokens.proofs.cut.Statement.{statement}
 use Rattle.tokens.proofs.cut.Tie as tie
 
-sub-find-byte : tie.Need-sub-find-byte
-sub-find-byte c = search needs
+sub-find-far : tie.Need-sub-find-far
+sub-find-far c = search needs
 
-part-find-byte-start : tie.Need-part-find-byte-start
-part-find-byte-start c = search needs
+part-find-far-start : tie.Need-part-find-far-start
+part-find-far-start c = search needs
 
-part-find-byte-end : tie.Need-part-find-byte-end
-part-find-byte-end c = search needs
+part-find-far-end : tie.Need-part-find-far-end
+part-find-far-end c = search needs
 
-find-byte-requires : tie.Need-find-byte-requires
-find-byte-requires c κs = search needs
+find-far-requires : tie.Need-find-far-requires
+find-far-requires c κs = search needs
 
 add-result : tie.Need-add-result
 add-result c = search needs
@@ -31,8 +31,8 @@ returns c =
     let s : List ℕ = c .before .before .before .args .s .now in
     let i : ℕ = c .before .before .before .args .i in
     let e : ℕ = c .before .before .before .args .e in
-    let k : ℕ = c .find-byte .result in
-    let f = c .find-byte .ensures in
+    let k : ℕ = c .find-far .result in
+    let f = c .find-far .ensures in
     let m : length (take (e - i) (drop i s)) ≡ e - i = length-take-le (e - i) (drop i s) (omega (arith, length-drop i s)) in
     let h : k ≤ e - i = omega arith in
     let q : i + k - i ≡ k = omega arith in
@@ -42,9 +42,9 @@ pub cut-spec : {M : Type 1} → statement M
 cut-spec =
     tie.close
     (tie.spec
-    sub-find-byte
-    part-find-byte-start
-    part-find-byte-end
-    find-byte-requires
+    sub-find-far
+    part-find-far-start
+    part-find-far-end
+    find-far-requires
     add-result
     returns)

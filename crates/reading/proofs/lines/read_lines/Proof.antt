@@ -28,11 +28,11 @@ room-of-requires c κs = tt
 loop-holds : tie.Need-loop-holds Inv-loop μ-loop
 loop-holds c = let p = c .before .before .before .pre in (c .room-of .ensures, ([], ([], (noCtx, at-start refl (p .1 .0) (p .1 .1 .0) (p .1 .1 .1 .0)))))
 
-find-byte-requires : tie.Need-find-byte-requires Inv-loop μ-loop
-find-byte-requires c κs = c .before .loop .inv .1 .1 .1 .1 .within
+find-far-requires : tie.Need-find-far-requires Inv-loop μ-loop
+find-far-requires c κs = c .before .loop .inv .1 .1 .1 .1 .within
 
 cut-requires : tie.Need-cut-requires Inv-loop μ-loop
-cut-requires c κs = (c .find-byte .ensures .0, c .find-byte .ensures .1 .0)
+cut-requires c κs = (c .find-far .ensures .0, c .find-far .ensures .1 .0)
 
 sub-read-line : tie.Need-sub-read-line Inv-loop μ-loop
 sub-read-line c = c .cut .ensures .0
@@ -41,7 +41,7 @@ part-read-line-start : tie.Need-part-read-line-start Inv-loop μ-loop
 part-read-line-start c = c .cut .ensures .0
 
 part-read-line-end : tie.Need-part-read-line-end Inv-loop μ-loop
-part-read-line-end c = le-trans (c .cut .ensures .1 .0) (c .before .find-byte .ensures .1 .0)
+part-read-line-end c = le-trans (c .cut .ensures .1 .0) (c .before .find-far .ensures .1 .0)
 
 read-line-requires : tie.Need-read-line-requires Inv-loop μ-loop
 read-line-requires c κs =
@@ -65,7 +65,7 @@ returns c =
     let s = c .before .before .before .before .before .before .before .before .before .before .before .before .before .before .before .before .before .before .args in
     let v = c .before .before .before .before .before .before .before .before .before .before .before .before .before .before .loop in
     let R = v .inv .1 .1 .1 .1 in
-    let f = c .before .before .before .before .before .before .before .before .before .before .before .before .find-byte in
+    let f = c .before .before .before .before .before .before .before .before .before .before .before .before .find-far in
     let z = c .before .before .before .before .before .before .before .before .before .before .before .cut in
     let q = c .before .before .before .before .before .before .before .read-line in
     let a = c .before .before .before .before .before .before .after in
@@ -83,7 +83,7 @@ put-line-requires : tie.Need-put-line-requires Inv-loop μ-loop
 put-line-requires c κs =
     let v = c .before .before .before .before .before .before .before .before .before .before .before .before .before .before .before .before .loop in
     let R = v .inv .1 .1 .1 .1 in
-    let f = c .before .before .before .before .before .before .before .before .before .before .before .before .before .before .find-byte in
+    let f = c .before .before .before .before .before .before .before .before .before .before .before .before .before .before .find-far in
     let z = c .before .before .before .before .before .before .before .before .before .before .before .before .before .cut in
     let q = c .before .before .before .before .before .before .before .before .before .read-line in
     let a = c .before .before .before .before .before .before .before .before .after in
@@ -92,13 +92,13 @@ put-line-requires c κs =
     is-ready R (c .before .before .before .before .before .before .before .before .before .before .before .before .before .before .before .before .before .room-of .result) (f .result) (z .result) (a .result) (v .inv .0) on (f .ensures .1 .1) (z .ensures .1 .1) (f .ensures .1 .0) (a .ensures) (q .result) (q .ensures .0) h
 
 loop-less : tie.Need-loop-less Inv-loop μ-loop
-loop-less c = omega (arith, c .before .before .before .before .before .before .before .before .before .before .before .before .after .ensures, c .before .before .before .before .before .before .before .before .before .before .before .before .before .before .before .before .before .before .find-byte .ensures .0, c .before .before .before .before .before .before .before .before .before .before .before .before .before .before .before .before .before .before .before .loop-test .taken)
+loop-less c = omega (arith, c .before .before .before .before .before .before .before .before .before .before .before .before .after .ensures, c .before .before .before .before .before .before .before .before .before .before .before .before .before .before .before .before .before .before .find-far .ensures .0, c .before .before .before .before .before .before .before .before .before .before .before .before .before .before .before .before .before .before .before .loop-test .taken)
 
 loop-again : tie.Need-loop-again Inv-loop μ-loop
 loop-again c =
     let v = c .before .before .before .before .before .before .before .before .before .before .before .before .before .before .before .before .before .before .before .before .loop in
     let R = v .inv .1 .1 .1 .1 in
-    let f = c .before .before .before .before .before .before .before .before .before .before .before .before .before .before .before .before .before .before .find-byte in
+    let f = c .before .before .before .before .before .before .before .before .before .before .before .before .before .before .before .before .before .before .find-far in
     let z = c .before .before .before .before .before .before .before .before .before .before .before .before .before .before .before .before .before .cut in
     let q = c .before .before .before .before .before .before .before .before .before .before .before .before .before .read-line in
     let a = c .before .before .before .before .before .before .before .before .before .before .before .before .after in
@@ -121,14 +121,14 @@ loop-again c =
     )
 
 loop-less-2 : tie.Need-loop-less-2 Inv-loop μ-loop
-loop-less-2 c = omega (arith, c .before .before .before .before .after .ensures, c .before .before .before .before .before .before .before .before .before .before .find-byte .ensures .0, c .before .before .before .before .before .before .before .before .before .before .before .loop-test .taken)
+loop-less-2 c = omega (arith, c .before .before .before .before .after .ensures, c .before .before .before .before .before .before .before .before .before .before .find-far .ensures .0, c .before .before .before .before .before .before .before .before .before .before .before .loop-test .taken)
 
 loop-again-2 : tie.Need-loop-again-2 Inv-loop μ-loop
 loop-again-2 c =
     let s = c .before .before .before .before .before .before .before .before .before .before .before .before .before .before .before .before .args in
     let v = c .before .before .before .before .before .before .before .before .before .before .before .before .loop in
     let R = v .inv .1 .1 .1 .1 in
-    let f = c .before .before .before .before .before .before .before .before .before .before .find-byte in
+    let f = c .before .before .before .before .before .before .before .before .before .before .find-far in
     let z = c .before .before .before .before .before .before .before .before .before .cut in
     let q = c .before .before .before .before .before .read-line in
     let a = c .before .before .before .before .after in
@@ -155,7 +155,7 @@ read-lines-spec =
     μ-loop
     room-of-requires
     loop-holds
-    find-byte-requires
+    find-far-requires
     cut-requires
     sub-read-line
     part-read-line-start
