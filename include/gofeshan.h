@@ -83,7 +83,7 @@
 extern "C" {
 #endif
 
-/* Reads a BTOR2 text into a table, which has room for table_len / 6 records. 1, 2; then line by line 3 to 10.
+/* Reads a BTOR2 text into a table, which has room for table_len / 6 records. 1, 2; then line by line 3 to 10, and 4 again.
  * answer[0]: the number of records; with 3 to 10 the text line, from 1. */
 uint64_t gofeshan_read(const uint8_t *text, size_t text_len,
                        uint64_t *table, size_t table_len,

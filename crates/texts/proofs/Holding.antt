@@ -28,7 +28,7 @@ use Rattle.tables.proofs.OwnSorts.{OwnSorts, sorts-none, sorts-more}
 use Rattle.texts.specs.Minus.{minusAt, mayTakeMinus, minusesFrom, minuses, notOf, spread}
 use Rattle.texts.specs.Model.Filling.{Filling, added, notIn, addedFrom, Ready}
 use Rattle.texts.proofs.NextIds.{lastNamed, named-zero, rising-zero, rising-more}
-use Rattle.texts.proofs.Nots.{MinusesFit, takes, own-keeps, not-kept, same-size, fit-after, named}
+use Rattle.texts.proofs.Nots.{MinusesFit, takes-minus, own-keeps, not-kept, same-size, fit-after, named}
 
 -- ---- widths are at most 64
 
@@ -238,4 +238,4 @@ line-ready {n = n} {rs = rs} {c = c} H s rec left z k f =
   where
     no-minus : kindIn rec ≡ 1 → (i : ℕ) → 2 ≤ i → i ≤ 4 → mayTakeMinus (kindIn rec) (classAt (rowOf (kindIn rec)) i) (tyAt c (getD rec i 0)) ≡ true → ⊥
     no-minus e i l h m =
-        no-yes (sym (plain i l h) ∙ (ap (λ (q : ℕ). inside 1 3 (classAt (rowOf q) i)) (sym e) ∙ takes (kindIn rec) (classAt (rowOf (kindIn rec)) i) (tyAt c (getD rec i 0)) m .class))
+        no-yes (sym (plain i l h) ∙ (ap (λ (q : ℕ). inside 1 3 (classAt (rowOf q) i)) (sym e) ∙ takes-minus (kindIn rec) (classAt (rowOf (kindIn rec)) i) (tyAt c (getD rec i 0)) m .class))

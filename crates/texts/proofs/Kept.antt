@@ -32,6 +32,10 @@ use Rattle.texts.proofs.Steps.{settled-one, settled-ones, settled-other
 use Rattle.texts.proofs.Lowest.{NoneHolds, got-none}
 use Rattle.texts.proofs.Staged.{last-rule}
 
+pub true-of : (b : Bool) → T b → b ≡ true
+true-of true t = refl
+true-of false t = absurd t
+
 -- ---- the places that a line's numbers do not fill
 
 abbrev pub Outside : ℕ → ℕ → ℕ → Type 0
@@ -160,18 +164,14 @@ module _ (w f : ℕ) (one-up : 1 ≤ f) (most : f ≤ 60) (rec : List ℕ) (l : 
       let g₃ : unused (secondClass own) (secondIn s) ≡ true = unused-of (secondClass own) (secondIn s) (beyond j m 3) (h₄ .0) (λ o. zero-place 3 (λ e. omega arith) refl o) in
       let g₄ : unused (thirdClass own) (thirdIn s) ≡ true = unused-of (thirdClass own) (thirdIn s) (beyond j m 4) (h₄ .1) (λ o. zero-place 4 (λ e. omega arith) refl o) in
       let g : all (tidy own s) ≡ true = both-true _ _ g₁ (both-true _ _ g₂ (both-true _ _ g₃ (both-true _ _ g₄ refl))) in
-      both-true (known false (kindIn s)) _ (subst (λ (x : ℕ). known false x ≡ true) (sym k) (yes (inside 1 55 (kindOf f)) (h₁ .0))) (subst (λ (x : ℕ). all (tidy (rowOf x) s) ≡ true) (sym k) g)
+      both-true (known false (kindIn s)) _ (subst (λ (x : ℕ). known false x ≡ true) (sym k) (true-of (inside 1 55 (kindOf f)) (h₁ .0))) (subst (λ (x : ℕ). all (tidy (rowOf x) s) ≡ true) (sym k) g)
     where
-      yes : (b : Bool) → T b → b ≡ true
-      yes true t = refl
-      yes false t = absurd t
-
       value-place : (own : List ℕ) → T (not (eqb (firstClass own) 0) || leb f 58) → T (spare (firstClass own) (firstOf (formRow f)) (numbersOf (formRow f)) 2)
           → unused (firstClass own) (firstIn (settled w f rec)) ≡ true
       value-place own a b = go (eqb (firstClass own) 0) a b
         where
           go : (q : Bool) → T (not q || leb f 58) → T (not q || beyond (firstOf (formRow f)) (numbersOf (formRow f)) 2) → (not q || eqb (firstIn (settled w f rec)) 0) ≡ true
-          go true t o = eq-eqb (firstIn (settled w f rec)) 0 (zero-value (leb-true f 58 (yes (leb f 58) t)) o)
+          go true t o = eq-eqb (firstIn (settled w f rec)) 0 (zero-value (leb-true f 58 (true-of (leb f 58) t)) o)
           go false t o = refl
 
 -- ---- places for ids: a word that the line does not use stays

@@ -8,7 +8,7 @@ use native.Mathlib.Omega.{arith}
 use lib.Dec.{eqb, ltb}
 use lib.ListN.{length, getD, set, replicate, length-set}
 use lib.Seq.{getD-set-same, getD-set-other}
-use borrow.Author.Tests.{eqb-true, eqb-false, eq-eqb, ne-eqb, leb-true, le-leb}
+use borrow.Author.Tests.{eqb-true, eqb-false, eq-eqb, ne-eqb, leb-true, le-leb, not-true}
 use Rattle.tables.specs.declared.Ty.{Ty}
 use Rattle.tables.specs.Pick.{pick, inside, all}
 use Rattle.tables.specs.Kinds.{rowOf, firstClass, secondClass, thirdClass, classAt, namesLine}
@@ -56,20 +56,16 @@ minuses-fit L s rec h = at
     at (suc (suc (suc (suc (suc i))))) a b e = absurd (omega arith)
 
 -- what may take a minus is a word, in a place of such a class, of a line that is no init
-pub record Takes (kind k : ℕ) (a : Ty) : Type 0 where
+pub record TakesMinus (kind k : ℕ) (a : Ty) : Type 0 where
   pub class : inside 1 3 k ≡ true
   pub word : isWord a ≡ true
   pub other : kind ≡ 6 → ⊥
 
-pub takes : (kind k : ℕ) (a : Ty) → mayTakeMinus kind k a ≡ true → Takes kind k a
-takes kind k a h =
+pub takes-minus : (kind k : ℕ) (a : Ty) → mayTakeMinus kind k a ≡ true → TakesMinus kind k a
+takes-minus kind k a h =
     let p = both (inside 1 3 k) _ h in
     let q = both (isWord a) _ (p .1) in
-    record { class = p .0; word = q .0; other = eqb-false kind 6 (no-of (eqb kind 6) (q .1)) }
-  where
-    no-of : (b : Bool) → not b ≡ true → b ≡ false
-    no-of true e = absurd (no-yes e)
-    no-of false e = refl
+    record { class = p .0; word = q .0; other = eqb-false kind 6 (not-true (eqb kind 6) (q .1)) }
 
 -- a word may stand where another does
 suits-word : (k : ℕ) (y t : Ty) → inside 1 3 k ≡ true → isWord y ≡ true → suits k y ≡ true → isWord t ≡ true → suits k t ≡ true
@@ -155,8 +151,8 @@ module _ (c : Ctx) (rs : List (List ℕ)) (S : OwnSorts c rs) (rec : List ℕ) (
   abbrev after : Ctx
   after = grow false c (lineOf (notOf rs (getD rec j 0)))
 
-  pub ok : Takes (kindIn rec) (classAt (rowOf (kindIn rec)) j) (tyAt c (getD rec j 0))
-  ok = takes (kindIn rec) (classAt (rowOf (kindIn rec)) j) (tyAt c (getD rec j 0)) may
+  pub ok : TakesMinus (kindIn rec) (classAt (rowOf (kindIn rec)) j) (tyAt c (getD rec j 0))
+  ok = takes-minus (kindIn rec) (classAt (rowOf (kindIn rec)) j) (tyAt c (getD rec j 0)) may
 
   pub here : getD rec₁ j 0 ≡ suc (length rs)
   here = getD-set-same rec j (suc (length rs)) 0 (omega (arith, sized))
@@ -234,7 +230,7 @@ module _ (c : Ctx) (rs : List (List ℕ)) (S : OwnSorts c rs) (rec : List ℕ) (
   pub fit-after : (s : List Bool) → MinusesFit (tyAt c) s rec j → MinusesFit (tyAt after) s rec₁ (suc j)
   fit-after s f i l h e =
       let m = f i (omega arith) h e in
-      let t = takes (kindIn rec) (classAt (rowOf (kindIn rec)) i) (tyAt c (getD rec i 0)) m in
+      let t = takes-minus (kindIn rec) (classAt (rowOf (kindIn rec)) i) (tyAt c (getD rec i 0)) m in
       let v = leb-true 2 (tyAt c (getD rec i 0) .role) (both (isValue (tyAt c (getD rec i 0))) _ (t .word) .0) in
       let x : getD rec₁ i 0 ≡ getD rec i 0 = there i (λ z. omega arith) in
       let y : tyAt after (getD rec₁ i 0) ≡ tyAt c (getD rec i 0) = ap (tyAt after) x ∙ type-stays c (lineOf (notOf rs (getD rec j 0))) (getD rec i 0) (omega (arith, v)) in

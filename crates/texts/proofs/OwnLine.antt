@@ -28,7 +28,7 @@ use Rattle.texts.proofs.Words.{word-sort, word-other, word-forms, kind-
 use Rattle.texts.proofs.Steps.{settled-other, settled-one, settled-ones, settled-kind}
 use Rattle.texts.proofs.Lowest.{NoneHolds}
 use Rattle.texts.proofs.Kept.{none, Gives, in-forms, is-record, are-signs, got-gives}
-use Rattle.texts.proofs.Nots.{MinusesFit, minuses-fit, fits-there, takes}
+use Rattle.texts.proofs.Nots.{MinusesFit, minuses-fit, fits-there, takes-minus}
 use Rattle.texts.proofs.InOrder.{Numbered, resolved-same}
 use Rattle.texts.proofs.OutTokens.{outNumber, outNots, outNotSorts}
 use Rattle.texts.proofs.OwnNumbers.{meant-form, minus-named, out-number, sort-plain, ownRecord, MinusesNamed, minus-settled, readFields, outFields, own-settled, LineParts, line-parts}
@@ -197,7 +197,7 @@ module _ (c : Ctx) (m : ℕ) (ds t : List ℕ) (ts : List (List ℕ)) (r : List 
   named-all : MinusesNamed f s
   named-all i l u e =
       minus-named f (bounds .0) (bounds .1) i (omega arith) u
-      (ap (λ (k : ℕ). inside 1 3 (classAt (rowOf k) i)) (sym own-kind) ∙ takes (kindIn r) (classAt (rowOf (kindIn r)) i) (tyAt c (getD r i 0)) (fit i l u e) .class)
+      (ap (λ (k : ℕ). inside 1 3 (classAt (rowOf k) i)) (sym own-kind) ∙ takes-minus (kindIn r) (classAt (rowOf (kindIn r)) i) (tyAt c (getD r i 0)) (fit i l u e) .class)
 
   named-signs : MinusesNamed f signs
   named-signs = subst (MinusesNamed f) same-signs named-all
@@ -209,7 +209,7 @@ module _ (c : Ctx) (m : ℕ) (ds t : List ℕ) (ts : List (List ℕ)) (r : List 
       go : (b : Bool) → minusAt s 1 ≡ b → b ≡ false
       go true e =
           let q = fits-there (kindIn r) (sortClass (rowOf (kindIn r))) (tyAt c (sortIn r)) (minusAt s 1) (all-at (minusesFit (tyAt c) s r) (gives .minus) 0) e in
-          let k = takes (kindIn r) (sortClass (rowOf (kindIn r))) (tyAt c (sortIn r)) q .class in
+          let k = takes-minus (kindIn r) (sortClass (rowOf (kindIn r))) (tyAt c (sortIn r)) q .class in
           absurd (no-yes (sym (sort-plain f (bounds .0) (bounds .1)) ∙ (ap (λ (x : ℕ). inside 1 3 (sortClass (rowOf x))) (sym own-kind) ∙ k)))
       go false e = refl
 

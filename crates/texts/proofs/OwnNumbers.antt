@@ -22,6 +22,7 @@ use Rattle.texts.specs.Minus.{noSigns, minusAt}
 use Rattle.texts.specs.Reading.{numberAt, signAt, numbersFrom, anyBad, anyBig, placed, signsFrom, fresh, settled}
 use Rattle.texts.specs.WrittenOut.{namedPlace, outTokens, notLines, notSorts}
 use Rattle.texts.proofs.Steps.{settled-other}
+use Rattle.texts.proofs.Kept.{true-of}
 use Rattle.texts.proofs.OutTokens.{outNumber, number-out, sign-out, named-is, outNots, outNotSorts, aligned-nots, aligned-sorts, operands-of, value-of, none-out}
 
 -- ---- a form's row and its kind's: the same places name lines, one computed test
@@ -49,14 +50,10 @@ all-agree : T (every test 60)
 unfolding test formRow rowOf
 all-agree = tt
 
-yes : (b : Bool) → T b → b ≡ true
-yes true t = refl
-yes false t = absurd t
-
 at-form : (f : ℕ) → 1 ≤ f → f ≤ 60 → (j : ℕ) → getD (rowsAgree (formRow f) (rowOf (kindOf f))) j true ≡ true
 unfolding test
 at-form zero a b = absurd (omega arith)
-at-form (suc i) a b = all-at (rowsAgree (formRow (suc i)) (rowOf (kindOf (suc i)))) (yes _ (at-each test 60 all-agree i (omega arith)))
+at-form (suc i) a b = all-at (rowsAgree (formRow (suc i)) (rowOf (kindOf (suc i)))) (true-of _ (at-each test 60 all-agree i (omega arith)))
 
 alike-same : (a b : Bool) → alike a (not b) ≡ true → a ≡ not b
 alike-same true true t = absurd (no-yes t)
