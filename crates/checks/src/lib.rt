@@ -273,5 +273,6 @@ pub fn number(r: Refusal) -> u64
         Refusal::ArrayPresent => 19,
         Refusal::BadProgram => 20,
         Refusal::TextBuffer => 21,
+        Refusal::NameUsed => 22,
     }
 }

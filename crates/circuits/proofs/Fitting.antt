@@ -14,6 +14,7 @@ use Rattle.tables.specs.declared.Ty.{Ty}
 use Rattle.tables.specs.Kinds.{rowOf, secondClass, thirdClass}
 use Rattle.tables.specs.Rules.{fitsUnary, fitsBinary}
 use Rattle.tables.specs.Tables.{unused}
+use Rattle.tables.proofs.Laws.{true-of}
 use Rattle.tables.proofs.Every.{at-each}
 use Rattle.tables.proofs.Kept.{both}
 use Rattle.tables.proofs.Facts.{OneKind, OkUnary, OkBinary}
@@ -290,10 +291,6 @@ module _ (k w u x y : ℕ) (s₂ : unused (secondClass (rowOf k)) x ≡ true) (s
       let a = zero-at (secondClass (rowOf k)) x s₂ (eqb-true (secondClass (rowOf k)) 0 (q .0)) in
       let b = zero-at (thirdClass (rowOf k)) y s₃ (eqb-true (thirdClass (rowOf k)) 0 (q .1)) in
       (omega arith, omega arith)
-
-  true-of : (b : Bool) → T b → b ≡ true
-  true-of true t = refl
-  true-of false t = absurd t
 
   extra : eqb (thirdClass (rowOf k)) 0 ≡ true → u + x ≤ 64 → (x ≤ 64) × (y ≤ 64)
   extra e h = let b = zero-at (thirdClass (rowOf k)) y s₃ (eqb-true (thirdClass (rowOf k)) 0 e) in (omega arith, omega arith)

@@ -2,6 +2,7 @@
 -- Assumes nothing.
 use Prim.Native.Nat.{ℕ, _+_, _*_, _/_, _%_, _^_, _≤_, _<_}
 use mathlib.Core.Path.{_≡_, refl, sym, ap, _∙_}
+use mathlib.Core.Logic.{⊎-elim}
 use mathlib.Core.Bool.{Bool, true, false, _&&_}
 use mathlib.Core.List.{List, [], _∷_, _++_, map}
 use native.Mathlib.Omega.{arith}
@@ -75,7 +76,7 @@ flat-no t n len r l e =
     go true true true true f = let w : _≡_ {A = ℕ} 0 1 = cc in absurd (omega arith)
 
 -- a refusal's line has room
-refusal-whole : (outLen n l : ℕ) → 50 ≤ outLen → n ≤ 12 → l ≤ 65537 → refusalIn outLen n l ≡ refusalLine n l
+refusal-whole : (outLen n l : ℕ) → 50 ≤ outLen → n ≤ 22 → l ≤ 65537 → refusalIn outLen n l ≡ refusalLine n l
 refusal-whole outLen n l h a b =
     let k : length (refusalLine n l) ≤ outLen = omega (arith, refusal-short n l (omega arith) (omega arith)) in
     rw (le-leb (length (refusalLine n l)) outLen k) refl
@@ -118,6 +119,10 @@ other-line n l k h e = go (leb n 9) refl
         let z : _≡_ {A = ℕ} 49 50 = ap (λ (x : List ℕ). getD x 8 0) (same ((48 + 1) ∷ (48 + n % 10) ∷ []) d) in
         omega arith
 
+line-22 : (l k : ℕ) → refusalLine 22 l ≡ refusalLine 21 k → ⊥
+unfolding digits digitsF
+line-22 l k e = let z : _≡_ {A = ℕ} 50 49 = ap (λ (x : List ℕ). getD x 9 0) e in omega arith
+
 other-text : (rs : List (List ℕ)) (n l : ℕ) → writeText rs ≡ refusalLine n l → ⊥
 unfolding writeText writeFrom digits digitsF
 other-text [] n l e = let z : _≡_ {A = ℕ} 0 114 = ap (λ (x : List ℕ). getD x 0 0) e in omega arith
@@ -133,7 +138,7 @@ module _ (len flatLen outLen : ℕ) (few : room false flatLen < 10 ^ 4) (ample :
       go (Done m) e =
           let f = answered T n flatLen m e .fits in
           rw (text-whole T n flatLen m outLen e (omega arith) (omega arith)) refl
-      go (Refused r l) e = let f = flat-no T n flatLen r l e in refusal-whole outLen (numberOf r) l some (f .0) (omega (arith, f .1))
+      go (Refused r l) e = let f = flat-no T n flatLen r l e in refusal-whole outLen (numberOf r) l some (omega (arith, f .0)) (omega (arith, f .1))
 
   -- every text is printed as the request asks
   pub all-printed : (s : List ℕ) → printed len flatLen outLen s ≡ asked len flatLen s
@@ -142,7 +147,9 @@ module _ (len flatLen outLen : ℕ) (few : room false flatLen < 10 ^ 4) (ample :
     where
       go : (x : Text) → readText len s ≡ x → afterReading flatLen outLen (textAnswer x) (tableOf len x) ≡ textOr len flatLen x
       go (done rs ds) e = flat-whole (tableOf len (done rs ds)) (length rs)
-      go (refused r l) e = let f = text-no len s r l e in refusal-whole outLen (numberOf r) l some (omega (arith, f .0)) (f .1)
+      go (refused r l) e =
+          let f = text-no len s r l e in
+          refusal-whole outLen (numberOf r) l some (⊎-elim (λ h. omega (arith, h)) (λ h. omega (arith, h)) (f .0)) (f .1)
 
   -- and never as refused by 21
   pub never-short : (s : List ℕ) (k : ℕ) → printed len flatLen outLen s ≡ refusalLine 21 k → ⊥
@@ -155,7 +162,7 @@ module _ (len flatLen outLen : ℕ) (few : room false flatLen < 10 ^ 4) (ample :
 
       go : (x : Text) → readText len s ≡ x → textOr len flatLen x ≡ refusalLine 21 k → ⊥
       go (done rs ds) e q = flat (tableOf len (done rs ds)) (length rs) (flattened (tableOf len (done rs ds)) (length rs) flatLen) refl q
-      go (refused r l) e q = let f = text-no len s r l e in other-line (numberOf r) l k (omega (arith, f .0)) q
+      go (refused r l) e q = let f = text-no len s r l e in ⊎-elim (λ h. other-line (numberOf r) l k (omega (arith, h)) q) (λ h. line-22 l k (sym (ap (λ (n : ℕ). refusalLine n l) h) ∙ q)) (f .0)
 
 -- the flat program's sizes: two tables of 1,300 records each, and an output list of 65,536 bytes
 pub flat-program : (s : List ℕ) → printed 7800 7800 65536 s ≡ asked 7800 7800 s

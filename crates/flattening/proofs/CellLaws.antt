@@ -12,6 +12,7 @@ use lib.Pow.{pow-pos}
 use lib.ListN.{length, getD, set, take, replicate}
 use lib.Seq.{drop-cons}
 use Rattle.tables.specs.Layout.{from}
+use Rattle.tables.proofs.Laws.{true-of}
 use Rattle.tables.proofs.Ids.{from-at}
 use Rattle.words.specs.Word.{bit}
 use Rattle.circuits.specs.Cells.{ifNonzero, eqOrNeq, sameCells, maskWords, part}
@@ -21,12 +22,8 @@ use Rattle.flattening.proofs.Chains.{hit, writes, picks, chooses, equal
 
 -- ---- is the index the constant
 
-T-true : (b : Bool) → T b → b ≡ true
-T-true true t = refl
-T-true false t = absurd t
-
 hit-same : (k : ℕ) → hit k k ≡ 1
-hit-same k = ap (λ (b : Bool). bit (b && true)) (T-true (eqb k k) (eqb-refl k))
+hit-same k = ap (λ (b : Bool). bit (b && true)) (true-of (eqb k k) (eqb-refl k))
 
 hit-other : (i k : ℕ) → i ≢ k → hit i k ≡ 0
 hit-other i k h = go (eqb i k) refl

@@ -51,6 +51,8 @@ pub fn fit(r: Readout, n: usize, room: usize) -> Readout
         rec: [0; WORDS],
         minus: [false; WORDS],
         id: 0,
+        from: 0,
+        to: 0,
     }
 }
 

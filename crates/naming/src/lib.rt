@@ -6,7 +6,9 @@ ghost use mathlib.Core.Path.{_≡_};
 ghost use Prim.Native.Nat.{_≤_, _<_, _-_};
 ghost use lib.ListN.{length, drop, take};
 ghost use Rattle.texts.specs.Split.{tokens as tokensIn};
-ghost use Rattle.texts.specs.Naming.{only as onlyOf, lineName, leads as leadsBy, nameOf, namePlace};
+ghost use Rattle.texts.specs.Names.{only as onlyOf};
+ghost use Rattle.texts.specs.Reading.{lineName};
+ghost use Rattle.texts.specs.Naming.{leads as leadsBy, nameOf, namePlace};
 ghost use Rattle.texts.specs.Model.Ends.{tokensEnd};
 
 // The place behind m tokens from the place i on, or the line's end where there are fewer.

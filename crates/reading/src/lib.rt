@@ -1,4 +1,5 @@
 // Reading a text into a table.
+mod line; // a line of a text
 mod lines; // the lines of a text
 
 use records::kinds;
@@ -24,5 +25,10 @@ pub fn read(text: &[u8], table: &mut [u64]) -> Answer
     }
     let kinds = kinds::all();
     let mut notes = [[0u8; BYTES]; 16385];
-    lines::read_lines(text, table, &kinds, &mut notes)
+    if text.len() < 4096 {
+        let mut few = [0u16; 5633];
+        return lines::read_lines(text, table, &kinds, &mut notes, &mut few);
+    }
+    let mut names = [0u16; 28674];
+    lines::read_lines(text, table, &kinds, &mut notes, &mut names)
 }

@@ -12,11 +12,12 @@ use texts::Taken;
 ghost use mathlib.Core.Path.{_≡_};
 ghost use Prim.Native.Nat.{_-_, _^_, _≤_, ℕ};
 ghost use lib.ListN.{drop};
+ghost use Rattle.texts.specs.Forms.{kindOf};
 ghost use Rattle.texts.specs.Operands.{resolved};
 ghost use Rattle.texts.specs.Minus.{minusFits, minusesBy};
 ghost use Rattle.texts.specs.Reading.{no, settled};
 ghost use Rattle.texts.specs.Model.Stages.{ruled as ruledBy, judged, allowed, concluded, large as largeOf, ended, takenIn};
-ghost use Rattle.texts.specs.Model.Structs.{asRead, asTook, anySign};
+ghost use Rattle.texts.specs.Model.Structs.{asRead, asTook, anySign, several};
 ghost use Rattle.tables.specs.Pick.{all};
 ghost use Rattle.tables.specs.Kinds.{rows, rowOf};
 ghost use Rattle.tables.specs.Lines.{kindIn};
@@ -27,7 +28,7 @@ ghost use Rattle.texts.specs.Split.{tokens as tokensIn};
 
 // A refusal.
 pub fn refuse(r: Refusal) -> Readout
-    ensures { λ x. ⌜ x ≡ asRead 0 (no r) ⌝ }
+    ensures { λ x. ⌜ x ≡ asRead (no r) ⌝ }
 {
     Readout {
         what: 2,
@@ -35,12 +36,14 @@ pub fn refuse(r: Refusal) -> Readout
         rec: [0; WORDS],
         minus: [false; WORDS],
         id: 0,
+        from: 0,
+        to: 0,
     }
 }
 
 // 9, 10, or the record with its signs.
 fn ruled(a: u64, rec: [u64; WORDS], minus: [bool; WORDS]) -> Readout
-    ensures { λ x. ⌜ x ≡ asRead 0 (ruledBy a rec minus) ⌝ }
+    ensures { λ x. ⌜ x ≡ asRead (ruledBy a rec minus) ⌝ }
 {
     if a == 0 {
         return Readout {
@@ -49,6 +52,8 @@ fn ruled(a: u64, rec: [u64; WORDS], minus: [bool; WORDS]) -> Readout
             rec: rec,
             minus: minus,
             id: 0,
+            from: 0,
+            to: 0,
         };
     }
     if a == 9 {
@@ -95,7 +100,7 @@ fn judge(
     notes: &[[u8; BYTES]],
 ) -> Readout
     requires { ⌜ row ≡ rowOf (kindIn rec) ⌝ }
-    ensures { λ r. ⌜ r ≡ asRead 0 (judged (lookIn (now (notes .entry))) (givenIn (now (notes .entry))) f len rec minus) ⌝ }
+    ensures { λ r. ⌜ r ≡ asRead (judged (lookIn (now (notes .entry))) (givenIn (now (notes .entry))) f len rec minus) ⌝ }
 {
     let a = rules::fault(false, row, rec, notes);
     if a == 8 {
@@ -173,7 +178,7 @@ fn allow(
     notes: &[[u8; BYTES]],
 ) -> Readout
     requires { ⌜ row ≡ rowOf (kindIn rec) ⌝ }
-    ensures { λ r. ⌜ r ≡ asRead 0 (allowed (lookIn (now (notes .entry))) (givenIn (now (notes .entry))) f len rec minus) ⌝ }
+    ensures { λ r. ⌜ r ≡ asRead (allowed (lookIn (now (notes .entry))) (givenIn (now (notes .entry))) f len rec minus) ⌝ }
 {
     if has_signs(minus) {
         if !signs_fit(row, rec, minus, notes) {
@@ -195,7 +200,7 @@ fn conclude(
     notes: &[[u8; BYTES]],
 ) -> Readout
     requires { ⌜ (row ≡ rowOf (kindIn rec)) × (((a : ℕ) → lookIn (now notes) a .w ≤ 64) × Risen (now table) n) ⌝ }
-    ensures { λ r. ⌜ r ≡ asRead 0 (concluded (lookIn (now (notes .entry))) (givenIn (now (notes .entry))) f len (resolved (idsOf (now (table .entry)) n) rec) minus) ⌝ }
+    ensures { λ r. ⌜ r ≡ asRead (concluded (lookIn (now (notes .entry))) (givenIn (now (notes .entry))) f len (resolved (idsOf (now (table .entry)) n) rec) minus) ⌝ }
 {
     let p = ids::resolve(row, rec, table, n);
     let w = notes::look(notes, p[1]).w;
@@ -216,7 +221,7 @@ fn large(
     notes: &[[u8; BYTES]],
 ) -> Readout
     requires { ⌜ (row ≡ rowOf (kindIn rec)) × (((a : ℕ) → lookIn (now notes) a .w ≤ 64) × Risen (now table) n) ⌝ }
-    ensures { λ r. ⌜ r ≡ asRead 0 (largeOf (lookIn (now (notes .entry))) (givenIn (now (notes .entry))) (idsOf (now (table .entry)) n) f rec minus big len) ⌝ }
+    ensures { λ r. ⌜ r ≡ asRead (largeOf (lookIn (now (notes .entry))) (givenIn (now (notes .entry))) (idsOf (now (table .entry)) n) f rec minus big len) ⌝ }
 {
     if big {
         return refuse(Refusal::NumberTooLarge);
@@ -229,50 +234,43 @@ fn large(
     conclude(row, f, rec, minus, len, table, n, notes)
 }
 
-// What stands behind the numbers, 6, and what follows.
-fn finish(
-    l: &[u8],
-    row: [u8; 16],
-    f: usize,
-    t: Taken,
-    table: &[u64],
-    n: usize,
-    notes: &[[u8; BYTES]],
-) -> Readout
-    requires { do
-      ⌜ (t .at ≤ (← ⟦l.len()⟧)) × ((row ≡ rowOf (kindIn (t .rec))) × (((a : ℕ) → lookIn (now notes) a .w ≤ 64) × Risen (now table) n)) ⌝ }
-    ensures { λ r. ⌜ r ≡ asRead 0 (ended (lookIn (now (notes .entry))) (givenIn (now (notes .entry))) (idsOf (now (table .entry)) n) f (asTook (now (l .entry)) t)) ⌝ }
-{
-    if !t.ok {
-        return refuse(Refusal::BadOperand);
-    }
-    if tokens::crowded(l, t.at) {
-        return refuse(Refusal::BadOperand);
-    }
-    let rec = t.rec;
-    let minus = t.minus;
-    large(row, f, rec, minus, t.big, t.len, table, n, notes)
-}
-
-// The line behind its word, whose form is f; kinds are the rows of all kinds, and the table holds the n records so far.
-pub fn rest(
-    l: &[u8],
-    kinds: &[[u8; 16]; 55],
-    f: usize,
-    at: usize,
-    table: &[u64],
-    n: usize,
-    notes: &[[u8; BYTES]],
-) -> Readout
-    requires { do
-      ⌜ (now kinds ≡ rows) × ((at ≤ (← ⟦l.len()⟧)) × ((1 ≤ f) × ((f ≤ 60) × (((a : ℕ) → lookIn (now notes) a .w ≤ 64) × Risen (now table) n)))) ⌝ }
-    ensures { λ r. ⌜ r ≡ asRead 0 (ended (lookIn (now (notes .entry))) (givenIn (now (notes .entry))) (idsOf (now (table .entry)) n) f (takenIn f (tokensIn (drop at (now (l .entry)))))) ⌝ }
+// The numbers of a line of the form f, from behind its word on; kinds are the rows of all kinds.
+pub fn take(l: &[u8], kinds: &[[u8; 16]; 55], f: usize, at: usize) -> Taken
+    requires { do ⌜ (now kinds ≡ rows) × ((at ≤ (← ⟦l.len()⟧)) × ((1 ≤ f) × (f ≤ 60))) ⌝ }
+    ensures { λ t. do
+      ⌜ (t .at ≤ (← ⟦l.len()⟧ .entry)) × ((kindIn (t .rec) ≡ kindOf f) × (takenIn f (tokensIn (drop at (now (l .entry)))) ≡ asTook (now (l .entry)) t)) ⌝ }
 {
     let row = forms::row(kinds, f);
     let s = forms::sorted(row);
     let c = row[12] as usize;
     let k = forms::kind_of(f);
-    let t = operands::operands(l, at, kinds, f, s + c, 2 - s, records::of(k, 0, 0, 0, 0));
-    let own = kinds::row_of(kinds, k);
-    finish(l, own, f, t, table, n, notes)
+    operands::operands(l, at, kinds, f, s + c, 2 - s, records::of(k, 0, 0, 0, 0))
+}
+
+// What follows when the numbers of a line of the form f were taken: 6 to 10. `crowded` says that two tokens or more stand behind them, kinds are the rows of all kinds, and
+// the table holds the n records so far.
+pub fn finish(
+    l: &[u8],
+    kinds: &[[u8; 16]; 55],
+    f: usize,
+    t: Taken,
+    crowded: bool,
+    table: &[u64],
+    n: usize,
+    notes: &[[u8; BYTES]],
+) -> Readout
+    requires { ⌜ (now kinds ≡ rows) × ((1 ≤ f) × ((f ≤ 60) × ((kindIn (t .rec) ≡ kindOf f) × ((crowded ≡ several (tokensIn (drop (t .at) (now l))))
+        × (((a : ℕ) → lookIn (now notes) a .w ≤ 64) × Risen (now table) n))))) ⌝ }
+    ensures { λ r. ⌜ r ≡ asRead (ended (lookIn (now (notes .entry))) (givenIn (now (notes .entry))) (idsOf (now (table .entry)) n) f (asTook (now (l .entry)) t)) ⌝ }
+{
+    if !t.ok {
+        return refuse(Refusal::BadOperand);
+    }
+    if crowded {
+        return refuse(Refusal::BadOperand);
+    }
+    let own = kinds::row_of(kinds, forms::kind_of(f));
+    let rec = t.rec;
+    let minus = t.minus;
+    large(own, f, rec, minus, t.big, t.len, table, n, notes)
 }

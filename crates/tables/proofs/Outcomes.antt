@@ -6,7 +6,7 @@ use native.Mathlib.Omega.{arith}
 use lib.Dec.{eqb}
 use lib.ListN.{getD}
 use Rattle.tables.specs.declared.Refusal.{Refusal}
-use Rattle.tables.specs.declared.Refusal.the-variants.{NotATable, TextTooLong, WrongId, NoRecordLeft, UnknownWord, BadOperand, NumberTooLarge, WrongClass, Misfit, InitOrNext, BadTable, TargetTooSmall, TooManySteps, StartWords, InputWords, SignalBytes, WorkArea, NoSuchCell, ArrayPresent, BadProgram, TextBuffer}
+use Rattle.tables.specs.declared.Refusal.the-variants.{NotATable, TextTooLong, WrongId, NoRecordLeft, UnknownWord, BadOperand, NumberTooLarge, WrongClass, Misfit, InitOrNext, BadTable, TargetTooSmall, TooManySteps, StartWords, InputWords, SignalBytes, WorkArea, NoSuchCell, ArrayPresent, BadProgram, TextBuffer, NameUsed}
 use Rattle.tables.specs.declared.Answer.{Answer}
 use Rattle.tables.specs.declared.Answer.the-variants.{Done, Refused}
 use Rattle.tables.specs.Pick.{pick}
@@ -25,7 +25,7 @@ left-told (Refused r l) x = refl
 
 abbrev refusals : List Refusal
 refusals =
-    NotATable ∷ NotATable ∷ TextTooLong ∷ WrongId ∷ NoRecordLeft ∷ UnknownWord ∷ BadOperand ∷ NumberTooLarge ∷ WrongClass ∷ Misfit ∷ InitOrNext ∷ BadTable ∷ TargetTooSmall ∷ TooManySteps ∷ StartWords ∷ InputWords ∷ SignalBytes ∷ WorkArea ∷ NoSuchCell ∷ ArrayPresent ∷ BadProgram ∷ TextBuffer ∷ []
+    NotATable ∷ NotATable ∷ TextTooLong ∷ WrongId ∷ NoRecordLeft ∷ UnknownWord ∷ BadOperand ∷ NumberTooLarge ∷ WrongClass ∷ Misfit ∷ InitOrNext ∷ BadTable ∷ TargetTooSmall ∷ TooManySteps ∷ StartWords ∷ InputWords ∷ SignalBytes ∷ WorkArea ∷ NoSuchCell ∷ ArrayPresent ∷ BadProgram ∷ TextBuffer ∷ NameUsed ∷ []
 
 abbrev answerIn : Outcome → Answer
 answerIn o = pick (eqb (o .number) 0) (Done (getD (o .values) 0 0)) (Refused (getD refusals (o .number) NotATable) (getD (o .values) 0 0))
@@ -53,6 +53,7 @@ answer-again (Refused NoSuchCell l) x = refl
 answer-again (Refused ArrayPresent l) x = refl
 answer-again (Refused BadProgram l) x = refl
 answer-again (Refused TextBuffer l) x = refl
+answer-again (Refused NameUsed l) x = refl
 
 pub told-answer : (r a : Answer) (x y : List (List ℕ)) → told r x ≡ told a y → r ≡ a
 told-answer r a x y e = sym (answer-again r x) ∙ (ap answerIn e ∙ answer-again a y)

@@ -18,7 +18,7 @@ use Rattle.tables.specs.Types.{ty, isSort, isValue}
 use Rattle.tables.specs.Rules.{suits, classes, fitsUnary, fitsBinary, fitsEquality, fitsIte, fitsRead, fitsWrite, fitsInitOrNext, fits, onceRules}
 use Rattle.tables.specs.Tables.{known, unused, formed, keeps}
 use Rattle.tables.proofs.Every.{at-each}
-use Rattle.tables.proofs.Laws.{not-of}
+use Rattle.tables.proofs.Laws.{true-of, not-of}
 use Rattle.tables.proofs.Shapes.{once-as, no-once, range}
 use Rattle.tables.proofs.Answers.{Passed, passed, all-passed}
 use Rattle.tables.proofs.Kept.{both, all-at, kept-fault, no-yes}
@@ -101,15 +101,11 @@ reads-at (suc i) a b = at-each (λ n. reads (shapeOf (suc n)) (rowOf (suc n))) 5
 
 -- ---- the three lists of tests
 
-yes : (b : Bool) → T b → b ≡ true
-yes true t = refl
-yes false t = absurd t
-
 module _ (L L′ : ℕ → Ty) (k s a b c s′ a′ b′ c′ : ℕ) (P₁ : Replaces (classAt (rowOf k) 1) L L′ s s′) (P₂ : Replaces (classAt (rowOf k) 2) L L′ a a′)
     (P₃ : Replaces (classAt (rowOf k) 3) L L′ b b′) (P₄ : Replaces (classAt (rowOf k) 4) L L′ c c′) where
   -- a line's widths, and a number, as they were
   line-path : {q x x′ : ℕ} → Replaces q L L′ x x′ → T (namesLine q) → ty 0 (L′ x′ .iw) (L′ x′ .w) ≡ ty 0 (L x .iw) (L x .w)
-  line-path {q} P t = let h = P .widths (yes (namesLine q) t) in λ i. ty 0 (h .iw i) (h .w i)
+  line-path {q} P t = let h = P .widths (true-of (namesLine q) t) in λ i. ty 0 (h .iw i) (h .w i)
 
   number-path : {q x x′ : ℕ} → Replaces q L L′ x x′ → T (not (namesLine q)) → x′ ≡ x
   number-path {q} P t = P .plain (not-of (namesLine q) t)

@@ -19,6 +19,7 @@ use Rattle.tables.specs.Rules.{suits, classes, fits, sameSort, onceRules
 use Rattle.tables.specs.Layout.{whole, room as roomOf, recordsOf, linesOf}
 use Rattle.tables.specs.Ids.{idsRight}
 use Rattle.tables.specs.Tables.{known, unused, tidy, formed, keeps, lawful, broken, checked}
+use Rattle.tables.proofs.Laws.{true-of}
 use Rattle.tables.proofs.Every.{at-each}
 use Rattle.tables.proofs.Shapes.{KindOf, kind-of, range}
 use Rattle.tables.proofs.Answers.{passed}
@@ -71,10 +72,6 @@ one-row? k = eqb (sortClass (rowOf k)) 5 && eqb (firstClass (rowOf k)) 1
 
 abbrev pub two-row? : ℕ → Bool
 two-row? k = eqb (sortClass (rowOf k)) 5 && (eqb (firstClass (rowOf k)) 1 && eqb (secondClass (rowOf k)) 1)
-
-true-of : (b : Bool) → T b → b ≡ true
-true-of true t = refl
-true-of false t = absurd t
 
 pub from-to : (f : ℕ → Bool) (i n k : ℕ) → ((m : ℕ) → m < n → T (f (m + i))) → i ≤ k → k < n + i → f k ≡ true
 from-to f i n k g h l =

@@ -1,7 +1,7 @@
 -- The number of each refusal. Assumes nothing.
 use Prim.Native.Nat.{ℕ}
 use Rattle.tables.specs.declared.Refusal.{Refusal}
-use Rattle.tables.specs.declared.Refusal.the-variants.{NotATable, TextTooLong, WrongId, NoRecordLeft, UnknownWord, BadOperand, NumberTooLarge, WrongClass, Misfit, InitOrNext, BadTable, TargetTooSmall, TooManySteps, StartWords, InputWords, SignalBytes, WorkArea, NoSuchCell, ArrayPresent, BadProgram, TextBuffer}
+use Rattle.tables.specs.declared.Refusal.the-variants.{NotATable, TextTooLong, WrongId, NoRecordLeft, UnknownWord, BadOperand, NumberTooLarge, WrongClass, Misfit, InitOrNext, BadTable, TargetTooSmall, TooManySteps, StartWords, InputWords, SignalBytes, WorkArea, NoSuchCell, ArrayPresent, BadProgram, TextBuffer, NameUsed}
 
 abbrev pub numberOf : Refusal → ℕ
 numberOf NotATable = 1
@@ -25,3 +25,4 @@ numberOf NoSuchCell = 18
 numberOf ArrayPresent = 19
 numberOf BadProgram = 20
 numberOf TextBuffer = 21
+numberOf NameUsed = 22

@@ -26,6 +26,7 @@ pub enum Refusal {
     ArrayPresent,
     BadProgram,
     TextBuffer,
+    NameUsed,
 }
 
 // What an operation answers that counts what it leaves: how much, or the refusal with its text line, 0 where it has none.

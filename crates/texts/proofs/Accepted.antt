@@ -21,24 +21,24 @@ use Rattle.tables.proofs.Ids.{records-with, ids-with}
 use Rattle.tables.proofs.OwnSorts.{OwnSorts, sorts-none, sorts-all}
 use Rattle.texts.specs.Split.{split}
 use Rattle.texts.specs.Minus.{minuses, lineRecords, lineIds}
-use Rattle.texts.specs.Reading.{Reply, skip, no, got, lastOf, lineId, lineTokens, readLine, done, refused, readLinesBy, readLines, readText, tableOf}
-use Rattle.texts.proofs.Kept.{Gives, got-gives}
+use Rattle.texts.specs.Reading.{Reply, skip, no, got, lastOf, lineId, lineTokens, done, refused, Sofar, noLines, withLine, readLinesBy, replyAfter, readLines, readText, tableOf}
+use Rattle.texts.proofs.Kept.{GivesAfter, gives-after}
 use Rattle.texts.proofs.NextIds.{follows-some, last-line, rising-line}
 use Rattle.texts.proofs.Nots.{line-kept, spread-length, spread-zeros}
 use Rattle.texts.proofs.Reached.{step-got, step-skip, step-no, text-1, text-2, text-lines}
 
--- the records that lines have added to others, rs, in the context c, and their ids, added to ds
-record Added (m : ℕ) (c : Ctx) (rs : List (List ℕ)) (ds : List ℕ) (out : List (List ℕ)) (ids : List ℕ) : Type 0 where
+-- the records that lines have added to those so far, and their ids
+record Added (m : ℕ) (b : Sofar) (out : List (List ℕ)) (ids : List ℕ) : Type 0 where
   new : List (List ℕ)
-  all : out ≡ rs ++ new
+  all : out ≡ b .records ++ new
   sized : Sized new
-  law : lawful false c new ≡ true
+  law : lawful false (b .ctx) new ≡ true
   newIds : List ℕ
-  allIds : ids ≡ ds ++ newIds
-  rise : rising (lastOf 0 ds) newIds ≡ true
+  allIds : ids ≡ b .ids ++ newIds
+  rise : rising (lastOf 0 (b .ids)) newIds ≡ true
   zeros : zerosOnNots new newIds ≡ true
   same : length new ≡ length newIds
-  most : length ds ≤ m → length ids ≤ m
+  most : length (b .ids) ≤ m → length ids ≤ m
 
 lawful-append : (c : Ctx) (ls ns : List (List ℕ)) → lawful false c ls ≡ true → lawful false (growAll false c (map lineOf ls)) ns ≡ true → lawful false c (ls ++ ns) ≡ true
 lawful-append c [] ns h k = k
@@ -51,11 +51,12 @@ zeros-append (l ∷ ls) [] ns is e h k = absurd (omega arith)
 zeros-append (l ∷ ls) (x ∷ es) ns is e h k = let q = both (not (eqb x 0) || eqb (kindIn l) notKind) _ h in rw (q .0) (zeros-append ls es ns is (omega arith) (q .1) k)
 
 -- those of a line, and what the lines behind it have added
-added-line : {m : ℕ} {c : Ctx} {rs : List (List ℕ)} {ds : List ℕ} {out : List (List ℕ)} {ids : List ℕ} {ts : List (List ℕ)} (r : List ℕ) (s : List Bool) → OwnSorts c rs
-    → Gives (tyAt c) (given c) m ds ts r s
-    → Added m (growAll false c (map lineOf (lineRecords s rs r))) (rs ++ lineRecords s rs r) (ds ++ lineIds s (lineId ts)) out ids → Added m c rs ds out ids
-added-line {rs = rs} {ds = ds} {ts = ts} r s O g a =
-    let k = line-kept O g in
+added-line : {m : ℕ} (b : Sofar) {out : List (List ℕ)} {ids : List ℕ} (ts : List (List ℕ)) (r : List ℕ) (s : List Bool) → OwnSorts (b .ctx) (b .records) → GivesAfter m b ts r s
+    → Added m (withLine b ts r s) out ids → Added m b out ids
+added-line b ts r s O g a =
+    let k = line-kept b O g in
+    let rs = b .records in
+    let ds = b .ids in
     let ls : List (List ℕ) = lineRecords s rs r in
     let d : ℕ = lineId ts in
     let es : List ℕ = lineIds s d in
@@ -76,37 +77,35 @@ added-line {rs = rs} {ds = ds} {ts = ts} r s O g a =
       most = λ x. a .most (omega (arith, length-append ds es, spread-length s 3 2 rs r, long, g .left));
     }
 
-adds : (m l : ℕ) (c : Ctx) (rs : List (List ℕ)) (ds : List ℕ) (xs out : List (List ℕ)) (ids : List ℕ) → OwnSorts c rs → readLines m l c rs ds xs ≡ done out ids → Added m c rs ds out ids
+adds : (m l : ℕ) (b : Sofar) (xs out : List (List ℕ)) (ids : List ℕ) → OwnSorts (b .ctx) (b .records) → readLines m l b xs ≡ done out ids → Added m b out ids
 unfolding readLinesBy
-adds m l c rs ds [] out ids O q =
-    let b : rs ≡ out = cc in
-    let d : ds ≡ ids = cc in
+adds m l b [] out ids O q =
+    let e : b .records ≡ out = cc in
+    let d : b .ids ≡ ids = cc in
     record {
       new = [];
-      all = sym b ∙ sym (append-nil rs);
+      all = sym e ∙ sym (append-nil (b .records));
       sized = tt;
       law = refl;
       newIds = [];
-      allIds = sym d ∙ sym (append-nil ds);
+      allIds = sym d ∙ sym (append-nil (b .ids));
       rise = refl;
       zeros = refl;
       same = refl;
       most = λ h. subst (λ (x : List ℕ). length x ≤ m) d h;
     }
-adds m l c rs ds (x ∷ xs) out ids O q =
-    go (readLine (tyAt c) (given c) m ds (lineTokens x)) refl (adds m (suc l) c rs ds xs out ids O)
-    (λ r s. adds m (suc l) (growAll false c (map lineOf (lineRecords s rs r))) (rs ++ lineRecords s rs r) (ds ++ lineIds s (lineId (lineTokens x))) xs out ids)
+adds m l b (x ∷ xs) out ids O q =
+    go (replyAfter m b (lineTokens x)) refl (adds m (suc l) b xs out ids O) (λ r s. adds m (suc l) (withLine b (lineTokens x) r s) xs out ids)
   where
-    go : (y : Reply) → readLine (tyAt c) (given c) m ds (lineTokens x) ≡ y → (readLines m (suc l) c rs ds xs ≡ done out ids → Added m c rs ds out ids)
-        → ((r : List ℕ) (s : List Bool) → OwnSorts (growAll false c (map lineOf (lineRecords s rs r))) (rs ++ lineRecords s rs r)
-        → readLines m (suc l) (growAll false c (map lineOf (lineRecords s rs r))) (rs ++ lineRecords s rs r) (ds ++ lineIds s (lineId (lineTokens x))) xs ≡ done out ids
-        → Added m (growAll false c (map lineOf (lineRecords s rs r))) (rs ++ lineRecords s rs r) (ds ++ lineIds s (lineId (lineTokens x))) out ids) → Added m c rs ds out ids
-    go skip h f g = f (sym (step-skip m l c rs ds x xs h) ∙ q)
-    go (no r) h f g = let z : refused r l ≡ done out ids = sym (step-no m l c rs ds x xs r h) ∙ q in let w : _≡_ {A = ℕ} 0 1 = cc in absurd (omega arith)
+    go : (y : Reply) → replyAfter m b (lineTokens x) ≡ y → (readLines m (suc l) b xs ≡ done out ids → Added m b out ids)
+        → ((r : List ℕ) (s : List Bool) → OwnSorts (withLine b (lineTokens x) r s .ctx) (withLine b (lineTokens x) r s .records)
+        → readLines m (suc l) (withLine b (lineTokens x) r s) xs ≡ done out ids → Added m (withLine b (lineTokens x) r s) out ids) → Added m b out ids
+    go skip h f g = f (sym (step-skip m l b x xs h) ∙ q)
+    go (no r) h f g = let z : refused r l ≡ done out ids = sym (step-no m l b x xs r h) ∙ q in let w : _≡_ {A = ℕ} 0 1 = cc in absurd (omega arith)
     go (got r s) h f g =
-        let o = got-gives (tyAt c) (given c) m ds (lineTokens x) r s h in
-        let k = line-kept O o in
-        added-line r s O o (g r s (sorts-all c rs (lineRecords s rs r) O (k .1) (k .0)) (sym (step-got m l c rs ds x xs r s h) ∙ q))
+        let o = gives-after m b (lineTokens x) r s h in
+        let k = line-kept b O o in
+        added-line b (lineTokens x) r s O o (g r s (sorts-all (b .ctx) (b .records) (lineRecords s (b .records) r) O (k .1) (k .0)) (sym (step-got m l b x xs r s h) ∙ q))
 
 -- the table after reading is accepted with the count that was answered
 pub read-accepted : (len : ℕ) (s : List ℕ) (rs : List (List ℕ)) (ds : List ℕ) → readText len s ≡ done rs ds → checked false (tableOf len (done rs ds)) (length rs) ≡ Accepted
@@ -115,7 +114,7 @@ read-accepted len s rs ds q = go (whole false len) (leb (length s) 65536) refl r
     no-text : {r : Refusal} {l : ℕ} → readText len s ≡ refused r l → checked false (tableOf len (done rs ds)) (length rs) ≡ Accepted
     no-text {r} {l} h = let z : refused r l ≡ done rs ds = sym h ∙ q in let w : _≡_ {A = ℕ} 0 1 = cc in absurd (omega arith)
 
-    taken : whole false len ≡ true → Added (room false len) noCtx [] [] rs ds → checked false (tableOf len (done rs ds)) (length rs) ≡ Accepted
+    taken : whole false len ≡ true → Added (room false len) noLines rs ds → checked false (tableOf len (done rs ds)) (length rs) ≡ Accepted
     taken w a =
         let t : List ℕ = filled false len (withIds rs ds) in
         let long : length rs ≡ length ds = ap length (a .all) ∙ (a .same ∙ ap length (sym (a .allIds))) in
@@ -133,4 +132,4 @@ read-accepted len s rs ds q = go (whole false len) (leb (length s) 65536) refl r
     go : (x y : Bool) → whole false len ≡ x → leb (length s) 65536 ≡ y → checked false (tableOf len (done rs ds)) (length rs) ≡ Accepted
     go false y h k = no-text (text-1 len s h)
     go true false h k = no-text (text-2 len s h (leb-false (length s) 65536 k))
-    go true true h k = taken h (adds (room false len) 1 noCtx [] [] (split 10 s) rs ds sorts-none (sym (text-lines len s h (leb-true (length s) 65536 k)) ∙ q))
+    go true true h k = taken h (adds (room false len) 1 noLines (split 10 s) rs ds sorts-none (sym (text-lines len s h (leb-true (length s) 65536 k)) ∙ q))

@@ -8,8 +8,8 @@ use lib.Dec.{eqb}
 use lib.ListN.{length, take, drop, getD, length-take, length-drop}
 use lib.Seq.{drop-drop}
 use Rattle.texts.specs.Split.{glue, split, upTo, nonEmpty, tokens}
-use Rattle.texts.specs.Reading.{wordIn, lastOf}
-use Rattle.texts.specs.Naming.{Located, located, lineWith, lineName, nameOf, locatedFrom, lastPlace, namePlace}
+use Rattle.texts.specs.Reading.{wordIn, lastOf, lineName}
+use Rattle.texts.specs.Naming.{Located, located, lineWith, nameOf, locatedFrom, lastPlace, namePlace}
 use Rattle.texts.specs.Model.Ends.{endOf, tokensEnd}
 use Rattle.texts.proofs.Places.{tail, split-first, tail-tokens, take-upTo, next-token}
 use Rattle.texts.proofs.Scan.{upTo-miss}

@@ -17,6 +17,8 @@ use Rattle.tables.specs.Layout.{recordWords}
 use Rattle.tables.specs.Rules.{fault}
 use Rattle.tables.specs.Tables.{known, unused, tidy, formed, keeps}
 use Rattle.tables.specs.Ids.{follows}
+use Rattle.tables.specs.Types.{tyAt, given}
+use Rattle.tables.proofs.Laws.{true-of}
 use Rattle.tables.proofs.Every.{every, at-each}
 use Rattle.tables.proofs.Kept.{neither}
 use Rattle.tables.proofs.Places.{fields-of}
@@ -25,16 +27,14 @@ use Rattle.texts.specs.declared.Num.the-variants.{Bad, Big, Is}
 use Rattle.texts.specs.Forms.{formRow, kindOf, firstOf, numbersOf}
 use Rattle.texts.specs.Decimal.{decimal}
 use Rattle.texts.specs.Operands.{meant, resolved}
+use Rattle.texts.specs.Names.{used}
 use Rattle.texts.specs.Minus.{minusesFit, minuses}
-use Rattle.texts.specs.Reading.{Word, word, unknown, wordIn, formOf, behind, numbersFrom, placed, numberTokens, numbersIn, lastOf, signsIn, fresh, writtenRecord, settled, recordIn, isNext, valueOf, lineId, refusals, got, lowest, replyIn, readLine}
+use Rattle.texts.specs.Reading.{Word, word, unknown, wordIn, formOf, behind, numbersFrom, placed, numberTokens, numbersIn, lastOf, signsIn, fresh, writtenRecord, settled, recordIn, isNext, valueOf, lineId, nameBehind, lineName, refusals, got, lowest, replyIn, readLine, Sofar, replyAfter}
 use Rattle.texts.proofs.Words.{InForms, word-forms}
 use Rattle.texts.proofs.Steps.{settled-one, settled-ones, settled-other, settled-kind}
+use Rattle.texts.proofs.LineNames.{name-behind}
 use Rattle.texts.proofs.Lowest.{NoneHolds, got-none}
 use Rattle.texts.proofs.Staged.{last-rule}
-
-pub true-of : (b : Bool) → T b → b ≡ true
-true-of true t = refl
-true-of false t = absurd t
 
 -- ---- the places that a line's numbers do not fill
 
@@ -250,14 +250,14 @@ module _ (L : ℕ → Ty) (G : Bool → ℕ → Bool) where
       go true e = refl
       go false e = absurd (eqb-false _ 10 z (last-rule L G rec (eqb-false _ 0 e) (eqb-false _ 8 x) (eqb-false _ 9 y)))
 
-  module _ (m : ℕ) (ds : List ℕ) where
+  module _ (m : ℕ) (ds : List ℕ) (ns : List (List ℕ)) where
     -- of a word that is known
     module _ (t : List ℕ) (w : Word) (forms : InForms w) (r : List ℕ) (s : List Bool)
-        (e : lowest (refusals L G m ds t (formOf w) (behind w)) (replyIn L ds (formOf w) (behind w)) ≡ got r s) where
-      gives-all : NoneHolds (refusals L G m ds t (formOf w) (behind w)) × (replyIn L ds (formOf w) (behind w) ≡ got r s)
-      gives-all = got-none (refusals L G m ds t (formOf w) (behind w)) (replyIn L ds (formOf w) (behind w)) r s e
+        (e : lowest (refusals L G m ds ns t (formOf w) (behind w)) (replyIn L ds (formOf w) (behind w)) ≡ got r s) where
+      gives-all : NoneHolds (refusals L G m ds ns t (formOf w) (behind w)) × (replyIn L ds (formOf w) (behind w) ≡ got r s)
+      gives-all = got-none (refusals L G m ds ns t (formOf w) (behind w)) (replyIn L ds (formOf w) (behind w)) r s e
 
-      pub none : NoneHolds (refusals L G m ds t (formOf w) (behind w))
+      pub none : NoneHolds (refusals L G m ds ns t (formOf w) (behind w))
       none = gives-all .0
 
       pub is-record : recordIn L ds (formOf w) (behind w) ≡ r
@@ -270,13 +270,16 @@ module _ (L : ℕ → Ty) (G : Bool → ℕ → Bool) where
       line-id = not-false (isNext (decimal t) (lastOf 0 ds)) (none .0)
 
       -- the refusals from 8 on
-      from-eight : NoneHolds (drop 5 (refusals L G m ds t (formOf w) (behind w)))
+      from-eight : NoneHolds (drop 5 (refusals L G m ds ns t (formOf w) (behind w)))
       from-eight = none .1 .1 .1 .1 .1
 
       line-room : length ds + minuses s < m
       line-room =
           let n : ℕ = length ds + minuses (signsIn (formOf w) (behind w)) in
-          subst (λ (x : List Bool). length ds + minuses x < m) are-signs (ltb-true n m (not-false (ltb n m) (from-eight .1 .1 .1 .0)))
+          subst (λ (x : List Bool). length ds + minuses x < m) are-signs (ltb-true n m (not-false (ltb n m) (from-eight .1 .1 .1 .1 .0)))
+
+      line-unused : used (nameBehind w) ns ≡ false
+      line-unused = ap (λ (name : List ℕ). used name ns) (name-behind w) ∙ from-eight .1 .1 .1 .0
 
       line-minus : all (minusesFit L s r) ≡ true
       line-minus =
@@ -302,12 +305,13 @@ module _ (L : ℕ → Ty) (G : Bool → ℕ → Bool) where
           subst (λ (y : List ℕ). (keeps false L G y ≡ true) × (length y ≡ recordWords)) is-record
           (both-true (formed false (recordIn L ds f (behind w))) _ g k, value-length v f (resolved ds x) ∙ resolved-length ds x)
 
-    -- A line that gives a record has an id and a word: its record keeps the rules, and its minuses stand where they may; there is room for it with its not records; its id
-    -- follows.
+    -- A line that gives a record has an id and a word: its record keeps the rules, and its minuses stand where they may; its name, if it has one, is new; there is room for it
+    -- with its not records; its id follows.
     pub record Gives (ts : List (List ℕ)) (rec : List ℕ) (s : List Bool) : Type 0 where
       pub rules : keeps false L G rec ≡ true
       pub sized : length rec ≡ recordWords
       pub minus : all (minusesFit L s rec) ≡ true
+      pub unused : used (lineName ts) ns ≡ false
       pub left : length ds + minuses s < m
       pub next : follows (lastOf 0 ds) (lineId ts) ≡ true
 
@@ -316,7 +320,7 @@ module _ (L : ℕ → Ty) (G : Bool → ℕ → Bool) where
     next-value Big l h = let z : _≡_ {A = ℕ} 0 1 = cc in absurd (omega arith)
     next-value (Is v) l h = h
 
-    pub got-gives : (ts : List (List ℕ)) (rec : List ℕ) (s : List Bool) → readLine L G m ds ts ≡ got rec s → Gives ts rec s
+    pub got-gives : (ts : List (List ℕ)) (rec : List ℕ) (s : List Bool) → readLine L G m ds ns ts ≡ got rec s → Gives ts rec s
     unfolding readLine
     got-gives [] rec s e = let z : _≡_ {A = ℕ} 0 1 = cc in absurd (omega arith)
     got-gives (t ∷ ts) rec s e =
@@ -325,6 +329,14 @@ module _ (L : ℕ → Ty) (G : Bool → ℕ → Bool) where
           rules = k .0;
           sized = k .1;
           minus = line-minus t (wordIn ts) (word-forms ts) rec s e;
+          unused = line-unused t (wordIn ts) (word-forms ts) rec s e;
           left = line-room t (wordIn ts) (word-forms ts) rec s e;
           next = next-value (decimal t) (lastOf 0 ds) (line-id t (wordIn ts) (word-forms ts) rec s e);
         }
+
+-- so of a line after those so far
+abbrev pub GivesAfter : (m : ℕ) (b : Sofar) → (ts : List (List ℕ)) (rec : List ℕ) (s : List Bool) → Type 0
+GivesAfter m b ts rec s = Gives (tyAt (b .ctx)) (given (b .ctx)) m (b .ids) (b .names) ts rec s
+
+pub gives-after : (m : ℕ) (b : Sofar) (ts : List (List ℕ)) (rec : List ℕ) (s : List Bool) → replyAfter m b ts ≡ got rec s → GivesAfter m b ts rec s
+gives-after m b ts rec s e = got-gives (tyAt (b .ctx)) (given (b .ctx)) m (b .ids) (b .names) ts rec s e

@@ -5,6 +5,9 @@ pub mod Scan
 pub mod Places
 pub mod Steps
 pub mod Resolving
+pub mod Hashing
+pub mod Chains
+pub mod LineNames
 pub mod Lowest
 pub mod Staged
 pub mod Kept
@@ -13,6 +16,10 @@ pub mod NextIds
 pub mod Holding
 pub mod Filled
 pub mod Readouts
+pub mod NameParts
+pub mod Admitting
+pub mod NamedLines
+pub mod KeptNames
 pub mod Reached
 pub mod InOrder
 pub mod Bounded

@@ -9,8 +9,9 @@ use lib.ListN.{length, take, drop, length-take}
 use lib.Seq.{drop-drop, take-take, take-length}
 use Rattle.texts.specs.Split.{glue, split, upTo, nonEmpty, tokens, sameBytes}
 use Rattle.texts.specs.Forms.{formRow, numbersOf, sortWord}
-use Rattle.texts.specs.Reading.{wordIn, formWord, sortWords, findIn, lastOf, lineTokens}
-use Rattle.texts.specs.Naming.{Located, located, leads, lineFrom, lineWith, only, extraIn, lineName, nameOf, locatedFrom, locatedTokens, namePlace}
+use Rattle.texts.specs.Reading.{wordIn, formWord, sortWords, findIn, lastOf, lineTokens, nameBehind, lineName}
+use Rattle.texts.specs.Names.{only}
+use Rattle.texts.specs.Naming.{Located, located, leads, lineFrom, lineWith, nameOf, locatedFrom, locatedTokens, namePlace}
 use Rattle.texts.proofs.Places.{take-upTo}
 
 -- ---- the located tokens are the tokens
@@ -101,20 +102,20 @@ only-last zero t (u ∷ v ∷ r) h = absurd (omega arith)
 only-last (suc m) t [] h = absurd (omega arith)
 only-last (suc m) t (u ∷ ts) h = only-last m u ts h
 
-form-last : (f : ℕ) (t : List ℕ) (ts : List (List ℕ)) → 0 < length (extraIn (formWord f ts)) → extraIn (formWord f ts) ≡ lastOf t ts
+form-last : (f : ℕ) (t : List ℕ) (ts : List (List ℕ)) → 0 < length (nameBehind (formWord f ts)) → nameBehind (formWord f ts) ≡ lastOf t ts
 form-last zero t ts h = absurd (omega arith)
 form-last (suc f) t ts h = only-last (numbersOf (formRow (suc f))) t ts h
 
-sort-last : (t : List ℕ) (ts : List (List ℕ)) → 0 < length (extraIn (sortWords ts)) → extraIn (sortWords ts) ≡ lastOf t ts
+sort-last : (t : List ℕ) (ts : List (List ℕ)) → 0 < length (nameBehind (sortWords ts)) → nameBehind (sortWords ts) ≡ lastOf t ts
 sort-last t [] h = absurd (omega arith)
 sort-last t (u ∷ ts) h = form-last (findIn 1 2 u) u ts h
 
-word-last : (t : List ℕ) (ts : List (List ℕ)) → 0 < length (extraIn (wordIn ts)) → extraIn (wordIn ts) ≡ lastOf t ts
+word-last : (t : List ℕ) (ts : List (List ℕ)) → 0 < length (nameBehind (wordIn ts)) → nameBehind (wordIn ts) ≡ lastOf t ts
 unfolding wordIn
 word-last t [] h = absurd (omega arith)
 word-last t (u ∷ ts) h = go (sameBytes u sortWord) refl h
   where
-    go : (q : Bool) → sameBytes u sortWord ≡ q → 0 < length (extraIn (wordIn (u ∷ ts))) → extraIn (wordIn (u ∷ ts)) ≡ lastOf u ts
+    go : (q : Bool) → sameBytes u sortWord ≡ q → 0 < length (nameBehind (wordIn (u ∷ ts))) → nameBehind (wordIn (u ∷ ts)) ≡ lastOf u ts
     go true e = rw (e, wordIn) (sort-last u ts)
     go false e = rw (e, wordIn) (form-last (findIn 3 58 u) u ts)
 

@@ -1,15 +1,12 @@
 -- The first refusal that holds. Assumes nothing.
-use Prim.Native.Nat.{ℕ, _+_}
+use Prim.Native.Nat.{ℕ}
 use mathlib.Core.Path.{_≡_, refl, sym, _∙_}
-use mathlib.Core.Bool.{Bool, true, false, not}
+use mathlib.Core.Bool.{Bool, true, false}
 use mathlib.Core.List.{List, [], _∷_, _++_}
 use native.Mathlib.Omega.{arith}
-use lib.Dec.{ltb}
 use Rattle.tables.specs.declared.Refusal.{Refusal}
-use Rattle.tables.specs.declared.Refusal.the-variants.{NoRecordLeft}
-use Rattle.texts.specs.Minus.{minuses}
 use Rattle.texts.specs.Reading.{Reply, no, got, lowest}
-use Rattle.texts.specs.Model.Stages.{fitted}
+use Rattle.texts.specs.Model.Stages.{stopped}
 
 module _ (r : Refusal) (b : Bool) (xs : List (Refusal × Bool)) (y : Reply) where
   pub holds : b ≡ true → lowest ((r, b) ∷ xs) y ≡ no r
@@ -40,20 +37,16 @@ got-none (x ∷ xs) y r s e = go (x .1) refl (got-none xs y r s)
     go true h f = let z : no (x .0) ≡ got r s = sym (holds (x .0) (x .1) xs y h) ∙ e in let w : _≡_ {A = ℕ} 0 1 = cc in absurd (omega arith)
     go false h f = let g = f (sym (passes (x .0) (x .1) xs y h) ∙ e) in ((h, g .0), g .1)
 
--- 4 again, last of all
-pub fitted-last : (n m : ℕ) (xs : List (Refusal × Bool)) (rec : List ℕ) (s : List Bool)
-    → fitted n m (lowest xs (got rec s)) ≡ lowest (xs ++ ((NoRecordLeft, not (ltb (n + minuses s) m)) ∷ [])) (got rec s)
-unfolding lowest fitted
-fitted-last n m [] rec s = go (ltb (n + minuses s) m) refl
-  where
-    go : (b : Bool) → ltb (n + minuses s) m ≡ b → fitted n m (got rec s) ≡ lowest ((NoRecordLeft, not (ltb (n + minuses s) m)) ∷ []) (got rec s)
-    go true e = rw (e, fitted, lowest) refl
-    go false e = rw (e, fitted, lowest) refl
-fitted-last n m (x ∷ xs) rec s = go (x .1) refl (fitted-last n m xs rec s)
+-- 22 and 4 again, last of all
+pub stopped-last : (q : Refusal) (test : List Bool → Bool) (xs : List (Refusal × Bool)) (rec : List ℕ) (s : List Bool)
+    → stopped q test (lowest xs (got rec s)) ≡ lowest (xs ++ ((q, test s) ∷ [])) (got rec s)
+unfolding lowest stopped
+stopped-last q test [] rec s = refl
+stopped-last q test (x ∷ xs) rec s = go (x .1) refl (stopped-last q test xs rec s)
   where
     later : List (Refusal × Bool)
-    later = xs ++ ((NoRecordLeft, not (ltb (n + minuses s) m)) ∷ [])
+    later = xs ++ ((q, test s) ∷ [])
 
-    go : (b : Bool) → x .1 ≡ b → fitted n m (lowest xs (got rec s)) ≡ lowest later (got rec s) → fitted n m (lowest (x ∷ xs) (got rec s)) ≡ lowest (x ∷ later) (got rec s)
+    go : (b : Bool) → x .1 ≡ b → stopped q test (lowest xs (got rec s)) ≡ lowest later (got rec s) → stopped q test (lowest (x ∷ xs) (got rec s)) ≡ lowest (x ∷ later) (got rec s)
     go true e f = rw (e, lowest) refl
     go false e f = rw (e, lowest) f

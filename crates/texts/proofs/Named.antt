@@ -11,8 +11,9 @@ use borrow.Author.Tests.{ltb-true, ltb-false}
 use Rattle.texts.specs.declared.Form.{Form}
 use Rattle.texts.specs.Forms.{formRow, numbersOf}
 use Rattle.texts.specs.Split.{split, upTo, tokens}
-use Rattle.texts.specs.Reading.{wordIn, lineTokens}
-use Rattle.texts.specs.Naming.{Located, located, leads, lineFrom, lineWith, only, extraIn, lineName, nameOf}
+use Rattle.texts.specs.Reading.{wordIn, lineTokens, nameBehind, lineName}
+use Rattle.texts.specs.Names.{only}
+use Rattle.texts.specs.Naming.{Located, located, leads, lineFrom, lineWith, nameOf}
 use Rattle.texts.specs.Model.Structs.{wordWith, asWord}
 use Rattle.texts.proofs.Places.{tail, line-first, next-token}
 
@@ -29,14 +30,14 @@ pub only-more : (l : List ℕ) (b : ℕ) (t : List ℕ) → b < length l → (ge
 only-more l b t h n = ap (λ (x : List (List ℕ)). only (t ∷ x)) (next-token l b (b + length (upTo 32 (drop b l))) h n refl)
 
 -- the extra token behind a word
-pub extra-none : (l : List ℕ) (w : Form) (ts : List (List ℕ)) → wordIn ts ≡ asWord l w → w .form ≡ 0 → [] ≡ extraIn (wordIn ts)
-extra-none l w ts e h = sym (ap extraIn (e ∙ ap (λ (f : ℕ). wordWith l f (w .at)) h))
+pub extra-none : (l : List ℕ) (w : Form) (ts : List (List ℕ)) → wordIn ts ≡ asWord l w → w .form ≡ 0 → [] ≡ nameBehind (wordIn ts)
+extra-none l w ts e h = sym (ap nameBehind (e ∙ ap (λ (f : ℕ). wordWith l f (w .at)) h))
 
 pub extra-of : (l : List ℕ) (w : Form) (ts : List (List ℕ)) (m : ℕ) → wordIn ts ≡ asWord l w → (w .form ≡ 0 → ⊥) → m ≡ numbersOf (formRow (w .form))
-    → only (drop m (tokens (drop (w .at) l))) ≡ extraIn (wordIn ts)
-extra-of l w ts m e h q = go (w .form) h q ∙ sym (ap extraIn e)
+    → only (drop m (tokens (drop (w .at) l))) ≡ nameBehind (wordIn ts)
+extra-of l w ts m e h q = go (w .form) h q ∙ sym (ap nameBehind e)
   where
-    go : (f : ℕ) → (f ≡ 0 → ⊥) → m ≡ numbersOf (formRow f) → only (drop m (tokens (drop (w .at) l))) ≡ extraIn (wordWith l f (w .at))
+    go : (f : ℕ) → (f ≡ 0 → ⊥) → m ≡ numbersOf (formRow f) → only (drop m (tokens (drop (w .at) l))) ≡ nameBehind (wordWith l f (w .at))
     go zero h q = absurd (h refl)
     go (suc f) h q = ap (λ (k : ℕ). only (drop k (tokens (drop (w .at) l)))) q
 

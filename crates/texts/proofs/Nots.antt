@@ -29,7 +29,8 @@ use Rattle.tables.proofs.Facts.{Same}
 use Rattle.tables.proofs.OwnSorts.{OwnSorts, ownSort, sorts-more, type-stays, type-new}
 use Rattle.tables.proofs.Replaced.{Replaces, kept-replaced, suits-role, suits-plain, class-at}
 use Rattle.texts.specs.Minus.{minusAt, mayTakeMinus, minusFits, minusesFit, minusesFrom, notOf, spread, lineRecords}
-use Rattle.texts.proofs.Kept.{Gives}
+use Rattle.texts.specs.Reading.{Sofar}
+use Rattle.texts.proofs.Kept.{GivesAfter}
 
 -- ---- where a minus may stand
 
@@ -255,9 +256,9 @@ spread-kept s (suc m) j l e c rs rec S z k f =
     (λ q. spread-kept s m (suc j) (omega arith) (omega arith) c rs rec S z k (λ i g. f i (omega arith)))
 
 -- so of a line that gives a record
-pub line-kept : {m : ℕ} {c : Ctx} {rs : List (List ℕ)} {ds : List ℕ} {ts : List (List ℕ)} {rec : List ℕ} {s : List Bool} → OwnSorts c rs → Gives (tyAt c) (given c) m ds ts rec s
-    → (lawful false c (lineRecords s rs rec) ≡ true) × Sized (lineRecords s rs rec)
-line-kept {c = c} {rs = rs} {rec = rec} {s = s} S g = spread-kept s 3 2 (omega arith) refl c rs rec S (g .sized) (g .rules) (minuses-fit (tyAt c) s rec (g .minus))
+pub line-kept : {m : ℕ} (b : Sofar) {ts : List (List ℕ)} {rec : List ℕ} {s : List Bool} → OwnSorts (b .ctx) (b .records) → GivesAfter m b ts rec s
+    → (lawful false (b .ctx) (lineRecords s (b .records) rec) ≡ true) × Sized (lineRecords s (b .records) rec)
+line-kept b {rec = rec} {s = s} S g = spread-kept s 3 2 (omega arith) refl (b .ctx) (b .records) rec S (g .sized) (g .rules) (minuses-fit (tyAt (b .ctx)) s rec (g .minus))
 
 -- how many there are, and their ids: only the not records have 0
 pub spread-length : (s : List Bool) (m j : ℕ) (rs : List (List ℕ)) (rec : List ℕ) → length (spread s m j rs rec) ≡ suc (minusesFrom s m j)

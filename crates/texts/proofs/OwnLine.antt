@@ -115,10 +115,10 @@ const-sort : namesLine (classAt (rowOf 3) 1) ≡ true
 unfolding rowOf
 const-sort = refl
 
--- ---- a line that gives the record r with the signs s, after lines with the ids ds
+-- ---- a line that gives the record r with the signs s, after lines with the ids ds and the names ns
 
-module _ (c : Ctx) (m : ℕ) (ds t : List ℕ) (ts : List (List ℕ)) (r : List ℕ) (s : List Bool) (most : m ≤ 16384)
-    (h : readLine (tyAt c) (given c) m ds (t ∷ ts) ≡ got r s) where
+module _ (c : Ctx) (m : ℕ) (ds : List ℕ) (ns : List (List ℕ)) (t : List ℕ) (ts : List (List ℕ)) (r : List ℕ) (s : List Bool) (most : m ≤ 16384)
+    (h : readLine (tyAt c) (given c) m ds ns (t ∷ ts) ≡ got r s) where
   abbrev f : ℕ
   f = formOf (wordIn ts)
 
@@ -134,24 +134,24 @@ module _ (c : Ctx) (m : ℕ) (ds t : List ℕ) (ts : List (List ℕ)) (r : List 
   abbrev n : ℕ
   n = length ds
 
-  gives : Gives (tyAt c) (given c) m ds (t ∷ ts) r s
-  gives = got-gives (tyAt c) (given c) m ds (t ∷ ts) r s h
+  gives : Gives (tyAt c) (given c) m ds ns (t ∷ ts) r s
+  gives = got-gives (tyAt c) (given c) m ds ns (t ∷ ts) r s h
 
-  free : NoneHolds (refusals (tyAt c) (given c) m ds t f rest)
+  free : NoneHolds (refusals (tyAt c) (given c) m ds ns t f rest)
   unfolding readLine
-  free = none (tyAt c) (given c) m ds t (wordIn ts) (word-forms ts) r s h
+  free = none (tyAt c) (given c) m ds ns t (wordIn ts) (word-forms ts) r s h
 
   bounds : (1 ≤ f) × (f ≤ 60)
   unfolding readLine
-  bounds = in-forms (tyAt c) (given c) m ds t (wordIn ts) (word-forms ts) r s h (wordIn ts) (word-forms ts) (free .1 .1 .0)
+  bounds = in-forms (tyAt c) (given c) m ds ns t (wordIn ts) (word-forms ts) r s h (wordIn ts) (word-forms ts) (free .1 .1 .0)
 
   is-row : recordIn (tyAt c) ds f rest ≡ r
   unfolding readLine
-  is-row = is-record (tyAt c) (given c) m ds t (wordIn ts) (word-forms ts) r s h
+  is-row = is-record (tyAt c) (given c) m ds ns t (wordIn ts) (word-forms ts) r s h
 
   signs-read : signsIn f rest ≡ s
   unfolding readLine
-  signs-read = are-signs (tyAt c) (given c) m ds t (wordIn ts) (word-forms ts) r s h
+  signs-read = are-signs (tyAt c) (given c) m ds ns t (wordIn ts) (word-forms ts) r s h
 
   all-there : length us ≡ numbersOf (formRow f)
   all-there = let g = ltb-false (length rest) (numbersOf (formRow f)) (neither _ _ (free .1 .1 .1 .0) .0) in length-take (numbersOf (formRow f)) rest ∙ omega arith
@@ -276,12 +276,12 @@ module _ (c : Ctx) (m : ℕ) (ds t : List ℕ) (ts : List (List ℕ)) (r : List 
         ap (λ (x : List ℕ). settled (tyAt c₁ (sortIn x) .w) f x) e
         ∙ (settled-width width (tyAt c₁ (sortIn asOut) .w) f asOut (λ z. ap (λ (x : ℕ). tyAt c₁ x .w) same-sort ∙ ap (λ (y : Ty). y .w) (stays (sortIn asRead) (sort-role z))) ∙ sym own-record)
 
-    pub own-read : (p : List ℕ) (m₁ : ℕ) (r′ : List ℕ) (s′ : List Bool) → readLine (tyAt c₁) (given c₁) m₁ (from 1 n₁) (p ∷ (wordTokens ts ++ zs)) ≡ got r′ s′
+    pub own-read : (p : List ℕ) (m₁ : ℕ) (ns₁ : List (List ℕ)) (r′ : List ℕ) (s′ : List Bool) → readLine (tyAt c₁) (given c₁) m₁ (from 1 n₁) ns₁ (p ∷ (wordTokens ts ++ zs)) ≡ got r′ s′
         → (r′ ≡ ownRecord s 3 2 n r) × (s′ ≡ noSigns)
     unfolding readLine
-    own-read p m₁ r′ s′ e =
+    own-read p m₁ ns₁ r′ s′ e =
         let ws : List (List ℕ) = wordTokens ts ++ zs in
         let w = word-kept ts zs (free .1 .1 .0) in (
-          sym (is-record (tyAt c₁) (given c₁) m₁ (from 1 n₁) p (wordIn ws) (word-forms ws) r′ s′ e) ∙ (ap (λ (v : Word). recordIn (tyAt c₁) (from 1 n₁) (formOf v) (behind v)) w ∙ record-out),
-          sym (are-signs (tyAt c₁) (given c₁) m₁ (from 1 n₁) p (wordIn ws) (word-forms ws) r′ s′ e) ∙ (ap (λ (v : Word). signsIn (formOf v) (behind v)) w ∙ plain-out),
+          sym (is-record (tyAt c₁) (given c₁) m₁ (from 1 n₁) ns₁ p (wordIn ws) (word-forms ws) r′ s′ e) ∙ (ap (λ (v : Word). recordIn (tyAt c₁) (from 1 n₁) (formOf v) (behind v)) w ∙ record-out),
+          sym (are-signs (tyAt c₁) (given c₁) m₁ (from 1 n₁) ns₁ p (wordIn ws) (word-forms ws) r′ s′ e) ∙ (ap (λ (v : Word). signsIn (formOf v) (behind v)) w ∙ plain-out),
         )

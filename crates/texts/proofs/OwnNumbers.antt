@@ -10,6 +10,7 @@ use borrow.Author.Tests.{eqb-true, eqb-false, ne-eqb, leb-true, not-true}
 use Rattle.tables.specs.Pick.{pick, inside, all, alike}
 use Rattle.tables.specs.Kinds.{rowOf, sortClass, operandCount, firstClass, secondClass, thirdClass, classAt, namesLine}
 use Rattle.tables.specs.Lines.{fields}
+use Rattle.tables.proofs.Laws.{true-of}
 use Rattle.tables.proofs.Every.{every, at-each}
 use Rattle.tables.proofs.Shapes.{range}
 use Rattle.tables.proofs.Kept.{all-at, no-yes}
@@ -22,7 +23,6 @@ use Rattle.texts.specs.Minus.{noSigns, minusAt}
 use Rattle.texts.specs.Reading.{numberAt, signAt, numbersFrom, anyBad, anyBig, placed, signsFrom, fresh, settled}
 use Rattle.texts.specs.WrittenOut.{namedPlace, outTokens, notLines, notSorts}
 use Rattle.texts.proofs.Steps.{settled-other}
-use Rattle.texts.proofs.Kept.{true-of}
 use Rattle.texts.proofs.OutTokens.{outNumber, number-out, sign-out, named-is, outNots, outNotSorts, aligned-nots, aligned-sorts, operands-of, value-of, none-out}
 
 -- ---- a form's row and its kind's: the same places name lines, one computed test

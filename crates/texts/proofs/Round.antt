@@ -37,8 +37,9 @@ use Rattle.texts.specs.Forms.{formRow, kindOf, firstOf, numbersOf}
 use Rattle.texts.specs.Split.{split, join}
 use Rattle.texts.specs.Decimal.{decimal, digits}
 use Rattle.texts.specs.Operands.{resolved}
+use Rattle.texts.specs.Names.{only, used, withName}
 use Rattle.texts.specs.Minus.{noSigns, minusesFit, minuses}
-use Rattle.texts.specs.Reading.{Word, word, wordIn, formOf, behind, numberAt, numbersFrom, anyBad, anyBig, placed, lastOf, numberTokens, extraTokens, numbersIn, signsFrom, signsIn, fresh, writtenRecord, settled, recordIn, isNext, valueOf, lineId, wrongClass, misfit, noRecordsLeft, refusals, got, lowest, replyIn, readLine, done, lineTokens, readLines, readText}
+use Rattle.texts.specs.Reading.{Word, word, wordIn, formOf, behind, numberAt, numbersFrom, anyBad, anyBig, placed, lastOf, numberTokens, extraTokens, numbersIn, signsFrom, signsIn, fresh, writtenRecord, settled, recordIn, isNext, valueOf, lineId, wrongClass, misfit, noRecordsLeft, refusals, got, lowest, replyIn, readLine, done, lineTokens, readLines, readText, nameBehind, lineName, nameUsed, sofar}
 use Rattle.texts.specs.Writing.{numbers, kindTokens, tokensOf, writeFrom, writeText, wrote, refuse, fitted, writeTable}
 use Rattle.texts.proofs.Splitting.{Toks, toks-append, tokens-join, lines-join}
 use Rattle.texts.proofs.Decimals.{digits-tok, decimal-digits}
@@ -260,53 +261,66 @@ module _ (L : ℕ → Ty) (G : Bool → ℕ → Bool) (r : List ℕ) (sized : le
         go true e = ap (λ (x : List ℕ). not (inside 1 64 (firstIn x))) written-same ∙ ap not (width-fits (eqb-true (kindIn r) 1 e))
         go false e = refl
 
-    none-refused : (m : ℕ) → n < m → NoneHolds (refusals L G m ids (digits (suc n)) (kindIn r) printed)
-    none-refused m h = (
+    none-refused : (m : ℕ) (ns : List (List ℕ)) → n < m → NoneHolds (refusals L G m ids ns (digits (suc n)) (kindIn r) printed)
+    none-refused m ns h = (
       ap not next-id,
       (
         ap not (lt-ltb (length ids) m (omega (arith, length-from 1 n))),
         (
           ne-eqb (kindIn r) 0 (λ e. omega (arith, least)),
-          (operands-fit, (numbers-fit, (right-class, (no-misfit, (other-fault 10 (λ e. omega arith), (all-left, tt)))))),
+          (operands-fit, (numbers-fit, (right-class, (no-misfit, (other-fault 10 (λ e. omega arith), (no-name, (all-left, tt))))))),
         ),
       ),
     )
       where
-        right-class : wrongClass L G m ids (digits (suc n)) (kindIn r) printed ≡ false
+        right-class : wrongClass L G m ids ns (digits (suc n)) (kindIn r) printed ≡ false
         right-class =
             ap (λ (s : List Bool). eqb (fault false L G (recordIn L ids (kindIn r) printed)) 8 || not (all (minusesFit L s (recordIn L ids (kindIn r) printed)))) no-signs
             ∙ (or-false (eqb (fault false L G (recordIn L ids (kindIn r) printed)) 8) ∙ other-fault 8 (λ e. omega arith))
 
-        all-left : noRecordsLeft L G m ids (digits (suc n)) (kindIn r) printed ≡ false
+        no-name : nameUsed L G m ids ns (digits (suc n)) (kindIn r) printed ≡ false
+        no-name = ap (λ (x : List (List ℕ)). used (only x) ns) none-left
+
+        all-left : noRecordsLeft L G m ids ns (digits (suc n)) (kindIn r) printed ≡ false
         all-left = ap (λ (s : List Bool). not (ltb (length ids + minuses s) m)) no-signs ∙ ap not (lt-ltb (length ids + 0) m (omega (arith, length-from 1 n)))
 
-        no-misfit : misfit L G m ids (digits (suc n)) (kindIn r) printed ≡ false
+        no-misfit : misfit L G m ids ns (digits (suc n)) (kindIn r) printed ≡ false
         no-misfit = rw (other-fault 9 (λ e. omega arith), ne-eqb (kindIn r) 56 (λ e. omega (arith, most))) refl
 
-    pub line-read : (m : ℕ) → n < m → readLine L G m ids (tokensOf (suc n) r) ≡ got r noSigns
+    pub line-read : (m : ℕ) (ns : List (List ℕ)) → n < m → readLine L G m ids ns (tokensOf (suc n) r) ≡ got r noSigns
     unfolding readLine
-    line-read m h =
-        ap (λ (w : Word). lowest (refusals L G m ids (digits (suc n)) (formOf w) (behind w)) (replyIn L ids (formOf w) (behind w))) (kind-word (kindIn r) least most printed)
-        ∙ (none-holds (refusals L G m ids (digits (suc n)) (kindIn r) printed) (replyIn L ids (kindIn r) printed) (none-refused m h) ∙ ap₂ got record-same no-signs)
+    line-read m ns h =
+        ap (λ (w : Word). lowest (refusals L G m ids ns (digits (suc n)) (formOf w) (behind w)) (replyIn L ids (formOf w) (behind w))) (kind-word (kindIn r) least most printed)
+        ∙ (none-holds (refusals L G m ids ns (digits (suc n)) (kindIn r) printed) (replyIn L ids (kindIn r) printed) (none-refused m ns h) ∙ ap₂ got record-same no-signs)
+
+    -- a printed line has no name
+    pub no-name-read : lineName (tokensOf (suc n) r) ≡ []
+    no-name-read = ap nameBehind (kind-word (kindIn r) least most printed) ∙ ap only none-left
 
 -- ---- the lines, the text
 
-lines-read : (m l n : ℕ) (c : Ctx) (es rs : List (List ℕ)) → Counted c n → n + length rs ≤ m → m ≤ 16384 → Good rs → lawful false c rs ≡ true
-    → readLines m l c es (from 1 n) (split 10 (writeFrom (suc n) rs)) ≡ done (es ++ rs) (from 1 (n + length rs))
+lines-read : (m l n : ℕ) (c : Ctx) (es ns rs : List (List ℕ)) → Counted c n → n + length rs ≤ m → m ≤ 16384 → Good rs → lawful false c rs ≡ true
+    → readLines m l (sofar c es (from 1 n) ns) (split 10 (writeFrom (suc n) rs)) ≡ done (es ++ rs) (from 1 (n + length rs))
 unfolding writeFrom
-lines-read m l n c es [] q h b g w = let z : n ≡ n + 0 = omega arith in lines-end m l c es (from 1 n) ∙ ap₂ (λ (x : List (List ℕ)) (k : ℕ). done x (from 1 k)) (sym (append-nil es)) z
-lines-read m l n c es (r ∷ rs) q h b g w =
+lines-read m l n c es ns [] q h b g w =
+    let z : n ≡ n + 0 = omega arith in
+    lines-end m l (sofar c es (from 1 n) ns) ∙ ap₂ (λ (x : List (List ℕ)) (k : ℕ). done x (from 1 k)) (sym (append-nil es)) z
+lines-read m l n c es ns (r ∷ rs) q h b g w =
     let k = both (keeps false (tyAt c) (given c) r) _ w in
     let ts = line-toks (tyAt c) (given c) r (g .0 .0) (g .0 .1) (k .0) (suc n) in
+    let o = numbered-lines c n q in
     let j : lineTokens (join (tokensOf (suc n) r)) ≡ tokensOf (suc n) r = tokens-join (digits (suc n)) _ (ts .0) (ts .1) in
     let id : lineId (lineTokens (join (tokensOf (suc n) r))) ≡ suc n = ap lineId j ∙ ap valueOf (decimal-digits (suc n) (omega arith)) in
+    let name : lineName (lineTokens (join (tokensOf (suc n) r))) ≡ [] = ap lineName j ∙ no-name-read (tyAt c) (given c) r (g .0 .0) (g .0 .1) (k .0) n o (omega arith) in
     let more : from 1 n ++ (suc n ∷ []) ≡ from 1 (suc n) = (let z : n + 1 ≡ suc n = omega arith in let y : suc n ≡ 1 + n = omega arith in ap (λ (x : ℕ). from 1 n ++ (x ∷ [])) y ∙ (sym (from-append 1 n 1) ∙ ap (from 1) z)) in
     let all : suc n + length rs ≡ n + suc (length rs) = omega arith in
-    ap (readLines m l c es (from 1 n)) (lines-join (tokensOf (suc n) r) (writeFrom (suc (suc n)) rs) ts)
-    ∙ (step-got m l c es (from 1 n) (join (tokensOf (suc n) r)) (split 10 (writeFrom (suc (suc n)) rs)) r noSigns
-    (rw j (line-read (tyAt c) (given c) r (g .0 .0) (g .0 .1) (k .0) n (numbered-lines c n q) (omega arith) m (omega arith)))
-    ∙ (ap (λ (ds : List ℕ). readLines m (suc l) (grow false c (lineOf r)) (es ++ (r ∷ [])) ds (split 10 (writeFrom (suc (suc n)) rs))) (ap (λ (d : ℕ). from 1 n ++ (d ∷ [])) id ∙ more)
-    ∙ (lines-read m (suc l) (suc n) (grow false c (lineOf r)) (es ++ (r ∷ [])) rs (counted-more c n (lineOf r) q) (omega arith) b (g .1) (k .1)
+    let later = split 10 (writeFrom (suc (suc n)) rs) in
+    ap (readLines m l (sofar c es (from 1 n) ns)) (lines-join (tokensOf (suc n) r) (writeFrom (suc (suc n)) rs) ts)
+    ∙ (step-got m l (sofar c es (from 1 n) ns) (join (tokensOf (suc n) r)) later r noSigns
+    (rw j (line-read (tyAt c) (given c) r (g .0 .0) (g .0 .1) (k .0) n o (omega arith) m ns (omega arith)))
+    ∙ (ap₂ (λ (ds : List ℕ) (x : List (List ℕ)). readLines m (suc l) (sofar (grow false c (lineOf r)) (es ++ (r ∷ [])) ds x) later) (ap (λ (d : ℕ). from 1 n ++ (d ∷ [])) id ∙ more)
+    (ap (λ (x : List ℕ). withName x ns) name)
+    ∙ (lines-read m (suc l) (suc n) (grow false c (lineOf r)) (es ++ (r ∷ [])) ns rs (counted-more c n (lineOf r) q) (omega arith) b (g .1) (k .1)
     ∙ ap₂ (λ (x : List (List ℕ)) (i : ℕ). done x (from 1 i)) (append-assoc es (r ∷ []) rs) all)))
 
 -- what is known of an accepted table
@@ -327,7 +341,7 @@ round-trip t n len a b d l =
     let rs : List (List ℕ) = recordsOf false t n in
     let all : 0 + length rs ≡ n = omega (arith, length-records false t n) in
     text-lines len (writeFrom 1 rs) d b
-    ∙ (lines-read (room false len) 1 0 noCtx [] rs counted-none (omega (arith, length-records false t n)) (omega arith) (good-lawful t n (roomy false (length t) n (k .fits) .0) (k .law)) (k .law)
+    ∙ (lines-read (room false len) 1 0 noCtx [] [] rs counted-none (omega (arith, length-records false t n)) (omega arith) (good-lawful t n (roomy false (length t) n (k .fits) .0) (k .law)) (k .law)
     ∙ ap (λ (i : ℕ). done rs (from 1 i)) all)
 
 -- what writing leaves, reading takes

@@ -20,10 +20,10 @@ use Rattle.tables.proofs.Marks.{searched-types}
 use Rattle.tables.proofs.SameChecks.{context-more, ok-more}
 use Rattle.tables.proofs.OwnSorts.{OwnSorts, sorts-none, sorts-all}
 use Rattle.texts.specs.Split.{split}
-use Rattle.texts.specs.Minus.{lineRecords, lineIds}
-use Rattle.texts.specs.Reading.{Reply, skip, no, got, lineId, lineTokens, readLine, readLinesBy, readLines, readTextBy, readText, outcomeOf, reads}
+use Rattle.texts.specs.Minus.{lineRecords}
+use Rattle.texts.specs.Reading.{Reply, skip, no, got, lineTokens, readLine, Sofar, noLines, withLine, replyBy, readLinesBy, replyAfter, readLines, readTextBy, readText, outcomeOf, reads}
 use Rattle.texts.specs.Search.{searchedTypes, readTextBySearch, readsBySearch}
-use Rattle.texts.proofs.Kept.{got-gives}
+use Rattle.texts.proofs.Kept.{gives-after}
 use Rattle.texts.proofs.Nots.{line-kept}
 
 -- the records so far are those of accepted lines, and c is their context
@@ -52,27 +52,25 @@ line-more c rs (r ∷ ls) S k =
     let h = both (keeps false (tyAt c) (given c) r) _ k in
     subst (Taken (growAll false (grow false c (lineOf r)) (map lineOf ls))) (append-assoc rs (r ∷ []) ls) (line-more (grow false c (lineOf r)) (rs ++ (r ∷ [])) ls (one-more r S (h .0)) (h .1))
 
-same-lines : (m l : ℕ) (c : Ctx) (rs : List (List ℕ)) (ds : List ℕ) (xs : List (List ℕ)) → Taken c rs → OwnSorts c rs → readLinesBy searchedTypes m l c rs ds xs ≡ readLines m l c rs ds xs
+same-lines : (m l : ℕ) (b : Sofar) (xs : List (List ℕ)) → Taken (b .ctx) (b .records) → OwnSorts (b .ctx) (b .records) → readLinesBy searchedTypes m l b xs ≡ readLines m l b xs
 unfolding readLinesBy
-same-lines m l c rs ds [] S O = refl
-same-lines m l c rs ds (x ∷ xs) S O =
-    go (readLine (tyAt c) (given c) m ds (lineTokens x)) refl (same-lines m (suc l) c rs ds xs S O)
-    (λ r s. same-lines m (suc l) (growAll false c (map lineOf (lineRecords s rs r))) (rs ++ lineRecords s rs r) (ds ++ lineIds s (lineId (lineTokens x))) xs)
+same-lines m l b [] S O = refl
+same-lines m l b (x ∷ xs) S O = go (replyAfter m b (lineTokens x)) refl (same-lines m (suc l) b xs S O) (λ r s. same-lines m (suc l) (withLine b (lineTokens x) r s) xs)
   where
-    same : readLine (searchedTypes rs c) (given c) m ds (lineTokens x) ≡ readLine (tyAt c) (given c) m ds (lineTokens x)
-    same = ap (λ (L : ℕ → Ty). readLine L (given c) m ds (lineTokens x)) (same-types S)
+    same : replyBy searchedTypes m b (lineTokens x) ≡ replyAfter m b (lineTokens x)
+    same = ap (λ (L : ℕ → Ty). readLine L (given (b .ctx)) m (b .ids) (b .names) (lineTokens x)) (same-types S)
 
-    go : (y : Reply) → readLine (tyAt c) (given c) m ds (lineTokens x) ≡ y → readLinesBy searchedTypes m (suc l) c rs ds xs ≡ readLines m (suc l) c rs ds xs
-        → ((r : List ℕ) (s : List Bool) → Taken (growAll false c (map lineOf (lineRecords s rs r))) (rs ++ lineRecords s rs r)
-        → OwnSorts (growAll false c (map lineOf (lineRecords s rs r))) (rs ++ lineRecords s rs r)
-        → readLinesBy searchedTypes m (suc l) (growAll false c (map lineOf (lineRecords s rs r))) (rs ++ lineRecords s rs r) (ds ++ lineIds s (lineId (lineTokens x))) xs
-        ≡ readLines m (suc l) (growAll false c (map lineOf (lineRecords s rs r))) (rs ++ lineRecords s rs r) (ds ++ lineIds s (lineId (lineTokens x))) xs)
-        → readLinesBy searchedTypes m l c rs ds (x ∷ xs) ≡ readLines m l c rs ds (x ∷ xs)
+    go : (y : Reply) → replyAfter m b (lineTokens x) ≡ y → readLinesBy searchedTypes m (suc l) b xs ≡ readLines m (suc l) b xs
+        → ((r : List ℕ) (s : List Bool) → Taken (withLine b (lineTokens x) r s .ctx) (withLine b (lineTokens x) r s .records)
+        → OwnSorts (withLine b (lineTokens x) r s .ctx) (withLine b (lineTokens x) r s .records)
+        → readLinesBy searchedTypes m (suc l) (withLine b (lineTokens x) r s) xs ≡ readLines m (suc l) (withLine b (lineTokens x) r s) xs)
+        → readLinesBy searchedTypes m l b (x ∷ xs) ≡ readLines m l b (x ∷ xs)
     go skip h f g = rw (same ∙ h, h, readLinesBy) f
     go (no r) h f g = rw (same ∙ h, h, readLinesBy) refl
     go (got r s) h f g =
-        let k = line-kept O (got-gives (tyAt c) (given c) m ds (lineTokens x) r s h) in
-        rw (same ∙ h, h, readLinesBy) (g r s (line-more c rs (lineRecords s rs r) S (k .0)) (sorts-all c rs (lineRecords s rs r) O (k .1) (k .0)))
+        let ls = lineRecords s (b .records) r in
+        let k = line-kept b O (gives-after m b (lineTokens x) r s h) in
+        rw (same ∙ h, h, readLinesBy) (g r s (line-more (b .ctx) (b .records) ls S (k .0)) (sorts-all (b .ctx) (b .records) ls O (k .1) (k .0)))
 
 at-first : Taken noCtx []
 unfolding context
@@ -85,7 +83,7 @@ same-reading len s = go (whole false len) (leb (length s) 65536) refl refl
     go : (x y : Bool) → whole false len ≡ x → leb (length s) 65536 ≡ y → readTextBySearch len s ≡ readText len s
     go false y h k = rw (h, readTextBy) refl
     go true false h k = rw (h, k, readTextBy) refl
-    go true true h k = rw (h, k, readTextBy) (same-lines (room false len) 1 noCtx [] [] (split 10 s) at-first sorts-none)
+    go true true h k = rw (h, k, readTextBy) (same-lines (room false len) 1 noLines (split 10 s) at-first sorts-none)
 
 pub same-outcome : (len : ℕ) (s : List ℕ) → readsBySearch len s ≡ reads len s
 unfolding reads

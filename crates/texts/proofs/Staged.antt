@@ -1,5 +1,5 @@
 -- Reading a line stage by stage gives the first refusal of the list that holds, else the record. Assumes nothing.
-use Prim.Native.Nat.{ℕ, zero, suc}
+use Prim.Native.Nat.{ℕ, zero, suc, _+_}
 use mathlib.Core.Path.{_≡_, refl, sym, ap, _∙_}
 use mathlib.Core.Bool.{Bool, true, false, _&&_, _||_, not}
 use mathlib.Core.List.{List, [], _∷_}
@@ -9,24 +9,28 @@ use lib.ListN.{length, take, drop, set}
 use borrow.Author.Tests.{eqb-true, eqb-false, eq-eqb, ne-eqb, le-leb, lt-ltb, le-ltb, ltb-true, ltb-false}
 use Rattle.tables.specs.declared.Ty.{Ty}
 use Rattle.tables.specs.declared.Refusal.{Refusal}
-use Rattle.tables.specs.declared.Refusal.the-variants.{UnknownWord, BadOperand, NumberTooLarge, WrongClass, Misfit, InitOrNext}
+use Rattle.tables.specs.declared.Refusal.the-variants.{UnknownWord, BadOperand, NumberTooLarge, WrongClass, Misfit, InitOrNext, NameUsed, NoRecordLeft}
 use Rattle.tables.specs.Pick.{inside, all}
 use Rattle.tables.specs.Kinds.{rowOf}
 use Rattle.tables.specs.Lines.{lineOf, kindIn, sortIn, firstIn, secondIn, thirdIn}
 use Rattle.tables.specs.Types.{sortAt}
 use Rattle.tables.specs.Rules.{classes, fits, onceRules, answer, fault}
+use Rattle.texts.specs.declared.Taken.{Taken}
 use Rattle.texts.specs.declared.Num.{Num}
 use Rattle.texts.specs.declared.Num.the-variants.{Bad, Big, Is}
 use Rattle.texts.specs.Forms.{formRow, kindOf, firstOf, numbersOf}
+use Rattle.texts.specs.Split.{tokens}
 use Rattle.texts.specs.Decimal.{decimal}
 use Rattle.texts.specs.Operands.{resolved}
-use Rattle.texts.specs.Minus.{noSigns, minusesFit}
-use Rattle.texts.specs.Reading.{Word, word, unknown, wordIn, formOf, behind, numberAt, numbersFrom, anyBad, anyBig, placed, lastOf, numberTokens, extraTokens, numbersIn, signAt, signsFrom, signsIn, fresh, writtenRecord, settled, recordIn, isNext, got, lowest, replyIn, readLine}
-use Rattle.texts.specs.Model.Stages.{Took, operands, takenIn, judged, allowed, concluded, large, ended, worded, fitted, stagedLine}
-use Rattle.texts.specs.Model.Structs.{tookAt, several}
+use Rattle.texts.specs.Names.{used}
+use Rattle.texts.specs.Minus.{noSigns, minusesFit, minuses}
+use Rattle.texts.specs.Reading.{Word, word, unknown, wordIn, formOf, behind, numberAt, numbersFrom, anyBad, anyBig, placed, lastOf, numberTokens, extraTokens, numbersIn, signAt, signsFrom, signsIn, fresh, writtenRecord, settled, recordIn, nameIn, lineName, isNext, Reply, got, lowest, replyIn, readLine}
+use Rattle.texts.specs.Model.Stages.{Took, took, operands, takenIn, judged, allowed, concluded, large, ended, worded, stopped, named, fitted, judgedLine, stagedLine}
+use Rattle.texts.specs.Model.Structs.{tookAt, asTook, several}
 use Rattle.texts.proofs.Words.{InForms, word-forms}
 use Rattle.texts.proofs.Steps.{ruled-got, ruled-9, ruled-10, minus-8, minus-fits, large-big, large-wide, large-fits, large-other, ended-bad, ended-many, ended-few}
-use Rattle.texts.proofs.Lowest.{holds, passes, fitted-last}
+use Rattle.texts.proofs.LineNames.{name-behind}
+use Rattle.texts.proofs.Lowest.{holds, passes, stopped-last}
 
 -- ---- numbers taken one after the other, and all at once
 
@@ -81,6 +85,16 @@ taken-at f (suc m) j rec s big len (t ∷ ts) =
     go Bad e a b = rw (e, operands) (rw (or-true (ltb (length (t ∷ ts)) (suc m))) refl)
     go Big e a b = rw (e, operands) (a true ∙ rw (fewer m t ts, or-true big) refl)
     go (Is v) e a b = rw (e, operands) (b v ∙ rw (fewer m t ts) refl)
+
+-- where no number is missing, the extra tokens are left
+pub taken-rest : (f : ℕ) (ts : List (List ℕ)) (l : List ℕ) (t : Taken) → takenIn f ts ≡ asTook l t → t .ok ≡ true → extraTokens f ts ≡ tokens (drop (t .at) l)
+taken-rest f ts l t e k =
+    go (not (ltb (length ts) (numbersOf (formRow f)) || anyBad (numbersIn f ts))) _ _ _ _ _ (sym (taken-at f (numbersOf (formRow f)) (firstOf (formRow f)) (fresh (kindOf f)) noSigns false 0 ts) ∙ (e ∙ ap (λ (b : Bool). tookAt b (t .rec) (t .minus) (t .big) (t .len) (tokens (drop (t .at) l))) k))
+  where
+    go : (b : Bool) (rec : List ℕ) (s : List Bool) (big : Bool) (len : ℕ) (us : List (List ℕ)) {rec′ : List ℕ} {s′ : List Bool} {big′ : Bool} {len′ : ℕ} {us′ : List (List ℕ)}
+        → tookAt b rec s big len us ≡ took rec′ s′ big′ len′ us′ → us ≡ us′
+    go true rec s big len us h = cc
+    go false rec s big len us h = let z : _≡_ {A = ℕ} 0 1 = cc in absurd (omega arith)
 
 -- ---- 8, 9 and 10
 
@@ -217,16 +231,19 @@ module _ (L : ℕ → Ty) (G : Bool → ℕ → Bool) where
     worded-first unknown h = sym (holds _ _ _ _ refl)
     worded-first (word f ts) h = ended-first f ts ∙ sym (passes _ _ _ _ (ne-eqb f 0 (λ e. omega (arith, h .0))))
 
-    -- ---- 3 and 4, and 4 again: all of a line
+    -- ---- 3 and 4, and behind all others 22 and 4 again: all of a line
 
-    pub staged : (m : ℕ) (ts : List (List ℕ)) → stagedLine L G ds m ts ≡ readLine L G m ds ts
-    unfolding stagedLine readLine
-    staged m [] = refl
-    staged m (t ∷ ts) = go (isNext (decimal t) (lastOf 0 ds)) (ltb (length ds) m) refl refl
+    pub staged : (m : ℕ) (ns ts : List (List ℕ)) → stagedLine L G ds m ns ts ≡ readLine L G m ds ns ts
+    unfolding judgedLine readLine stopped
+    staged m ns [] = refl
+    staged m ns (t ∷ ts) = go (isNext (decimal t) (lastOf 0 ds)) (ltb (length ds) m) refl refl
       where
-        go : (p q : Bool) → isNext (decimal t) (lastOf 0 ds) ≡ p → ltb (length ds) m ≡ q → stagedLine L G ds m (t ∷ ts) ≡ readLine L G m ds (t ∷ ts)
-        go false q ep eq = rw (ep, stagedLine) (sym (holds _ _ _ _ refl))
-        go true false ep eq = rw (ep, eq, stagedLine) (sym (passes _ _ _ _ refl ∙ holds _ _ _ _ refl))
+        go : (p q : Bool) → isNext (decimal t) (lastOf 0 ds) ≡ p → ltb (length ds) m ≡ q → stagedLine L G ds m ns (t ∷ ts) ≡ readLine L G m ds ns (t ∷ ts)
+        go false q ep eq = rw (ep, judgedLine) (sym (holds _ _ _ _ refl))
+        go true false ep eq = rw (ep, eq, judgedLine) (sym (passes _ _ _ _ refl ∙ holds _ _ _ _ refl))
         go true true ep eq =
-            rw (ep, eq, stagedLine)
-            (ap (fitted (length ds) m) (worded-first (wordIn ts) (word-forms ts)) ∙ (fitted-last (length ds) m _ _ _ ∙ sym (passes _ _ _ _ refl ∙ passes _ _ _ _ refl)))
+            rw (ep, eq, judgedLine)
+            (ap (λ (name : List ℕ). fitted (length ds) m (named name ns (worded L G ds (wordIn ts)))) (name-behind (wordIn ts))
+            ∙ (ap (λ (y : Reply). fitted (length ds) m (named (nameIn (formOf (wordIn ts)) (behind (wordIn ts))) ns y)) (worded-first (wordIn ts) (word-forms ts))
+            ∙ (ap (fitted (length ds) m) (stopped-last NameUsed (λ s. used (nameIn (formOf (wordIn ts)) (behind (wordIn ts))) ns) _ _ _)
+            ∙ (stopped-last NoRecordLeft (λ s. not (ltb (length ds + minuses s) m)) _ _ _ ∙ sym (passes _ _ _ _ refl ∙ passes _ _ _ _ refl)))))

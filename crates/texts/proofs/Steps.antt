@@ -26,7 +26,7 @@ use Rattle.texts.specs.Decimal.{decimal}
 use Rattle.texts.specs.Operands.{resolved}
 use Rattle.texts.specs.Minus.{noSigns, minusAt, minusFits, minusesBy, minusesFit}
 use Rattle.texts.specs.Reading.{wordIn, signAt, numberAt, fresh, settled, no, got, skip, isNext, valueOf, lastOf}
-use Rattle.texts.specs.Model.Stages.{Took, took, malformed, operands, takenIn, ruled, judged, allowed, concluded, large, ended, worded, fitted, stagedLine}
+use Rattle.texts.specs.Model.Stages.{Took, took, malformed, operands, takenIn, ruled, judged, allowed, concluded, large, ended, worded, judgedLine}
 use Rattle.texts.specs.declared.Readout.{Readout}
 use Rattle.texts.specs.declared.Taken.{Taken}
 use Rattle.texts.specs.declared.Form.{Form}
@@ -188,9 +188,9 @@ module _ (L : ℕ → Ty) (G : Bool → ℕ → Bool) (f : ℕ) (rec : List ℕ)
   pub by-own-row : {row : List ℕ} {b : Bool} → row ≡ rowOf (kindIn rec) → b ≡ all (minusesBy row L s rec) → b ≡ all (minusesFit L s rec)
   by-own-row e h = h ∙ ap (λ (r : List ℕ). all (minusesBy r L s rec)) e
 
-  pub is-concluded : {t : List ℕ} {w : ℕ} {x : Readout} → x ≡ asRead 0 (allowed L G f len t s) → t ≡ settled w f rec → w ≡ L (sortIn rec) .w → x ≡ asRead 0 (concluded L G f len rec s)
+  pub is-concluded : {t : List ℕ} {w : ℕ} {x : Readout} → x ≡ asRead (allowed L G f len t s) → t ≡ settled w f rec → w ≡ L (sortIn rec) .w → x ≡ asRead (concluded L G f len rec s)
   unfolding concluded
-  is-concluded a b c = a ∙ ap (λ (r : List ℕ). asRead 0 (allowed L G f len r s)) (b ∙ ap (λ (v : ℕ). settled v f rec) c)
+  is-concluded a b c = a ∙ ap (λ (r : List ℕ). asRead (allowed L G f len r s)) (b ∙ ap (λ (v : ℕ). settled v f rec) c)
 
   module _ (ds : List ℕ) where
     pub large-big : (b : Bool) → b ≡ true → large L G ds f rec s b len ≡ no NumberTooLarge
@@ -231,27 +231,25 @@ module _ (L : ℕ → Ty) (G : Bool → ℕ → Bool) (f : ℕ) (rec : List ℕ)
 
 -- the stage that a Taken stands for
 module _ (L : ℕ → Ty) (G : Bool → ℕ → Bool) (ds : List ℕ) (f : ℕ) (l : List ℕ) (t : Taken) {x : Readout} where
-  pub taken-bad : x ≡ asRead 0 (no BadOperand) → t .ok ≡ false → x ≡ asRead 0 (ended L G ds f (asTook l t))
-  taken-bad e h = e ∙ ap (asRead 0) (sym (ended-bad L G f (t .rec) (t .minus) (t .len) ds (t .big) (t .ok) (tokens (drop (t .at) l)) h))
+  pub taken-bad : x ≡ asRead (no BadOperand) → t .ok ≡ false → x ≡ asRead (ended L G ds f (asTook l t))
+  taken-bad e h = e ∙ ap asRead (sym (ended-bad L G f (t .rec) (t .minus) (t .len) ds (t .big) (t .ok) (tokens (drop (t .at) l)) h))
 
-  pub taken-many : x ≡ asRead 0 (no BadOperand) → t .ok ≡ true → several (tokens (drop (t .at) l)) ≡ true → x ≡ asRead 0 (ended L G ds f (asTook l t))
-  taken-many e h k = e ∙ ap (asRead 0) (sym (ended-many L G f (t .rec) (t .minus) (t .len) ds (t .big) (t .ok) (tokens (drop (t .at) l)) h k))
+  pub taken-many : x ≡ asRead (no BadOperand) → t .ok ≡ true → several (tokens (drop (t .at) l)) ≡ true → x ≡ asRead (ended L G ds f (asTook l t))
+  taken-many e h k = e ∙ ap asRead (sym (ended-many L G f (t .rec) (t .minus) (t .len) ds (t .big) (t .ok) (tokens (drop (t .at) l)) h k))
 
-  pub taken-few : x ≡ asRead 0 (large L G ds f (t .rec) (t .minus) (t .big) (t .len)) → t .ok ≡ true → several (tokens (drop (t .at) l)) ≡ false → x ≡ asRead 0 (ended L G ds f (asTook l t))
-  taken-few e h k = e ∙ ap (asRead 0) (sym (ended-few L G f (t .rec) (t .minus) (t .len) ds (t .big) (t .ok) (tokens (drop (t .at) l)) h k))
+  pub taken-few : x ≡ asRead (large L G ds f (t .rec) (t .minus) (t .big) (t .len)) → t .ok ≡ true → several (tokens (drop (t .at) l)) ≡ false → x ≡ asRead (ended L G ds f (asTook l t))
+  taken-few e h k = e ∙ ap asRead (sym (ended-few L G f (t .rec) (t .minus) (t .len) ds (t .big) (t .ok) (tokens (drop (t .at) l)) h k))
 
-  -- the numbers were taken from a line of the form f, whose row is row
-  pub taken-from : (row start : List ℕ) (k s i : ℕ) → x ≡ asRead 0 (ended L G ds f (asTook l t)) → operands f (s + operandCount row) (2 - s) start noSigns false 0 (tokens (drop i l)) ≡ asTook l t
-      → start ≡ fresh k → s ≡ sorted row → row ≡ formRow f → k ≡ kindOf f → x ≡ asRead 0 (ended L G ds f (takenIn f (tokens (drop i l))))
-  taken-from row start k s i e o eb es er ek =
-      let ts : List (List ℕ) = tokens (drop i l) in
-      e
-      ∙ ap (λ (u : Took). asRead 0 (ended L G ds f u))
-      (sym o
-      ∙ (ap (λ (r : List ℕ). operands f (s + operandCount row) (2 - s) r noSigns false 0 ts) eb
-      ∙ (ap (λ (m : ℕ). operands f (m + operandCount row) (2 - m) (fresh k) noSigns false 0 ts) es
-      ∙ (ap (λ (r : List ℕ). operands f (sorted r + operandCount r) (2 - sorted r) (fresh k) noSigns false 0 ts) er
-      ∙ ap (λ (m : ℕ). operands f (numbersOf (formRow f)) (firstOf (formRow f)) (fresh m) noSigns false 0 ts) ek))))
+-- the numbers of a line of the form f, whose row is row
+pub taken-from : (f : ℕ) (row start : List ℕ) (k s : ℕ) (ts : List (List ℕ)) {x : Took} → operands f (s + operandCount row) (2 - s) start noSigns false 0 ts ≡ x
+    → start ≡ fresh k → s ≡ sorted row → row ≡ formRow f → k ≡ kindOf f → takenIn f ts ≡ x
+taken-from f row start k s ts o eb es er ek =
+    sym
+    (ap (λ (r : List ℕ). operands f (s + operandCount row) (2 - s) r noSigns false 0 ts) eb
+    ∙ (ap (λ (m : ℕ). operands f (m + operandCount row) (2 - m) (fresh k) noSigns false 0 ts) es
+    ∙ (ap (λ (r : List ℕ). operands f (sorted r + operandCount r) (2 - sorted r) (fresh k) noSigns false 0 ts) er
+    ∙ ap (λ (m : ℕ). operands f (numbersOf (formRow f)) (firstOf (formRow f)) (fresh m) noSigns false 0 ts) ek)))
+    ∙ o
 
 -- ---- the id
 
@@ -265,28 +263,28 @@ module _ (n : Num) (last : ℕ) where
 -- ---- lines
 
 module _ (L : ℕ → Ty) (G : Bool → ℕ → Bool) (ds : List ℕ) (m : ℕ) where
-  pub line-skip : stagedLine L G ds m [] ≡ skip
-  unfolding stagedLine
+  line-skip : judgedLine L G ds m [] ≡ skip
+  unfolding judgedLine
   line-skip = refl
 
   module _ (t : List ℕ) (ts : List (List ℕ)) where
-    pub line-3 : isNext (decimal t) (lastOf 0 ds) ≡ false → stagedLine L G ds m (t ∷ ts) ≡ no WrongId
-    unfolding stagedLine
-    line-3 h = rw (h, stagedLine) refl
+    line-3 : isNext (decimal t) (lastOf 0 ds) ≡ false → judgedLine L G ds m (t ∷ ts) ≡ no WrongId
+    unfolding judgedLine
+    line-3 h = rw (h, judgedLine) refl
 
-    pub line-4 : isNext (decimal t) (lastOf 0 ds) ≡ true → m ≤ length ds → stagedLine L G ds m (t ∷ ts) ≡ no NoRecordLeft
-    unfolding stagedLine
-    line-4 h k = rw (h, le-ltb (length ds) m k, stagedLine) refl
+    line-4 : isNext (decimal t) (lastOf 0 ds) ≡ true → m ≤ length ds → judgedLine L G ds m (t ∷ ts) ≡ no NoRecordLeft
+    unfolding judgedLine
+    line-4 h k = rw (h, le-ltb (length ds) m k, judgedLine) refl
 
-    pub line-word : isNext (decimal t) (lastOf 0 ds) ≡ true → length ds < m → stagedLine L G ds m (t ∷ ts) ≡ fitted (length ds) m (worded L G ds (wordIn ts))
-    unfolding stagedLine
-    line-word h k = rw (h, lt-ltb (length ds) m k, stagedLine) refl
+    line-word : isNext (decimal t) (lastOf 0 ds) ≡ true → length ds < m → judgedLine L G ds m (t ∷ ts) ≡ worded L G ds (wordIn ts)
+    unfolding judgedLine
+    line-word h k = rw (h, lt-ltb (length ds) m k, judgedLine) refl
 
 module _ (L : ℕ → Ty) (G : Bool → ℕ → Bool) (ds : List ℕ) (l : List ℕ) (f z : ℕ) where
-  pub word-no : f ≡ 0 → worded L G ds (wordWith l f z) ≡ no UnknownWord
+  word-no : f ≡ 0 → worded L G ds (wordWith l f z) ≡ no UnknownWord
   word-no h = rw h refl
 
-  pub word-form : (f ≡ 0 → ⊥) → worded L G ds (wordWith l f z) ≡ ended L G ds f (takenIn f (tokens (drop z l)))
+  word-form : (f ≡ 0 → ⊥) → worded L G ds (wordWith l f z) ≡ ended L G ds f (takenIn f (tokens (drop z l)))
   word-form h = go f h
     where
       go : (f : ℕ) → (f ≡ 0 → ⊥) → worded L G ds (wordWith l f z) ≡ ended L G ds f (takenIn f (tokens (drop z l)))
@@ -294,28 +292,24 @@ module _ (L : ℕ → Ty) (G : Bool → ℕ → Bool) (ds : List ℕ) (l : List 
       go (suc f) h = refl
 
 -- a line whose tokens are known
-module _ (L : ℕ → Ty) (G : Bool → ℕ → Bool) (ds : List ℕ) (m : ℕ) (l : List ℕ) (d : ℕ) {x : Readout} where
-  pub read-skip : tokens l ≡ [] → x ≡ asRead d skip → x ≡ asRead d (stagedLine L G ds m (tokens l))
-  read-skip e h = h ∙ ap (asRead d) (sym (ap (stagedLine L G ds m) e ∙ line-skip L G ds m))
+module _ (L : ℕ → Ty) (G : Bool → ℕ → Bool) (ds : List ℕ) (m : ℕ) (l : List ℕ) {x : Readout} where
+  pub read-skip : tokens l ≡ [] → x ≡ asRead skip → x ≡ asRead (judgedLine L G ds m (tokens l))
+  read-skip e h = h ∙ ap asRead (sym (ap (judgedLine L G ds m) e ∙ line-skip L G ds m))
 
   module _ (t : List ℕ) (z : ℕ) (e : tokens l ≡ t ∷ tokens (drop z l)) where
-    pub read-3 : isNext (decimal t) (lastOf 0 ds) ≡ false → x ≡ asRead d (no WrongId) → x ≡ asRead d (stagedLine L G ds m (tokens l))
-    read-3 a h = h ∙ ap (asRead d) (sym (ap (stagedLine L G ds m) e ∙ line-3 L G ds m t (tokens (drop z l)) a))
+    pub read-3 : isNext (decimal t) (lastOf 0 ds) ≡ false → x ≡ asRead (no WrongId) → x ≡ asRead (judgedLine L G ds m (tokens l))
+    read-3 a h = h ∙ ap asRead (sym (ap (judgedLine L G ds m) e ∙ line-3 L G ds m t (tokens (drop z l)) a))
 
-    pub read-4 : isNext (decimal t) (lastOf 0 ds) ≡ true → m ≤ length ds → x ≡ asRead d (no NoRecordLeft) → x ≡ asRead d (stagedLine L G ds m (tokens l))
-    read-4 a b h = h ∙ ap (asRead d) (sym (ap (stagedLine L G ds m) e ∙ line-4 L G ds m t (tokens (drop z l)) a b))
+    pub read-4 : isNext (decimal t) (lastOf 0 ds) ≡ true → m ≤ length ds → x ≡ asRead (no NoRecordLeft) → x ≡ asRead (judgedLine L G ds m (tokens l))
+    read-4 a b h = h ∙ ap asRead (sym (ap (judgedLine L G ds m) e ∙ line-4 L G ds m t (tokens (drop z l)) a b))
 
-    pub read-5 : isNext (decimal t) (lastOf 0 ds) ≡ true → length ds < m → (w : Form) → wordIn (tokens (drop z l)) ≡ asWord l w → w .form ≡ 0 → x ≡ asRead d (no UnknownWord)
-        → x ≡ asRead d (stagedLine L G ds m (tokens l))
-    unfolding fitted
+    pub read-5 : isNext (decimal t) (lastOf 0 ds) ≡ true → length ds < m → (w : Form) → wordIn (tokens (drop z l)) ≡ asWord l w → w .form ≡ 0 → x ≡ asRead (no UnknownWord)
+        → x ≡ asRead (judgedLine L G ds m (tokens l))
     read-5 a b w k q h =
-        h
-        ∙ ap (asRead d)
-        (sym (ap (stagedLine L G ds m) e ∙ (line-word L G ds m t (tokens (drop z l)) a b ∙ ap (fitted (length ds) m) (ap (worded L G ds) k ∙ word-no L G ds l (w .form) (w .at) q))))
+        h ∙ ap asRead (sym (ap (judgedLine L G ds m) e ∙ (line-word L G ds m t (tokens (drop z l)) a b ∙ (ap (worded L G ds) k ∙ word-no L G ds l (w .form) (w .at) q))))
 
-    pub read-on : isNext (decimal t) (lastOf 0 ds) ≡ true → length ds < m → (w : Form) → wordIn (tokens (drop z l)) ≡ asWord l w → (w .form ≡ 0 → ⊥)
-        → x ≡ asRead d (fitted (length ds) m (ended L G ds (w .form) (takenIn (w .form) (tokens (drop (w .at) l))))) → x ≡ asRead d (stagedLine L G ds m (tokens l))
-    read-on a b w k q h =
-        h
-        ∙ ap (asRead d)
-        (sym (ap (stagedLine L G ds m) e ∙ (line-word L G ds m t (tokens (drop z l)) a b ∙ ap (fitted (length ds) m) (ap (worded L G ds) k ∙ word-form L G ds l (w .form) (w .at) q))))
+-- and whose word is known
+pub judged-on : (L : ℕ → Ty) (G : Bool → ℕ → Bool) (ds : List ℕ) (m : ℕ) (l t : List ℕ) (z : ℕ) → tokens l ≡ t ∷ tokens (drop z l) → isNext (decimal t) (lastOf 0 ds) ≡ true → length ds < m
+    → (w : Form) → wordIn (tokens (drop z l)) ≡ asWord l w → (w .form ≡ 0 → ⊥) → ended L G ds (w .form) (takenIn (w .form) (tokens (drop (w .at) l))) ≡ judgedLine L G ds m (tokens l)
+judged-on L G ds m l t z e a b w k q =
+    sym (ap (judgedLine L G ds m) e ∙ (line-word L G ds m t (tokens (drop z l)) a b ∙ (ap (worded L G ds) k ∙ word-form L G ds l (w .form) (w .at) q)))

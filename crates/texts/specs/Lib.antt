@@ -3,6 +3,7 @@ pub mod Split
 pub mod Decimal
 pub mod Operands
 pub mod Minus
+pub mod Names
 pub mod Reading
 pub mod Search
 pub mod WrittenOut

@@ -4,12 +4,12 @@ use Prim.Native.Nat.{ℕ, _+_}
 use mathlib.Core.Bool.{Bool, true, false}
 use mathlib.Core.List.{List, [], _∷_}
 use lib.Dec.{eqb}
-use lib.ListN.{length, drop}
+use lib.ListN.{length}
 use Rattle.texts.specs.declared.Num.{Num}
 use Rattle.texts.specs.declared.Num.the-variants.{Bad, Big, Is}
 use Rattle.texts.specs.Split.{split, upTo}
 use Rattle.texts.specs.Decimal.{decimal}
-use Rattle.texts.specs.Reading.{Word, word, unknown, wordIn, extraTokens, lastOf, lineTokens}
+use Rattle.texts.specs.Reading.{lastOf, lineTokens, lineName}
 
 -- a line or a token, as a part of the text: its place, where it starts, counted from the text's first byte, and its bytes
 pub record Located : Type 0 where
@@ -42,21 +42,6 @@ abbrev pub lineWith : List ℕ → ℕ → Located
 lineWith s n = lineFrom n 0 (split 10 s)
 
 -- ---- its name
-
--- a token that stands alone
-abbrev pub only : List (List ℕ) → List ℕ
-only [] = []
-only (t ∷ []) = t
-only (t ∷ u ∷ r) = []
-
--- the extra token behind a word and its numbers
-abbrev pub extraIn : Word → List ℕ
-extraIn unknown = []
-extraIn (word f ts) = only (extraTokens f ts)
-
--- the name in a line's tokens, of which the first is the id
-abbrev pub lineName : List (List ℕ) → List ℕ
-lineName ts = extraIn (wordIn (drop 1 ts))
 
 unfoldable pub nameOf : List ℕ → ℕ → List ℕ
 nameOf s n = lineName (lineTokens (lineWith s n .content))

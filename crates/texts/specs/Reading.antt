@@ -1,5 +1,5 @@
--- Reading a text: its lines are parted at LF, cut at the first semicolon, and parted into tokens at spaces. Of a line the first of the refusals 3 to 10, and 4 again, that holds is
--- answered, of a text the first line's that has one. A line gives its own record and, before it, a not record for each minus operand. Assumes nothing.
+-- Reading a text: its lines are parted at LF, cut at the first semicolon, and parted into tokens at spaces. Of a line the first of the refusals 3 to 10, 22, and 4 again, that
+-- holds is answered, of a text the first line's that has one. A line gives its own record and, before it, a not record for each minus operand. Assumes nothing.
 use Prim.Native.Nat.{ℕ, zero, suc, _+_, _-_, _^_}
 use mathlib.Core.Bool.{Bool, true, false, _&&_, _||_, not}
 use mathlib.Core.List.{List, [], _∷_, _++_, map}
@@ -7,7 +7,7 @@ use lib.Dec.{eqb, leb, ltb}
 use lib.ListN.{length, take, drop, set, replicate}
 use Rattle.tables.specs.declared.Ty.{Ty}
 use Rattle.tables.specs.declared.Refusal.{Refusal}
-use Rattle.tables.specs.declared.Refusal.the-variants.{NotATable, TextTooLong, WrongId, NoRecordLeft, UnknownWord, BadOperand, NumberTooLarge, WrongClass, Misfit, InitOrNext}
+use Rattle.tables.specs.declared.Refusal.the-variants.{NotATable, TextTooLong, WrongId, NoRecordLeft, UnknownWord, BadOperand, NumberTooLarge, WrongClass, Misfit, InitOrNext, NameUsed}
 use Rattle.tables.specs.declared.Answer.{Answer}
 use Rattle.tables.specs.declared.Answer.the-variants.{Done, Refused}
 use Rattle.tables.specs.Pick.{inside, all}
@@ -24,6 +24,7 @@ use Rattle.texts.specs.Forms.{formRow, kindOf, firstOf, numbersOf, sortW
 use Rattle.texts.specs.Split.{split, upTo, tokens, sameBytes}
 use Rattle.texts.specs.Decimal.{decimal, digitsIn}
 use Rattle.texts.specs.Operands.{resolved}
+use Rattle.texts.specs.Names.{only, used, withName}
 use Rattle.texts.specs.Minus.{minusesFit, minuses, lineRecords, lineIds, noSigns}
 
 -- ---- the word
@@ -152,6 +153,18 @@ placedRecord ds f ts = resolved ds (writtenRecord f ts)
 abbrev pub recordIn : (ℕ → Ty) → (ds : List ℕ) → ℕ → List (List ℕ) → List ℕ
 recordIn L ds f ts = settled (L (sortIn (placedRecord ds f ts)) .w) f (placedRecord ds f ts)
 
+-- the one extra token is the line's name, which is empty where there is none
+abbrev pub nameIn : ℕ → List (List ℕ) → List ℕ
+nameIn f ts = only (extraTokens f ts)
+
+abbrev pub nameBehind : Word → List ℕ
+nameBehind unknown = []
+nameBehind (word f ts) = nameIn f ts
+
+-- the name in a line's tokens, of which the first is the id
+abbrev pub lineName : List (List ℕ) → List ℕ
+lineName ts = nameBehind (wordIn (drop 1 ts))
+
 -- ---- the id
 
 -- a token may be the id of a line behind one whose id is last
@@ -172,10 +185,10 @@ lineId (t ∷ ts) = valueOf (decimal t)
 
 -- ---- the refusals of a line
 
--- A line after others that have the ids ds, with room for m records: L has the types of those lines, and G says which states have had an init or a next. The line's first
--- token is t, f is the form of its word, 0 where that is unknown or missing, and ts are the tokens behind the word. Where a test has no meaning, as that of an unknown
--- word's numbers, an earlier one holds.
-module _ (L : ℕ → Ty) (G : Bool → ℕ → Bool) (m : ℕ) (ds : List ℕ) (t : List ℕ) (f : ℕ) (ts : List (List ℕ)) where
+-- A line after others that have the ids ds and the names ns, with room for m records: L has the types of those lines, and G says which states have had an init or a next.
+-- The line's first token is t, f is the form of its word, 0 where that is unknown or missing, and ts are the tokens behind the word. Where a test has no meaning, as that of
+-- an unknown word's numbers, an earlier one holds.
+module _ (L : ℕ → Ty) (G : Bool → ℕ → Bool) (m : ℕ) (ds : List ℕ) (ns : List (List ℕ)) (t : List ℕ) (f : ℕ) (ts : List (List ℕ)) where
   -- 3: the id is no number, not above the id before, or above 4,294,967,295
   abbrev pub wrongId : Bool
   wrongId = not (isNext (decimal t) (lastOf 0 ds))
@@ -208,6 +221,10 @@ module _ (L : ℕ → Ty) (G : Bool → ℕ → Bool) (m : ℕ) (ds : List ℕ) 
   abbrev pub initOrNext : Bool
   initOrNext = eqb (fault false L G (recordIn L ds f ts)) 10
 
+  -- 22: the line's name already stands on an earlier line
+  abbrev pub nameUsed : Bool
+  nameUsed = used (nameIn f ts) ns
+
   -- 4 again: no record is left for the line with its not records
   abbrev pub noRecordsLeft : Bool
   noRecordsLeft = not (ltb (length ds + minuses (signsIn f ts)) m)
@@ -223,6 +240,7 @@ module _ (L : ℕ → Ty) (G : Bool → ℕ → Bool) (m : ℕ) (ds : List ℕ) 
       ∷ (WrongClass, wrongClass)
       ∷ (Misfit, misfit)
       ∷ (InitOrNext, initOrNext)
+      ∷ (NameUsed, nameUsed)
       ∷ (NoRecordLeft, noRecordsLeft)
       ∷ []
 
@@ -247,9 +265,9 @@ lineTokens l = tokens (upTo 59 l)
 abbrev pub replyIn : (ℕ → Ty) → (ds : List ℕ) (f : ℕ) → List (List ℕ) → Reply
 replyIn L ds f ts = got (recordIn L ds f ts) (signsIn f ts)
 
-unfoldable pub readLine : (ℕ → Ty) → (Bool → ℕ → Bool) → (m : ℕ) (ds : List ℕ) → List (List ℕ) → Reply
-readLine L G m ds [] = skip
-readLine L G m ds (t ∷ ts) = lowest (refusals L G m ds t (formOf (wordIn ts)) (behind (wordIn ts))) (replyIn L ds (formOf (wordIn ts)) (behind (wordIn ts)))
+unfoldable pub readLine : (ℕ → Ty) → (Bool → ℕ → Bool) → (m : ℕ) (ds : List ℕ) (ns : List (List ℕ)) → List (List ℕ) → Reply
+readLine L G m ds ns [] = skip
+readLine L G m ds ns (t ∷ ts) = lowest (refusals L G m ds ns t (formOf (wordIn ts)) (behind (wordIn ts))) (replyIn L ds (formOf (wordIn ts)) (behind (wordIn ts)))
 
 -- ---- a text
 
@@ -258,26 +276,48 @@ pub data Text : Type 0 where
   done : (rs : List (List ℕ)) (ds : List ℕ) → Text
   refused : (r : Refusal) (l : ℕ) → Text
 
+-- what the lines so far have left: their context, records and ids, and their names, the last one first
+pub record Sofar : Type 0 where
+  pub ctx : Ctx
+  pub records : List (List ℕ)
+  pub ids : List ℕ
+  pub names : List (List ℕ)
+
+abbrev pub sofar : Ctx → (records : List (List ℕ)) (ids : List ℕ) (names : List (List ℕ)) → Sofar
+sofar c rs ds ns = record { ctx = c; records = rs; ids = ds; names = ns }
+
+abbrev pub noLines : Sofar
+noLines = sofar noCtx [] [] []
+
+-- with the line whose tokens are ts, which gave the record rec with the signs s
+abbrev pub withLine : (b : Sofar) (ts : List (List ℕ)) (rec : List ℕ) (s : List Bool) → Sofar
+withLine b ts rec s =
+    sofar (growAll false (b .ctx) (map lineOf (lineRecords s (b .records) rec))) (b .records ++ lineRecords s (b .records) rec) (b .ids ++ lineIds s (lineId ts))
+    (withName (lineName ts) (b .names))
+
 -- how the types of the lines so far are looked up, by their records and their context: as the context keeps them
 abbrev pub keptTypes : List (List ℕ) → Ctx → ℕ → Ty
 keptTypes rs c = tyAt c
 
 -- a text, by any way to look the types up
 module _ (types : List (List ℕ) → Ctx → ℕ → Ty) where
-  -- the lines from the line l on, after the records rs with the ids ds, whose context is c
-  unfoldable pub readLinesBy : (m l : ℕ) (c : Ctx) (rs : List (List ℕ)) (ds : List ℕ) → List (List ℕ) → Text
-  readLinesBy m l c rs ds [] = done rs ds
-  readLinesBy m l c rs ds (x ∷ xs) =
-      elim (readLine (types rs c) (given c) m ds (lineTokens x)) [
-        | skip ↦ readLinesBy m (suc l) c rs ds xs
+  -- a line after those so far, with room for m records
+  abbrev pub replyBy : (m : ℕ) (b : Sofar) → (ts : List (List ℕ)) → Reply
+  replyBy m b ts = readLine (types (b .records) (b .ctx)) (given (b .ctx)) m (b .ids) (b .names) ts
+
+  -- the lines from the line l on
+  unfoldable pub readLinesBy : (m l : ℕ) (b : Sofar) → List (List ℕ) → Text
+  readLinesBy m l b [] = done (b .records) (b .ids)
+  readLinesBy m l b (x ∷ xs) =
+      elim (replyBy m b (lineTokens x)) [
+        | skip ↦ readLinesBy m (suc l) b xs
         | no r ↦ refused r l
-        | got rec s ↦
-            readLinesBy m (suc l) (growAll false c (map lineOf (lineRecords s rs rec))) (rs ++ lineRecords s rs rec) (ds ++ lineIds s (lineId (lineTokens x))) xs
+        | got rec s ↦ readLinesBy m (suc l) (withLine b (lineTokens x) rec s) xs
       ]
 
   -- all lines of the text s, into a table of len words
   abbrev pub linesReadBy : (len : ℕ) → List ℕ → Text
-  linesReadBy len s = readLinesBy (room false len) 1 noCtx [] [] (split 10 s)
+  linesReadBy len s = readLinesBy (room false len) 1 noLines (split 10 s)
 
   -- the text s read into a table of len words: 1, 2, and then line by line
   unfoldable pub readTextBy : (len : ℕ) → List ℕ → Text
@@ -288,7 +328,10 @@ module _ (types : List (List ℕ) → Ctx → ℕ → Ty) where
       ]
 
 -- and by the types that are kept, their marks among them
-abbrev pub readLines : (m l : ℕ) (c : Ctx) (rs : List (List ℕ)) (ds : List ℕ) → List (List ℕ) → Text
+abbrev pub replyAfter : (m : ℕ) (b : Sofar) → (ts : List (List ℕ)) → Reply
+replyAfter = replyBy keptTypes
+
+abbrev pub readLines : (m l : ℕ) (b : Sofar) → List (List ℕ) → Text
 readLines = readLinesBy keptTypes
 
 abbrev pub linesRead : (len : ℕ) → List ℕ → Text

@@ -32,13 +32,15 @@ pub struct Taken {
     pub minus: [bool; WORDS],
 }
 
-// What a line gives: 0, its record with the places that have a minus, and its id, 1 for a blank line, 2 and its refusal.
+// What a line gives: 0, its record with the places that have a minus, its id and its name, a part of the line, 1 for a blank line, 2 and its refusal.
 pub struct Readout {
     pub what: u64,
     pub code: Refusal,
     pub rec: [u64; WORDS],
     pub minus: [bool; WORDS],
     pub id: u64,
+    pub from: usize,
+    pub to: usize,
 }
 
 // A part of a text: from a place up to another.

@@ -1,11 +1,13 @@
 // Lines and tokens: places in a text, and in a line.
 pub mod numbers; // numbers in digits
 
+use texts::Part;
 ghost use mathlib.Core.Path.{_≡_};
+ghost use mathlib.Core.Bool.{true};
 ghost use Prim.Native.Nat.{_+_, _≤_, _<_, _-_, min};
 ghost use lib.ListN.{length, drop, getD, take};
 ghost use Rattle.texts.specs.Split.{upTo, tokens};
-ghost use Rattle.texts.specs.Model.Structs.{several};
+ghost use Rattle.texts.specs.Model.Structs.{NextToken};
 
 // Where the first b stands, from i on, or the length of s.
 pub fn find_byte(s: &[u8], i: usize, b: u8) -> usize
@@ -22,8 +24,8 @@ pub fn find_byte(s: &[u8], i: usize, b: u8) -> usize
     j
 }
 
-// The same, two bytes at a time: for ways that are long.
-pub fn find_far(s: &[u8], i: usize, b: u8) -> usize
+// The same, two bytes at a time.
+fn find_two(s: &[u8], i: usize, b: u8) -> usize
     requires { do ⌜ i ≤ (← ⟦s.len()⟧) ⌝ }
     ensures { λ r. do ⌜ (i ≤ r) × ((r ≤ (← ⟦s.len()⟧ .entry)) × (r ≡ i + length (upTo b (drop i (now (s .entry)))))) ⌝ }
 {
@@ -42,6 +44,37 @@ pub fn find_far(s: &[u8], i: usize, b: u8) -> usize
         j += 2;
     }
     find_byte(s, j, b)
+}
+
+// Whether none of the 16 bytes from i on is b. There is no way out of the loop before its end, so that it is compiled to one comparison of 16 bytes.
+fn lacks(s: &[u8], i: usize, b: u8) -> bool
+    requires { do ⌜ i + 16 ≤ (← ⟦s.len()⟧) ⌝ }
+    ensures { λ r. ⌜ (r ≡ true → length (upTo b (drop i (now (s .entry)))) ≡ 16 + length (upTo b (drop (i + 16) (now (s .entry))))) ⌝ }
+{
+    let mut none = true;
+    let mut k: usize = 0;
+    while k < 16 {
+        if s[i + k] == b {
+            none = false;
+        }
+        k += 1;
+    }
+    none
+}
+
+// The same as find_byte, for ways that may be long.
+pub fn find_far(s: &[u8], i: usize, b: u8) -> usize
+    requires { do ⌜ i ≤ (← ⟦s.len()⟧) ⌝ }
+    ensures { λ r. do ⌜ (i ≤ r) × ((r ≤ (← ⟦s.len()⟧ .entry)) × (r ≡ i + length (upTo b (drop i (now (s .entry)))))) ⌝ }
+{
+    let mut j = i;
+    while 16 <= s.len() - j {
+        if !lacks(s, j, b) {
+            return find_two(s, j, b);
+        }
+        j += 16;
+    }
+    find_two(s, j, b)
 }
 
 // The first place from i on that holds no space, or the length of s.
@@ -81,19 +114,12 @@ pub fn after(e: usize, len: usize) -> usize
     len
 }
 
-// Two tokens or more stand from the place i on.
-pub fn crowded(l: &[u8], i: usize) -> bool
+// The first token from the place i on; an empty part at the line's end where there is none.
+pub fn next(l: &[u8], i: usize) -> Part
     requires { do ⌜ i ≤ (← ⟦l.len()⟧) ⌝ }
-    ensures { λ r. ⌜ r ≡ several (tokens (drop i (now (l .entry)))) ⌝ }
+    ensures { λ r. do ⌜ (r .from ≤ r .to) × ((r .to ≤ (← ⟦l.len()⟧ .entry)) × NextToken (now (l .entry)) i (r .from) (r .to)) ⌝ }
 {
     let a = skip(l, i);
-    if a == l.len() {
-        return false;
-    }
-    let z = find_byte(l, a, 32);
-    let b = skip(l, z);
-    if b == l.len() {
-        return false;
-    }
-    true
+    let z = find_far(l, a, 32);
+    Part { from: a, to: z }
 }

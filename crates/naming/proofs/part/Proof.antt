@@ -7,8 +7,8 @@ use lib.ListN.{drop}
 use Rattle.tables.specs.Kinds.{operandCount}
 use Rattle.texts.specs.Forms.{formRow, sorted, numbersOf}
 use Rattle.texts.specs.Split.{tokens}
-use Rattle.texts.specs.Reading.{wordIn}
-use Rattle.texts.specs.Naming.{only, extraIn}
+use Rattle.texts.specs.Reading.{wordIn, nameBehind}
+use Rattle.texts.specs.Names.{only}
 use Rattle.texts.proofs.Words.{row-shape, sorted-most}
 use Rattle.texts.proofs.Named.{extra-none, extra-of}
 use borrow.Author.Needs.{needs}
@@ -25,7 +25,7 @@ word-requires : tie.Need-word-requires
 word-requires c κs = (c .before .before .all .ensures, c .before .pass .ensures .0)
 
 returns : tie.Need-returns
-returns c = (search needs, (search needs, (extra-none (c .before .before .before .before .before .before .before .args .l .now) (c .before .before .word .result) (tokens (drop (c .before .before .before .before .pass .result) (c .before .before .before .before .before .before .before .args .l .now))) (c .before .before .word .ensures .1 .1) (c .if1 .taken) ∙ ap (λ (ts : List (List ℕ)). extraIn (wordIn ts)) (c .before .before .before .before .pass .ensures .1), λ h. absurd (omega arith))))
+returns c = (search needs, (search needs, (extra-none (c .before .before .before .before .before .before .before .args .l .now) (c .before .before .word .result) (tokens (drop (c .before .before .before .before .pass .result) (c .before .before .before .before .before .before .before .args .l .now))) (c .before .before .word .ensures .1 .1) (c .if1 .taken) ∙ ap (λ (ts : List (List ℕ)). nameBehind (wordIn ts)) (c .before .before .before .before .pass .ensures .1), λ h. absurd (omega arith))))
 
 row-requires : tie.Need-row-requires
 row-requires c κs = search needs
@@ -51,7 +51,7 @@ only-requires c κs = c .pass2 .ensures .0
 
 returns-2 : tie.Need-returns-2
 returns-2 c = let m : c .before .before .sorted .result + operandCount (c .before .before .before .row .result) ≡ numbersOf (formRow (c .before .before .before .before .before .before .before .word .result .form)) = ap (λ (k : ℕ). k + operandCount (c .before .before .before .row .result)) (c .before .before .sorted .ensures) ∙ ap numbersOf (c .before .before .before .row .ensures) in
-    (c .only .ensures .0, (c .only .ensures .1 .0, (c .only .ensures .1 .1 .0 ∙ (ap only (c .before .pass2 .ensures .1) ∙ (extra-of (c .before .before .before .before .before .before .before .before .before .before .before .before .args .l .now) (c .before .before .before .before .before .before .before .word .result) (tokens (drop (c .before .before .before .before .before .before .before .before .before .pass .result) (c .before .before .before .before .before .before .before .before .before .before .before .before .args .l .now))) (c .before .before .sorted .result + operandCount (c .before .before .before .row .result)) (c .before .before .before .before .before .before .before .word .ensures .1 .1) (c .before .before .before .before .before .if1 .left) m ∙ ap (λ (ts : List (List ℕ)). extraIn (wordIn ts)) (c .before .before .before .before .before .before .before .before .before .pass .ensures .1))), c .only .ensures .1 .1 .1)))
+    (c .only .ensures .0, (c .only .ensures .1 .0, (c .only .ensures .1 .1 .0 ∙ (ap only (c .before .pass2 .ensures .1) ∙ (extra-of (c .before .before .before .before .before .before .before .before .before .before .before .before .args .l .now) (c .before .before .before .before .before .before .before .word .result) (tokens (drop (c .before .before .before .before .before .before .before .before .before .pass .result) (c .before .before .before .before .before .before .before .before .before .before .before .before .args .l .now))) (c .before .before .sorted .result + operandCount (c .before .before .before .row .result)) (c .before .before .before .before .before .before .before .word .ensures .1 .1) (c .before .before .before .before .before .if1 .left) m ∙ ap (λ (ts : List (List ℕ)). nameBehind (wordIn ts)) (c .before .before .before .before .before .before .before .before .before .pass .ensures .1))), c .only .ensures .1 .1 .1)))
 
 pub part-spec : {M : Type 1} → statement M
 part-spec =

@@ -23,14 +23,18 @@ same-length : tie.Need-same-length
 same-length c = c .before .before .before .before .clear .kept .0
 
 returns : tie.Need-returns
-returns c = let s = c .before .before .before .before .before .before .before .before .args in let len = length (s .table .now) in
+returns c =
+    let s = c .before .before .before .before .before .before .before .before .args in
+    let len = length (s .table .now) in
     out-text len (s .text .now) (out-refused len (text-1 len (s .text .now) (ap (whole false) (sym (c .before .before .before .before .clear .kept .0)) ∙ (sym (c .before .is-table .ensures) ∙ not-true _ (c .if1 .taken)))) (c .before .before .before .before .clear .ensures))
 
 same-length-2 : tie.Need-same-length-2
 same-length-2 c = c .before .before .before .before .before .clear .kept .0
 
 returns-2 : tie.Need-returns-2
-returns-2 c = let s = c .before .before .before .before .before .before .before .before .before .args in let len = length (s .table .now) in
+returns-2 c =
+    let s = c .before .before .before .before .before .before .before .before .before .args in
+    let len = length (s .table .now) in
     out-text len (s .text .now) (out-refused len (text-2 len (s .text .now) (ap (whole false) (sym (c .before .before .before .before .before .clear .kept .0)) ∙ (sym (c .before .before .is-table .ensures) ∙ not-false _ (c .before .if1 .left))) (c .if2 .taken)) (c .before .before .before .before .before .clear .ensures))
 
 all-requires : tie.Need-all-requires
@@ -39,21 +43,48 @@ all-requires c κs = tt
 slice-aggregate-read-lines : tie.Need-slice-aggregate-read-lines
 slice-aggregate-read-lines c = search needs
 
+slice-aggregate-read-lines-2 : tie.Need-slice-aggregate-read-lines-2
+slice-aggregate-read-lines-2 c = search needs
+
 read-lines-requires : tie.Need-read-lines-requires
 read-lines-requires c κs =
-    let k = c .before .before .before .before .before .before .before .before .before .clear in
+    let k = c .before .before .before .before .before .before .before .before .before .before .before .clear in
     let zeros = k .ensures ∙ ap (λ (n : ℕ). replicate {A = ℕ} n 0) (sym (k .kept .0)) in
-    (c .before .before .before .before .if2 .left, (zeros, (length-replicate 16385 blank, (shows-none (fresh 0 16385 (λ h. omega arith)), c .before .before .before .all .ensures))))
+    let names = length-replicate {A = ℕ} 5633 0 in
+    (c .before .before .before .before .before .before .if2 .left, (zeros, (length-replicate 16385 blank, (shows-none (fresh 0 16385 (λ h. omega arith)), (c .before .before .before .before .before .all .ensures, (ap (λ (n : ℕ). replicate {A = ℕ} n 0) (sym names), omega (arith, names, c .before .before .before .before .if3 .taken)))))))
 
 same-length-3 : tie.Need-same-length-3
-same-length-3 c = c .before .before .before .read-lines .kept .1 .0 ∙ c .before .before .before .before .before .before .before .before .before .before .before .before .before .clear .kept .0
+same-length-3 c = c .before .before .before .before .read-lines .kept .1 .0 ∙ c .before .before .before .before .before .before .before .before .before .before .before .before .before .before .before .before .clear .kept .0
 
 returns-3 : tie.Need-returns-3
 returns-3 c =
-    let s = c .before .before .before .before .before .before .before .before .before .before .before .before .before .before .before .before .before .args in
-    let k = c .before .before .before .before .before .before .before .before .before .before .before .before .before .clear in
-    let whole = sym (c .before .before .before .before .before .before .before .before .before .before .is-table .ensures) ∙ not-false _ (c .before .before .before .before .before .before .before .before .before .if1 .left) in
-    out-lines (length (s .table .now)) (length (k .last .0)) (s .text .now) (k .kept .0) whole (c .before .before .before .before .before .before .before .before .if2 .left) (c .before .before .before .read-lines .ensures)
+    let s = c .before .before .before .before .before .before .before .before .before .before .before .before .before .before .before .before .before .before .before .before .args in
+    let k = c .before .before .before .before .before .before .before .before .before .before .before .before .before .before .before .before .clear in
+    let whole = sym (c .before .before .before .before .before .before .before .before .before .before .before .before .before .is-table .ensures) ∙ not-false _ (c .before .before .before .before .before .before .before .before .before .before .before .before .if1 .left) in
+    out-lines (length (s .table .now)) (length (k .last .0)) (s .text .now) (k .kept .0) whole (c .before .before .before .before .before .before .before .before .before .before .before .if2 .left) (c .before .before .before .before .read-lines .ensures)
+
+slice-aggregate-read-lines-3 : tie.Need-slice-aggregate-read-lines-3
+slice-aggregate-read-lines-3 c = search needs
+
+slice-aggregate-read-lines-4 : tie.Need-slice-aggregate-read-lines-4
+slice-aggregate-read-lines-4 c = search needs
+
+read-lines-requires-2 : tie.Need-read-lines-requires-2
+read-lines-requires-2 c κs =
+    let k = c .before .before .before .before .before .before .before .before .before .before .before .clear in
+    let zeros = k .ensures ∙ ap (λ (n : ℕ). replicate {A = ℕ} n 0) (sym (k .kept .0)) in
+    let names = length-replicate {A = ℕ} 28674 0 in
+    (c .before .before .before .before .before .before .if2 .left, (zeros, (length-replicate 16385 blank, (shows-none (fresh 0 16385 (λ h. omega arith)), (c .before .before .before .before .before .all .ensures, (ap (λ (n : ℕ). replicate {A = ℕ} n 0) (sym names), omega (arith, names, c .before .before .before .before .before .before .if2 .left)))))))
+
+same-length-4 : tie.Need-same-length-4
+same-length-4 c = c .before .before .before .before .read-lines2 .kept .1 .0 ∙ c .before .before .before .before .before .before .before .before .before .before .before .before .before .before .before .before .clear .kept .0
+
+returns-4 : tie.Need-returns-4
+returns-4 c =
+    let s = c .before .before .before .before .before .before .before .before .before .before .before .before .before .before .before .before .before .before .before .before .args in
+    let k = c .before .before .before .before .before .before .before .before .before .before .before .before .before .before .before .before .clear in
+    let whole = sym (c .before .before .before .before .before .before .before .before .before .before .before .before .before .is-table .ensures) ∙ not-false _ (c .before .before .before .before .before .before .before .before .before .before .before .before .if1 .left) in
+    out-lines (length (s .table .now)) (length (k .last .0)) (s .text .now) (k .kept .0) whole (c .before .before .before .before .before .before .before .before .before .before .before .if2 .left) (c .before .before .before .before .read-lines2 .ensures)
 
 pub read-spec : {M : Type 1} → statement M
 read-spec =
@@ -67,6 +98,12 @@ read-spec =
     returns-2
     all-requires
     slice-aggregate-read-lines
+    slice-aggregate-read-lines-2
     read-lines-requires
     same-length-3
-    returns-3)
+    returns-3
+    slice-aggregate-read-lines-3
+    slice-aggregate-read-lines-4
+    read-lines-requires-2
+    same-length-4
+    returns-4)

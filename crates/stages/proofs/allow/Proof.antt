@@ -24,7 +24,7 @@ returns c =
     let L = lookIn (s .notes .now) in
     let G = givenIn (s .notes .now) in
     let e = by-own-row L G (s .f) (s .rec) (s .minus) (s .len) (c .before .before .before .before .before .pre) (c .before .before .signs-fit .ensures) in
-    c .refuse .ensures ∙ ap (asRead 0) (sym (minus-8 L G (s .f) (s .rec) (s .minus) (s .len) (sym e ∙ not-true _ (c .before .if2 .taken))))
+    c .refuse .ensures ∙ ap asRead (sym (minus-8 L G (s .f) (s .rec) (s .minus) (s .len) (sym e ∙ not-true _ (c .before .if2 .taken))))
 
 judge-requires : tie.Need-judge-requires
 judge-requires c κs = search needs
@@ -35,7 +35,7 @@ returns-2 c =
     let L = lookIn (s .notes .now) in
     let G = givenIn (s .notes .now) in
     c .judge .ensures
-    ∙ ap (asRead 0)
+    ∙ ap asRead
     (sym (minus-fits L G (s .f) (s .rec) (s .minus) (s .len)
     (⊎-elim
     (λ w. sym (by-own-row L G (s .f) (s .rec) (s .minus) (s .len) (c .before .before .before .pre) (w .1 .ensures)) ∙ not-false _ (w .2 .left))

@@ -32,7 +32,7 @@ allow-requires c κs = c .before .before .before .before .pre .0 ∙ ap rowOf (s
 returns : tie.Need-returns
 returns c = let s = c .before .before .before .before .before .args in
     is-concluded (lookIn (s .notes .now)) (givenIn (s .notes .now)) (s .f) (c .before .before .before .resolve .result) (s .minus) (s .len) (c .allow .ensures) (c .before .settle .ensures) (ap (λ (t : Ty). t .w) (c .before .before .look .ensures))
-    ∙ ap (λ (r : List ℕ). asRead 0 (concluded (lookIn (s .notes .now)) (givenIn (s .notes .now)) (s .f) (s .len) r (s .minus))) (c .before .before .before .resolve .ensures)
+    ∙ ap (λ (r : List ℕ). asRead (concluded (lookIn (s .notes .now)) (givenIn (s .notes .now)) (s .f) (s .len) r (s .minus))) (c .before .before .before .resolve .ensures)
 
 pub conclude-spec : {M : Type 1} → statement M
 conclude-spec =

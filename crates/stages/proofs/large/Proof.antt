@@ -14,7 +14,7 @@ refuse-requires : tie.Need-refuse-requires
 refuse-requires c κs = search needs
 
 returns : tie.Need-returns
-returns c = c .refuse .ensures ∙ ap (asRead 0) (sym (large-big _ _ _ _ _ _ _ _ (c .before .if1 .taken)))
+returns c = c .refuse .ensures ∙ ap asRead (sym (large-big _ _ _ _ _ _ _ _ (c .before .if1 .taken)))
 
 array-read-is-width : tie.Need-array-read-is-width
 array-read-is-width c = search needs
@@ -26,7 +26,7 @@ refuse-requires-2 : tie.Need-refuse-requires-2
 refuse-requires-2 c κs = search needs
 
 returns-2 : tie.Need-returns-2
-returns-2 c = c .refuse2 .ensures ∙ ap (asRead 0) (sym (large-wide _ _ _ _ _ _ _ _ (c .before .before .before .before .if1 .left) (c .before .before .before .if2 .taken) (sym (c .before .before .is-width .ensures) ∙ not-true _ (c .before .if3 .taken))))
+returns-2 c = c .refuse2 .ensures ∙ ap asRead (sym (large-wide _ _ _ _ _ _ _ _ (c .before .before .before .before .if1 .left) (c .before .before .before .if2 .taken) (sym (c .before .before .is-width .ensures) ∙ not-true _ (c .before .if3 .taken))))
 
 conclude-requires : tie.Need-conclude-requires
 conclude-requires c κs = search needs
@@ -38,7 +38,7 @@ returns-3 c = let s = c .before .before .before .before .args in
     let ds = idsOf (s .table .now) (s .n) in
     let h = c .before .before .if1 .left in
     c .conclude .ensures
-    ∙ ap (asRead 0)
+    ∙ ap asRead
     (sym
     (⊎-elim
     (λ w. large-fits L G (s .f) (s .t3) (s .minus) (s .len) ds (s .big) h (w .0 .taken) (sym (w .1 .ensures) ∙ not-false _ (w .2 .left)))

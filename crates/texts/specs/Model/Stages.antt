@@ -5,7 +5,8 @@ use mathlib.Core.List.{List, [], _∷_}
 use lib.Dec.{eqb, ltb}
 use lib.ListN.{length, set}
 use Rattle.tables.specs.declared.Ty.{Ty}
-use Rattle.tables.specs.declared.Refusal.the-variants.{WrongId, NoRecordLeft, UnknownWord, BadOperand, NumberTooLarge, WrongClass, Misfit, InitOrNext}
+use Rattle.tables.specs.declared.Refusal.{Refusal}
+use Rattle.tables.specs.declared.Refusal.the-variants.{WrongId, NoRecordLeft, UnknownWord, BadOperand, NumberTooLarge, WrongClass, Misfit, InitOrNext, NameUsed}
 use Rattle.tables.specs.Pick.{inside, all}
 use Rattle.tables.specs.Lines.{sortIn, firstIn}
 use Rattle.tables.specs.Rules.{fault}
@@ -13,8 +14,9 @@ use Rattle.texts.specs.declared.Num.the-variants.{Bad, Big, Is}
 use Rattle.texts.specs.Forms.{formRow, kindOf, firstOf, numbersOf}
 use Rattle.texts.specs.Decimal.{decimal}
 use Rattle.texts.specs.Operands.{resolved}
+use Rattle.texts.specs.Names.{used}
 use Rattle.texts.specs.Minus.{noSigns, minusesFit, minuses}
-use Rattle.texts.specs.Reading.{Word, word, unknown, wordIn, signAt, numberAt, fresh, settled, isNext, lastOf, Reply, skip, no, got}
+use Rattle.texts.specs.Reading.{Word, word, unknown, wordIn, signAt, numberAt, fresh, settled, isNext, lastOf, lineName, Reply, skip, no, got}
 
 -- the record, its signs, whether a number was too large, how many bytes the last number has, and the tokens left
 pub data Took : Type 0 where
@@ -39,11 +41,19 @@ takenIn f ts = operands f (numbersOf (formRow f)) (firstOf (formRow f)) (fresh (
 unfoldable pub ruled : ℕ → List ℕ → List Bool → Reply
 ruled a rec s = elim (eqb a 0) [ true ↦ got rec s | false ↦ elim (eqb a 9) [ true ↦ no Misfit | false ↦ no InitOrNext ] ]
 
+-- refused by r where the line gives a record and the test of its signs holds
+unfoldable pub stopped : (r : Refusal) (test : List Bool → Bool) → Reply → Reply
+stopped r test skip = skip
+stopped r test (no q) = no q
+stopped r test (got rec s) = elim (test s) [ true ↦ no r | false ↦ got rec s ]
+
+-- 22 after lines that have the names ns
+abbrev pub named : (name : List ℕ) (ns : List (List ℕ)) → Reply → Reply
+named name ns y = stopped NameUsed (λ s. used name ns) y
+
 -- 4 where after n records there is room for the line's own and not for its not records as well; m is the room for all
-unfoldable pub fitted : (n m : ℕ) → Reply → Reply
-fitted n m skip = skip
-fitted n m (no r) = no r
-fitted n m (got rec s) = elim (ltb (n + minuses s) m) [ true ↦ got rec s | false ↦ no NoRecordLeft ]
+abbrev pub fitted : (n m : ℕ) → Reply → Reply
+fitted n m y = stopped NoRecordLeft (λ s. not (ltb (n + minuses s) m)) y
 
 -- after lines whose types are L and of which G says which states have had an init or a next
 module _ (L : ℕ → Ty) (G : Bool → ℕ → Bool) where
@@ -86,11 +96,15 @@ module _ (L : ℕ → Ty) (G : Bool → ℕ → Bool) where
     worded unknown = no UnknownWord
     worded (word f ts) = ended f (takenIn f ts)
 
-    -- 3 and 4, and 4 again where there is a record
-    unfoldable pub stagedLine : (m : ℕ) → List (List ℕ) → Reply
-    stagedLine m [] = skip
-    stagedLine m (t ∷ ts) =
+    -- 3 to 10, with room for m records
+    unfoldable pub judgedLine : (m : ℕ) → List (List ℕ) → Reply
+    judgedLine m [] = skip
+    judgedLine m (t ∷ ts) =
         elim (isNext (decimal t) (lastOf 0 ds)) [
           | false ↦ no WrongId
-          | true ↦ elim (ltb (length ds) m) [ true ↦ fitted (length ds) m (worded (wordIn ts)) | false ↦ no NoRecordLeft ]
+          | true ↦ elim (ltb (length ds) m) [ true ↦ worded (wordIn ts) | false ↦ no NoRecordLeft ]
         ]
+
+    -- 22 and 4 again, where there is a record
+    abbrev pub stagedLine : (m : ℕ) (ns : List (List ℕ)) → List (List ℕ) → Reply
+    stagedLine m ns ts = fitted (length ds) m (named (lineName ts) ns (judgedLine m ts))
