@@ -25,6 +25,10 @@
  * which no other kind of record may have, and no token names 0. Flat circuits and
  * written texts are numbered 1, 2, 3, not lines too.
  *
+ * A line's name is its one extra token, bytes as they stand. No two lines of a text
+ * may have the same: the later one is refused. Tables hold no names, and written
+ * texts have none.
+ *
  * A list is passed as a pointer and its length (in elements). Each function
  * returns 0 when done, else the number of the first refusal that holds, in the
  * order given with the function:
@@ -32,7 +36,7 @@
  *    1  a list is no table, or no program, or `answer` has not three words
  *    2  text above 65,536 bytes
  *    3  id is no number above the id before it (0 before the first) and up to 4,294,967,295
- *    4  no record left; after 10 where there is one, and none for the line with its not records
+ *    4  no record left; after 22 where there is one, and none for the line with its not records
  *    5  word unknown or missing
  *    6  operand missing or malformed, or two extra tokens
  *    7  number above 2^64 - 1, const above 64 or consth above 16 digits, or bitvec width not 1 to 64
@@ -54,6 +58,7 @@
  *   20  the count exceeds the program (a fifth of its length) or 16,384, or a record breaks a rule for programs; of a
  *       conversion the count alone
  *   21  text buffer too short
+ *   22  the line's name already stands on an earlier line; after 10 for the same line
  *
  * Further values go to `answer`, a list of three words; words that are not used
  * are 0. Past the end of a result everything lent for writing is zero, in a table
@@ -83,8 +88,8 @@
 extern "C" {
 #endif
 
-/* Reads a BTOR2 text into a table, which has room for table_len / 6 records. 1, 2; then line by line 3 to 10, and 4 again.
- * answer[0]: the number of records; with 3 to 10 the text line, from 1. */
+/* Reads a BTOR2 text into a table, which has room for table_len / 6 records. 1, 2; then line by line 3 to 10, 22, and 4 again.
+ * answer[0]: the number of records; with 3 to 10 and 22 the text line, from 1. */
 uint64_t gofeshan_read(const uint8_t *text, size_t text_len,
                        uint64_t *table, size_t table_len,
                        uint64_t *answer, size_t answer_len);

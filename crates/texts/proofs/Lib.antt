@@ -38,5 +38,10 @@ pub mod OwnNumbers
 pub mod OwnLine
 pub mod NotRecords
 pub mod SameRecords
+pub mod NewNames
+pub mod UsedNames
+pub mod NamesApart
+pub mod NameOfLine
+pub mod SampleNames
 pub mod Lengths
 pub mod Refused

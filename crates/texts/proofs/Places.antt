@@ -2,7 +2,7 @@
 use mathlib.Core.Path.{_≡_, refl, sym, ap, _∙_}
 use mathlib.Core.Bool.{Bool, true, false}
 use mathlib.Core.List.{List, [], _∷_}
-use Prim.Native.Nat.{ℕ, _+_, _-_, _≤_, _<_}
+use Prim.Native.Nat.{ℕ, zero, suc, _+_, _-_, _≤_, _<_}
 use native.Mathlib.Omega.{arith}
 use lib.Dec.{eqb}
 use lib.ListN.{length, take, drop, getD, drop-of-length-le, length-drop}
@@ -86,6 +86,23 @@ take-upTo b (c ∷ t) = go (eqb c b) refl (take-upTo b t)
     go : (q : Bool) → eqb c b ≡ q → take (length (upTo b t)) t ≡ upTo b t → take (length (upTo b (c ∷ t))) (c ∷ t) ≡ upTo b (c ∷ t)
     go true x h = rw (x, upTo) refl
     go false x h = rw (x, upTo) (ap (λ (r : List ℕ). c ∷ r) h)
+
+-- the bytes before the place k are no b
+pub upTo-take : (b : ℕ) (x : List ℕ) (k m : ℕ) → k ≤ length (upTo b x) → k ≤ m → length (upTo b (take m x)) ≡ k + length (upTo b (take (m - k) (drop k x)))
+unfolding upTo
+upTo-take b x zero m h l = let e : m ≡ m - 0 = omega arith in omega (arith, ap (λ (n : ℕ). length (upTo b (take n x))) e)
+upTo-take b x (suc k) zero h l = absurd (omega arith)
+upTo-take b [] (suc k) (suc m) h l = absurd (omega arith)
+upTo-take b (c ∷ t) (suc k) (suc m) h l = go (eqb c b) refl h (upTo-take b t k m)
+  where
+    go : (q : Bool) → eqb c b ≡ q → suc k ≤ length (upTo b (c ∷ t)) → (k ≤ length (upTo b t) → k ≤ m → length (upTo b (take m t)) ≡ k + length (upTo b (take (m - k) (drop k t))))
+        → length (upTo b (take (suc m) (c ∷ t))) ≡ suc k + length (upTo b (take (suc m - suc k) (drop (suc k) (c ∷ t))))
+    go true e h f = absurd (omega (arith, rw (e, upTo) at h))
+    go false e h f =
+        let i : suc k ≤ suc (length (upTo b t)) = (rw (e, upTo) at h) in
+        let n : m - k ≡ suc m - suc k = omega arith in
+        let j = f (omega (arith, i)) (omega arith) in
+        rw (e, upTo) (omega (arith, j, ap (λ (y : ℕ). length (upTo b (take y (drop k t)))) n))
 
 pub cut-at : (x : List ℕ) (m k : ℕ) → k ≤ m → k ≡ length (upTo 59 (take m x)) → take k x ≡ upTo 59 (take m x)
 cut-at x m k h e = sym (take-take k m x h) ∙ (ap (λ (j : ℕ). take j (take m x)) e ∙ take-upTo 59 (take m x))

@@ -220,7 +220,7 @@ same-from m m′ l l′ ((t ∷ ts) ∷ xs) c rs ds ss out out′ ids ids′ S e
     (subst (λ (x : List ℕ). TakesAfter m′ c₁ (rs ++ ls) (from 1 (length (rs ++ ls))) (writtenFrom (ds ++ x) ss₁ xs) out′ ids′) (same-ids m m′ l l′ c rs ds ss ns S e q t ts r s g d)
     (takes-line m m′ l l′ c rs ds ss ns S e q t ts r s g (writtenFrom (ds ++ outIds ds ss ts (formOf (wordIn ts)) (numberTokensIn ts) d) ss₁ xs) out′ ids′ k))
 
-lines-done : (len : ℕ) (s : List ℕ) (rs : List (List ℕ)) (ds : List ℕ) → readText len s ≡ done rs ds → linesRead len s ≡ done rs ds
+pub lines-done : (len : ℕ) (s : List ℕ) (rs : List (List ℕ)) (ds : List ℕ) → readText len s ≡ done rs ds → linesRead len s ≡ done rs ds
 lines-done len s rs ds h = go (whole false len) refl (leb (length s) 65536) refl
   where
     go : (p : Bool) → whole false len ≡ p → (q : Bool) → leb (length s) 65536 ≡ q → linesRead len s ≡ done rs ds

@@ -25,7 +25,7 @@ lowest-some (x ∷ xs) r s e = go (x .1) refl (lowest-some xs r s)
     go true q f = let z : no (x .0) ≡ skip = sym (holds (x .0) (x .1) xs (got r s) q) ∙ e in let w : _≡_ {A = ℕ} 0 1 = cc in omega arith
     go false q f = f (sym (passes (x .0) (x .1) xs (got r s) q) ∙ e)
 
-no-skip : (m : ℕ) (b : Sofar) (t : List ℕ) (ts : List (List ℕ)) → replyAfter m b (t ∷ ts) ≡ skip → ⊥
+pub no-skip : (m : ℕ) (b : Sofar) (t : List ℕ) (ts : List (List ℕ)) → replyAfter m b (t ∷ ts) ≡ skip → ⊥
 unfolding readLine
 no-skip m b t ts e = lowest-some _ _ _ e
 

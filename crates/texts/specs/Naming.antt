@@ -4,7 +4,7 @@ use Prim.Native.Nat.{ℕ, _+_}
 use mathlib.Core.Bool.{Bool, true, false}
 use mathlib.Core.List.{List, [], _∷_}
 use lib.Dec.{eqb}
-use lib.ListN.{length}
+use lib.ListN.{length, getD}
 use Rattle.texts.specs.declared.Num.{Num}
 use Rattle.texts.specs.declared.Num.the-variants.{Bad, Big, Is}
 use Rattle.texts.specs.Split.{split, upTo}
@@ -40,6 +40,10 @@ lineFrom n i (x ∷ xs) = elim (leads n (lineTokens x)) [ true ↦ located i x |
 -- the first line of the text s whose id is n
 abbrev pub lineWith : List ℕ → ℕ → Located
 lineWith s n = lineFrom n 0 (split 10 s)
+
+-- the tokens of the text's line j, counted from 0; none past the end
+abbrev pub textLine : List ℕ → (j : ℕ) → List (List ℕ)
+textLine s j = lineTokens (getD (split 10 s) j [])
 
 -- ---- its name
 

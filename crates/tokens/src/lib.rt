@@ -46,14 +46,14 @@ fn find_two(s: &[u8], i: usize, b: u8) -> usize
     find_byte(s, j, b)
 }
 
-// Whether none of the 16 bytes from i on is b. There is no way out of the loop before its end, so that it is compiled to one comparison of 16 bytes.
-fn lacks(s: &[u8], i: usize, b: u8) -> bool
-    requires { do ⌜ i + 16 ≤ (← ⟦s.len()⟧) ⌝ }
-    ensures { λ r. ⌜ (r ≡ true → length (upTo b (drop i (now (s .entry)))) ≡ 16 + length (upTo b (drop (i + 16) (now (s .entry))))) ⌝ }
+// Whether none of the m bytes from i on is b. There is no way out of the loop before its end, so that it is compiled to one comparison of all bytes where m is 16.
+fn lacks(s: &[u8], i: usize, m: usize, b: u8) -> bool
+    requires { do ⌜ i + m ≤ (← ⟦s.len()⟧) ⌝ }
+    ensures { λ r. ⌜ (r ≡ true → length (upTo b (drop i (now (s .entry)))) ≡ m + length (upTo b (drop (i + m) (now (s .entry))))) ⌝ }
 {
     let mut none = true;
     let mut k: usize = 0;
-    while k < 16 {
+    while k < m {
         if s[i + k] == b {
             none = false;
         }
@@ -62,18 +62,31 @@ fn lacks(s: &[u8], i: usize, b: u8) -> bool
     none
 }
 
+// The place behind those of the blocks of 16 bytes from i on that lack b, as far as e.
+fn pass_blocks(s: &[u8], i: usize, e: usize, b: u8) -> usize
+    requires { do ⌜ (i ≤ e) × (e ≤ (← ⟦s.len()⟧)) ⌝ }
+    ensures { λ r. do
+      ⌜ (i ≤ r) × ((r ≤ (← ⟦s.len()⟧ .entry)) × (i + length (upTo b (drop i (now (s .entry)))) ≡ r + length (upTo b (drop r (now (s .entry)))))) ⌝ }
+{
+    let mut j = i;
+    while j < e {
+        if s.len() - j < 16 {
+            return j;
+        }
+        if !lacks(s, j, 16, b) {
+            return j;
+        }
+        j += 16;
+    }
+    j
+}
+
 // The same as find_byte, for ways that may be long.
 pub fn find_far(s: &[u8], i: usize, b: u8) -> usize
     requires { do ⌜ i ≤ (← ⟦s.len()⟧) ⌝ }
     ensures { λ r. do ⌜ (i ≤ r) × ((r ≤ (← ⟦s.len()⟧ .entry)) × (r ≡ i + length (upTo b (drop i (now (s .entry)))))) ⌝ }
 {
-    let mut j = i;
-    while 16 <= s.len() - j {
-        if !lacks(s, j, b) {
-            return find_two(s, j, b);
-        }
-        j += 16;
-    }
+    let j = pass_blocks(s, i, s.len(), b);
     find_two(s, j, b)
 }
 
@@ -100,8 +113,12 @@ pub fn cut(s: &[u8], i: usize, e: usize) -> usize
     requires { do ⌜ (i ≤ e) × (e ≤ (← ⟦s.len()⟧)) ⌝ }
     ensures { λ r. ⌜ (i ≤ r) × ((r ≤ e) × (take (r - i) (drop i (now (s .entry))) ≡ upTo 59 (take (e - i) (drop i (now (s .entry)))))) ⌝ }
 {
-    let c = find_far(&s[i..e], 0, 59);
-    i + c
+    let j = pass_blocks(s, i, e, 59);
+    if e <= j {
+        return e;
+    }
+    let c = find_two(&s[j..e], 0, 59);
+    j + c
 }
 
 // The place behind a line that ends at e.
@@ -120,6 +137,9 @@ pub fn next(l: &[u8], i: usize) -> Part
     ensures { λ r. do ⌜ (r .from ≤ r .to) × ((r .to ≤ (← ⟦l.len()⟧ .entry)) × NextToken (now (l .entry)) i (r .from) (r .to)) ⌝ }
 {
     let a = skip(l, i);
+    if a == l.len() {
+        return Part { from: a, to: a };
+    }
     let z = find_far(l, a, 32);
     Part { from: a, to: z }
 }

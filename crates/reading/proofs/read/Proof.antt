@@ -50,7 +50,7 @@ read-lines-requires : tie.Need-read-lines-requires
 read-lines-requires c κs =
     let k = c .before .before .before .before .before .before .before .before .before .before .before .clear in
     let zeros = k .ensures ∙ ap (λ (n : ℕ). replicate {A = ℕ} n 0) (sym (k .kept .0)) in
-    let names = length-replicate {A = ℕ} 5633 0 in
+    let names = length-replicate {A = ℕ} 897 0 in
     (c .before .before .before .before .before .before .if2 .left, (zeros, (length-replicate 16385 blank, (shows-none (fresh 0 16385 (λ h. omega arith)), (c .before .before .before .before .before .all .ensures, (ap (λ (n : ℕ). replicate {A = ℕ} n 0) (sym names), omega (arith, names, c .before .before .before .before .if3 .taken)))))))
 
 same-length-3 : tie.Need-same-length-3
@@ -71,20 +71,66 @@ slice-aggregate-read-lines-4 c = search needs
 
 read-lines-requires-2 : tie.Need-read-lines-requires-2
 read-lines-requires-2 c κs =
-    let k = c .before .before .before .before .before .before .before .before .before .before .before .clear in
+    let k = c .before .before .before .before .before .before .before .before .before .before .before .before .clear in
     let zeros = k .ensures ∙ ap (λ (n : ℕ). replicate {A = ℕ} n 0) (sym (k .kept .0)) in
-    let names = length-replicate {A = ℕ} 28674 0 in
-    (c .before .before .before .before .before .before .if2 .left, (zeros, (length-replicate 16385 blank, (shows-none (fresh 0 16385 (λ h. omega arith)), (c .before .before .before .before .before .all .ensures, (ap (λ (n : ℕ). replicate {A = ℕ} n 0) (sym names), omega (arith, names, c .before .before .before .before .before .before .if2 .left)))))))
+    let names = length-replicate {A = ℕ} 2049 0 in
+    (c .before .before .before .before .before .before .before .if2 .left, (zeros, (length-replicate 16385 blank, (shows-none (fresh 0 16385 (λ h. omega arith)), (c .before .before .before .before .before .before .all .ensures, (ap (λ (n : ℕ). replicate {A = ℕ} n 0) (sym names), omega (arith, names, c .before .before .before .before .if4 .taken)))))))
 
 same-length-4 : tie.Need-same-length-4
-same-length-4 c = c .before .before .before .before .read-lines2 .kept .1 .0 ∙ c .before .before .before .before .before .before .before .before .before .before .before .before .before .before .before .before .clear .kept .0
+same-length-4 c = c .before .before .before .before .read-lines2 .kept .1 .0 ∙ c .before .before .before .before .before .before .before .before .before .before .before .before .before .before .before .before .before .clear .kept .0
 
 returns-4 : tie.Need-returns-4
 returns-4 c =
-    let s = c .before .before .before .before .before .before .before .before .before .before .before .before .before .before .before .before .before .before .before .before .args in
-    let k = c .before .before .before .before .before .before .before .before .before .before .before .before .before .before .before .before .clear in
-    let whole = sym (c .before .before .before .before .before .before .before .before .before .before .before .before .before .is-table .ensures) ∙ not-false _ (c .before .before .before .before .before .before .before .before .before .before .before .before .if1 .left) in
-    out-lines (length (s .table .now)) (length (k .last .0)) (s .text .now) (k .kept .0) whole (c .before .before .before .before .before .before .before .before .before .before .before .if2 .left) (c .before .before .before .before .read-lines2 .ensures)
+    let s = c .before .before .before .before .before .before .before .before .before .before .before .before .before .before .before .before .before .before .before .before .before .args in
+    let k = c .before .before .before .before .before .before .before .before .before .before .before .before .before .before .before .before .before .clear in
+    let whole = sym (c .before .before .before .before .before .before .before .before .before .before .before .before .before .before .is-table .ensures) ∙ not-false _ (c .before .before .before .before .before .before .before .before .before .before .before .before .before .if1 .left) in
+    out-lines (length (s .table .now)) (length (k .last .0)) (s .text .now) (k .kept .0) whole (c .before .before .before .before .before .before .before .before .before .before .before .before .if2 .left) (c .before .before .before .before .read-lines2 .ensures)
+
+slice-aggregate-read-lines-5 : tie.Need-slice-aggregate-read-lines-5
+slice-aggregate-read-lines-5 c = search needs
+
+slice-aggregate-read-lines-6 : tie.Need-slice-aggregate-read-lines-6
+slice-aggregate-read-lines-6 c = search needs
+
+read-lines-requires-3 : tie.Need-read-lines-requires-3
+read-lines-requires-3 c κs =
+    let k = c .before .before .before .before .before .before .before .before .before .before .before .before .before .clear in
+    let zeros = k .ensures ∙ ap (λ (n : ℕ). replicate {A = ℕ} n 0) (sym (k .kept .0)) in
+    let names = length-replicate {A = ℕ} 6657 0 in
+    (c .before .before .before .before .before .before .before .before .if2 .left, (zeros, (length-replicate 16385 blank, (shows-none (fresh 0 16385 (λ h. omega arith)), (c .before .before .before .before .before .before .before .all .ensures, (ap (λ (n : ℕ). replicate {A = ℕ} n 0) (sym names), omega (arith, names, c .before .before .before .before .if5 .taken)))))))
+
+same-length-5 : tie.Need-same-length-5
+same-length-5 c = c .before .before .before .before .read-lines3 .kept .1 .0 ∙ c .before .before .before .before .before .before .before .before .before .before .before .before .before .before .before .before .before .before .clear .kept .0
+
+returns-5 : tie.Need-returns-5
+returns-5 c =
+    let s = c .before .before .before .before .before .before .before .before .before .before .before .before .before .before .before .before .before .before .before .before .before .before .args in
+    let k = c .before .before .before .before .before .before .before .before .before .before .before .before .before .before .before .before .before .before .clear in
+    let whole = sym (c .before .before .before .before .before .before .before .before .before .before .before .before .before .before .before .is-table .ensures) ∙ not-false _ (c .before .before .before .before .before .before .before .before .before .before .before .before .before .before .if1 .left) in
+    out-lines (length (s .table .now)) (length (k .last .0)) (s .text .now) (k .kept .0) whole (c .before .before .before .before .before .before .before .before .before .before .before .before .before .if2 .left) (c .before .before .before .before .read-lines3 .ensures)
+
+slice-aggregate-read-lines-7 : tie.Need-slice-aggregate-read-lines-7
+slice-aggregate-read-lines-7 c = search needs
+
+slice-aggregate-read-lines-8 : tie.Need-slice-aggregate-read-lines-8
+slice-aggregate-read-lines-8 c = search needs
+
+read-lines-requires-4 : tie.Need-read-lines-requires-4
+read-lines-requires-4 c κs =
+    let k = c .before .before .before .before .before .before .before .before .before .before .before .before .before .clear in
+    let zeros = k .ensures ∙ ap (λ (n : ℕ). replicate {A = ℕ} n 0) (sym (k .kept .0)) in
+    let names = length-replicate {A = ℕ} 25090 0 in
+    (c .before .before .before .before .before .before .before .before .if2 .left, (zeros, (length-replicate 16385 blank, (shows-none (fresh 0 16385 (λ h. omega arith)), (c .before .before .before .before .before .before .before .all .ensures, (ap (λ (n : ℕ). replicate {A = ℕ} n 0) (sym names), omega (arith, names, c .before .before .before .before .before .before .before .before .if2 .left)))))))
+
+same-length-6 : tie.Need-same-length-6
+same-length-6 c = c .before .before .before .before .read-lines4 .kept .1 .0 ∙ c .before .before .before .before .before .before .before .before .before .before .before .before .before .before .before .before .before .before .clear .kept .0
+
+returns-6 : tie.Need-returns-6
+returns-6 c =
+    let s = c .before .before .before .before .before .before .before .before .before .before .before .before .before .before .before .before .before .before .before .before .before .before .args in
+    let k = c .before .before .before .before .before .before .before .before .before .before .before .before .before .before .before .before .before .before .clear in
+    let whole = sym (c .before .before .before .before .before .before .before .before .before .before .before .before .before .before .before .is-table .ensures) ∙ not-false _ (c .before .before .before .before .before .before .before .before .before .before .before .before .before .before .if1 .left) in
+    out-lines (length (s .table .now)) (length (k .last .0)) (s .text .now) (k .kept .0) whole (c .before .before .before .before .before .before .before .before .before .before .before .before .before .if2 .left) (c .before .before .before .before .read-lines4 .ensures)
 
 pub read-spec : {M : Type 1} → statement M
 read-spec =
@@ -106,4 +152,14 @@ read-spec =
     slice-aggregate-read-lines-4
     read-lines-requires-2
     same-length-4
-    returns-4)
+    returns-4
+    slice-aggregate-read-lines-5
+    slice-aggregate-read-lines-6
+    read-lines-requires-3
+    same-length-5
+    returns-5
+    slice-aggregate-read-lines-7
+    slice-aggregate-read-lines-8
+    read-lines-requires-4
+    same-length-6
+    returns-6)
