@@ -9,7 +9,7 @@ ghost use Rattle.texts.specs.Names.{among};
 ghost use Rattle.texts.specs.Model.Chains.{hashes, hashOf, countIn, namesIn, Chained, HasRoom};
 
 // The hashes of names are below this.
-const HASHES: usize = 512;
+const HASHES: usize = 1024;
 
 fn wide(x: u16) -> usize
     ensures { λ r. ⌜ r ≡ x ⌝ }

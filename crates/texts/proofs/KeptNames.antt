@@ -3,7 +3,7 @@ use Prim.Native.Nat.{ℕ, zero, suc, _+_, _-_, _*_, _≤_, _<_, min}
 use mathlib.Core.Path.{_≡_, refl, sym, ap, _∙_, subst}
 use mathlib.Core.List.{List, [], _∷_}
 use native.Mathlib.Omega.{arith}
-use lib.ListN.{length, take, drop, replicate, length-take, length-drop}
+use lib.ListN.{length, take, drop, replicate, length-replicate, length-take, length-drop}
 use Rattle.texts.specs.declared.Readout.{Readout}
 use Rattle.texts.specs.Split.{tokens}
 use Rattle.texts.specs.Names.{withName}
@@ -21,6 +21,10 @@ pub record KeptNames (s w : List ℕ) (i : ℕ) (ns : List (List ℕ)) : Type 0 
   pub are : namesIn s w ≡ ns
   pub few : i < length s → 8 * length ns ≤ i
   pub ample : Ample s w
+
+-- a list of m zeros
+pub clear-names : (m : ℕ) (s : List ℕ) → 8 * (hashes + 1) + 3 * (length s + 1) ≤ 8 * m → (replicate {A = ℕ} m 0 ≡ replicate {A = ℕ} (length (replicate {A = ℕ} m 0)) 0) × Ample s (replicate {A = ℕ} m 0)
+clear-names m s h = let e = length-replicate {A = ℕ} m 0 in (ap (λ (n : ℕ). replicate {A = ℕ} n 0) (sym e), omega (arith, e))
 
 pub no-names : {s w : List ℕ} → w ≡ replicate (length w) 0 → Ample s w → KeptNames s w 0 []
 no-names {s} {w} z a =

@@ -46,14 +46,14 @@ fn find_two(s: &[u8], i: usize, b: u8) -> usize
     find_byte(s, j, b)
 }
 
-// Whether none of the m bytes from i on is b. There is no way out of the loop before its end, so that it is compiled to one comparison of all bytes where m is 16.
-fn lacks(s: &[u8], i: usize, m: usize, b: u8) -> bool
-    requires { do ⌜ i + m ≤ (← ⟦s.len()⟧) ⌝ }
-    ensures { λ r. ⌜ (r ≡ true → length (upTo b (drop i (now (s .entry)))) ≡ m + length (upTo b (drop (i + m) (now (s .entry))))) ⌝ }
+// Whether none of the 16 bytes from i on is b. There is no way out of the loop before its end, so that it is compiled to one comparison of all 16.
+fn lacks(s: &[u8], i: usize, b: u8) -> bool
+    requires { do ⌜ i + 16 ≤ (← ⟦s.len()⟧) ⌝ }
+    ensures { λ r. ⌜ (r ≡ true → length (upTo b (drop i (now (s .entry)))) ≡ 16 + length (upTo b (drop (i + 16) (now (s .entry))))) ⌝ }
 {
     let mut none = true;
     let mut k: usize = 0;
-    while k < m {
+    while k < 16 {
         if s[i + k] == b {
             none = false;
         }
@@ -73,7 +73,7 @@ fn pass_blocks(s: &[u8], i: usize, e: usize, b: u8) -> usize
         if s.len() - j < 16 {
             return j;
         }
-        if !lacks(s, j, 16, b) {
+        if !lacks(s, j, b) {
             return j;
         }
         j += 16;

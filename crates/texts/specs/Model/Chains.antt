@@ -8,10 +8,10 @@ use lib.Dec.{eqb, leb}
 use lib.ListN.{length, take, drop, getD}
 use Rattle.tables.specs.Pick.{pick}
 
--- ---- the hash of a name, below 512: of every byte where it has less than 32, else of some 16 to 32 of them, the last among them
+-- ---- the hash of a name, below 1024: of every byte where it has less than 32, else of some 16 to 32 of them, the last among them
 
 abbrev pub hashes : ℕ
-hashes = 512
+hashes = 1024
 
 abbrev pub mixed : (h b : ℕ) → ℕ
 mixed h b = (h * 37 + b) % hashes

@@ -13,10 +13,10 @@ use Rattle.tokens.proofs.lacks.Statement.{statement}
 use Rattle.tokens.proofs.lacks.Tie as tie
 
 abbrev Inv-loop : tie.InvT-loop
-Inv-loop s i m b none₀ k₀ none k = (k ≤ m) × (none ≡ true → length (upTo b (drop i s)) ≡ k + length (upTo b (drop (i + k) s)))
+Inv-loop s i b none₀ k₀ none k = (k ≤ 16) × (none ≡ true → length (upTo b (drop i s)) ≡ k + length (upTo b (drop (i + k) s)))
 
 abbrev μ-loop : tie.MeasureT-loop
-μ-loop s i m b none₀ k₀ none k = m - k
+μ-loop s i b none₀ k₀ none k = 16 - k
 
 loop-holds : tie.Need-loop-holds Inv-loop μ-loop
 loop-holds c =
@@ -59,7 +59,7 @@ returns c =
     let b : ℕ = c .before .before .args .b in
     let s : List ℕ = c .before .before .args .s .now in
     let i : ℕ = c .before .before .args .i in
-    let k : l .k ≡ c .before .before .args .m = omega (arith, l .inv .0, c .loop-test .left) in
+    let k : l .k ≡ 16 = omega (arith, l .inv .0, c .loop-test .left) in
     λ e. l .inv .1 e ∙ ap (λ (n : ℕ). n + length (upTo b (drop (i + n) s))) k
 
 pub lacks-spec : {M : Type 1} → statement M
