@@ -3,10 +3,10 @@ ghost use mathlib.Core.Path.{_≡_};
 ghost use mathlib.Core.Bool.{true, not};
 ghost use mathlib.Core.List.{_∷_};
 ghost use Prim.Native.Nat.{_+_, _-_, _≤_, _<_};
-ghost use lib.ListN.{length, take, drop};
+ghost use lib.ListN.{length, take, drop, getD};
 ghost use Rattle.texts.specs.Split.{sameBytes};
 ghost use Rattle.texts.specs.Names.{among};
-ghost use Rattle.texts.specs.Model.Chains.{hashes, hashOf, countIn, namesIn, Chained, HasRoom};
+ghost use Rattle.texts.specs.Model.Chains.{hashes, hashFrom, hashOf, countIn, namesIn, Chained, HasRoom};
 
 // The hashes of names are below this.
 const HASHES: usize = 1024;
@@ -17,18 +17,45 @@ fn wide(x: u16) -> usize
     x as usize
 }
 
+// The byte at the place i.
+fn byte(t: &[u8], i: usize) -> usize
+    requires { ⌜ i < length (now t) ⌝ }
+    ensures { λ r. ⌜ (r ≡ getD (now (t .entry)) i 0) × (r < 256) ⌝ }
+{
+    t[i] as usize
+}
+
+// The hash of a name by the bytes before the place `from`, each step-th one, where `start` is that of those behind.
+fn hash_rest(t: &[u8], step: usize, start: usize, from: usize) -> usize
+    requires { ⌜ (1 ≤ step) × (start < hashes) × (from ≤ length (now t)) ⌝ }
+    ensures { λ r. ⌜ (r ≡ hashFrom from step (now (t .entry)) start from) × (r < hashes) ⌝ }
+{
+    let mut h = start;
+    let mut p = from;
+    while step <= p {
+        h = (h * 37 + byte(t, p - 1)) % HASHES;
+        p -= step;
+    }
+    h
+}
+
 // The hash of a name.
 fn hash(t: &[u8]) -> usize
+    requires { ⌜ length (now t) ≤ 65536 ⌝ }
     ensures { λ r. ⌜ (r ≡ hashOf (now (t .entry))) × (r < hashes) ⌝ }
 {
     let step = t.len() / 32 + 1;
     let mut h = t.len() % HASHES;
     let mut p = t.len();
-    while step <= p {
-        h = (h * 37 + t[p - 1] as usize) % HASHES;
-        p -= step;
+    while 4 * step <= p {
+        let a = byte(t, p - 1);
+        let b = byte(t, p - step - 1);
+        let c = byte(t, p - 2 * step - 1);
+        let d = byte(t, p - 3 * step - 1);
+        h = (h * 1874161 + a * 50653 + b * 1369 + c * 37 + d) % HASHES;
+        p -= 4 * step;
     }
-    h
+    hash_rest(t, step, h, p)
 }
 
 // Two names are the same.

@@ -11,38 +11,37 @@ ghost use mathlib.Core.List.{[], _∷_};
 ghost use Prim.Native.Nat.{_≤_};
 ghost use lib.ListN.{length, replicate};
 ghost use Rattle.tables.specs.Answers.{told};
+ghost use Rattle.tables.specs.Kinds.{rows};
+ghost use Rattle.tables.specs.Model.Notes.{Shows};
+ghost use Rattle.tables.specs.Types.{noCtx};
 ghost use Rattle.texts.specs.Reading.{linesRead, outcomeOf, reads};
-ghost use Rattle.texts.specs.Model.Chains.{Ample};
 
-// The lines of a text into a table of zeros; the names are kept in a list of zeros.
-fn with_names(text: &[u8], table: &mut [u64], names: &mut [u16]) -> Answer
-    requires { ⌜ (length (now text) ≤ 65536) × ((now table ≡ replicate (length (now table)) 0) × ((now names ≡ replicate (length (now names)) 0) × Ample (now text) (now names))) ⌝ }
-    ensures { λ r. ⌜ told r (now (table .exit) ∷ []) ≡ outcomeOf (length (now (table .entry))) (linesRead (length (now (table .entry))) (now (text .entry))) ⌝ }
-{
-    let kinds = kinds::all();
-    let mut notes = [[0u8; BYTES]; 16385];
-    lines::read_lines(text, table, &kinds, &mut notes, names)
-}
-
-// The same with a list that has room for the names: 1,025 places and three more for each eight bytes of the text. It is cleared for each text, so a short text takes a short one.
-fn with_room(text: &[u8], table: &mut [u64]) -> Answer
-    requires { ⌜ (length (now text) ≤ 65536) × (now table ≡ replicate (length (now table)) 0) ⌝ }
+// The lines of a text into a table of zeros, with a list that has room for the names: 1,025 places and three more for each eight bytes of the text. It is cleared for each
+// text, so a short text takes a short one. kinds are the rows of all kinds.
+fn with_room(
+    text: &[u8],
+    table: &mut [u64],
+    kinds: &[[u8; 16]; 55],
+    notes: &mut [[u8; BYTES]],
+) -> Answer
+    requires { ⌜ (length (now text) ≤ 65536) × ((now table ≡ replicate (length (now table)) 0) × ((length (now notes) ≡ 16385)
+        × (Shows (now notes) noCtx × (now kinds ≡ rows)))) ⌝ }
     ensures { λ r. ⌜ told r (now (table .exit) ∷ []) ≡ outcomeOf (length (now (table .entry))) (linesRead (length (now (table .entry))) (now (text .entry))) ⌝ }
 {
     if text.len() < 1024 {
         let mut few = [0u16; 1409];
-        return with_names(text, table, &mut few);
+        return lines::read_lines(text, table, kinds, notes, &mut few);
     }
     if text.len() < 4096 {
         let mut some = [0u16; 2561];
-        return with_names(text, table, &mut some);
+        return lines::read_lines(text, table, kinds, notes, &mut some);
     }
     if text.len() < 16384 {
         let mut many = [0u16; 7169];
-        return with_names(text, table, &mut many);
+        return lines::read_lines(text, table, kinds, notes, &mut many);
     }
     let mut names = [0u16; 25602];
-    with_names(text, table, &mut names)
+    lines::read_lines(text, table, kinds, notes, &mut names)
 }
 
 // Reads a text into a table.
@@ -56,5 +55,7 @@ pub fn read(text: &[u8], table: &mut [u64]) -> Answer
     if 65536 < text.len() {
         return Answer::Refused(Refusal::TextTooLong, 0);
     }
-    with_room(text, table)
+    let kinds = kinds::all();
+    let mut notes = [[0u8; BYTES]; 16385];
+    with_room(text, table, &kinds, &mut notes)
 }

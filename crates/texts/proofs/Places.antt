@@ -9,6 +9,7 @@ use lib.ListN.{length, take, drop, getD, drop-of-length-le, length-drop}
 use lib.Seq.{drop-drop, getD-drop, take-take}
 use borrow.Author.Tests.{ne-eqb}
 use Rattle.texts.specs.Split.{split, upTo, nonEmpty, tokens}
+use Rattle.texts.proofs.Scan.{upTo-end}
 use Rattle.texts.specs.Model.Structs.{several}
 
 -- ---- from a place to the first part
@@ -103,6 +104,26 @@ upTo-take b (c ∷ t) (suc k) (suc m) h l = go (eqb c b) refl h (upTo-take b t k
         let n : m - k ≡ suc m - suc k = omega arith in
         let j = f (omega (arith, i)) (omega arith) in
         rw (e, upTo) (omega (arith, j, ap (λ (y : ℕ). length (upTo b (take y (drop k t)))) n))
+
+pub upTo-drop : (b : ℕ) (x : List ℕ) (k : ℕ) → k ≤ length (upTo b x) → length (upTo b x) ≡ k + length (upTo b (drop k x))
+unfolding upTo
+upTo-drop b x zero h = omega arith
+upTo-drop b [] (suc k) h = absurd (omega arith)
+upTo-drop b (c ∷ t) (suc k) h = go (eqb c b) refl h (upTo-drop b t k)
+  where
+    go : (q : Bool) → eqb c b ≡ q → suc k ≤ length (upTo b (c ∷ t)) → (k ≤ length (upTo b t) → length (upTo b t) ≡ k + length (upTo b (drop k t)))
+        → length (upTo b (c ∷ t)) ≡ suc k + length (upTo b (drop (suc k) (c ∷ t)))
+    go true e h f = absurd (omega (arith, rw (e, upTo) at h))
+    go false e h f = let i : suc k ≤ suc (length (upTo b t)) = (rw (e, upTo) at h) in rw (e, upTo) (omega (arith, f (omega (arith, i))))
+
+-- none among the last 16 bytes, and so none behind j
+pub last-block : (b : ℕ) (s : List ℕ) (e j : ℕ) → e + 16 ≡ length s → e ≤ j → j ≤ length s → length (upTo b (drop e s)) ≡ 16 + length (upTo b (drop (e + 16) s))
+    → j + length (upTo b (drop j s)) ≡ length s
+last-block b s e j l a c h =
+    let d : e + (j - e) ≡ j = omega arith in
+    let k = upTo-drop b (drop e s) (j - e) (omega (arith, h, l, c)) in
+    let q = ap (λ (x : List ℕ). length (upTo b x)) (drop-drop (j - e) e s ∙ ap (λ (n : ℕ). drop n s) d) in
+    omega (arith, h, k, q, ap length (upTo-end b s (e + 16) (omega arith)))
 
 pub cut-at : (x : List ℕ) (m k : ℕ) → k ≤ m → k ≡ length (upTo 59 (take m x)) → take k x ≡ upTo 59 (take m x)
 cut-at x m k h e = sym (take-take k m x h) ∙ (ap (λ (j : ℕ). take j (take m x)) e ∙ take-upTo 59 (take m x))

@@ -90,6 +90,32 @@ pub fn find_far(s: &[u8], i: usize, b: u8) -> usize
     find_two(s, j, b)
 }
 
+// Whether b is none of the bytes from j on, which are less than a block: asked of the last 16 bytes, where a block has been passed since i.
+fn rest_lacks(s: &[u8], i: usize, j: usize, b: u8) -> bool
+    requires { do ⌜ (i ≤ j) × (j ≤ (← ⟦s.len()⟧)) ⌝ }
+    ensures { λ r. do ⌜ (r ≡ true → j + length (upTo b (drop j (now (s .entry)))) ≡ (← ⟦s.len()⟧ .entry)) ⌝ }
+{
+    if j - i < 16 {
+        return false;
+    }
+    if 16 <= s.len() - j {
+        return false;
+    }
+    lacks(s, s.len() - 16, b)
+}
+
+// The same as find_far, where b is likely to be missing.
+fn find_rare(s: &[u8], i: usize, b: u8) -> usize
+    requires { do ⌜ i ≤ (← ⟦s.len()⟧) ⌝ }
+    ensures { λ r. do ⌜ (i ≤ r) × ((r ≤ (← ⟦s.len()⟧ .entry)) × (r ≡ i + length (upTo b (drop i (now (s .entry)))))) ⌝ }
+{
+    let j = pass_blocks(s, i, s.len(), b);
+    if rest_lacks(s, i, j, b) {
+        return s.len();
+    }
+    find_two(s, j, b)
+}
+
 // The first place from i on that holds no space, or the length of s.
 pub fn skip(s: &[u8], i: usize) -> usize
     requires { do ⌜ i ≤ (← ⟦s.len()⟧) ⌝ }
@@ -140,6 +166,6 @@ pub fn next(l: &[u8], i: usize) -> Part
     if a == l.len() {
         return Part { from: a, to: a };
     }
-    let z = find_far(l, a, 32);
+    let z = find_rare(l, a, 32);
     Part { from: a, to: z }
 }

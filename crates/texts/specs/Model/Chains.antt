@@ -13,16 +13,28 @@ use Rattle.tables.specs.Pick.{pick}
 abbrev pub hashes : ℕ
 hashes = 1024
 
+-- one byte more, and four at once, which wait less for one another
 abbrev pub mixed : (h b : ℕ) → ℕ
 mixed h b = (h * 37 + b) % hashes
+
+abbrev pub mixedFour : (h a b c d : ℕ) → ℕ
+mixedFour h a b c d = (h * 1874161 + a * 50653 + b * 1369 + c * 37 + d) % hashes
 
 -- of the bytes before the place p, each step-th one from the last on, and at most m of them
 abbrev pub hashFrom : (m step : ℕ) (t : List ℕ) (h p : ℕ) → ℕ
 hashFrom zero step t h p = h
 hashFrom (suc m) step t h p = pick (leb step p) (hashFrom m step t (mixed h (getD t (p - 1) 0)) (p - step)) h
 
+-- as many as there are four of, and then the others
+abbrev pub hashFours : (m step : ℕ) (t : List ℕ) (h p : ℕ) → ℕ
+hashFours zero step t h p = hashFrom p step t h p
+hashFours (suc m) step t h p =
+    pick (leb (4 * step) p)
+    (hashFours m step t (mixedFour h (getD t (p - 1) 0) (getD t (p - step - 1) 0) (getD t (p - 2 * step - 1) 0) (getD t (p - 3 * step - 1) 0)) (p - 4 * step))
+    (hashFrom p step t h p)
+
 unfoldable pub hashOf : List ℕ → ℕ
-hashOf t = hashFrom (length t) (length t / 32 + 1) t (length t % hashes) (length t)
+hashOf t = hashFours (length t) (length t / 32 + 1) t (length t % hashes) (length t)
 
 -- ---- the list
 

@@ -21,16 +21,16 @@ returns c =
     let end : a ≡ length l = c .if1 .taken in
     (omega arith, (k .1 .0, (λ h. absurd (omega arith), λ e. (end, sym (k .1 .1 .0) ∙ no-token l a (omega (arith, end))))))
 
-find-far-requires : tie.Need-find-far-requires
-find-far-requires c κs = search needs
+find-rare-requires : tie.Need-find-rare-requires
+find-rare-requires c κs = search needs
 
 returns-2 : tie.Need-returns-2
 returns-2 c =
     let l : List ℕ = c .before .before .before .before .args .l .now in
     let a : ℕ = c .before .before .skip .result in
-    let z : ℕ = c .find-far .result in
+    let z : ℕ = c .find-rare .result in
     let k = c .before .before .skip .ensures in
-    let f = c .find-far .ensures in
+    let f = c .find-rare .ensures in
     let on : a < length l = omega (arith, k .1 .0, c .before .if1 .left) in (
       f .0,
       (
@@ -43,4 +43,4 @@ returns-2 c =
     )
 
 pub next-spec : {M : Type 1} → statement M
-next-spec = tie.close (tie.spec skip-requires returns find-far-requires returns-2)
+next-spec = tie.close (tie.spec skip-requires returns find-rare-requires returns-2)
