@@ -4,7 +4,7 @@
 //! rust/tests, runs with the two interpreters of this crate. Each is measured at three sizes, the sides taking turns. Texts
 //! with gaps in their ids are measured beside texts of the same lines without, register files with inits beside the same
 //! files with nexts, which need no cone; the independent implementation searches the cone of each init value. Texts with
-//! minus operands stand by themselves (`minus.rs`).
+//! minus operands stand by themselves (`minus.rs`); texts full of names stand beside the same lines without (`names.rs`).
 //! `bash bench/run -- write` measures one operation alone, `-- edges` the inputs that could take long. `bench profile write` calls the proved one at its largest size
 //! and measures nothing; `bench/profile` runs that under callgrind.
 #![allow(dead_code, unused_imports)]
@@ -24,6 +24,7 @@ mod generator;
 mod independent;
 mod interpreter;
 mod minus;
+mod names;
 
 use generator::Random;
 use gofeshan::interface as proved;
@@ -203,9 +204,9 @@ fn read_row(table: &mut Table, name: &str, size: &str, lines: &Lines) {
     text_row(table, name, &size, &text, lines);
 }
 
-/// The row of a text and of the records that it gives.
+/// The row of a text and of the records that it gives; the times.
 #[cfg(feature = "read")]
-fn text_row(table: &mut Table, name: &str, size: &str, text: &[u8], lines: &Lines) {
+fn text_row(table: &mut Table, name: &str, size: &str, text: &[u8], lines: &Lines) -> [f64; 2] {
     let words = lines.words();
     let (mut a, mut b) = (vec![1; words.len()], vec![2; words.len()]);
     let (mut x, mut y) = ([1; 3], [2; 3]);
@@ -214,6 +215,7 @@ fn text_row(table: &mut Table, name: &str, size: &str, text: &[u8], lines: &Line
     }]);
     assert!(a == b && x == y && a == words);
     table.row(name, size, text.len() as f64, "byte", &times);
+    times
 }
 
 /// The ids of so many lines: 1, 2, 3; 2, 4, 6; or anywhere up to 4,294,967,295, so that a gap is some millions.
@@ -587,15 +589,17 @@ fn main() {
     println!("Runs: `plain` decodes the lines once, `same shape` walks the columns and looks up places and widths, as the proved run does.");
     println!("Circuits of one kind of line (`adds alone`) stand beside those of all kinds, where branches are hard to foresee.");
     println!("Minus operands: `ites` are lines `n ite 1 -2 -2 -2`, `mixed` are lines of all kinds in which about every second operand that may have a minus has one.");
+    println!("Names: lines `n bad 2 NAME` beside the lines `n bad 2`; the names of `one hash` are all looked through for each of them.");
     println!("Register files, as texts and as tables: the values are all the last line of one chain (`chain`), or each a line over the one before (`deep`).\n");
     println!(
         "{:<12} {:<34} {:>10} {:>10} {:>6} {:>10} {:>6} {:>24} {:>6} {:>6}",
         "operation", "size", "proved", "plain", "ratio", "same shape", "ratio", "proved per unit", "growth", "plain"
     );
-    let rows: [(&str, fn()); 12] = [
+    let rows: [(&str, fn()); 13] = [
         ("read", read_rows),
         ("read_gaps", gap_rows),
         ("read_minus", minus::rows),
+        ("read_names", names::rows),
         ("read_inits", init_rows),
         ("check_inits", check_rows),
         ("write", write_rows),

@@ -21,7 +21,8 @@
 //! with a minus is the complement of the line that it names: for each, reading
 //! puts a not record with the id 0 before the line's own record. Only not records
 //! may have that id, and no operand names it. Flat circuits and written texts are
-//! numbered 1, 2, 3, their not lines too.
+//! numbered 1, 2, 3, their not lines too. A line may have a name, one token behind
+//! its numbers, that no earlier line has; tables hold no names.
 //!
 //! Every operation ends with a listed answer. A refusal is a number
 //! ([`Refusal::number`], documented by [`Refusal::reason`]); after it
@@ -166,8 +167,8 @@ pub mod interface {
     }
 
     /// Reads a text into a table. `answer[0]` is the number of records, one for each
-    /// line and one for each minus operand, or with a refusal from 3 to 10 the text
-    /// line's number, from 1.
+    /// line and one for each minus operand, or with a refusal from 3 to 10 or 22 the
+    /// text line's number, from 1.
     #[cfg(feature = "read")]
     pub fn read(text: &[u8], table: &mut [u64], answer: &mut [u64]) -> u64 {
         // SAFETY: each pointer comes with the length of its slice.
@@ -346,9 +347,9 @@ pub mod interface {
 /// Why an operation refused.
 #[derive(Clone, Copy, PartialEq, Eq, Debug)]
 pub struct Refusal {
-    /// From 1 to 21.
+    /// From 1 to 22.
     pub number: u64,
-    /// The text line, from 1, with the numbers 3 to 10; else 0.
+    /// The text line, from 1, with the numbers 3 to 10 and 22; else 0.
     pub line: u64,
 }
 
@@ -377,6 +378,7 @@ impl Refusal {
             19 => "an array sort is present",
             20 => "the count exceeds the program, or a record breaks a rule",
             21 => "the text buffer is too short",
+            22 => "the name stands on an earlier line already",
             _ => "no refusal",
         }
     }

@@ -15,6 +15,8 @@ mod generator;
 mod independent;
 #[path = "compare/minus.rs"]
 mod minus;
+#[path = "compare/names.rs"]
+mod names;
 
 use generator::*;
 use gofeshan::interface as proved;
@@ -161,7 +163,8 @@ fn read_case(random: &mut Random) -> u64 {
             (0..n).map(|_| random.pick(b"0123 ;\nsortbivec\t")).collect()
         }
         1 => babble(random),
-        2..=6 => text(random, &lines),
+        2..=4 => text(random, &lines),
+        5 | 6 => named_text(random, &lines),
         7 if random.one_in(20) => {
             let mut text = text(random, &lines);
             text.resize(65_536 + random.below(3), random.pick(b" \n;x"));
@@ -178,7 +181,7 @@ fn read_case(random: &mut Random) -> u64 {
 #[cfg(feature = "read")]
 #[test]
 fn reading() {
-    cases("read", 20_000, &[0, 1, 2, 3, 4, 5, 6, 7, 8, 9, 10], read_case);
+    cases("read", 20_000, &[0, 1, 2, 3, 4, 5, 6, 7, 8, 9, 10, 22], read_case);
 }
 
 #[cfg(feature = "read")]
@@ -1117,6 +1120,7 @@ fn name_case(random: &mut Random) -> u64 {
             }
             text
         }
+        3 => named_text(random, &lines),
         _ => text(random, &lines),
     };
     let id = match random.below(20) {

@@ -1,9 +1,11 @@
 //! Inputs that could take long: each call has to end within 10 ms, or 100 ms where all the lines of the largest tables are
-//! flattened. The time is the least of some calls, as other tests may run beside it.
+//! flattened, and where all names of a text have one hash. The time is the least of some calls, as other tests may run beside
+//! it.
 #![allow(unused_imports, dead_code)]
 
 use std::time::{Duration, Instant};
 
+mod generator;
 mod independent;
 
 const MOST: Duration = Duration::from_millis(10);
@@ -129,6 +131,32 @@ fn reading() {
             assert_eq!(answer.map_err(|r| (r.number, r.line)), told, "{name}");
             println!("reading {name}, {} bytes: {took:?}", text.len());
             assert!(took < MOST, "reading {name} took {took:?}");
+        }
+    });
+}
+
+/// Texts full of names that all differ; and with the first of them once more on the last line. Names of one hash are all looked
+/// through for each of them.
+#[cfg(feature = "read")]
+#[test]
+fn reading_names() {
+    use generator::names::{bad_lines, fitting, SERIES};
+    on_stack(|| {
+        let mut table = vec![1; gofeshan::RECORD * gofeshan::MOST_RECORDS];
+        for (name, series) in SERIES {
+            let mut names = fitting(series, gofeshan::MOST_TEXT);
+            let n = names.len() + 2;
+            for told in [Ok(n), Err((22, n as u64))] {
+                if told.is_err() {
+                    *names.last_mut().unwrap() = names[0].clone();
+                }
+                let (text, mut answer) = (bad_lines(&names), Ok(0));
+                let took = least(|| answer = gofeshan::read(&text, &mut table));
+                assert_eq!(answer.map_err(|r| (r.number, r.line)), told, "{name}");
+                println!("reading {} names, {name}, {} bytes: {took:?}", names.len(), text.len());
+                let most = if name == "one hash" { 10 * MOST } else { MOST };
+                assert!(took < most, "reading names, {name}, took {took:?}");
+            }
         }
     });
 }

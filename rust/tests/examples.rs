@@ -166,11 +166,29 @@ fn accepted() {
 #[test]
 fn refused() {
     on_stack(|| {
-        for (name, number, line) in [("rom", 8, 22), ("deep", 9, 9), ("wide", 7, 4)] {
-            let told = gofeshan::read(&file(&format!("verilog/{name}.btor2")), &mut [0; RECORD * 1000]);
+        for (name, number, line) in [("rom", 8, 22), ("deep", 9, 9), ("wide", 7, 4), ("registers_as_written", 22, 119)]
+        {
+            let mut table = [7; RECORD * 1000];
+            let told = gofeshan::read(&file(&format!("verilog/{name}.btor2")), &mut table);
             assert_eq!(told.map_err(|r| (r.number, r.line)), Err((number, line)), "{name}");
+            assert!(table.iter().all(|&word| word == 0), "{name}");
         }
     });
+}
+
+/// What yosys wrote of the registers differs from what is accepted in the name of one next line, which is that of its state;
+/// it can be asked for all the same.
+#[test]
+fn names_of_next_lines() {
+    let (written, made) = (file("verilog/registers_as_written.btor2"), file("verilog/registers.btor2"));
+    for (id, name, left) in
+        [(11, "file", "file"), (118, "file", ""), (39, "registers.v:18.50-18.69", "registers.v:18.50-18.69")]
+    {
+        assert_eq!(gofeshan::name(&written, id), name.as_bytes());
+        assert_eq!(gofeshan::name(&made, id), left.as_bytes());
+    }
+    let text = |file: Vec<u8>| String::from_utf8(file).unwrap();
+    assert_eq!(text(written).replace("118 next 10 11 117 file ;", "118 next 10 11 117 ;"), text(made));
 }
 
 const CAPTION_256: &str = "1 sort bitvec 1

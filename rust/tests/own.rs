@@ -253,6 +253,37 @@ fn names() {
     assert_eq!(named(11), None);
 }
 
+/// The lines of the request for names used twice, behind six of all classes.
+#[test]
+fn names_twice() {
+    let before = "2 sort bitvec 1\n3 input 2\n4 sort array 2 2\n5 state 4\n6 zero 2\n7 state 2\n";
+    for (lines, room, told) in [
+        ("8 bad 3 a\n9 bad 3 a\n", 8, (22, 8)),
+        ("8 bad 3 a\n9 bad -3 a\n", 8, (22, 8)),
+        ("8 bad 3 a\n9 bad -3 b\n", 8, (4, 8)),
+        ("8 bad 3 a\n9 bad -3 b\n", 7, (4, 8)),
+        ("8 bad 3 a\n9 bad -3 b\n", 9, (0, 9)),
+        ("8 bad 3 a\n9 bad 3 a a\n", 8, (6, 8)),
+        ("8 bad 3 a\n9 bad 4 a\n", 8, (8, 8)),
+        ("8 next 2 7 3 a\n9 next 2 7 3 a\n", 8, (10, 8)),
+        ("8 bad 3 a\n9 bad 3 a\n", 7, (4, 8)),
+        ("8 bad 3 a;b\n9 bad 3 a\n", 8, (22, 8)),
+        ("8 bad 3 ;a\n9 bad 3 a\n", 8, (0, 8)),
+        ("8 bad 3 a\n\n9 bad 3 A\n", 8, (0, 8)),
+        ("8 bad 3 a\n\n; a\n9 sort bitvec 1 a\n", 8, (22, 10)),
+        ("8 bad 3 a\n9 bad 3 b\n10 bad 3\n11 state 2 a\n12 bad 3 a", 20, (22, 10)),
+        ("8 bad 3 20\n9 bad 3 020\n10 bad 3 -7\n11 bad 3 7\n", 10, (0, 10)),
+    ] {
+        let text = format!("{before}{lines}");
+        let (mut table, mut answer) = (vec![9; 6 * room], [9; 3]);
+        let number = read(text.as_bytes(), &mut table, &mut answer);
+        assert_eq!((number, answer), (told.0, [told.1, 0, 0]), "{lines}");
+        assert!(number == 0 || table.iter().all(|&word| word == 0));
+        // Names are told all the same.
+        assert_eq!(find_name_of(text.as_bytes(), 9).is_some(), !lines.contains("a a"), "{lines}");
+    }
+}
+
 fn find_name_of(text: &[u8], id: u64) -> Option<&[u8]> {
     texts::find_name(text, id).map(|(start, length)| &text[start..start + length])
 }

@@ -116,7 +116,12 @@ pub fn with_minus(random: &mut Random, lines: Lines, share: usize) -> Minus {
 
 impl Minus {
     pub fn text(&self, random: &mut Random) -> Vec<u8> {
-        text_by(random, &self.lines, |i, tokens| sign(tokens, &self.lines.records[i], &self.signs[i]))
+        let names = Names::apart(random);
+        self.text_with(random, names)
+    }
+
+    pub fn text_with(&self, random: &mut Random, names: Names) -> Vec<u8> {
+        text_by(random, &self.lines, names, |i, tokens| sign(tokens, &self.lines.records[i], &self.signs[i]))
     }
 
     /// The text as writing prints one, but for the ids and the minus operands.
@@ -185,7 +190,8 @@ impl Minus {
         if way == 1 {
             room = minus_room(random, all.records.len());
         }
-        (text_by(random, &self.lines, |i, tokens| *tokens = printed[i].clone()), room)
+        let names = if random.one_in(3) { Names::any(random) } else { Names::apart(random) };
+        (text_by(random, &self.lines, names, |i, tokens| *tokens = printed[i].clone()), room)
     }
 
     /// The tokens of a role, each by its line, from 0, and its place there.
@@ -231,6 +237,7 @@ impl Minus {
         let mut again = printed[line].clone();
         again[0] = (self.lines.ids[lines - 1] + 1).to_string().into_bytes();
         printed.push(again);
+        add_names(random, &mut printed);
         join(&printed)
     }
 
@@ -255,12 +262,13 @@ impl Minus {
             }
             sign(tokens, r, &signs);
         }
+        add_names(random, &mut printed);
         join(&printed)
     }
 }
 
 /// A number of records that a table may have room for where so many are wanted: just them, up to three fewer, or any.
-fn minus_room(random: &mut Random, exact: usize) -> usize {
+pub fn minus_room(random: &mut Random, exact: usize) -> usize {
     match random.below(10) {
         0..=3 => exact,
         4..=6 => exact.saturating_sub(1 + random.below(3)),

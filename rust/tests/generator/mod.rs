@@ -5,11 +5,13 @@
 
 pub mod minus;
 pub mod minus_edges;
+pub mod names;
 pub mod zero_ids;
 
 use crate::independent::kinds::{is_value, row, Place, KINDS};
 use crate::independent::rules::{check_program, check_table, ones, Lines, Sort};
 use crate::independent::{columns, ids, layout, records, size as record_size, Record, MOST_ID, MOST_RECORDS};
+use names::Names;
 
 /// Numbers from a seed (splitmix64).
 pub struct Random(u64);
@@ -568,13 +570,21 @@ pub fn size(random: &mut Random) -> Size {
     Size { lines, arrays: random.below(4) > 0 }
 }
 
-/// The text of records in some style: constants in any form, names, comments, blank lines, spaces.
+/// The text of records in some style: constants in any form, names that all differ, comments, blank lines, spaces.
 pub fn text(random: &mut Random, lines: &Lines) -> Vec<u8> {
-    text_by(random, lines, |_, _| {})
+    let names = Names::apart(random);
+    text_by(random, lines, names, |_, _| {})
 }
 
-/// The same with tokens that a function changes: it is given a line's number, from 0, and its tokens up to the operands.
-fn text_by(random: &mut Random, lines: &Lines, change: impl Fn(usize, &mut Vec<Vec<u8>>)) -> Vec<u8> {
+/// The same with names of which some may be used twice.
+pub fn named_text(random: &mut Random, lines: &Lines) -> Vec<u8> {
+    let names = Names::any(random);
+    text_by(random, lines, names, |_, _| {})
+}
+
+/// The same with names that are given, and with tokens that a function changes: it is given a line's number, from 0, and its
+/// tokens up to the operands.
+fn text_by(random: &mut Random, lines: &Lines, mut names: Names, change: impl Fn(usize, &mut Vec<Vec<u8>>)) -> Vec<u8> {
     let style = random.below(3);
     let mut text = Vec::new();
     for (i, r) in lines.records.iter().enumerate() {
@@ -586,8 +596,8 @@ fn text_by(random: &mut Random, lines: &Lines, change: impl Fn(usize, &mut Vec<V
             constant_form(random, &mut tokens, r[2], lines.sort(r[1]).width());
         }
         change(i, &mut tokens);
-        if style > 0 && random.one_in(3) {
-            tokens.push(random.pick(NAMES).to_vec());
+        if style > 0 {
+            tokens.extend(names.next(random));
         }
         let space =
             |random: &mut Random| vec![b' '; if style == 2 && random.one_in(4) { 1 + random.below(4) } else { 1 }];
@@ -602,6 +612,11 @@ fn text_by(random: &mut Random, lines: &Lines, change: impl Fn(usize, &mut Vec<V
         }
         if style > 0 && random.one_in(8) {
             text.extend(random.pick(&[&b" ;x"[..], b";1 2", b"  ", b" ", b";"]));
+        }
+        if style > 0 && random.one_in(8) {
+            // In a comment it is no name.
+            text.extend(random.pick(&[&b" ;"[..], b";", b" ; "]));
+            text.extend(names.earlier(random).unwrap_or_default());
         }
         if i + 1 < lines.records.len() || style == 0 || random.one_in(2) {
             text.push(b'\n');
@@ -654,9 +669,6 @@ fn constant_form(random: &mut Random, tokens: &mut Vec<Vec<u8>>, value: u64, w: 
         _ => {}
     }
 }
-
-const NAMES: &[&[u8]] =
-    &[b"name", b"7", b"0", b"\t", b"\r", b"\xff\x00", b"bad", b"a_long_name.with[4]", b"-7", b"-", b"--x"];
 
 /// Tokens that may stand in for others.
 pub const STRANGE: &[&[u8]] = &[
@@ -722,6 +734,7 @@ pub fn damaged_text(random: &mut Random, lines: &Lines) -> Vec<u8> {
                     line[1] = random.pick(&[&b"const"[..], b"consth"]).to_vec();
                 }
             }
+            add_names(random, &mut printed);
             return join(&printed);
         }
     }
@@ -730,11 +743,19 @@ pub fn damaged_text(random: &mut Random, lines: &Lines) -> Vec<u8> {
         lines.records.truncate(1 + random.below(n));
         lines.ids.truncate(lines.records.len());
     }
-    let mut text = text(random, &lines);
+    let mut text = if random.one_in(3) { named_text(random, &lines) } else { text(random, &lines) };
     for _ in 0..1 + random.below(2) {
         damage_text(random, &mut text);
     }
     text
+}
+
+/// Puts names behind the tokens of lines, in two texts of five; some may be used twice.
+fn add_names(random: &mut Random, printed: &mut [Vec<Vec<u8>>]) {
+    if random.below(5) < 2 {
+        let mut names = Names::any(random);
+        printed.iter_mut().for_each(|line| line.extend(names.next(random)));
+    }
 }
 
 /// An id that a line after `last` may not have, or seldom one that it may.
@@ -793,6 +814,7 @@ fn text_with_wrong_ids(random: &mut Random, lines: &Lines) -> Vec<u8> {
             printed[at][random.pick(&named)] = wrong_operand(random, ids, at);
         }
     }
+    add_names(random, &mut printed);
     join(&printed)
 }
 

@@ -3,6 +3,7 @@
 use super::kinds::{row, Place, KINDS};
 use super::rules::{check_table, ones, Lines, Sort};
 use super::{is_whole, room, store, Record, MOST_TEXT};
+use std::collections::HashSet;
 
 /// The lines of a text, each with its number from 1 and its tokens.
 fn lines(text: &[u8]) -> impl Iterator<Item = (u64, Vec<&[u8]>)> {
@@ -105,13 +106,21 @@ fn operand(token: &[u8]) -> (Number, bool) {
 
 /// The lines read so far.
 #[derive(Default)]
-struct Known {
+struct Known<'t> {
     lines: Lines,
     /// The ids as written, rising, each with its line's place.
     named: Vec<(u64, u64)>,
+    /// The names, of lines of all kinds.
+    names: HashSet<&'t [u8]>,
 }
 
-impl Known {
+/// What a line adds: its records, each with its id, and its name where it has one.
+struct Added<'t> {
+    records: Vec<(Record, u64)>,
+    name: Option<&'t [u8]>,
+}
+
+impl<'t> Known<'t> {
     /// The place of the line that a number names; 0 where it names none.
     fn place(&self, id: u64) -> u64 {
         self.named.binary_search_by_key(&id, |named| named.0).map_or(0, |i| self.named[i].1)
@@ -128,8 +137,9 @@ impl Known {
         sort || array || init_value || state
     }
 
-    fn add(&mut self, records: Vec<(Record, u64)>) {
-        for (r, id) in records {
+    fn add(&mut self, added: Added<'t>) {
+        self.names.extend(added.name);
+        for (r, id) in added.records {
             self.lines.add_as(r, id);
             if id > 0 {
                 self.named.push((id, self.lines.records.len() as u64));
@@ -138,9 +148,8 @@ impl Known {
     }
 }
 
-/// The records that a line adds, each with its id: a not record for each minus operand, then its own; or the refusal's
-/// number.
-fn records(tokens: &[&[u8]], known: &Known, room: usize) -> Result<Vec<(Record, u64)>, u64> {
+/// What a line adds, a not record for each minus operand, then its own; or the refusal's number.
+fn added<'t>(tokens: &[&'t [u8]], known: &Known, room: usize) -> Result<Added<'t>, u64> {
     let lines = &known.lines;
     let id = match number(tokens[0]) {
         Number::Is(id) if lines.id_rises(id) => id,
@@ -199,21 +208,25 @@ fn records(tokens: &[&[u8]], known: &Known, room: usize) -> Result<Vec<(Record, 
     if !lines.states_fit(&r) {
         return Err(10);
     }
-    let mut added = Vec::new();
+    let name = rest.get(places.len()).copied();
+    if name.is_some_and(|name| known.names.contains(name)) {
+        return Err(22);
+    }
+    let mut records = Vec::new();
     for at in (2..5).filter(|&at| minus[at]) {
         let sort = lines.records[r[at] as usize - 1][1];
-        added.push(([11, sort, r[at], 0, 0], 0));
-        r[at] = (lines.records.len() + added.len()) as u64;
+        records.push(([11, sort, r[at], 0, 0], 0));
+        r[at] = (lines.records.len() + records.len()) as u64;
     }
-    added.push((r, id));
-    // Only the added records lack a place: 4 comes last.
-    if lines.records.len() + added.len() > room {
+    records.push((r, id));
+    // Only the not records lack a place: 4 comes last.
+    if lines.records.len() + records.len() > room {
         return Err(4);
     }
-    Ok(added)
+    Ok(Added { records, name })
 }
 
-/// answer[0] is the count, or the text line with 3 to 10.
+/// answer[0] is the count, or the text line with 3 to 10 and 22.
 pub fn read(text: &[u8], table: &mut [u64], answer: &mut [u64]) -> u64 {
     table.fill(0);
     answer.fill(0);
@@ -229,7 +242,7 @@ pub fn read(text: &[u8], table: &mut [u64], answer: &mut [u64]) -> u64 {
         if tokens.is_empty() {
             continue;
         }
-        match records(&tokens, &known, room) {
+        match added(&tokens, &known, room) {
             Ok(added) => known.add(added),
             Err(refusal) => {
                 answer[0] = number;
