@@ -114,24 +114,24 @@ module _ {s w : List ℕ} (k : Chained s w) where
 -- ---- a name more
 
 -- v has the words of the first n names from w
-abbrev Kept : (w v : List ℕ) (n : ℕ) → Type 0
-Kept w v n = (x : ℕ) → hashes < x → x < linkOf (suc n) → getD v x 0 ≡ getD w x 0
+abbrev SameWords : (w v : List ℕ) (n : ℕ) → Type 0
+SameWords w v n = (x : ℕ) → hashes < x → x < linkOf (suc n) → getD v x 0 ≡ getD w x 0
 
 module _ (s w v : List ℕ) where
-  name-kept : (n : ℕ) → Kept w v n → (j : ℕ) → j < n → nameAt s v (suc j) ≡ nameAt s w (suc j)
+  name-kept : (n : ℕ) → SameWords w v n → (j : ℕ) → j < n → nameAt s v (suc j) ≡ nameAt s w (suc j)
   name-kept n k j l =
       let a = k (linkOf (suc j) + 1) (omega arith) (omega arith) in
       let b = k (linkOf (suc j) + 2) (omega arith) (omega arith) in
       rw (a, b) refl
 
-  fewer : (n : ℕ) → Kept w v (suc n) → Kept w v n
+  fewer : (n : ℕ) → SameWords w v (suc n) → SameWords w v n
   fewer n k x a b = k x a (omega arith)
 
-  names-kept : (n : ℕ) → Kept w v n → namesUpTo s v n ≡ namesUpTo s w n
+  names-kept : (n : ℕ) → SameWords w v n → namesUpTo s v n ≡ namesUpTo s w n
   names-kept zero k = refl
   names-kept (suc n) k = rw (name-kept (suc n) k n (omega arith), names-kept n (fewer n k)) refl
 
-  last-kept : (n h : ℕ) → Kept w v n → lastWith s v n h ≡ lastWith s w n h
+  last-kept : (n h : ℕ) → SameWords w v n → lastWith s v n h ≡ lastWith s w n h
   last-kept zero h k = refl
   last-kept (suc n) h k = rw (name-kept (suc n) k n (omega arith), last-kept n h (fewer n k)) refl
 
@@ -218,5 +218,5 @@ module _ (s w : List ℕ) (e : w ≡ replicate (length w) 0) (l : hashes + 1 ≤
         within = λ n b. absurd (omega (arith, count-none));
       }
 
-pub room : (w : List ℕ) (n : ℕ) → countIn w ≤ n → n < 8192 → hashes + 4 + 3 * n ≤ length w → HasRoom w
-room w n a b c = (omega arith, omega arith)
+pub more-room : (w : List ℕ) (n : ℕ) → countIn w ≤ n → n < 8192 → hashes + 4 + 3 * n ≤ length w → HasRoom w
+more-room w n a b c = (omega arith, omega arith)

@@ -10,7 +10,7 @@ use Rattle.texts.specs.Names.{withName}
 use Rattle.texts.specs.Reading.{lineName}
 use Rattle.texts.specs.Model.Chains.{hashes, countIn, namesUpTo, namesIn, Chained, Ample, HasRoom}
 use Rattle.texts.specs.Model.Structs.{Labelled, nameFrom}
-use Rattle.texts.proofs.Chains.{chained-none, names-none, room}
+use Rattle.texts.proofs.Chains.{chained-none, names-none, more-room}
 use Rattle.texts.proofs.Named.{part-of}
 use Rattle.texts.proofs.NamedLines.{named-bytes}
 use Rattle.texts.proofs.Admitting.{same-part}
@@ -59,7 +59,7 @@ module _ {s w : List ℕ} {i : ℕ} {ns : List (List ℕ)} (K : KeptNames s w i 
     name-room h l =
         let k : countIn w ≡ length ns = sym (names-count s w (countIn w)) ∙ ap length (K .are) in
         let o = name-long (omega (arith, length-take (r .to - r .from) (drop (i + r .from) s), length-drop (i + r .from) s, l, name-ends)) in
-        room w (countIn w) (omega arith) (omega (arith, k, K .few on, o)) (omega (arith, k, K .few on, o, K .ample))
+        more-room w (countIn w) (omega arith) (omega (arith, k, K .few on, o)) (omega (arith, k, K .few on, o, K .ample))
 
     -- and behind it
     pub names-more : (w′ : List ℕ) → Chained s w′ → length w′ ≡ length w → namesIn s w′ ≡ withName (nameFrom s i r) (namesIn s w)

@@ -20,7 +20,7 @@ use Rattle.texts.specs.Naming.{Located, located, isId, leads, lineFrom, 
 use Rattle.texts.proofs.Kept.{gives-after}
 use Rattle.texts.proofs.NextIds.{follows-some, last-line}
 use Rattle.texts.proofs.Reached.{step-got, step-skip, step-no}
-use Rattle.texts.proofs.Taking.{no-skip}
+use Rattle.texts.proofs.Taking.{blank}
 use Rattle.texts.proofs.SameRecords.{lines-done}
 
 -- the tokens of the line j, counted from 0
@@ -30,10 +30,6 @@ tokensOn xs j = lineTokens (getD xs j [])
 past-end : (j : ℕ) → length (tokensOn [] j) ≡ 0
 unfolding tokens split upTo
 past-end j = refl
-
-blank : (m : ℕ) (b : Sofar) (ts : List (List ℕ)) → replyAfter m b ts ≡ skip → ts ≡ []
-blank m b [] e = refl
-blank m b (t ∷ ts) e = absurd (no-skip m b t ts e)
 
 above : (l d : ℕ) → follows l d ≡ true → l < d
 above l d h = ltb-true l d (both (ltb l d) (leb d mostId) h .0)

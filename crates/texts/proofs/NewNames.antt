@@ -13,21 +13,19 @@ use Rattle.texts.specs.Names.{among, used, withName}
 use Rattle.texts.specs.Reading.{wordIn, lineName, Reply, skip, no, got, lineTokens, done, refused, Sofar, withLine, replyAfter, readLines}
 use Rattle.texts.proofs.Kept.{gives-after}
 use Rattle.texts.proofs.Reached.{step-got, step-skip, step-no}
-use Rattle.texts.proofs.Taking.{no-skip}
+use Rattle.texts.proofs.Taking.{blank}
 
 -- the name of the line j, counted from 0
 abbrev pub nameOn : List (List ℕ) → (j : ℕ) → List ℕ
 nameOn xs j = lineName (lineTokens (getD xs j []))
 
 -- a line without tokens has none
-no-tokens : (ts : List (List ℕ)) → length ts ≡ 0 → lineName ts ≡ []
+no-tokens : lineName [] ≡ []
 unfolding wordIn
-no-tokens [] e = refl
-no-tokens (t ∷ ts) e = absurd (omega arith)
+no-tokens = refl
 
 pub blank-name : (m : ℕ) (b : Sofar) (ts : List (List ℕ)) → replyAfter m b ts ≡ skip → lineName ts ≡ []
-blank-name m b [] e = no-tokens [] refl
-blank-name m b (t ∷ ts) e = absurd (no-skip m b t ts e)
+blank-name m b ts e = ap lineName (blank m b ts e) ∙ no-tokens
 
 past-end : (j : ℕ) → nameOn [] j ≡ []
 unfolding tokens split upTo wordIn

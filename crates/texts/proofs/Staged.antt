@@ -15,6 +15,7 @@ use Rattle.tables.specs.Kinds.{rowOf}
 use Rattle.tables.specs.Lines.{lineOf, kindIn, sortIn, firstIn, secondIn, thirdIn}
 use Rattle.tables.specs.Types.{sortAt}
 use Rattle.tables.specs.Rules.{classes, fits, onceRules, answer, fault}
+use Rattle.tables.proofs.Laws.{or-true, or-false}
 use Rattle.texts.specs.declared.Taken.{Taken}
 use Rattle.texts.specs.declared.Num.{Num}
 use Rattle.texts.specs.declared.Num.the-variants.{Bad, Big, Is}
@@ -49,14 +50,6 @@ fewer m t ts = go (ltb (length ts) m) refl
     go : (b : Bool) → ltb (length ts) m ≡ b → ltb (length (t ∷ ts)) (suc m) ≡ b
     go true e = lt-ltb (length (t ∷ ts)) (suc m) (omega (arith, ltb-true (length ts) m e))
     go false e = le-ltb (length (t ∷ ts)) (suc m) (omega (arith, ltb-false (length ts) m e))
-
-or-true : (b : Bool) → (b || true) ≡ true
-or-true true = refl
-or-true false = refl
-
-or-false : (b : Bool) → (b || false) ≡ b
-or-false true = refl
-or-false false = refl
 
 -- the numbers ns for the places j and up, and the signs s; `less` says that there are fewer tokens than numbers
 abbrev at-once : (less : Bool) (j : ℕ) (ns : List Num) (rec : List ℕ) (s : List Bool) (big : Bool) (len : ℕ) (rest : List (List ℕ)) → Took

@@ -25,9 +25,14 @@ lowest-some (x ∷ xs) r s e = go (x .1) refl (lowest-some xs r s)
     go true q f = let z : no (x .0) ≡ skip = sym (holds (x .0) (x .1) xs (got r s) q) ∙ e in let w : _≡_ {A = ℕ} 0 1 = cc in omega arith
     go false q f = f (sym (passes (x .0) (x .1) xs (got r s) q) ∙ e)
 
-pub no-skip : (m : ℕ) (b : Sofar) (t : List ℕ) (ts : List (List ℕ)) → replyAfter m b (t ∷ ts) ≡ skip → ⊥
+no-skip : (m : ℕ) (b : Sofar) (t : List ℕ) (ts : List (List ℕ)) → replyAfter m b (t ∷ ts) ≡ skip → ⊥
 unfolding readLine
 no-skip m b t ts e = lowest-some _ _ _ e
+
+-- a line that gives nothing has no tokens
+pub blank : (m : ℕ) (b : Sofar) (ts : List (List ℕ)) → replyAfter m b ts ≡ skip → ts ≡ []
+blank m b [] e = refl
+blank m b (t ∷ ts) e = absurd (no-skip m b t ts e)
 
 pub takes-lines : (m l : ℕ) (b : Sofar) (xs out : List (List ℕ)) (ids : List ℕ) → readLines m l b xs ≡ done out ids → Takes m b (map lineTokens xs) out ids
 unfolding readLinesBy readLine
@@ -55,10 +60,10 @@ takes-lines m l b (x ∷ xs) out ids q =
     by-tokens : (u : List (List ℕ)) → lineTokens x ≡ u → (readLines m (suc l) b xs ≡ done out ids → Takes m b (map lineTokens xs) out ids)
         → ((r : List ℕ) (s : List Bool) → readLines m (suc l) (withLine b (lineTokens x) r s) xs ≡ done out ids → Takes m (withLine b (lineTokens x) r s) (map lineTokens xs) out ids)
         → Takes m b (lineTokens x ∷ map lineTokens xs) out ids
-    by-tokens [] e f g = subst (λ (u : List (List ℕ)). Takes m b (u ∷ map lineTokens xs) out ids) (sym e) (f (sym (step-skip m l b x xs (blank e)) ∙ q))
+    by-tokens [] e f g = subst (λ (u : List (List ℕ)). Takes m b (u ∷ map lineTokens xs) out ids) (sym e) (f (sym (step-skip m l b x xs (gives-none e)) ∙ q))
       where
-        blank : lineTokens x ≡ [] → replyAfter m b (lineTokens x) ≡ skip
-        blank h = rw h refl
+        gives-none : lineTokens x ≡ [] → replyAfter m b (lineTokens x) ≡ skip
+        gives-none h = rw h refl
     by-tokens (t ∷ ts) e f g = subst (λ (u : List (List ℕ)). Takes m b (u ∷ map lineTokens xs) out ids) (sym e) (by-reply t ts e (replyAfter m b (lineTokens x)) refl g)
 
 -- blank lines give nothing

@@ -22,16 +22,16 @@ use Rattle.texts.proofs.NewNames.{nameOn, blank-name}
 
 -- ---- the test of a refusal that is given holds
 
-abbrev Holding : (q : Refusal) → List (Refusal × Bool) → Type 0
-Holding q [] = ⊥
-Holding q (x ∷ xs) = ((x .0 ≡ q) × (x .1 ≡ true)) ⊎ Holding q xs
+abbrev SomeHolds : (q : Refusal) → List (Refusal × Bool) → Type 0
+SomeHolds q [] = ⊥
+SomeHolds q (x ∷ xs) = ((x .0 ≡ q) × (x .1 ≡ true)) ⊎ SomeHolds q xs
 
-lowest-holds : (xs : List (Refusal × Bool)) (rec : List ℕ) (s : List Bool) (q : Refusal) → lowest xs (got rec s) ≡ no q → Holding q xs
+lowest-holds : (xs : List (Refusal × Bool)) (rec : List ℕ) (s : List Bool) (q : Refusal) → lowest xs (got rec s) ≡ no q → SomeHolds q xs
 unfolding lowest
 lowest-holds [] rec s q e = let w : _≡_ {A = ℕ} 0 1 = cc in absurd (omega arith)
 lowest-holds (x ∷ xs) rec s q e = go (x .1) refl (lowest-holds xs rec s q)
   where
-    go : (b : Bool) → x .1 ≡ b → (lowest xs (got rec s) ≡ no q → Holding q xs) → Holding q (x ∷ xs)
+    go : (b : Bool) → x .1 ≡ b → (lowest xs (got rec s) ≡ no q → SomeHolds q xs) → SomeHolds q (x ∷ xs)
     go true h f = let z : no (x .0) ≡ no q = sym (holds (x .0) (x .1) xs (got rec s) h) ∙ e in let w : x .0 ≡ q = cc in inl (w, h)
     go false h f = inr (f (sym (passes (x .0) (x .1) xs (got rec s) h) ∙ e))
 
@@ -47,7 +47,7 @@ line-used m b (t ∷ ts) e =
     (lowest-holds (refusals (tyAt (b .ctx)) (given (b .ctx)) m (b .ids) (b .names) t (formOf (wordIn ts)) (behind (wordIn ts))) (recordIn (tyAt (b .ctx)) (b .ids) (formOf (wordIn ts)) (behind (wordIn ts)))
     (signsIn (formOf (wordIn ts)) (behind (wordIn ts))) NameUsed e)
   where
-    from : Holding NameUsed (refusals (tyAt (b .ctx)) (given (b .ctx)) m (b .ids) (b .names) t (formOf (wordIn ts)) (behind (wordIn ts))) → used (lineName (t ∷ ts)) (b .names) ≡ true
+    from : SomeHolds NameUsed (refusals (tyAt (b .ctx)) (given (b .ctx)) m (b .ids) (b .names) t (formOf (wordIn ts)) (behind (wordIn ts))) → used (lineName (t ∷ ts)) (b .names) ≡ true
     from (inl p) = absurd (other (λ e. omega (arith, e)) p)
     from (inr (inl p)) = absurd (other (λ e. omega (arith, e)) p)
     from (inr (inr (inl p))) = absurd (other (λ e. omega (arith, e)) p)

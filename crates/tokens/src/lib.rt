@@ -46,7 +46,8 @@ fn find_two(s: &[u8], i: usize, b: u8) -> usize
     find_byte(s, j, b)
 }
 
-// Whether none of the 16 bytes from i on is b. There is no way out of the loop before its end, so that it is compiled to one comparison of all 16.
+// Whether none of the 16 bytes from i on is b. There is no way out of the loop before its end, so that it is compiled to one comparison of all 16. Only a yes is a promise:
+// after a no the bytes are looked at one by one.
 fn lacks(s: &[u8], i: usize, b: u8) -> bool
     requires { do ⌜ i + 16 ≤ (← ⟦s.len()⟧) ⌝ }
     ensures { λ r. ⌜ (r ≡ true → length (upTo b (drop i (now (s .entry)))) ≡ 16 + length (upTo b (drop (i + 16) (now (s .entry))))) ⌝ }

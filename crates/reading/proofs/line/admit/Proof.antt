@@ -15,11 +15,11 @@ use Rattle.texts.proofs.Admitting.{same-part, admits-none, admits-unnamed, admi
 use Rattle.reading.proofs.line.admit.Statement.{statement}
 use Rattle.reading.proofs.line.admit.Tie as tie
 
-not-in : {r b : Bool} → r ≡ not b → r ≡ false → b ≡ true
-not-in {r} {b} e h = not-false b (sym e ∙ h)
+was-there : {r b : Bool} → r ≡ not b → r ≡ false → b ≡ true
+was-there {r} {b} e h = not-false b (sym e ∙ h)
 
-in-not : {r b : Bool} → r ≡ not b → r ≡ true → b ≡ false
-in-not {r} {b} e h = not-true b (sym e ∙ h)
+was-new : {r b : Bool} → r ≡ not b → r ≡ true → b ≡ false
+was-new {r} {b} e h = not-true b (sym e ∙ h)
 
 returns : tie.Need-returns
 returns c = admits-none (c .if1 .taken) refl refl
@@ -56,7 +56,7 @@ returns-2 c =
     let ns = namesIn t (s .args .names .now) in
     let h = c .before .before .before .before .before .before .before .before .before .before .if1 .left in
     let e = c .before .before .before .before .enter in
-    let used = not-in (e .ensures .0) (not-true _ (c .before .if3 .taken)) in
+    let used = was-there (e .ensures .0) (not-true _ (c .before .if3 .taken)) in
     admits-used h (c .before .before .before .before .before .before .before .before .if2 .taken) (s .pre .1 .1 .1 h .1 .0) (subst (λ (x : List ℕ). among x ns ≡ true) (same-part t (s .args .i) (s .args .r)) used)
     (c .refuse .ensures)
 
@@ -78,7 +78,7 @@ returns-3 c =
     let new = not-false _ (w .7 .left) in
     let k = w .4 .ensures .1 new in
     subst (λ (x : List ℕ). Admits t v x (s .args .i) (s .args .n) (s .args .room) (s .args .r) (c .fit .result)) (sym (w .8))
-    (admits-new h (w .0 .taken) (s .pre .1 .1 .1 h .1 .0) (subst (λ (x : List ℕ). among x (namesIn t v) ≡ false) part (in-not (w .4 .ensures .0) new)) (c .fit .ensures) (k .0)
+    (admits-new h (w .0 .taken) (s .pre .1 .1 .1 h .1 .0) (subst (λ (x : List ℕ). among x (namesIn t v) ≡ false) part (was-new (w .4 .ensures .0) new)) (c .fit .ensures) (k .0)
     (k .1 ∙ ap (λ (x : List ℕ). x ∷ namesIn t v) part)))
     (λ w.
     admits-unnamed h (omega (arith, w .0 .left)) (c .fit .ensures) (w .1) (s .pre .1 .1 .0))
