@@ -8,6 +8,22 @@
  * length is no multiple of six is no table; one whose length is no multiple of
  * five is no program. At most 16,384 records count.
  *
+ * The kinds, by their words in BTOR2:
+ *
+ *    1 sort bitvec   2 sort array   3 constd (const, consth, zero, one, ones too)
+ *    4 input   5 state   6 init   7 next   8 bad   9 constraint   10 output
+ *   11 not  12 neg  13 inc  14 dec  15 redand  16 redor  17 redxor  18 slice
+ *   19 uext  20 sext  21 eq  22 neq  23 ult  24 ulte  25 ugt  26 ugte  27 slt
+ *   28 slte  29 sgt  30 sgte  31 iff  32 implies  33 and  34 or  35 xor  36 nand
+ *   37 nor  38 xnor  39 add  40 sub  41 mul  42 udiv  43 urem  44 sdiv  45 srem
+ *   46 smod  47 sll  48 srl  49 sra  50 rol  51 ror  52 concat  53 ite  54 read
+ *   55 write  57 uaddo  58 saddo  59 usubo  60 ssubo  61 umulo  62 smulo  63 sdivo
+ *
+ * A program has the kinds 3 to 53, 57 to 63, and 56, which masks its operand to its
+ * width and has no word. 57 to 63 are overflow detectors: of two words of one width
+ * they are 1 where the sum, difference, product or quotient, as a whole number, is
+ * no unsigned (u) or signed (s) number of that width, and else 0, by 0 too.
+ *
  * The words of a table or a program stand in columns, all kinds first: word j of
  * record i, both from 0, stands at (len / 6) * j + i, in a program at
  * (len / 5) * j + i, where len is the length of the whole list, in words. So each

@@ -39,6 +39,24 @@ fn signed(x: u64, w: u8) -> i64 {
     ((x << (64 - w)) as i64) >> (64 - w)
 }
 
+/// Whether the result of a detector of kinds 57 to 63 lies outside the width of its operands.
+#[inline(always)]
+fn overflows(kind: u8, a: u64, b: u64, w: u8) -> bool {
+    let m = ones(w);
+    let (x, y, sx, sy) = (a & m, b & m, signed(a, w), signed(b, w));
+    let above = |result: Option<u64>| result.is_none_or(|n| n > m);
+    let outside = |result: Option<i64>| result.is_none_or(|n| signed(n as u64, w) != n);
+    match kind {
+        57 => above(x.checked_add(y)),
+        58 => outside(sx.checked_add(sy)),
+        59 => x < y,
+        60 => outside(sx.checked_sub(sy)),
+        61 => above(x.checked_mul(y)),
+        62 => outside(sx.checked_mul(sy)),
+        _ => sy != 0 && outside(sx.checked_div(sy)),
+    }
+}
+
 /// The word of an operator. `P`: in a program.
 #[inline(always)]
 fn word<const P: bool>(i: &Operator, a: u64, b: u64) -> u64 {
@@ -125,7 +143,9 @@ fn word<const P: bool>(i: &Operator, a: u64, b: u64) -> u64 {
             }
         }
         52 => cut(a << i.wb | b),
-        _ => a & m,
+        56 => a & m,
+        57..=63 => u64::from(overflows(i.kind, a, b, i.wa)),
+        kind => unreachable!("kind {kind} is no operator on words"),
     }
 }
 

@@ -4,7 +4,8 @@
 //! rust/tests, runs with the two interpreters of this crate. Each is measured at three sizes, the sides taking turns. Texts
 //! with gaps in their ids are measured beside texts of the same lines without, register files with inits beside the same
 //! files with nexts, which need no cone; the independent implementation searches the cone of each init value. Texts with
-//! minus operands stand by themselves (`minus.rs`); texts full of names stand beside the same lines without (`names.rs`).
+//! minus operands stand by themselves (`minus.rs`); texts full of names stand beside the same lines without (`names.rs`). Runs
+//! of one overflow detector each stand behind additions alone (`detectors.rs`).
 //! `bash bench/run -- write` measures one operation alone, `-- edges` the inputs that could take long. `bench profile write` calls the proved one at its largest size
 //! and measures nothing; `bench/profile` runs that under callgrind.
 #![allow(dead_code, unused_imports)]
@@ -18,6 +19,8 @@ mod clock;
     feature = "run_program"
 ))]
 mod designs;
+#[cfg(all(feature = "run_circuit", feature = "run_program"))]
+mod detectors;
 #[path = "../../rust/tests/generator/mod.rs"]
 mod generator;
 #[path = "../../rust/tests/independent/mod.rs"]
@@ -498,6 +501,11 @@ fn circuit_rows() {
     }
 }
 
+fn detector_rows() {
+    #[cfg(all(feature = "run_circuit", feature = "run_program"))]
+    detectors::rows();
+}
+
 fn program_rows() {
     #[cfg(feature = "run_program")]
     {
@@ -590,12 +598,13 @@ fn main() {
     println!("Circuits of one kind of line (`adds alone`) stand beside those of all kinds, where branches are hard to foresee.");
     println!("Minus operands: `ites` are lines `n ite 1 -2 -2 -2`, `mixed` are lines of all kinds in which about every second operand that may have a minus has one.");
     println!("Names: lines `n bad 2 NAME` beside the lines `n bad 2`; the names of `one hash` are all looked through for each of them.");
+    println!("Overflow detectors: lines that are all one detector on four inputs, and their program, behind such of additions.");
     println!("Register files, as texts and as tables: the values are all the last line of one chain (`chain`), or each a line over the one before (`deep`).\n");
     println!(
         "{:<12} {:<34} {:>10} {:>10} {:>6} {:>10} {:>6} {:>24} {:>6} {:>6}",
         "operation", "size", "proved", "plain", "ratio", "same shape", "ratio", "proved per unit", "growth", "plain"
     );
-    let rows: [(&str, fn()); 13] = [
+    let rows: [(&str, fn()); 14] = [
         ("read", read_rows),
         ("read_gaps", gap_rows),
         ("read_minus", minus::rows),
@@ -609,6 +618,7 @@ fn main() {
         ("circuit_to_records", to_records_rows),
         ("run_circuit", circuit_rows),
         ("run_program", program_rows),
+        ("run_detectors", detector_rows),
     ];
     let only = std::env::args().nth(if profiled() { 2 } else { 1 });
     for (operation, rows) in rows {

@@ -1,7 +1,9 @@
 //! The operators of circuits and programs against z3: `bash rust/outside.sh` in the repository's root.
 //!
-//! Every kind from 11 to 53 runs on all operands of widths 1 to 4 and on random and edge operands at widths 8, 63 and 64,
-//! as a circuit and as that circuit's program. z3 evaluates the same term of SMT-LIB's theory of bit vectors.
+//! Every kind from 11 to 53 and from 57 to 63 runs on all operands of widths 1 to 4 and on random and edge operands at widths
+//! 8, 63 and 64, the overflow detectors also on operands whose result is near a limit, as a circuit and as that circuit's
+//! program. z3 evaluates the same term of SMT-LIB's theory of bit vectors; a detector's term works out the result on operands
+//! that are so much wider that it fits.
 
 use std::collections::BTreeMap;
 use std::io::{BufRead, BufReader, Write};
@@ -48,6 +50,33 @@ const NAMES: [(u64, &str); 19] = [
 
 const COMPARISONS: [&str; 8] = ["bvult", "bvule", "bvugt", "bvuge", "bvslt", "bvsle", "bvsgt", "bvsge"];
 
+/// The operators of the detectors 57 to 63, and how their operands are extended.
+const DETECTED: [(&str, &str); 7] = [
+    ("bvadd", "zero"),
+    ("bvadd", "sign"),
+    ("bvsub", "zero"),
+    ("bvsub", "sign"),
+    ("bvmul", "zero"),
+    ("bvmul", "sign"),
+    ("bvsdiv", "sign"),
+];
+
+/// Whether the result on extended operands is another than its own low bits extended: by w bits for a product, by one bit for
+/// all others. A division by 0 has no result.
+fn overflow(kind: u64, w: u64, a: &str, b: &str) -> String {
+    let (operator, how) = DETECTED[kind as usize - 57];
+    let more = if operator == "bvmul" { w } else { 1 };
+    let extended = |x: &str| format!("((_ {how}_extend {more}) {x})");
+    let result = format!("({operator} {} {})", extended(a), extended(b));
+    let back = extended(&format!("((_ extract {} 0) r)", w - 1));
+    let claim = format!("(let ((r {result})) (distinct r {back}))");
+    if operator == "bvsdiv" {
+        format!("(and (distinct {b} {}) {claim})", bits(0, w))
+    } else {
+        claim
+    }
+}
+
 /// The operator's term on some operands.
 fn term(o: &Operator, x: &[u64]) -> String {
     let of = |i: usize| bits(x[i], o.widths[i]);
@@ -72,6 +101,7 @@ fn term(o: &Operator, x: &[u64]) -> String {
         32 => truth(format!("(=> (= {a} #b1) (= {} #b1))", of(1))),
         52 => format!("(concat {a} {})", of(1)),
         53 => format!("(ite (= {a} #b1) {} {})", of(1), of(2)),
+        57..=63 => truth(overflow(o.kind, o.widths[0], &a, &of(1))),
         kind => format!("({} {a} {})", NAMES.iter().find(|n| n.0 == kind).unwrap().1, of(1)),
     }
 }
@@ -95,7 +125,7 @@ fn forms(kind: u64, w: u64) -> Vec<Operator> {
             pairs.map(|(u, l)| form(&[w], &[u, l], u - l + 1)).collect()
         }
         19 | 20 => some.iter().filter(|&&n| w + n <= 64).map(|&n| form(&[w], &[n], w + n)).collect(),
-        21..=30 => vec![form(&[w, w], &[], 1)],
+        21..=30 | 57..=63 => vec![form(&[w, w], &[], 1)],
         31 | 32 if w > 1 => vec![],
         31 | 32 => vec![form(&[1, 1], &[], 1)],
         52 => some.iter().filter(|&&n| n > 0 && w + n <= 64).map(|&n| form(&[w, n], &[], w + n)).collect(),
@@ -130,7 +160,26 @@ fn rows(o: &Operator, random: &mut impl FnMut() -> u64) -> Vec<Vec<u64>> {
         };
         x & ones(w)
     };
-    (0..300).map(|_| o.widths.iter().map(|&w| word(w)).collect()).collect()
+    let mut rows: Vec<Vec<u64>> = (0..300).map(|_| o.widths.iter().map(|&w| word(w)).collect()).collect();
+    if matches!(o.kind, 57..=63) {
+        rows.extend(near_limits(o.widths[0], random));
+    }
+    rows
+}
+
+/// Pairs of edges, and numbers of all sizes, each with those that make a product, a sum and a difference near each limit.
+fn near_limits(w: u64, random: &mut impl FnMut() -> u64) -> Vec<Vec<u64>> {
+    let limits = [(1i128 << w) - 1, (1 << (w - 1)) - 1, -1 << (w - 1)];
+    let edges: Vec<i128> = [0].iter().chain(&limits).flat_map(|edge| (-2..=2).map(move |d| edge + d)).collect();
+    let mut pairs: Vec<(i128, i128)> = edges.iter().flat_map(|&x| edges.iter().map(move |&y| (x, y))).collect();
+    for _ in 0..12 {
+        let size = i128::from(random() & ones(1 + random() % w)).max(1);
+        for (x, limit) in [size, -size].into_iter().flat_map(|x| limits.map(|limit| (x, limit))) {
+            let exact = [limit / x, limit - x, x - limit];
+            pairs.extend(exact.into_iter().flat_map(|near| (-1..=2).map(move |d| (x, near + d))));
+        }
+    }
+    pairs.into_iter().map(|(x, y)| vec![x as u64 & ones(w), y as u64 & ones(w)]).collect()
 }
 
 /// The table of inputs, the operator, and a bad line for each bit of its result, with room for them alone.
@@ -191,7 +240,7 @@ fn main() {
     // What the tool gave: the kind, the operands as text, the results of circuit and program.
     let mut given: Vec<(u64, String, [u64; 2])> = Vec::new();
     for w in [1, 2, 3, 4, 8, 63, 64] {
-        for kind in 11..=53 {
+        for kind in (11..=53).chain(57..=63) {
             for o in forms(kind, w) {
                 let rows = rows(&o, &mut random);
                 let both = [results(&o, &rows, false), results(&o, &rows, true)];
@@ -211,7 +260,8 @@ fn main() {
         .expect("z3 is not installed");
     let (mut input, output) = (z3.stdin.take().unwrap(), z3.stdout.take().unwrap());
     let writer = std::thread::spawn(move || input.write_all(script.as_bytes()).unwrap());
-    let mut compared: BTreeMap<u64, u64> = BTreeMap::new();
+    // How many results of each kind, and how many of them were 1.
+    let mut compared: BTreeMap<u64, [u64; 2]> = BTreeMap::new();
     let mut lines = BufReader::new(output).lines();
     let mut wrong = 0;
     for (kind, term, ours) in &given {
@@ -226,11 +276,15 @@ fn main() {
             println!("kind {kind}: {term}: z3 {theirs}, circuit {}, program {}", ours[0], ours[1]);
             wrong += 1;
         }
-        *compared.entry(*kind).or_default() += 1;
+        let [all, ones] = compared.entry(*kind).or_default();
+        (*all, *ones) = (*all + 1, *ones + u64::from(theirs == 1));
     }
     writer.join().unwrap();
     assert!(z3.wait().unwrap().success());
-    assert_eq!(compared.len(), 43, "a kind was left out");
-    println!("{} results of 43 kinds compared with z3, in circuits and programs; {wrong} differ", given.len());
+    assert_eq!(compared.len(), 50, "a kind was left out");
+    let detectors: Vec<[u64; 2]> = compared.range(57..).map(|(_, counts)| *counts).collect();
+    println!("overflow detectors, results and those of 1: {detectors:?}");
+    assert!(detectors.iter().all(|[all, ones]| *ones > 10 && all - ones > 500), "too few results of 0 or of 1");
+    println!("{} results of 50 kinds compared with z3, in circuits and programs; {wrong} differ", given.len());
     std::process::exit(i32::from(wrong > 0));
 }

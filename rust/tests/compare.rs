@@ -11,6 +11,8 @@
 //! writing are dirty before each call.
 #![allow(unused_imports, dead_code)]
 
+#[path = "compare/detectors.rs"]
+mod detectors;
 mod generator;
 mod independent;
 #[path = "compare/minus.rs"]
@@ -220,8 +222,8 @@ fn reading_at_the_edges() {
         }
         // Every kind of line, with too few, enough, one extra and two extra tokens, behind lines of every class.
         let start = "1 sort bitvec 1\n2 sort bitvec 3\n3 sort array 1 2\n4 input 1\n5 input 2\n6 constd 1 1\n7 state 1\n8 state 3\n9 bad 4\n10 next 1 7 4\n";
-        let mut words: Vec<&str> = independent::kinds::KINDS[..55].iter().map(|k| k.word).collect();
-        words.extend(["const", "consth", "zero", "one", "ones", "sort", "", "add;", "justice"]);
+        let mut words: Vec<&str> = independent::kinds::KINDS.iter().map(|k| k.word).collect();
+        words.extend(["const", "consth", "zero", "one", "ones", "sort", "add;", "justice", "mask", "udivo", "sddivo"]);
         for word in words {
             for n in 0..=6 {
                 for strange in 0..90 {
@@ -681,12 +683,12 @@ fn operators_in_programs() {
 fn operators(random: &mut Random, both: (Running, Running), program: bool) {
     let mut compared = 0;
     for w in (1..=8).chain([15, 16, 31, 32, 33, 47, 62, 63, 64]) {
-        for kind in (11..=53).chain(if program { Some(56) } else { None }) {
+        for kind in (11..=53).chain(57..=63).chain(if program { Some(56) } else { None }) {
             for _ in 0..if matches!(kind, 18..=20 | 52) { 6 } else { 1 } {
                 // Widths of the operands and of the result, and the plain numbers.
                 let (mut widths, mut result, mut numbers) = ([w, w, w], w, [0, 0]);
                 match kind {
-                    15..=17 | 21..=30 => result = 1,
+                    15..=17 | 21..=30 | 57..=63 => result = 1,
                     31 | 32 => (widths, result) = ([1; 3], 1),
                     18 => {
                         let upper = random.next() % w;

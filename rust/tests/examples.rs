@@ -51,6 +51,10 @@ impl Example {
         Example { text, table, count, flat: (flat, flat_count), program: (program, program_count), lines }
     }
 
+    fn program_kinds(&self) -> &[u64] {
+        &self.program.0[..self.program.1]
+    }
+
     /// The first counted bad of a run, the same for circuit, flat circuit and program as their signals are.
     fn run(&self, steps: usize, starts: &[u64], inputs: &[u64]) -> Option<FirstBad> {
         let expected = self.lines.run(steps, starts, inputs);
@@ -157,7 +161,27 @@ fn accepted() {
         // Seven lamps are not too many; a swap of a blank display breaks the constraint.
         assert_eq!(minus.driven(9, |name, _| if name == b"drawn" { 254 } else { u64::from(name == b"swap") }), None);
         assert_eq!(minus.driven(9, full(0, 0)), None);
-        for example in [counter, fifo, lfsr, caption, own, alu, registers, worked, gaps, minus] {
+
+        // Overflow detectors: places of captions are unsigned bytes, ways are signed ones.
+        let overflow = Example::new("overflow.btor2");
+        let masks = overflow.program_kinds().iter().filter(|&&kind| kind == 56).count();
+        assert_eq!((overflow.flat.1, overflow.program.1, masks), (overflow.count, overflow.count - 2 + masks, 4));
+        let captions = |length: u64, speed: u64| {
+            move |name: &[u8], _: u64| match name {
+                b"length" => length,
+                _ => speed,
+            }
+        };
+        // 255 and 1 are 256; 192 and 64 are.
+        assert_eq!(overflow.driven(300, captions(1, 0)), Some((255, 1)));
+        assert_eq!(overflow.driven(300, captions(64, 0)), Some((3, 1)));
+        // 16 times 8 is 128, which is no signed byte; -16 times 8 is one.
+        assert_eq!(overflow.driven(300, captions(0, 16)), Some((8, 2)));
+        assert_eq!(overflow.driven(300, captions(0, 256 - 16)), Some((9, 2)));
+        assert_eq!(overflow.driven(300, captions(64, 100)), Some((2, 2)));
+        assert_eq!(overflow.driven(300, captions(0, 0)), None);
+        assert_eq!((gofeshan::name(&overflow.text, 31), gofeshan::name(&overflow.text, 30)), (&b"full"[..], &b""[..]));
+        for example in [counter, fifo, lfsr, caption, own, alu, registers, worked, gaps, minus, overflow] {
             example.tried();
         }
     });

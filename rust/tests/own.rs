@@ -1,6 +1,8 @@
 //! The independent implementation alone, on the request's example, its marked values and its edges.
 //! `cargo test --release --test own`
 
+#[path = "own/detectors.rs"]
+mod detectors;
 mod generator;
 mod independent;
 #[path = "own/minus.rs"]
@@ -138,8 +140,8 @@ fn marked_values() {
 fn programs_mean_the_same() {
     for w in 1..=3u64 {
         let m = (1 << w) - 1;
-        for kind in (11..=17).chain(21..=51) {
-            let result = if matches!(kind, 15..=17 | 21..=30) { 1 } else { w };
+        for kind in (11..=17).chain(21..=51).chain(57..=63) {
+            let result = if matches!(kind, 15..=17 | 21..=30 | 57..=63) { 1 } else { w };
             if matches!(kind, 31 | 32) && w != 1 {
                 continue;
             }
@@ -494,7 +496,7 @@ fn generator_reaches_gaps() {
 #[test]
 fn generator_reaches() {
     let mut random = generator::Random::new(1);
-    let (mut kinds, mut program_kinds) = ([0; 57], [0; 57]);
+    let (mut kinds, mut program_kinds) = ([0; 64], [0; 64]);
     let (mut other_sort, mut array_init, mut constant_read, mut loose_ite, mut counted) = (0, 0, 0, 0, 0);
     for _ in 0..1000 {
         let size = generator::size(&mut random);
@@ -515,8 +517,9 @@ fn generator_reaches() {
         let flat = rules::check_table(&numbered(&flat), flat.len()).expect("a flat circuit is accepted");
         generator::wild_program(&mut random, &flat).iter().for_each(|r| program_kinds[r[0] as usize] += 1);
     }
-    assert!(kinds[1..56].iter().all(|&n| n > 20), "{kinds:?}");
-    assert!(program_kinds[3..54].iter().all(|&n| n > 20) && program_kinds[56] > 20, "{program_kinds:?}");
+    let reached = |counts: &[i32; 64], of: fn(u64) -> bool| (1..=63).all(|k| counts[k as usize] > 20 || !of(k));
+    assert!(reached(&kinds, kinds::in_circuits), "{kinds:?}");
+    assert!(reached(&program_kinds, kinds::in_programs), "{program_kinds:?}");
     for n in [other_sort, array_init, constant_read, loose_ite, counted] {
         assert!(n > 50, "{other_sort} {array_init} {constant_read} {loose_ite} {counted}");
     }
@@ -556,7 +559,7 @@ fn generator_reaches_register_files() {
     let (mut kept, mut broken, mut inits, mut most, mut array_inits) = (0, 0, 0, 0, 0);
     let (mut second, mut behind, mut deep) = (0, 0, [0; 9]);
     // By way of one operand alone, by its place and the kind of the line above; and what is found there.
-    let (mut places, mut kinds, mut sources) = ([0; 3], [0; 57], [0; 6]);
+    let (mut places, mut kinds, mut sources) = ([0; 3], [0; 64], [0; 6]);
     for case in 0..3000 {
         let lines = generator::register_file(&mut random, case % 3 > 0);
         let held: Vec<&Record> = lines.records.iter().filter(|r| r[0] == 6).collect();
@@ -593,7 +596,7 @@ fn generator_reaches_register_files() {
     for n in [second, behind].iter().chain(&deep).chain(&places).chain(&sources[4..]) {
         assert!(*n > 30, "{second} {behind} {deep:?} {places:?} {sources:?}");
     }
-    assert!(kinds[11..55].iter().all(|&n| n > 20) && kinds[55] > 3, "{kinds:?}");
+    assert!(kinds[11..55].iter().chain(&kinds[57..]).all(|&n| n > 20) && kinds[55] > 3, "{kinds:?}");
 }
 
 type Conversion = fn(&[u64], usize, &mut [u64], &mut [u64]) -> u64;
@@ -705,7 +708,7 @@ fn converted_circuits() {
 fn generator_reaches_layouts() {
     let mut random = generator::Random::new(6);
     let (mut longer, mut far, mut wrong, mut right, mut accepted) = (0, 0, 0, 0, 0);
-    for _ in 0..4000 {
+    for _ in 0..6000 {
         let size = generator::size(&mut random);
         let lines = generator::circuit(&mut random, size);
         let n = lines.records.len();
@@ -723,6 +726,6 @@ fn generator_reaches_layouts() {
         let held = list.len() % 6 == 0 && rules::check_table(&list, count).is_some();
         accepted += usize::from(held && count > 1 && list.len() > 6 * count);
     }
-    assert!((2000..3500).contains(&longer) && wrong > 2000 && right > 100, "{longer} {wrong} {right}");
-    assert!(far > 5 && accepted > 500, "{far} {accepted}");
+    assert!((3000..5250).contains(&longer) && wrong > 3000 && right > 150, "{longer} {wrong} {right}");
+    assert!(far > 5 && accepted > 750, "{far} {accepted}");
 }

@@ -6,3 +6,4 @@ pub mod Sample
 pub mod SampleMasks
 pub mod SampleIds
 pub mod SampleMinus
+pub mod SampleDetectors

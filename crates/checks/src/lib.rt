@@ -9,11 +9,11 @@ use tables::Refusal;
 use tables::Ty;
 use tables::WORDS;
 ghost use mathlib.Core.Path.{_≡_};
-ghost use mathlib.Core.Bool.{true, false};
+ghost use mathlib.Core.Bool.{true, false, _||_};
 ghost use Prim.Native.Nat.{_≤_, _<_};
 ghost use lib.ListN.{length};
 ghost use Rattle.tables.specs.Tables.{known as knownOf, unused as unusedOf, tidy as tidyOf, keeps, lawful, checked, broken};
-ghost use Rattle.tables.specs.Pick.{all};
+ghost use Rattle.tables.specs.Pick.{all, inside};
 ghost use Rattle.tables.specs.Lines.{lineOf, kindIn, firstIn};
 ghost use Rattle.tables.specs.Layout.{held, recordsOf, linesOf};
 ghost use Rattle.tables.specs.Ids.{idsRight};
@@ -22,23 +22,29 @@ ghost use Rattle.tables.specs.Model.Notes.{lookIn, noted, givenIn, Shows, Fresh
 ghost use Rattle.tables.specs.Kinds.{rows};
 ghost use Rattle.tables.specs.Refusals.{numberOf};
 
+// The kind is one from `first` to `last`, or from `again` to 63.
+fn listed(k: u64, first: u64, last: u64, again: u64) -> bool
+    ensures { λ r. ⌜ r ≡ (inside first last k || inside again 63 k) ⌝ }
+{
+    if first <= k {
+        if k <= last {
+            return true;
+        }
+    }
+    if k < again {
+        return false;
+    }
+    k <= 63
+}
+
 // The kind is one of a circuit, or of a program.
 fn known(program: bool, k: u64) -> bool
     ensures { λ r. ⌜ r ≡ knownOf program k ⌝ }
 {
-    if !program {
-        if k < 1 {
-            return false;
-        }
-        return k <= 55;
+    if program {
+        return listed(k, 3, 53, 56);
     }
-    if k == 56 {
-        return true;
-    }
-    if k < 3 {
-        return false;
-    }
-    k <= 53
+    listed(k, 1, 55, 57)
 }
 
 // A place that the line does not have holds 0.
@@ -93,7 +99,7 @@ pub fn note(program: bool, rec: [u64; WORDS], n: u64, notes: &mut [[u8; BYTES]])
 // The record breaks no rule after the lines noted.
 fn keeps_rules(
     program: bool,
-    kinds: &[[u8; 16]; 55],
+    kinds: &[[u8; 16]; 63],
     rec: [u64; WORDS],
     notes: &[[u8; BYTES]],
 ) -> bool
@@ -114,7 +120,7 @@ fn keeps_rules(
 // The record of the line n breaks no rule after the lines noted; then it is noted too.
 fn take_record(
     program: bool,
-    kinds: &[[u8; 16]; 55],
+    kinds: &[[u8; 16]; 63],
     rec: [u64; WORDS],
     n: u64,
     notes: &mut [[u8; BYTES]],
@@ -133,7 +139,7 @@ fn take_record(
 // Every record breaks no rule, after those before it; then all are noted.
 fn lines(
     program: bool,
-    kinds: &[[u8; 16]; 55],
+    kinds: &[[u8; 16]; 63],
     table: &[u64],
     count: usize,
     notes: &mut [[u8; BYTES]],

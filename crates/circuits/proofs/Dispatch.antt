@@ -8,7 +8,7 @@ use lib.ListN.{length}
 use Rattle.tables.specs.Pick.{alike}
 use Rattle.tables.specs.Lines.{Line, Shape, isBitvec, isArray, isConst, isInput, isState, isOutput, isUnary, isBinary, isIte, isRead, isWrite, isUnknown, isInitOrNext, isSignal, isEquality, shapeOf, build, lineOf, kindIn, sortIn, firstIn, secondIn, thirdIn}
 use Rattle.tables.proofs.Laws.{past}
-use Rattle.tables.proofs.Shapes.{KindOf, kind-of, line-as}
+use Rattle.tables.proofs.Shapes.{BinaryKind, KindOf, kind-of, line-as}
 use Rattle.circuits.specs.Model.Work.{workIn, sigsIn}
 use Rattle.circuits.specs.Model.Fits.{FitL}
 
@@ -27,7 +27,7 @@ module _ (r : List ℕ) (S : Shape) (e : shapeOf (kindIn r) ≡ S) where
 -- every other kind leaves all as it is
 pub idle-line : (r : List ℕ) (p f : Bool) (P : List (List ℕ)) (all : ℕ) (ι w g : List ℕ) (n : ℕ)
     → (kindIn r ≡ 3 → ⊥) → (kindIn r ≡ 4 → ⊥) → (kindIn r ≡ 5 → ⊥) → (kindIn r ≡ 6 → ⊥) → (kindIn r ≡ 7 → ⊥) → (kindIn r ≡ 8 → ⊥) → (kindIn r ≡ 9 → ⊥)
-    → (11 ≤ kindIn r → kindIn r ≤ 20 → ⊥) → (kindIn r ≡ 21 → ⊥) → (kindIn r ≡ 22 → ⊥) → (23 ≤ kindIn r → kindIn r ≤ 52 → ⊥)
+    → (11 ≤ kindIn r → kindIn r ≤ 20 → ⊥) → (kindIn r ≡ 21 → ⊥) → (kindIn r ≡ 22 → ⊥) → (BinaryKind (kindIn r) → ⊥)
     → (kindIn r ≡ 53 → ⊥) → (kindIn r ≡ 54 → ⊥) → (kindIn r ≡ 55 → ⊥) → (kindIn r ≡ 56 → ⊥)
     → (w ≡ workIn p f P all ι w n (lineOf r)) × (g ≡ sigsIn f P g w n (lineOf r))
 idle-line r p f P all ι w g n n₃ n₄ n₅ n₆ n₇ n₈ n₉ none n₂₁ n₂₂ ntwo n₅₃ n₅₄ n₅₅ n₅₆ = go (shapeOf (kindIn r)) refl (kind-of (kindIn r))
@@ -41,7 +41,7 @@ idle-line r p f P all ι w g n n₃ n₄ n₅ n₆ n₇ n₈ n₉ none n₂₁ n
     go isOutput e k = does-line r isOutput e p f P all ι w g n refl refl
     go isUnary e (inl k) = absurd (none (k .0) (k .1))
     go isUnary e (inr k) = absurd (n₅₆ k)
-    go isBinary e k = absurd (ntwo (k .0) (k .1))
+    go isBinary e k = absurd (ntwo k)
     go isIte e k = absurd (n₅₃ k)
     go isRead e k = absurd (n₅₄ k)
     go isWrite e k = absurd (n₅₅ k)

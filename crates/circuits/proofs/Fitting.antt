@@ -3,7 +3,7 @@
 use Prim.Native.Nat.{ℕ, suc, _+_, _-_, _^_, _≤_, _<_}
 use mathlib.Core.Path.{_≡_, refl, sym, ap, _∙_, subst}
 use mathlib.Core.Logic.{_⊎_, inl, inr, ⊎-elim}
-use mathlib.Core.Bool.{Bool, true, false, _&&_}
+use mathlib.Core.Bool.{Bool, true, false, _&&_, _||_}
 use native.Mathlib.Omega.{arith}
 use lib.Dec.{T, eqb, leb, ltb}
 use borrow.Author.Tests.{eqb-true, leb-true, leb-false, ltb-true, le-leb, lt-leb, ne-eqb}
@@ -14,9 +14,10 @@ use Rattle.tables.specs.declared.Ty.{Ty}
 use Rattle.tables.specs.Kinds.{rowOf, secondClass, thirdClass}
 use Rattle.tables.specs.Rules.{fitsUnary, fitsBinary}
 use Rattle.tables.specs.Tables.{unused}
-use Rattle.tables.proofs.Laws.{true-of}
+use Rattle.tables.proofs.Laws.{true-of, or-true}
 use Rattle.tables.proofs.Every.{at-each}
 use Rattle.tables.proofs.Kept.{both}
+use Rattle.tables.proofs.Shapes.{BinaryKind}
 use Rattle.tables.proofs.Facts.{OneKind, OkUnary, OkBinary}
 use Rattle.circuits.specs.Meaning.{opWord}
 use Rattle.circuits.specs.Model.Fits.{FitWord}
@@ -233,15 +234,14 @@ module _ (k w u x y : ℕ) where
 -- ---- operators of two words
 
 module _ (k w u v x y : ℕ) where
-  two-compare : 23 ≤ k → k ≤ 30 → fitsBinary k w u v ≡ true → Suits (classOf (opOf k)) w u v x y
-  two-compare h l r =
-      let q = both (eqb w 1) (eqb v u) (rw (le-leb k 30 l) at r) in
-      suits-compare w u v x y (classOf (opOf k)) (at-kind (λ (n : ℕ). compares (classOf (opOf n))) 23 8 k (at-each (λ (m : ℕ). compares (classOf (opOf (m + 23)))) 8 tt) h (omega arith))
-      (eqb-true w 1 (q .0)) (sym (eqb-true v u (q .1)))
+  two-compare : T (compares (classOf (opOf k))) → (leb k 30 || leb 57 k) ≡ true → fitsBinary k w u v ≡ true → Suits (classOf (opOf k)) w u v x y
+  two-compare t e r =
+      let q = both (eqb w 1) (eqb v u) (rw e at r) in
+      suits-compare w u v x y (classOf (opOf k)) t (eqb-true w 1 (q .0)) (sym (eqb-true v u (q .1)))
 
   two-bits : 31 ≤ k → k ≤ 32 → fitsBinary k w u v ≡ true → Suits (classOf (opOf k)) w u v x y
   two-bits h l r =
-      let q = both (eqb w 1) (eqb u 1 && eqb v 1) (rw (lt-leb k 30 (omega arith), le-leb k 32 l) at r) in
+      let q = both (eqb w 1) (eqb u 1 && eqb v 1) (rw (lt-leb k 30 (omega arith), lt-leb 57 k (omega arith), le-leb k 32 l) at r) in
       let q₂ = both (eqb u 1) (eqb v 1) (q .1) in
       let eu = eqb-true u 1 (q₂ .0) in
       suits-paired w u v x y (classOf (opOf k)) (at-kind (λ (n : ℕ). paired (classOf (opOf n))) 31 2 k (at-each (λ (m : ℕ). paired (classOf (opOf (m + 31)))) 2 tt) h (omega arith))
@@ -249,7 +249,7 @@ module _ (k w u v x y : ℕ) where
 
   two-paired : 33 ≤ k → k ≤ 51 → fitsBinary k w u v ≡ true → Suits (classOf (opOf k)) w u v x y
   two-paired h l r =
-      let q = both (eqb u w) (eqb v w) (rw (lt-leb k 30 (omega arith), lt-leb k 32 (omega arith), le-leb k 51 l) at r) in
+      let q = both (eqb u w) (eqb v w) (rw (lt-leb k 30 (omega arith), lt-leb 57 k (omega arith), lt-leb k 32 (omega arith), le-leb k 51 l) at r) in
       let eu = eqb-true u w (q .0) in
       suits-paired w u v x y (classOf (opOf k)) (at-kind (λ (n : ℕ). paired (classOf (opOf n))) 33 19 k (at-each (λ (m : ℕ). paired (classOf (opOf (m + 33)))) 19 tt) h (omega arith))
       (sym eu) (eu ∙ sym (eqb-true v w (q .1)))
@@ -259,10 +259,12 @@ module _ (k w u v x y : ℕ) where
       let q : w ≡ u + v = eqb-true w (u + v) (subst (λ (n : ℕ). fitsBinary n w u v ≡ true) e r) in
       subst (λ (n : ℕ). Suits (classOf (opOf n)) w u v x y) (sym e) (record { widths = omega arith; width = q })
 
-  pub suits-two : 23 ≤ k → k ≤ 52 → w ≤ 64 → fitsBinary k w u v ≡ true → Suits (classOf (opOf k)) w u v x y
-  suits-two h l m r =
-      ⊎-elim (λ a. two-compare h (omega arith) r)
+  pub suits-two : BinaryKind k → w ≤ 64 → fitsBinary k w u v ≡ true → Suits (classOf (opOf k)) w u v x y
+  suits-two (inl h) m r =
+      ⊎-elim (λ a. two-compare (at-kind (λ (n : ℕ). compares (classOf (opOf n))) 23 8 k (at-each (λ (m : ℕ). compares (classOf (opOf (m + 23)))) 8 tt) (h .0) (omega arith)) (rw (le-leb k 30 (omega arith))) r)
       (λ a. ⊎-elim (λ b. two-bits a (omega arith) r) (λ b. ⊎-elim (λ c. two-paired b (omega arith) r) (λ c. two-join (omega arith) m r) (lt-or-ge k 52)) (lt-or-ge k 33)) (lt-or-ge k 31)
+  suits-two (inr h) m r =
+      two-compare (at-kind (λ (n : ℕ). compares (classOf (opOf n))) 57 7 k (at-each (λ (m : ℕ). compares (classOf (opOf (m + 57)))) 7 tt) (h .0) (omega arith)) (rw (le-leb 57 k (h .0), or-true)) r
 
 -- ---- lines that keep the rules
 
@@ -270,7 +272,7 @@ pub fit-unary : (p : Bool) (t a : Ty) (k x y : ℕ) → t .w ≤ 64 → OkUnary 
 fit-unary p t a k x y h ok = suits-one k (t .w) (a .w) x y p (ok .kind) h (ok .rule)
 
 pub fit-binary : (t a b : Ty) (k x y : ℕ) → t .w ≤ 64 → OkBinary t k a b → Suits (classOf (opOf k)) (t .w) (a .w) (b .w) x y
-fit-binary t a b k x y h ok = suits-two k (t .w) (a .w) (b .w) x y (ok .least) (ok .most) h (ok .rule)
+fit-binary t a b k x y h ok = suits-two k (t .w) (a .w) (b .w) x y (ok .kind) h (ok .rule)
 
 pub least-one : (p : Bool) (k : ℕ) → OneKind p k → 11 ≤ k
 least-one false k h = h .0

@@ -15,7 +15,7 @@ use Rattle.tables.specs.Lines.{Line, Shape, isBitvec, isArray, isConst, isInput
 use Rattle.tables.specs.Layout.{recordAt, linesOf}
 use Rattle.tables.specs.Types.{tyAt, Ctx, growAll, context}
 use Rattle.tables.specs.Model.Notes.{lookIn}
-use Rattle.tables.proofs.Shapes.{KindOf, kind-of, line-as, no-unknown}
+use Rattle.tables.proofs.Shapes.{binary-range, KindOf, kind-of, line-as, no-unknown}
 use Rattle.tables.proofs.Showing.{by-place}
 use Rattle.circuits.specs.declared.Spot.{Spot}
 use Rattle.circuits.specs.Layout.{Counts, Layout, counting, typeAt, placeAt, size, lineTypeIn, placeOf, countsAfter, noLayout, lay, layAll, layout}
@@ -79,7 +79,7 @@ module _ (r : List ℕ) {kind : ℕ} (e : kind ≡ kindIn r) (c : Counts) (m : �
       go isOutput e k = absurd (omega arith)
       go isUnary e (inl k) = absurd (omega arith)
       go isUnary e (inr k) = absurd (omega arith)
-      go isBinary e k = absurd (omega arith)
+      go isBinary e k = absurd (omega (arith, binary-range k))
       go isIte e k = absurd (omega arith)
       go isRead e k = absurd (omega arith)
       go isWrite e k = absurd (omega arith)
@@ -90,7 +90,7 @@ module _ (r : List ℕ) {kind : ℕ} (e : kind ≡ kindIn r) (c : Counts) (m : �
       go (isEquality true) e k = absurd (omega arith)
       go (isEquality false) e k = absurd (omega arith)
 
-  pub way-value : 11 ≤ kind → kind < 57 → Way c m r (counting (c .cells + m) (c .states) (c .inputs) (c .signals)) (spot (c .cells) 0)
+  pub way-value : 11 ≤ kind → kind < 64 → Way c m r (counting (c .cells + m) (c .states) (c .inputs) (c .signals)) (spot (c .cells) 0)
   way-value h l = go (shapeOf kind) refl (kind-of kind)
     where
       go : (S : Shape) → shapeOf kind ≡ S → KindOf S kind → Way c m r (counting (c .cells + m) (c .states) (c .inputs) (c .signals)) (spot (c .cells) 0)
@@ -112,7 +112,7 @@ module _ (r : List ℕ) {kind : ℕ} (e : kind ≡ kindIn r) (c : Counts) (m : �
       go (isSignal false) e k = absurd (omega arith)
       go (isEquality b) e k = way-as (isEquality b) e refl refl
 
-  pub way-none : (kind ≡ 3 → ⊥) → (kind ≡ 4 → ⊥) → (kind ≡ 5 → ⊥) → (8 ≤ kind → kind ≤ 9 → ⊥) → (11 ≤ kind → kind ≤ 56 → ⊥) → Way c m r c noSpot
+  pub way-none : (kind ≡ 3 → ⊥) → (kind ≡ 4 → ⊥) → (kind ≡ 5 → ⊥) → (8 ≤ kind → kind ≤ 9 → ⊥) → (11 ≤ kind → kind ≤ 63 → ⊥) → Way c m r c noSpot
   way-none n₃ n₄ n₅ n₈ n₁ = go (shapeOf kind) refl (kind-of kind)
     where
       go : (S : Shape) → shapeOf kind ≡ S → KindOf S kind → Way c m r c noSpot
@@ -124,7 +124,7 @@ module _ (r : List ℕ) {kind : ℕ} (e : kind ≡ kindIn r) (c : Counts) (m : �
       go isOutput e k = way-as isOutput e refl refl
       go isUnary e (inl k) = absurd (n₁ (k .0) (omega arith))
       go isUnary e (inr k) = absurd (n₁ (omega arith) (omega arith))
-      go isBinary e k = absurd (n₁ (omega arith) (omega arith))
+      go isBinary e k = let h = binary-range k in absurd (n₁ (omega arith) (h .1))
       go isIte e k = absurd (n₁ (omega arith) (omega arith))
       go isRead e k = absurd (n₁ (omega arith) (omega arith))
       go isWrite e k = absurd (n₁ (omega arith) (omega arith))

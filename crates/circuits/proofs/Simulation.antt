@@ -17,6 +17,7 @@ use Rattle.tables.specs.Pick.{pick, alike}
 use Rattle.tables.specs.Lines.{Line, Expr}
 use Rattle.tables.specs.Types.{sortAt, tyAt, given}
 use Rattle.tables.proofs.Kept.{no-yes}
+use Rattle.tables.proofs.Shapes.{binary-range}
 use Rattle.tables.proofs.Showing.{earlier}
 use Rattle.tables.proofs.Values.{val-iw, val-w, val-value}
 use Rattle.tables.proofs.Wide.{Wide, sort-wide, line-wide}
@@ -151,7 +152,7 @@ module _ {p : Bool} {all : ℕ} {σ w : List ℕ} {A : Frame} (H : Held p all σ
   word-two t k a b h ok =
       let s = fit-binary t (typeAt (A .lay) a) (typeAt (A .lay) b) k (wordAt A b) 0 h ok in
       record {
-        least = omega (arith, ok .least);
+        least = omega (arith, binary-range (ok .kind));
         wide = width-of a (ok .left .is);
         widths = s .widths;
         below = λ e. record { first = small-of e a (ok .left .is) 0; second = small-of e b (ok .right .is) 0; third = pow-pos (widthAt A b); width = s .width };

@@ -9,6 +9,7 @@ use lib.ListN.{length, getD, replicate}
 use Rattle.tables.specs.Lines.{Line, bitvec, array, input, state, value, initOrNext, signal, output, unknown, const, unary, binary, equality, ite, read, write, wordsOf, kindIn}
 use Rattle.tables.specs.Types.{Ctx, tyAt, given, grow}
 use Rattle.tables.specs.Layout.{from}
+use Rattle.tables.proofs.Shapes.{binary-range}
 use Rattle.tables.proofs.Facts.{Ok, AllOk}
 use Rattle.flattening.specs.Flat.{Info, noInfo, infoAt, linesAt, lineAt, chunk, chunkRead, chunkWrite, constLines, iteLines, equalityLines, joinLines, writeLines, readChain, initOrNextLines, valueLines, flattenFrom, flatten}
 
@@ -115,7 +116,7 @@ plain-kind c (input s) h k e = omega arith
 plain-kind c (state s) h k e = omega arith
 plain-kind c (value s (const v)) h k e = omega arith
 plain-kind c (value s (unary n a x y)) h k e = let l = k .kind .0 in omega arith
-plain-kind c (value s (binary n x y)) h k e = let l = k .least in omega arith
+plain-kind c (value s (binary n x y)) h k e = let l = binary-range (k .kind) in omega arith
 plain-kind c (value s (equality true x y)) h k e = omega arith
 plain-kind c (value s (equality false x y)) h k e = omega arith
 plain-kind c (value s (ite d x y)) h k e = omega arith

@@ -2,6 +2,7 @@
 -- values cs; `Ends A ls u p w v` says it of one line. Assumes nothing.
 use Prim.Native.Nat.{ℕ, zero, suc, _+_, _*_, _^_, _≤_, _<_}
 use mathlib.Core.Path.{_≡_, refl, sym, ap, _∙_, subst}
+use mathlib.Core.Logic.{inl}
 use mathlib.Core.Bool.{Bool, true, false, _||_}
 use mathlib.Core.List.{List, [], _∷_}
 use native.Mathlib.Omega.{arith}
@@ -169,8 +170,7 @@ module _ (f : Bool) (σ ι : List ℕ) where
       → Ok false (tyAt (A .lay .ctx)) (given (A .lay .ctx)) (value s (binary (joinKind t) p q))
   join-ok t hs hp hq =
       record {
-        least = join-least t;
-        most = join-most t;
+        kind = inl (join-least t, join-most t);
         sort = sort-ok hs;
         left = word-ok hp;
         right = word-ok hq;

@@ -12,7 +12,8 @@ use lib.Arith.{lt-of-le-ne}
 use Rattle.tables.specs.Lines.{Line, Expr, Shape, isBitvec, isArray, isConst, isInput, isState, isOutput, isUnary, isBinary, isIte, isRead, isWrite, isUnknown, isInitOrNext, isSignal, isEquality, shapeOf, build, fields, lineOf, kindIn, sortIn as sortOf, firstIn, secondIn, thirdIn}
 use Rattle.tables.specs.Tables.{known}
 use Rattle.tables.proofs.Laws.{past, within}
-use Rattle.tables.proofs.Shapes.{KindOf, kind-of, line-as, shape-unary, shape-binary, range}
+use Rattle.tables.proofs.Shapes.{binary-left, KindOf, kind-of, line-as, shape-unary, shape-binary}
+use Rattle.tables.proofs.Kept.{known-range, no-mask}
 use Rattle.flattening.specs.declared.Made.{Made}
 use Rattle.flattening.specs.Model.Cells.{Held, cellIn}
 use Rattle.flattening.specs.Model.Rows.{rowsFor, rowAt, stepping, still, joinRecords, readRecords, writeRecords}
@@ -93,10 +94,7 @@ as-unary r h l = line-as r isUnary (shape-unary (kindIn r) h l)
 
 pub as-binary : (r : List ℕ) → 22 < kindIn r → known false (kindIn r) ≡ true → (kindIn r ≡ 53 → ⊥) → (kindIn r ≡ 54 → ⊥) → (kindIn r ≡ 55 → ⊥)
     → lineOf r ≡ build isBinary (kindIn r) (sortOf r) (firstIn r) (secondIn r) (thirdIn r)
-as-binary r h e c d f = line-as r isBinary (shape-binary (kindIn r) h (fewer (fewer (fewer (range 1 55 (kindIn r) e .1) f) d) c))
-  where
-    fewer : {k n : ℕ} → k ≤ suc n → (k ≡ suc n → ⊥) → k ≤ n
-    fewer x y = within (lt-of-le-ne x y)
+as-binary r h e c d f = line-as r isBinary (shape-binary (kindIn r) (binary-left h (known-range false (kindIn r) e .1) c d f (no-mask (kindIn r) e)))
 
 -- one of two kinds, n and the next
 as-either : (r : List ℕ) (n : ℕ) (F : Bool → Line) → n ≤ kindIn r → kindIn r ≤ suc n → (kindIn r ≡ n → lineOf r ≡ F true) → (kindIn r ≡ suc n → lineOf r ≡ F false) → lineOf r ≡ F (eqb (kindIn r) n)
@@ -118,7 +116,7 @@ as-signal r h l d = as-either r 8 (λ b. Line.signal b (firstIn r)) h (within (l
 pub as-init-next : (r : List ℕ) → known false (kindIn r) ≡ true → kindIn r ≤ 7 → (kindIn r ≡ 1 → ⊥) → (kindIn r ≡ 2 → ⊥) → (kindIn r ≡ 3 → ⊥) → (kindIn r ≡ 4 → ⊥) → (kindIn r ≡ 5 → ⊥)
     → lineOf r ≡ Line.initOrNext (eqb (kindIn r) 6) (sortOf r) (firstIn r) (secondIn r)
 as-init-next r e l a₁ a₂ a₃ a₄ a₅ =
-    as-either r 6 (λ b. Line.initOrNext b (sortOf r) (firstIn r) (secondIn r)) (past (past (past (past (past (range 1 55 (kindIn r) e .0) a₁) a₂) a₃) a₄) a₅) l (as-key r 6) (as-key r 7)
+    as-either r 6 (λ b. Line.initOrNext b (sortOf r) (firstIn r) (secondIn r)) (past (past (past (past (past (known-range false (kindIn r) e .0) a₁) a₂) a₃) a₄) a₅) l (as-key r 6) (as-key r 7)
 
 -- the kinds that leave one flat line
 pub count-rest : (N : Notes) (r : List ℕ) → known false (kindIn r) ≡ true → (kindIn r ≡ 2 → ⊥) → (kindIn r ≡ 5 → ⊥) → (kindIn r ≡ 6 → ⊥) → (kindIn r ≡ 7 → ⊥) → (kindIn r ≡ 21 → ⊥) → (kindIn r ≡ 22 → ⊥)

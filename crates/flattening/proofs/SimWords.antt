@@ -171,8 +171,7 @@ module _ (f : Bool) (σ ι : List ℕ) where
             (two-lt h (wordAt A x) (wordAt A y) k (rs .width) (v .rel x .value (k .left .is) .sort .width) (word-small v x (k .left .is)) (word-small v y (k .right .is))) tt);
         ok = (
           record {
-            least = k .least;
-            most = k .most;
+            kind = k .kind;
             sort = sort-ok (rs .elem);
             left = word-ok wx;
             right = word-ok wy;

@@ -17,9 +17,9 @@ ghost use Rattle.texts.specs.Model.Structs.{asWord, NextId};
 ghost use Rattle.texts.specs.Decimal.{decimal};
 
 // The line's word, from the place i on; kinds are the rows of all kinds.
-pub fn word(kinds: &[[u8; 16]; 55], l: &[u8], i: usize) -> Form
+pub fn word(kinds: &[[u8; 16]; 63], l: &[u8], i: usize) -> Form
     requires { do ⌜ (now kinds ≡ rows) × (i ≤ (← ⟦l.len()⟧)) ⌝ }
-    ensures { λ r. do ⌜ (r .at ≤ (← ⟦l.len()⟧ .entry)) × ((r .form ≤ 60) × (wordIn (tokensIn (drop i (now (l .entry)))) ≡ asWord (now (l .entry)) r)) ⌝ }
+    ensures { λ r. do ⌜ (r .at ≤ (← ⟦l.len()⟧ .entry)) × ((r .form ≤ 68) × (wordIn (tokensIn (drop i (now (l .entry)))) ≡ asWord (now (l .entry)) r)) ⌝ }
 {
     let a = tokens::skip(l, i);
     if a == l.len() {

@@ -25,10 +25,10 @@ fn number(f: usize, j: usize, t: &[u8]) -> Num
     ensures { λ r. ⌜ r ≡ plainAt f j (now (t .entry)) ⌝ }
 {
     if j == 2 {
-        if f == 56 {
+        if f == 64 {
             return numbers::digits_in(t, 2, 64);
         }
-        if f == 57 {
+        if f == 65 {
             return numbers::digits_in(t, 16, 16);
         }
         return numbers::decimal(t);
@@ -49,8 +49,8 @@ fn class_at(r: [u8; 16], j: usize) -> u8
 
 // A token for the place j of a record of the form f has a minus, which only one that names a line may have; kinds are the rows of all kinds, of which one is looked up only for
 // a token that begins with a minus.
-fn has_minus(kinds: &[[u8; 16]; 55], f: usize, j: usize, t: &[u8]) -> bool
-    requires { ⌜ (now kinds ≡ rows) × ((1 ≤ f) × ((f ≤ 60) × ((1 ≤ j) × (j ≤ 4)))) ⌝ }
+fn has_minus(kinds: &[[u8; 16]; 63], f: usize, j: usize, t: &[u8]) -> bool
+    requires { ⌜ (now kinds ≡ rows) × ((1 ≤ f) × ((f ≤ 68) × ((1 ≤ j) × (j ≤ 4)))) ⌝ }
     ensures { λ r. ⌜ r ≡ signAt f j (now (t .entry)) ⌝ }
 {
     if t.len() == 0 {
@@ -67,8 +67,8 @@ fn has_minus(kinds: &[[u8; 16]; 55], f: usize, j: usize, t: &[u8]) -> bool
 }
 
 // The number and the sign of a token, at the place j of a line of the form f; kinds are the rows of all kinds.
-fn token(kinds: &[[u8; 16]; 55], f: usize, j: usize, t: &[u8]) -> Signed
-    requires { ⌜ (now kinds ≡ rows) × ((1 ≤ f) × ((f ≤ 60) × ((1 ≤ j) × (j ≤ 4)))) ⌝ }
+fn token(kinds: &[[u8; 16]; 63], f: usize, j: usize, t: &[u8]) -> Signed
+    requires { ⌜ (now kinds ≡ rows) × ((1 ≤ f) × ((f ≤ 68) × ((1 ≤ j) × (j ≤ 4)))) ⌝ }
     ensures { λ r. ⌜ (r .num ≡ numberAt f j (now (t .entry))) × (r .minus ≡ signAt f j (now (t .entry))) ⌝ }
 {
     if has_minus(kinds, f, j, t) {
@@ -87,13 +87,13 @@ fn token(kinds: &[[u8; 16]; 55], f: usize, j: usize, t: &[u8]) -> Signed
 pub fn operands(
     l: &[u8],
     i: usize,
-    kinds: &[[u8; 16]; 55],
+    kinds: &[[u8; 16]; 63],
     f: usize,
     m: usize,
     j: usize,
     start: [u64; WORDS],
 ) -> Taken
-    requires { do ⌜ (now kinds ≡ rows) × ((1 ≤ f) × ((f ≤ 60) × ((i ≤ (← ⟦l.len()⟧)) × ((1 ≤ j) × (j + m ≤ recordWords))))) ⌝ }
+    requires { do ⌜ (now kinds ≡ rows) × ((1 ≤ f) × ((f ≤ 68) × ((i ≤ (← ⟦l.len()⟧)) × ((1 ≤ j) × (j + m ≤ recordWords))))) ⌝ }
     ensures { λ r. do
       ⌜ (r .at ≤ (← ⟦l.len()⟧ .entry)) × ((kindIn (r .rec) ≡ kindIn start)
           × (operandsOf f m j start noSigns false 0 (tokensIn (drop i (now (l .entry)))) ≡ asTook (now (l .entry)) r)) ⌝ }

@@ -8,7 +8,7 @@ ghost use Rattle.words.specs.Program.{prog};
 ghost use Rattle.words.specs.Model.Classes.{classOf};
 ghost use Rattle.words.specs.Model.Widths.{Widths, widthOf};
 
-// An instruction's word, for kinds 11 to 53 and 56. u and v are the widths of its first and second operands; operands that are numbers stand in b and c.
+// An instruction's word, for kinds 11 to 53 and 56 to 63. u and v are the widths of its first and second operands; operands that are numbers stand in b and c.
 pub fn prog_word(kind: u64, u: u64, v: u64, a: u64, b: u64, c: u64) -> u64
     requires { ⌜ (11 ≤ kind) × Width u × Widths (classOf (opOf kind)) u v b c ⌝ }
     ensures { λ r. ⌜ r ≡ prog (opOf kind) u v a b c ⌝ }
@@ -57,11 +57,12 @@ pub fn prog_word(kind: u64, u: u64, v: u64, a: u64, b: u64, c: u64) -> u64
         51 => operators::ror(u, a, b),
         52 => (a << v) | b,
         53 => if a != 0 { b } else { c },
+        57..=63 => detectors::detect(kind, u, a, b),
         _ => operators::low(u, a),
     }
 }
 
-// A line's word, for kinds 11 to 53. w is the line's width, and the operands are as in `prog_word`, each below 2 to its width.
+// A line's word, for kinds 11 to 53 and 57 to 63. w is the line's width, and the operands are as in `prog_word`, each below 2 to its width.
 pub fn circ_word(kind: u64, w: u64, u: u64, v: u64, a: u64, b: u64, c: u64) -> u64
     requires { ⌜ (11 ≤ kind) × Width u × Widths (classOf (opOf kind)) u v b c × (a < 2 ^ u) × (b < 2 ^ v) × (c < 2 ^ v) × (w ≡ widthOf (classOf (opOf kind)) u v b c) ⌝ }
     ensures { λ r. ⌜ r ≡ circ (opOf kind) u v a b c ⌝ }

@@ -34,7 +34,7 @@ fn store(xs: &mut [u64], n: u64, v: u64)
 
 // The record's line is loose.
 fn loose(rec: [u64; WORDS], wd: &[u64], lo: &[u8]) -> bool
-    requires { ⌜ kindIn rec ≤ 55 ⌝ }
+    requires { ⌜ kindIn rec ≤ 63 ⌝ }
     ensures { λ r. ⌜ r ≡ looseIn (entryAt (now (wd .entry))) (flagAt (now (lo .entry))) rec ⌝ }
 {
     if entry(wd, rec[1]) == 64 {
@@ -140,7 +140,7 @@ pub fn take(
     num: &mut [u64],
     lo: &mut [u8],
 ) -> bool
-    requires { ⌜ (kindIn rec ≤ 55) × (b < 65536) ⌝ }
+    requires { ⌜ (kindIn rec ≤ 63) × (b < 65536) ⌝ }
     ensures { λ r. ⌜ Taken rec n need b (now (wd .entry)) (now (num .entry)) (now (lo .entry)) (now (wd .exit)) (now (num .exit)) (now (lo .exit)) r ⌝ }
 {
     let l = loose(rec, wd, lo);

@@ -67,7 +67,10 @@ pub fn first(rec: [u64; WORDS], d: u64) -> usize
     if k < 54 {
         return rec[2] as usize;
     }
-    rec[3] as usize
+    if k < 56 {
+        return rec[3] as usize;
+    }
+    rec[2] as usize
 }
 
 // The line that is looked at next, where the first one's word is x: the second operand, what an ite takes, the array of a read or of a write; 0 where one word is all.
@@ -84,7 +87,10 @@ pub fn second(rec: [u64; WORDS], x: u64) -> usize
     if k == 53 {
         return chosen(x, rec[3], rec[4]);
     }
-    rec[2] as usize
+    if k < 56 {
+        return rec[2] as usize;
+    }
+    rec[3] as usize
 }
 
 // The word v of the line n is kept.

@@ -14,7 +14,7 @@ use Rattle.tables.specs.Lines.{Shape, isBitvec, isArray, isConst, isInput, isSt
 use Rattle.tables.specs.Layout.{held}
 use Rattle.tables.specs.Layout.{recordAt, linesOf}
 use Rattle.tables.specs.Tables.{checked}
-use Rattle.tables.proofs.Shapes.{KindOf, kind-of, line-as, shape-equality}
+use Rattle.tables.proofs.Shapes.{binary-range, binary-apart, KindOf, kind-of, line-as, shape-equality}
 use Rattle.tables.proofs.Showing.{by-place}
 use Rattle.tables.proofs.Encoding.{fits-table}
 use Rattle.circuits.specs.Cells.{ifNonzero}
@@ -173,19 +173,19 @@ module _ {t : List ℕ} {n : ℕ} {P : List (List ℕ)} {ini S R : List ℕ} (lk
         go isInput e k = of-none (F .none (omega arith))
         go isState e k = of-state (getD ini m 0) refl (F .init k) e
         go isOutput e k = absurd (fact isOutput e)
-        go isUnary e (inl k) = of-arg (F .operand (omega arith) (omega arith)) (fact isUnary e .arg)
+        go isUnary e (inl k) = of-arg (F .operand (omega arith) (λ p q. omega arith)) (fact isUnary e .arg)
         go isUnary e (inr k) = absurd (omega (arith, fact isUnary e .most))
-        go isBinary e k = of-arg (F .operand (omega arith) (omega arith)) (fact isBinary e .left)
-        go isIte e k = of-arg (F .operand (omega arith) (omega arith)) (fact isIte e .cond)
-        go isRead e k = of-arg (F .index (omega arith)) (fact isRead e .index)
-        go isWrite e k = of-arg (F .index (omega arith)) (fact isWrite e .index)
+        go isBinary e k = of-arg (F .operand (omega (arith, binary-range k)) (λ h l. binary-apart k (omega arith) l)) (fact isBinary e .left)
+        go isIte e k = of-arg (F .operand (omega arith) (λ p q. omega arith)) (fact isIte e .cond)
+        go isRead e k = of-arg (F .index (omega arith) (omega arith)) (fact isRead e .index)
+        go isWrite e k = of-arg (F .index (omega arith) (omega arith)) (fact isWrite e .index)
         go isUnknown e k = absurd (fact isUnknown e)
         go (isInitOrNext b) e k = absurd (fact (isInitOrNext b) e)
         go (isSignal b) e k = absurd (fact (isSignal b) e)
         go (isEquality true) e k =
-            subst (First t n r m) (sym (F .operand (omega arith) (omega arith))) (record { below = fact (isEquality true) e .left .below; sort = inr (omega arith, omega arith) })
+            subst (First t n r m) (sym (F .operand (omega arith) (λ p q. omega arith))) (record { below = fact (isEquality true) e .left .below; sort = inr (omega arith, omega arith) })
         go (isEquality false) e k =
-            subst (First t n r m) (sym (F .operand (omega arith) (omega arith))) (record { below = fact (isEquality false) e .left .below; sort = inr (omega arith, omega arith) })
+            subst (First t n r m) (sym (F .operand (omega arith) (λ p q. omega arith))) (record { below = fact (isEquality false) e .left .below; sort = inr (omega arith, omega arith) })
 
     -- ---- a state's cell
 
@@ -217,7 +217,7 @@ module _ {t : List ℕ} {n : ℕ} {P : List (List ℕ)} {ini S R : List ℕ} (lk
 
     pub compared : 20 < kindIn r → kindIn r < 23 → FactEquality A Z P ini S R m 0 (eqb (kindIn r) 21) a (secondIn r)
     compared h l =
-        subst (λ (x : ℕ). FactEquality A Z P ini S R m 0 (eqb (kindIn r) 21) x (secondIn r)) (sym (F .operand (omega arith) (omega arith)))
+        subst (λ (x : ℕ). FactEquality A Z P ini S R m 0 (eqb (kindIn r) 21) x (secondIn r)) (sym (F .operand (omega arith) (λ p q. omega arith)))
         (word-fact (isEquality (eqb (kindIn r) 21)) (shape-equality (omega arith) l))
 
     pub first-equality : 1 < numIn P a → FactEquality A Z P ini S R m 0 (eqb (kindIn r) 21) a (secondIn r)
@@ -239,11 +239,11 @@ module _ {t : List ℕ} {n : ℕ} {P : List (List ℕ)} {ini S R : List ℕ} (lk
         equality-second : 20 < kindIn r → kindIn r < 23 → Second t n m b
         equality-second h l =
             let E = compared h l in
-            subst (Second t n m) (sym (G .operand h (omega arith)))
+            subst (Second t n m) (sym (G .operand h (λ g m. omega arith)))
             (record { below = E .right .below; line = λ z. record { value = E .right .value; flat = E .sorts ∙ flat-of a (E .left .value) one } })
 
         pub ite-chosen : kindIn r ≡ 53 → Chosen A Z m 0 b
-        ite-chosen k = chosen (word-fact isIte (ap shapeOf k)) (ex ∙ ap (wordAt A) (F .operand (omega arith) (omega arith))) (G .chosen k)
+        ite-chosen k = chosen (word-fact isIte (ap shapeOf k)) (ex ∙ ap (wordAt A) (F .operand (omega arith) (λ p q. omega arith))) (G .chosen k)
 
         ite-second : kindIn r ≡ 53 → Second t n m b
         ite-second k = let C = ite-chosen k in record { below = C .below; line = λ h. record { value = C .value; flat = C .sort ∙ w .flat } }
@@ -260,7 +260,7 @@ module _ {t : List ℕ} {n : ℕ} {P : List (List ℕ)} {ini S R : List ℕ} (lk
             go isOutput e k = absurd (word-fact isOutput e)
             go isUnary e (inl k) = none-second (G .none (omega arith))
             go isUnary e (inr k) = absurd (omega (arith, word-fact isUnary e .most))
-            go isBinary e k = arg-second (G .operand (omega arith) (omega arith)) (word-fact isBinary e .right)
+            go isBinary e k = arg-second (G .operand (omega (arith, binary-range k)) (λ h l. binary-apart k h l)) (word-fact isBinary e .right)
             go isIte e k = ite-second k
             go isRead e k = absurd (n₅₄ k)
             go isWrite e k = absurd (omega (arith, word-fact isWrite e .arr .deep, word-fact isWrite e .sortA, w .flat))
@@ -274,8 +274,8 @@ module _ {t : List ℕ} {n : ℕ} {P : List (List ℕ)} {ini S R : List ℕ} (lk
         pub read-through : kindIn r ≡ 54 → ThroughCell A t n m 0 b x
         read-through k =
             let E = word-fact isRead (ap shapeOf k) in
-            let ei : x ≡ wordAt A (secondIn r) = ex ∙ ap (wordAt A) (F .index (omega arith)) in
-            subst (λ (d : ℕ). ThroughCell A t n m 0 d x) (sym (G .array (omega arith)))
+            let ei : x ≡ wordAt A (secondIn r) = ex ∙ ap (wordAt A) (F .index (omega arith) (omega arith)) in
+            subst (λ (d : ℕ). ThroughCell A t n m 0 d x) (sym (G .array (omega arith) (omega arith)))
             (record {
               below = E .belowA;
               line = record { array = record { value = E .arr .is; deep = E .arr .deep }; inside = subst (λ (y : ℕ). y < size (typeAt Z (firstIn r))) (sym ei) (E .inside) };
@@ -329,20 +329,20 @@ module _ {t : List ℕ} {n : ℕ} {P : List (List ℕ)} {ini S R : List ℕ} (lk
         none x z k = omega (arith, number x (k .word .is) .least)
 
         ite : kindIn r ≡ 53 → ⊥
-        ite k = none (firstIn r) (F .operand (omega arith) (omega arith)) (cell-fact isIte (ap shapeOf k) .cond)
+        ite k = none (firstIn r) (F .operand (omega arith) (λ p q. omega arith)) (cell-fact isIte (ap shapeOf k) .cond)
 
         write : kindIn r ≡ 55 → ⊥
-        write k = none (secondIn r) (F .index (omega arith)) (written k .index)
+        write k = none (secondIn r) (F .index (omega arith) (omega arith)) (written k .index)
 
     module _ {x b : ℕ} (ex : x ≡ wordAt A a) (G : SecondLine r x b) where
       pub ite-through : kindIn r ≡ 53 → ThroughCell A t n m c b c
       ite-through k =
-          let C = chosen (cell-fact isIte (ap shapeOf k)) (ex ∙ ap (wordAt A) (F .operand (omega arith) (omega arith))) (G .chosen k) in
+          let C = chosen (cell-fact isIte (ap shapeOf k)) (ex ∙ ap (wordAt A) (F .operand (omega arith) (λ p q. omega arith))) (G .chosen k) in
           record { below = C .below; line = cell-same w (C .value) (C .sort); is = C .is }
 
       module _ (n₅ : kindIn r ≡ 5 → ⊥) (n₅₃ : kindIn r ≡ 53 → ⊥) where
         index : x ≡ wordAt A (secondIn r)
-        index = ex ∙ ap (wordAt A) (F .index (omega (arith, is-write n₅ n₅₃)))
+        index = ex ∙ ap (wordAt A) (F .index (omega (arith, is-write n₅ n₅₃)) (omega (arith, is-write n₅ n₅₃)))
 
         pub write-hit : x ≡ c → ThroughWord A t n m c (thirdIn r)
         write-hit e = let W = written (is-write n₅ n₅₃) in record { below = W .value .below; line = word-arg (W .value); is = W .hit (sym index ∙ e) }
@@ -350,5 +350,5 @@ module _ {t : List ℕ} {n : ℕ} {P : List (List ℕ)} {ini S R : List ℕ} (lk
         pub write-miss : (x ≡ c → ⊥) → ThroughCell A t n m c b c
         write-miss z =
             let W = written (is-write n₅ n₅₃) in
-            subst (λ (d : ℕ). ThroughCell A t n m c d c) (sym (G .array (omega (arith, is-write n₅ n₅₃))))
+            subst (λ (d : ℕ). ThroughCell A t n m c d c) (sym (G .array (omega (arith, is-write n₅ n₅₃)) (omega (arith, is-write n₅ n₅₃))))
             (record { below = W .belowA; line = cell-same w (W .arr .is) (W .sortA); is = W .miss (λ e. z (index ∙ e)) })

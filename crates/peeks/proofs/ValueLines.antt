@@ -1,5 +1,5 @@
--- The lines that have a value are those of the kinds 3 to 5 and 11 to 55, and no other number has a type of a value. Assumes nothing.
-use Prim.Native.Nat.{ℕ, suc, _≤_, _<_}
+-- The lines that have a value are those of the kinds 3 to 5, 11 to 55 and 57 to 63, and no other number has a type of a value. Assumes nothing.
+use Prim.Native.Nat.{ℕ, suc, _+_, _≤_, _<_}
 use mathlib.Core.Path.{_≡_, refl, sym, ap, _∙_, subst}
 use mathlib.Core.Logic.{inl, inr}
 use mathlib.Core.Bool.{true, false}
@@ -13,7 +13,8 @@ use Rattle.tables.specs.Layout.{recordAt, linesOf}
 use Rattle.tables.specs.Types.{isValue, noTy, tyAt, given}
 use Rattle.tables.specs.Tables.{checked}
 use Rattle.tables.proofs.Facts.{Ok}
-use Rattle.tables.proofs.Shapes.{KindOf, kind-of, line-as}
+use Rattle.tables.proofs.Shapes.{each-binary, KindOf, kind-of, line-as}
+use Rattle.tables.proofs.Every.{at-each, from-to}
 use Rattle.tables.proofs.Values.{val-value}
 use Rattle.circuits.specs.Layout.{Layout, typeAt, lineTypeIn, lay, noLayout, layAll, layout}
 use Rattle.peeks.specs.Peek.{valueKind}
@@ -21,8 +22,8 @@ use Rattle.circuits.proofs.Laid.{type-new, more-types, later}
 use Rattle.circuits.proofs.Walked.{line-here, ok-here, sound-at, number-at, later-at}
 use Rattle.circuits.proofs.Placing.{lines-here}
 
-high : (k : ℕ) → 11 ≤ k → k ≤ 55 → valueKind k ≡ true
-high k h l = rw (le-leb 3 k (omega arith), lt-leb k 5 (omega arith), le-leb 11 k h, le-leb k 55 l)
+unary-value : (k : ℕ) → 11 ≤ k → k ≤ 20 → valueKind k ≡ true
+unary-value k h l = from-to valueKind 11 10 k (at-each (λ (m : ℕ). valueKind (m + 11)) 10 tt) h (omega arith)
 
 module _ (Y : Layout) (r : List ℕ) (ok : Ok false (tyAt (Y .ctx)) (given (Y .ctx)) (lineOf r)) where
   yes : (S : Shape) → shapeOf (kindIn r) ≡ S → 2 ≤ lineTypeIn false Y (build S (kindIn r) (sortIn r) (firstIn r) (secondIn r) (thirdIn r)) .role → valueKind (kindIn r) ≡ true
@@ -49,9 +50,9 @@ module _ (Y : Layout) (r : List ℕ) (ok : Ok false (tyAt (Y .ctx)) (given (Y .c
       go isInput e k = yes isInput e (omega arith) (ap valueKind k)
       go isState e k = yes isState e (omega arith) (ap valueKind k)
       go isOutput e k = no isOutput e (omega arith) (ap valueKind k)
-      go isUnary e (inl k) = yes isUnary e (val (Expr.unary (kindIn r) (firstIn r) (secondIn r) (thirdIn r))) (high (kindIn r) (k .0) (omega (arith, k .1)))
+      go isUnary e (inl k) = yes isUnary e (val (Expr.unary (kindIn r) (firstIn r) (secondIn r) (thirdIn r))) (unary-value (kindIn r) (k .0) (k .1))
       go isUnary e (inr k) = absurd (omega (arith, by isUnary e .kind .1))
-      go isBinary e k = yes isBinary e (val (Expr.binary (kindIn r) (firstIn r) (secondIn r))) (high (kindIn r) (omega (arith, k .0)) (omega (arith, k .1)))
+      go isBinary e k = yes isBinary e (val (Expr.binary (kindIn r) (firstIn r) (secondIn r))) (each-binary valueKind tt tt (kindIn r) k)
       go isIte e k = yes isIte e (val (Expr.ite (firstIn r) (secondIn r) (thirdIn r))) (ap valueKind k)
       go isRead e k = yes isRead e (val (Expr.read (firstIn r) (secondIn r))) (ap valueKind k)
       go isWrite e k = yes isWrite e (val (Expr.write (firstIn r) (secondIn r) (thirdIn r))) (ap valueKind k)

@@ -9,7 +9,7 @@ use lib.Dec.{eqb}
 use lib.ListN.{length, getD}
 use Rattle.tables.specs.Lines.{Shape, isBitvec, isArray, isConst, isInput, isState, isOutput, isUnary, isBinary, isIte, isRead, isWrite, isUnknown, isInitOrNext, isSignal, isEquality, shapeOf, build, kindIn, sortIn, firstIn, secondIn, thirdIn}
 use Rattle.tables.specs.Layout.{recordAt, linesOf}
-use Rattle.tables.proofs.Shapes.{KindOf, kind-of}
+use Rattle.tables.proofs.Shapes.{binary-range, binary-apart, KindOf, kind-of}
 use Rattle.tables.proofs.Showing.{by-place}
 use Rattle.words.specs.Word.{bit}
 use Rattle.circuits.specs.Cells.{eqOrNeq, sameCells}
@@ -49,10 +49,10 @@ module _ {t : List ℕ} {n : ℕ} {P : List (List ℕ)} {ini S R : List ℕ} (lk
   most = number lk m (w .value) .most
 
   -- the words of an operator's operands
-  left : 5 < kindIn r → kindIn r < 54 → x ≡ wordAt A (firstIn r)
+  left : 5 < kindIn r → (53 < kindIn r → kindIn r < 56 → ⊥) → x ≡ wordAt A (firstIn r)
   left h l = ex ∙ ap (wordAt A) (F .operand h l)
 
-  right : 20 < kindIn r → kindIn r < 53 → y ≡ wordAt A (secondIn r)
+  right : 20 < kindIn r → (52 < kindIn r → kindIn r < 56 → ⊥) → y ≡ wordAt A (secondIn r)
   right h l = ey ∙ ap (wordAt A) (G .operand h l)
 
   -- a line of words is no write
@@ -78,19 +78,20 @@ module _ {t : List ℕ} {n : ℕ} {P : List (List ℕ)} {ini S R : List ℕ} (lk
             known = omega (arith, most);
             input = λ h z. absurd (omega arith);
             start = λ z e. absurd (omega arith);
-            unary = λ h l. (omega (arith, I .arg .below, most), fit-as refl refl refl (left h (omega arith)) refl (I .op));
+            unary = λ h l. (omega (arith, I .arg .below, most), fit-as refl refl refl (left h (λ g m. omega arith)) refl (I .op));
             binary = λ h z. absurd (omega arith);
           }
       go isUnary e (inr k) = absurd (omega (arith, says isUnary e .most))
       go isBinary e k =
           let I = says isBinary e in
+          let d = binary-range k in
           record {
             known = omega (arith, most);
             input = λ h z. absurd (omega arith);
             start = λ z e. absurd (omega arith);
             unary = λ h l. absurd (omega arith);
             binary = λ h z.
-                (omega (arith, I .left .below, most), (omega (arith, I .right .below, most), fit-as refl refl refl (left (omega arith) (omega arith)) (right (omega arith) (omega arith)) (I .op)));
+                (omega (arith, I .left .below, most), (omega (arith, I .right .below, most), fit-as refl refl refl (left (omega arith) (λ g m. binary-apart k (omega arith) m)) (right (omega arith) (λ g m. binary-apart k g m)) (I .op)));
           }
       go isIte e k = record { known = omega (arith, most); input = λ h z. absurd (omega arith); start = λ z e. absurd (omega arith); unary = λ h l. absurd (omega arith); binary = λ h z. absurd (z k) }
       go isRead e k = absurd (n₅₄ k)
@@ -108,7 +109,7 @@ module _ {t : List ℕ} {n : ℕ} {P : List (List ℕ)} {ini S R : List ℕ} (lk
         let flat = flat-of lk a (E .left .value) one in
         let la : length (cellsAt A a) ≡ 1 = cells-of lk a (E .left .value) ∙ ap (λ (z : ℕ). 2 ^ z) flat in
         let lb : length (cellsAt A (secondIn r)) ≡ 1 = cells-of lk (secondIn r) (E .right .value) ∙ ap (λ (z : ℕ). 2 ^ z) (E .sorts ∙ flat) in
-        f .equality h l ∙ ap (λ (s : Bool). bit (eqOrNeq (eqb (kindIn r) 21) s)) (ap₂ eqb ex (right h (omega arith)) ∙ same-one (cellsAt A a) (cellsAt A (secondIn r)) la lb) ∙ E .is
+        f .equality h l ∙ ap (λ (s : Bool). bit (eqOrNeq (eqb (kindIn r) 21) s)) (ap₂ eqb ex (right h (λ g m. omega arith)) ∙ same-one (cellsAt A a) (cellsAt A (secondIn r)) la lb) ∙ E .is
 
     pub value-is : v ≡ wordAt A m
     value-is = go (shapeOf (kindIn r)) refl (kind-of (kindIn r))
@@ -122,10 +123,11 @@ module _ {t : List ℕ} {n : ℕ} {P : List (List ℕ)} {ini S R : List ℕ} (lk
             by-place a 0 (λ z. f .start k z ∙ start-is lk m 0 (w .value) (first-cell lk m) er F k z)
             (λ z. f .init k z ∙ ex ∙ init-is lk m 0 (w .value) (first-cell lk m) er F k z)
         go isOutput e k = absurd (says isOutput e)
-        go isUnary e (inl k) = op-as false (kindIn r) (thirdIn r) (f .unary (omega arith) (omega arith)) refl refl (left (omega arith) (omega arith)) refl ∙ says isUnary e .is
+        go isUnary e (inl k) = op-as false (kindIn r) (thirdIn r) (f .unary (omega arith) (omega arith)) refl refl (left (omega arith) (λ h l. omega arith)) refl ∙ says isUnary e .is
         go isUnary e (inr k) = absurd (omega (arith, says isUnary e .most))
         go isBinary e k =
-            op-as false (kindIn r) 0 (f .binary (omega arith) (λ z. omega arith)) refl refl (left (omega arith) (omega arith)) (right (omega arith) (omega arith)) ∙ says isBinary e .is
+            let d = binary-range k in
+            op-as false (kindIn r) 0 (f .binary (omega arith) (λ z. binary-apart k (omega arith) (omega arith))) refl refl (left (omega arith) (λ g m. binary-apart k (omega arith) m)) (right (omega arith) (λ g m. binary-apart k g m)) ∙ says isBinary e .is
         go isIte e k = f .ite k ∙ ey ∙ ite-chosen lk w er F one ex G k .is
         go isRead e k = absurd (n₅₄ k)
         go isWrite e k = absurd (no-write e)

@@ -45,7 +45,7 @@ peekAt C S R line cell = getD (cellsAt (stepZero C S R) line) cell 0
 
 -- the kinds of value lines
 abbrev pub valueKind : ℕ → Bool
-valueKind k = inside 3 5 k || inside 11 55 k
+valueKind k = inside 3 5 k || (inside 11 55 k || inside 57 63 k)
 
 -- A line of the type y is a value and has the cell, among at most 64 records. Line 0 and lines past the count have no type; of the others
 -- those of the kinds above have a value's (proofs/ValueLines).

@@ -52,7 +52,7 @@ fn count_line(k: u64, m: usize, t: Totals) -> Totals
             signals: t.signals + 1,
         },
         3 => more_cells(m, t),
-        11..=56 => more_cells(m, t),
+        11..=63 => more_cells(m, t),
         _ => t,
     }
 }
@@ -91,7 +91,7 @@ fn find_spot(k: u64, t: Totals) -> Spot
             off: t.cells,
             at: 0,
         },
-        11..=56 => Spot {
+        11..=63 => Spot {
             off: t.cells,
             at: 0,
         },

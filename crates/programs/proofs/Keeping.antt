@@ -14,8 +14,7 @@ use Rattle.tables.specs.Lines.{Line, Expr, lineOf, wordsOf, kindIn, unknown, bi
 use Rattle.tables.specs.Layout.{held, recordAt, recordsOf, linesOf}
 use Rattle.tables.specs.Types.{Ctx, tyAt, given, grow, noCtx}
 use Rattle.tables.specs.Tables.{known, formed, keeps, lawful, checked}
-use Rattle.tables.proofs.Shapes.{range}
-use Rattle.tables.proofs.Kept.{both}
+use Rattle.tables.proofs.Kept.{both, known-range}
 use Rattle.tables.proofs.Formed.{words-back}
 use Rattle.tables.proofs.Showing.{by-place, snoc-other}
 use Rattle.tables.proofs.Places.{length-records, length-record, length-lines, record-at}
@@ -116,7 +115,7 @@ pub record LineAt (t : List ℕ) (n i : ℕ) : Type 0 where
   pub rest : drop i (linesOf false t n) ≡ line ∷ drop (i + 1) (linesOf false t n)
   pub words : wordsOf line ≡ recordAt false t i
   pub kinded : Kinded line
-  pub kind : kindIn (recordAt false t i) ≤ 55
+  pub kind : kindIn (recordAt false t i) ≤ 63
 
 formed-at : (p : Bool) (c : Ctx) (rs : List (List ℕ)) → lawful p c rs ≡ true → (i : ℕ) → i < length rs → formed p (getD rs i []) ≡ true
 formed-at p c [] h i l = absurd (omega arith)
@@ -126,7 +125,7 @@ formed-at p c (r ∷ rs) h (suc i) l = formed-at p (grow p c (lineOf r)) rs (bot
 kinded-expr : (c : Ctx) (s : ℕ) (x : Expr) → OkExpr false (tyAt c) (tyAt c s) x → KindedExpr x
 kinded-expr c s (const v) k = tt
 kinded-expr c s (unary n a x y) k = k .kind
-kinded-expr c s (binary n a b) k = (k .least, k .most)
+kinded-expr c s (binary n a b) k = k .kind
 kinded-expr c s (equality e a b) k = tt
 kinded-expr c s (ite d a b) k = tt
 kinded-expr c s (read a i) k = tt
@@ -162,7 +161,7 @@ line-at t n i e l =
       rest = drop-cons (linesOf false t n) i unknown many ∙ ap₂ (λ (y : Line) (k : ℕ). y ∷ drop k (linesOf false t n)) x s;
       words = words-back false (recordAt false t i) (length-record false t i) fo;
       kinded = subst Kinded x (kinded-at noCtx (linesOf false t n) (accepted-ok false t n e) i many);
-      kind = range 1 55 (kindIn (recordAt false t i)) (both (known false (kindIn (recordAt false t i))) _ fo .0) .1;
+      kind = known-range false (kindIn (recordAt false t i)) (both (known false (kindIn (recordAt false t i))) _ fo .0) .1;
     }
 
 -- its record is in the table, its number is at most 16,384, and its kind is a circuit's
@@ -173,8 +172,8 @@ module _ (t : List ℕ) (n i : ℕ) (e : checked false t n ≡ Accepted) (l : i 
   pub few-here : i < 16384
   few-here = omega (arith, fits-table false t n e .0)
 
-  pub kind-here : {r : List ℕ} → r ≡ recordAt false t i → kindIn r ≤ 55
-  kind-here er = subst⁻¹ (λ (x : List ℕ). kindIn x ≤ 55) er (line-at t n i e l .kind)
+  pub kind-here : {r : List ℕ} → r ≡ recordAt false t i → kindIn r ≤ 63
+  kind-here er = subst⁻¹ (λ (x : List ℕ). kindIn x ≤ 63) er (line-at t n i e l .kind)
 
 -- lists of zeros with an entry for each line number that a table can have
 pub fresh-many : (t : List ℕ) (n : ℕ) → checked false t n ≡ Accepted → Zeroed n (replicate 16385 0) (replicate 16385 0) (replicate 16385 0)

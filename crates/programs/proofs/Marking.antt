@@ -51,7 +51,7 @@ mark-length v a ms = go (eqb v 1)
     go false = refl
 
 -- the marks of a record are the lines that its line needs clean
-needing-law : (l : Line) (r ms : List ℕ) → needs l ≡ when (needKind₁ (kindIn r)) (firstIn r) ++ when (needKind₂ (kindIn r) && secondLine (kindIn r)) (secondIn r) → kindIn r ≤ 55
+needing-law : (l : Line) (r ms : List ℕ) → needs l ≡ when (needKind₁ (kindIn r)) (firstIn r) ++ when (needKind₂ (kindIn r) && secondLine (kindIn r)) (secondIn r) → kindIn r ≤ 63
     → (j : ℕ) → j < length ms → flagAt (usesMarked r ms) j ≡ (flagAt ms j || among j (needs l))
 needing-law l r ms e k j h =
     let u = usesOf (kindIn r) in

@@ -6,11 +6,12 @@ use mathlib.Core.List.{List, [], _∷_, _++_, map, append-nil}
 use native.Mathlib.Omega.{arith}
 use lib.Dec.{eqb, leb}
 use lib.ListN.{length}
-use borrow.Author.Tests.{le-leb, lt-leb, ne-eqb}
+use borrow.Author.Tests.{le-leb, lt-leb, ne-eqb, not-true}
 use Rattle.words.specs.Kinds.{needKind₁, needKind₂}
 use Rattle.tables.specs.Pick.{pick, inside}
 use Rattle.tables.specs.Lines.{Line, Expr, bitvec, array, input, state, value, initOrNext, signal, output, unknown, const, unary, binary, equality, ite, read, write, fields, wordsOf, kindIn, sortIn, firstIn, secondIn}
 use Rattle.tables.proofs.Laws.{or-true, and-true}
+use Rattle.tables.proofs.Shapes.{BinaryKind, binary-range, each-binary}
 use Rattle.programs.specs.Uses.{looseLine, when, needs}
 use Rattle.programs.specs.Translation.{arraySortLine, Known, info, operandWidth, operandNumber, looseOf, Made, withMask, instructionsOf}
 use Rattle.programs.specs.Model.Kinds.{firstLine, secondLine, thirdLine, hasValue}
@@ -20,7 +21,7 @@ use Rattle.programs.specs.Model.Records.{looseIn, instruction, maskRecor
 abbrev pub KindedExpr : Expr → Type 0
 KindedExpr (const v) = Unit {0}
 KindedExpr (unary k a x y) = (11 ≤ k) × (k ≤ 20)
-KindedExpr (binary k a b) = (23 ≤ k) × (k ≤ 52)
+KindedExpr (binary k a b) = BinaryKind k
 KindedExpr (equality e a b) = Unit {0}
 KindedExpr (ite c a b) = Unit {0}
 KindedExpr (read a i) = Unit {0}
@@ -62,14 +63,17 @@ module _ (k : ℕ) (h : 11 ≤ k) where
   range-op : inside 6 7 k ≡ false
   range-op = rw (le-leb 6 k (omega arith), lt-leb k 7 (omega arith))
 
-  third-op : k ≤ 52 → thirdLine k ≡ false
-  third-op l = rw (ne-eqb k 53 (λ e. omega arith), ne-eqb k 55 (λ e. omega arith))
+  third-one : k ≤ 20 → thirdLine k ≡ false
+  third-one l = rw (ne-eqb k 53 (λ e. omega arith), ne-eqb k 55 (λ e. omega arith))
 
 second-one : (k : ℕ) → 11 ≤ k → k ≤ 20 → secondLine k ≡ false
 second-one k h l = rw (range-op k h) (lt-leb 21 k (omega arith))
 
-second-two : (k : ℕ) → 23 ≤ k → secondLine k ≡ true
-second-two k h = rw (range-op k (omega arith)) (le-leb 21 k (omega arith))
+second-two : (k : ℕ) → BinaryKind k → secondLine k ≡ true
+second-two = each-binary secondLine tt tt
+
+third-two : (k : ℕ) → BinaryKind k → thirdLine k ≡ false
+third-two k b = not-true (thirdLine k) (each-binary (λ (n : ℕ). not (thirdLine n)) tt tt k b)
 
 -- ---- the lines that a record needs clean
 
@@ -80,7 +84,7 @@ needs-words (input s) k = refl
 needs-words (state s) k = refl
 needs-words (value s (const v)) k = refl
 needs-words (value s (unary n a x y)) k = rw (second-one n (k .0) (k .1), and-none (needKind₂ n)) (sym (append-nil (when (needKind₁ n) a)))
-needs-words (value s (binary n a b)) k = ap (λ (t : Bool). when (needKind₁ n) a ++ when t b) (sym (ap (λ (t : Bool). needKind₂ n && t) (second-two n (k .0)) ∙ and-true (needKind₂ n)))
+needs-words (value s (binary n a b)) k = ap (λ (t : Bool). when (needKind₁ n) a ++ when t b) (sym (ap (λ (t : Bool). needKind₂ n && t) (second-two n k) ∙ and-true (needKind₂ n)))
 needs-words (value s (equality true a b)) k = refl
 needs-words (value s (equality false a b)) k = refl
 needs-words (value s (ite c a b)) k = refl
@@ -101,7 +105,7 @@ array-words (input s) k = refl
 array-words (state s) k = refl
 array-words (value s (const v)) k = refl
 array-words (value s (unary n a x y)) k = sym (array-op n (k .0))
-array-words (value s (binary n a b)) k = sym (array-op n (omega (arith, k .0)))
+array-words (value s (binary n a b)) k = sym (array-op n (omega (arith, binary-range k)))
 array-words (value s (equality true a b)) k = refl
 array-words (value s (equality false a b)) k = refl
 array-words (value s (ite c a b)) k = refl
@@ -199,11 +203,11 @@ module _ (N : ℕ → Bool) (J : List Known) (b : ℕ) (zero-w : operandWidth J 
   agrees (value s (const v)) k = value-line (value s (const v)) (value (W s) (const v)) _ refl refl refl refl refl
   agrees (value s (unary n a x y)) k =
       value-line (value s (unary n a x y)) (value (W s) (unary n (M a) x y)) (looseLine (W s) n (L a) false false) (value-op n (k .0)) (width-op n (k .0)) (sort-op n (k .0))
-      (rw (second-one n (k .0) (k .1), first-op n (k .0), third-op n (k .0) (omega (arith, k .1)))) (rw (second-one n (k .0) (k .1), first-op n (k .0), third-op n (k .0) (omega (arith, k .1))))
+      (rw (second-one n (k .0) (k .1), first-op n (k .0), third-one n (k .0) (k .1))) (rw (second-one n (k .0) (k .1), first-op n (k .0), third-one n (k .0) (k .1)))
   agrees (value s (binary n a c)) k =
-      let h : 11 ≤ n = omega (arith, k .0) in
+      let h : 11 ≤ n = omega (arith, binary-range k) in
       value-line (value s (binary n a c)) (value (W s) (binary n (M a) (M c))) (looseLine (W s) n (L a) (L c) false) (value-op n h) (width-op n h) (sort-op n h)
-      (rw (second-two n (k .0), first-op n h, third-op n h (k .1))) (rw (second-two n (k .0), first-op n h, third-op n h (k .1)))
+      (rw (second-two n k, first-op n h, third-two n k)) (rw (second-two n k, first-op n h, third-two n k))
   agrees (value s (equality true a c)) k = value-line (value s (equality true a c)) (value (W s) (equality true (M a) (M c))) _ refl refl refl refl refl
   agrees (value s (equality false a c)) k = value-line (value s (equality false a c)) (value (W s) (equality false (M a) (M c))) _ refl refl refl refl refl
   agrees (value s (ite d a c)) k = value-line (value s (ite d a c)) (value (W s) (ite (M d) (M a) (M c))) _ refl refl refl refl refl

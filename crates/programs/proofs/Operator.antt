@@ -46,7 +46,7 @@ at-use false false l w x h g e = e
 pub exact-result : (w : ℕ) (lo : Bool) {x a : ℕ} → x < 2 ^ 64 → a < 2 ^ w → x ≡ a → Result w lo x a
 exact-result w lo {x} f h e = record { fits = f; small = h; stands = loosen false lo w x tt h e }
 
-pub operator : (k w u v a b c x y z : ℕ) (l₁ l₂ l₃ : Bool) → 11 ≤ k → k ≤ 56 → Width u → Suits (classOf (opOf k)) w u v b c → Widths (classOf (opOf k)) u v y z
+pub operator : (k w u v a b c x y z : ℕ) (l₁ l₂ l₃ : Bool) → 11 ≤ k → k ≤ 63 → Width u → Suits (classOf (opOf k)) w u v b c → Widths (classOf (opOf k)) u v y z
     → a < 2 ^ u → b < 2 ^ v → c < 2 ^ v → x < 2 ^ 64 → y < 2 ^ 64 → z < 2 ^ 64
     → Stands (atUse (need₁ (classOf (opOf k))) l₁) u x a → Stands (atUse (need₂ (classOf (opOf k))) l₂) v y b → Stands (atUse (need₃ (classOf (opOf k))) l₃) v z c
     → Result w (looseLine w k l₁ l₂ l₃) (prog (opOf k) u v x y z) (circ (opOf k) u v a b c)

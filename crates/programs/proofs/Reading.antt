@@ -26,20 +26,20 @@ byTable k = rowBy (looseHow (getD (usesOf k) 2 0)) (eqb (getD (usesOf k) 0 0) 1)
 abbrev byKind : ℕ → List Bool
 byKind k = rowBy (looseKind k) (needKind₁ k) (needKind₂ k && secondLine k)
 
-compared : table byTable 0 56 ≡ table byKind 0 56
+compared : table byTable 0 64 ≡ table byKind 0 64
 unfolding usesOf
 compared = refl
 
-row : (k : ℕ) → k ≤ 55 → byTable k ≡ byKind k
-row k h = at byTable byKind 56 0 compared k (omega arith) (omega arith)
+row : (k : ℕ) → k ≤ 63 → byTable k ≡ byKind k
+row k h = at byTable byKind 64 0 compared k (omega arith) (omega arith)
 
-pub need-row₁ : (k : ℕ) → k ≤ 55 → eqb (getD (usesOf k) 0 0) 1 ≡ needKind₁ k
+pub need-row₁ : (k : ℕ) → k ≤ 63 → eqb (getD (usesOf k) 0 0) 1 ≡ needKind₁ k
 need-row₁ k h = ap (λ (r : List Bool). getD r 8 false) (row k h)
 
-pub need-row₂ : (k : ℕ) → k ≤ 55 → eqb (getD (usesOf k) 1 0) 1 ≡ (needKind₂ k && secondLine k)
+pub need-row₂ : (k : ℕ) → k ≤ 63 → eqb (getD (usesOf k) 1 0) 1 ≡ (needKind₂ k && secondLine k)
 need-row₂ k h = ap (λ (r : List Bool). getD r 9 false) (row k h)
 
-loose-row : (k : ℕ) → k ≤ 55 → (l₁ l₂ l₃ : Bool) → looseHow (getD (usesOf k) 2 0) l₁ l₂ l₃ ≡ looseKind k l₁ l₂ l₃
+loose-row : (k : ℕ) → k ≤ 63 → (l₁ l₂ l₃ : Bool) → looseHow (getD (usesOf k) 2 0) l₁ l₂ l₃ ≡ looseKind k l₁ l₂ l₃
 loose-row k h false false false = ap (λ (r : List Bool). getD r 0 false) (row k h)
 loose-row k h false false true = ap (λ (r : List Bool). getD r 1 false) (row k h)
 loose-row k h false true false = ap (λ (r : List Bool). getD r 2 false) (row k h)
@@ -55,7 +55,7 @@ module _ (W : ℕ → ℕ) (L : ℕ → Bool) (r : List ℕ) where
   pub never-64 : W (sortIn r) ≡ 64 → false ≡ looseIn W L r
   never-64 e = sym (ap (λ (t : Bool). not t && looseKind (kindIn r) (firstLine (kindIn r) && L (firstIn r)) (secondLine (kindIn r) && L (secondIn r)) (thirdLine (kindIn r) && L (thirdIn r))) (eq-eqb (W (sortIn r)) 64 e))
 
-  pub loose-read : (W (sortIn r) ≡ 64 → ⊥) → kindIn r ≤ 55 → (u : List ℕ) {x l₁ l₂ l₃ f₁ f₂ f₃ : Bool} → u ≡ usesOf (kindIn r) → f₁ ≡ firstLine (kindIn r) → l₁ ≡ (f₁ && L (firstIn r))
+  pub loose-read : (W (sortIn r) ≡ 64 → ⊥) → kindIn r ≤ 63 → (u : List ℕ) {x l₁ l₂ l₃ f₁ f₂ f₃ : Bool} → u ≡ usesOf (kindIn r) → f₁ ≡ firstLine (kindIn r) → l₁ ≡ (f₁ && L (firstIn r))
       → f₂ ≡ secondLine (kindIn r) → l₂ ≡ (f₂ && L (secondIn r)) → f₃ ≡ thirdLine (kindIn r) → l₃ ≡ (f₃ && L (thirdIn r)) → x ≡ looseHow (getD u 2 0) l₁ l₂ l₃ → x ≡ looseIn W L r
   loose-read n h u {x} eu e₁ q₁ e₂ q₂ e₃ q₃ ex =
       let p : x ≡ looseHow (getD (usesOf (kindIn r)) 2 0) (firstLine (kindIn r) && L (firstIn r)) (secondLine (kindIn r) && L (secondIn r)) (thirdLine (kindIn r) && L (thirdIn r)) =

@@ -21,19 +21,19 @@ member set k = set / 2 ^ k % 2
 
 abbrev rowBy : ℕ → List ℕ
 rowBy k =
-    member 13365665494435776 k ∷ member 9002803353616576 k
+    member 18315994551128131520 k ∷ member 18311631688987312320 k
     ∷ (member 4648724425111568 k + 2 * member 60129542144 k + 4 * member 13510798882111488 k) ∷ []
 
-all-rows : listed rowBy 0 56 ≡ useRows
+all-rows : listed rowBy 0 64 ≡ useRows
 all-rows = refl
 
-pub row-by : (k : ℕ) → k ≤ 55 → rowBy k ≡ usesOf k
+pub row-by : (k : ℕ) → k ≤ 63 → rowBy k ≡ usesOf k
 unfolding usesOf
 row-by k h =
     let e : k + 0 ≡ k = omega arith in
-    sym (listed-at rowBy 0 56 k (omega arith) ∙ ap rowBy e) ∙ ap (λ (l : List (List ℕ)). getD l k []) all-rows
+    sym (listed-at rowBy 0 64 k (omega arith) ∙ ap rowBy e) ∙ ap (λ (l : List (List ℕ)). getD l k []) all-rows
 
 -- the row of five members
-pub row-of : (k : ℕ) {a b x y z : ℕ} → k ≤ 55 → a ≡ member 13365665494435776 k → b ≡ member 9002803353616576 k → x ≡ member 4648724425111568 k → y ≡ member 60129542144 k
+pub row-of : (k : ℕ) {a b x y z : ℕ} → k ≤ 63 → a ≡ member 18315994551128131520 k → b ≡ member 18311631688987312320 k → x ≡ member 4648724425111568 k → y ≡ member 60129542144 k
     → z ≡ member 13510798882111488 k → _≡_ {A = List ℕ} (a ∷ b ∷ (x + 2 * y + 4 * z) ∷ []) (usesOf k)
 row-of k h ea eb ex ey ez = rw (ea, eb, ex, ey, ez) (row-by k h)

@@ -18,6 +18,7 @@ use Rattle.words.proofs.KindLaws.{need-kind₁, need-kind₂}
 use Rattle.tables.specs.declared.Ty.{Ty}
 use Rattle.tables.specs.Lines.{Expr, value, const, unary, binary, equality, ite, read, write}
 use Rattle.tables.specs.Types.{tyAt}
+use Rattle.tables.proofs.Shapes.{binary-range}
 use Rattle.tables.proofs.Kept.{no-yes}
 use Rattle.tables.proofs.Facts.{OkExpr}
 use Rattle.circuits.specs.Cells.{ifNonzero, eqOrNeq, sameCells}
@@ -96,17 +97,18 @@ module _ (g : Bool) (σ ι : List ℕ) {W : ℕ → ℕ} {N : ℕ → Bool} {A B
         let xb = wordAt B (operandNumber J b) in
         let f = fit-binary (typeAt (A .lay) s) (typeAt (A .lay) a) (typeAt (A .lay) b) k (wordAt A b) 0 most-is ok in
         let n = met-append N (when (needKind₁ k) a) (when (needKind₂ k) b) m in
+        let bk = binary-range (ok .kind) in
         record {
           x = prog (opOf k) u t xa xb 0;
           a = circ (opOf k) u t (wordAt A a) (wordAt A b) 0;
           cellsB = ap₂ (λ (y z : ℕ). prog (opOf k) y z xa xb 0 ∷ []) (width-same a ha) (width-same b hb);
           cellsA = refl;
           result =
-              operator k (operandWidth J s) u t (wordAt A a) (wordAt A b) 0 xa xb 0 (looseOf J a) (looseOf J b) false (omega (arith, ok .least)) (omega (arith, ok .most)) (a-width a (omega arith))
+              operator k (operandWidth J s) u t (wordAt A a) (wordAt A b) 0 xa xb 0 (looseOf J a) (looseOf J b) false (omega (arith, bk)) (omega (arith, bk)) (a-width a (omega arith))
               (subst (λ (z : ℕ). Suits c z u t (wordAt A b) 0) width-is f) (fit-binary (typeAt (A .lay) s) (typeAt (A .lay) a) (typeAt (A .lay) b) k xb 0 most-is ok .widths)
               (v .word a ha .small) (v .word b hb .small) (pow-pos t) (v .word a ha .fits) (v .word b hb .fits) (pow-pos 64)
-              (used (need₁ c) a ha (λ e. met-when N (needKind₁ k) a (n .0) (need-kind₁ k (omega (arith, ok .least)) (omega (arith, ok .most)) ∙ e)))
-              (used (need₂ c) b hb (λ e. met-when N (needKind₂ k) b (n .1) (need-kind₂ k (omega (arith, ok .least)) (omega (arith, ok .most)) ∙ e))) (itself (need₃ c) t 0);
+              (used (need₁ c) a ha (λ e. met-when N (needKind₁ k) a (n .0) (need-kind₁ k (omega (arith, bk)) (omega (arith, bk)) ∙ e)))
+              (used (need₂ c) b hb (λ e. met-when N (needKind₂ k) b (n .1) (need-kind₂ k (omega (arith, bk)) (omega (arith, bk)) ∙ e))) (itself (need₃ c) t 0);
         }
 
     -- both operands are clean: the same words are compared

@@ -24,7 +24,8 @@ looseExpr L w (ite c a b) = looseLine w 53 (L c) (L a) (L b)
 looseExpr L w (read a i) = false
 looseExpr L w (write a i v) = false
 
--- ---- "Needing a clean operand: 6 to 10, 15 to 17, 19 to 30, 42 to 46, 48 to 51, the amount of sll, the low operand of concat, the condition of ite."
+-- ---- "Needing a clean operand: 6 to 10, 15 to 17, 19 to 30, 42 to 46, 48 to 51, the amount of sll, the low operand of concat, the condition of ite." And both operands of an
+-- overflow detector: "They need clean operands and are never loose"
 
 abbrev pub when : Bool → ℕ → List ℕ
 when true a = a ∷ []

@@ -21,7 +21,7 @@ ghost use Rattle.texts.specs.Reading.{linesRead, outcomeOf, reads};
 fn with_room(
     text: &[u8],
     table: &mut [u64],
-    kinds: &[[u8; 16]; 55],
+    kinds: &[[u8; 16]; 63],
     notes: &mut [[u8; BYTES]],
 ) -> Answer
     requires { ⌜ (length (now text) ≤ 65536) × ((now table ≡ replicate (length (now table)) 0) × ((length (now notes) ≡ 16385)

@@ -38,7 +38,7 @@ fn labelled(r: Readout, id: u64, from: usize, to: usize) -> Readout
 // What stands behind the word of a line with the given id, whose form is f: 6 to 10. kinds are the rows of all kinds.
 fn behind_word(
     l: &[u8],
-    kinds: &[[u8; 16]; 55],
+    kinds: &[[u8; 16]; 63],
     f: usize,
     at: usize,
     id: u64,
@@ -47,7 +47,7 @@ fn behind_word(
     notes: &[[u8; BYTES]],
 ) -> Readout
     requires { do
-      ⌜ (now kinds ≡ rows) × ((at ≤ (← ⟦l.len()⟧)) × ((1 ≤ f) × ((f ≤ 60) × (((a : ℕ) → lookIn (now notes) a .w ≤ 64) × Risen (now table) n)))) ⌝ }
+      ⌜ (now kinds ≡ rows) × ((at ≤ (← ⟦l.len()⟧)) × ((1 ≤ f) × ((f ≤ 68) × (((a : ℕ) → lookIn (now notes) a .w ≤ 64) × Risen (now table) n)))) ⌝ }
     ensures { λ r. do
       ⌜ Tells r (ended (lookIn (now (notes .entry))) (givenIn (now (notes .entry))) (idsOf (now (table .entry)) n) f (takenIn f (tokensIn (drop at (now (l .entry))))))
           × (r .what ≡ 0 → (r .id ≡ id) × ((r .from ≤ r .to) × ((r .to ≤ (← ⟦l.len()⟧ .entry))
@@ -65,7 +65,7 @@ fn behind_word(
 // A line, after n records of the table, with room for `room` of them; kinds are the rows of all kinds.
 pub fn read_line(
     l: &[u8],
-    kinds: &[[u8; 16]; 55],
+    kinds: &[[u8; 16]; 63],
     table: &[u64],
     n: usize,
     room: usize,

@@ -17,7 +17,7 @@ ghost use Rattle.texts.specs.Model.Chains.{Ample};
 pub fn read_lines(
     text: &[u8],
     table: &mut [u64],
-    kinds: &[[u8; 16]; 55],
+    kinds: &[[u8; 16]; 63],
     notes: &mut [[u8; BYTES]],
     names: &mut [u16],
 ) -> Answer

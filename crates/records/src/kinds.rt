@@ -3,8 +3,8 @@ pub mod letters; // the letters of the words
 
 use letters::*;
 ghost use mathlib.Core.Path.{_≡_};
-ghost use Prim.Native.Nat.{_≤_, _<_};
-ghost use Rattle.tables.specs.Kinds.{rowPlace, rows, rowOf};
+ghost use Prim.Native.Nat.{_≤_};
+ghost use Rattle.tables.specs.Kinds.{rows, rowOf};
 
 // The class of a place says what may stand as a line's sort, or as an operand of it. NONE: the line has no such place.
 pub const NONE: u8 = 0;
@@ -29,7 +29,7 @@ pub const NUM: u8 = 8;
 pub const NOT: u64 = 11;
 
 // A row: the word's length, its letters in ten places, the class of the sort, the number of operands, their classes in three places.
-pub const KINDS: [[u8; 16]; 55] = [
+pub const KINDS: [[u8; 16]; 63] = [
     // 1 to 5: sorts, constants, inputs, states
     [6, B, I, T, V, E, C, 0, 0, 0, 0, NONE, 1, NUM, 0, 0],
     [5, A, R, R, A, Y, 0, 0, 0, 0, 0, NONE, 2, WSORT, WSORT, 0],
@@ -90,31 +90,30 @@ pub const KINDS: [[u8; 16]; 55] = [
     [3, I, T, E, 0, 0, 0, 0, 0, 0, 0, SORT, 3, WORD, VALUE, VALUE],
     [4, R, E, A, D, 0, 0, 0, 0, 0, 0, WSORT, 2, ARRAY, WORD, 0],
     [5, W, R, I, T, E, 0, 0, 0, 0, 0, ASORT, 3, ARRAY, WORD, WORD],
+    // 56: a program's mask, which has no word
+    [0, 0, 0, 0, 0, 0, 0, 0, 0, 0, 0, WSORT, 1, WORD, 0, 0],
+    // 57 to 63: overflow detectors
+    [5, U, A, D, D, O, 0, 0, 0, 0, 0, WSORT, 2, WORD, WORD, 0],
+    [5, S, A, D, D, O, 0, 0, 0, 0, 0, WSORT, 2, WORD, WORD, 0],
+    [5, U, S, U, B, O, 0, 0, 0, 0, 0, WSORT, 2, WORD, WORD, 0],
+    [5, S, S, U, B, O, 0, 0, 0, 0, 0, WSORT, 2, WORD, WORD, 0],
+    [5, U, M, U, L, O, 0, 0, 0, 0, 0, WSORT, 2, WORD, WORD, 0],
+    [5, S, M, U, L, O, 0, 0, 0, 0, 0, WSORT, 2, WORD, WORD, 0],
+    [5, S, D, I, V, O, 0, 0, 0, 0, 0, WSORT, 2, WORD, WORD, 0],
 ];
 
-// Where the row of a kind stands; a mask has that of not.
-fn place(k: u64) -> usize
-    requires { ⌜ (1 ≤ k) × (k ≤ 56) ⌝ }
-    ensures { λ r. ⌜ (r ≡ rowPlace k) × (r < 55) ⌝ }
-{
-    if k == 56 {
-        return 10;
-    }
-    (k - 1) as usize
-}
-
 // The rows of all kinds. A pass over many lines takes them once.
-pub fn all() -> [[u8; 16]; 55]
+pub fn all() -> [[u8; 16]; 63]
     ensures { λ r. ⌜ r ≡ rows ⌝ }
 {
     KINDS
 }
 
 // The row of a kind, from the rows of all.
-pub fn row_of(kinds: &[[u8; 16]; 55], k: u64) -> [u8; 16]
-    requires { ⌜ (1 ≤ k) × ((k ≤ 56) × (now kinds ≡ rows)) ⌝ }
+pub fn row_of(kinds: &[[u8; 16]; 63], k: u64) -> [u8; 16]
+    requires { ⌜ (1 ≤ k) × ((k ≤ 63) × (now kinds ≡ rows)) ⌝ }
     ensures { λ r. ⌜ r ≡ rowOf k ⌝ }
 {
-    let i = place(k);
+    let i = (k - 1) as usize;
     kinds[i]
 }

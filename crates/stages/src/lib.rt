@@ -79,11 +79,11 @@ fn settle(w: u8, f: usize, rec: [u64; WORDS]) -> [u64; WORDS]
     ensures { λ r. ⌜ r ≡ settled w f rec ⌝ }
 {
     let mut t = rec;
-    if f == 59 {
+    if f == 67 {
         t[2] = 1;
         return t;
     }
-    if f == 60 {
+    if f == 68 {
         t[2] = ones(w);
         return t;
     }
@@ -106,7 +106,7 @@ fn judge(
     if a == 8 {
         return refuse(Refusal::WrongClass);
     }
-    if f == 56 {
+    if f == 64 {
         let w = notes::look(notes, rec[1]).w;
         if len != w as usize {
             return refuse(Refusal::Misfit);
@@ -235,8 +235,8 @@ fn large(
 }
 
 // The numbers of a line of the form f, from behind its word on; kinds are the rows of all kinds.
-pub fn take(l: &[u8], kinds: &[[u8; 16]; 55], f: usize, at: usize) -> Taken
-    requires { do ⌜ (now kinds ≡ rows) × ((at ≤ (← ⟦l.len()⟧)) × ((1 ≤ f) × (f ≤ 60))) ⌝ }
+pub fn take(l: &[u8], kinds: &[[u8; 16]; 63], f: usize, at: usize) -> Taken
+    requires { do ⌜ (now kinds ≡ rows) × ((at ≤ (← ⟦l.len()⟧)) × ((1 ≤ f) × (f ≤ 68))) ⌝ }
     ensures { λ t. do
       ⌜ (t .at ≤ (← ⟦l.len()⟧ .entry)) × ((kindIn (t .rec) ≡ kindOf f) × (takenIn f (tokensIn (drop at (now (l .entry)))) ≡ asTook (now (l .entry)) t)) ⌝ }
 {
@@ -251,7 +251,7 @@ pub fn take(l: &[u8], kinds: &[[u8; 16]; 55], f: usize, at: usize) -> Taken
 // the table holds the n records so far.
 pub fn finish(
     l: &[u8],
-    kinds: &[[u8; 16]; 55],
+    kinds: &[[u8; 16]; 63],
     f: usize,
     t: Taken,
     crowded: bool,
@@ -259,7 +259,7 @@ pub fn finish(
     n: usize,
     notes: &[[u8; BYTES]],
 ) -> Readout
-    requires { ⌜ (now kinds ≡ rows) × ((1 ≤ f) × ((f ≤ 60) × ((kindIn (t .rec) ≡ kindOf f) × ((crowded ≡ several (tokensIn (drop (t .at) (now l))))
+    requires { ⌜ (now kinds ≡ rows) × ((1 ≤ f) × ((f ≤ 68) × ((kindIn (t .rec) ≡ kindOf f) × ((crowded ≡ several (tokensIn (drop (t .at) (now l))))
         × (((a : ℕ) → lookIn (now notes) a .w ≤ 64) × Risen (now table) n))))) ⌝ }
     ensures { λ r. ⌜ r ≡ asRead (ended (lookIn (now (notes .entry))) (givenIn (now (notes .entry))) (idsOf (now (table .entry)) n) f (asTook (now (l .entry)) t)) ⌝ }
 {

@@ -38,7 +38,7 @@ pub fn line(
         11..=20 => evaluation::line_unary(program, k, a, rec[3], rec[4], n, laid, work),
         21 => evaluation::line_equality(true, a, b, n, laid, work),
         22 => evaluation::line_equality(false, a, b, n, laid, work),
-        23..=52 => evaluation::line_binary(program, k, a, b, n, laid, work),
+        23..=52 | 57..=63 => evaluation::line_binary(program, k, a, b, n, laid, work),
         53 => evaluation::line_ite(a, b, c, n, laid, work),
         54 => evaluation::line_read(a, b, n, laid, work),
         55 => evaluation::line_write(a, b, c, n, laid, work),

@@ -16,14 +16,14 @@ use Rattle.tables.specs.Layout.{recordWords}
 use Rattle.tables.specs.Types.{isSort, isValue, isWord, isArray, isWordSort, isArraySort, sortAt, Ctx, tyAt, given, grow}
 use Rattle.tables.specs.Rules.{suits, fits, sameSort}
 use Rattle.tables.specs.Tables.{known, unused, tidy, keeps, lawful}
-use Rattle.tables.proofs.Every.{at-each}
-use Rattle.tables.proofs.Shapes.{line-as, shape-unary, shape-binary, fits-as, once-as}
+use Rattle.tables.proofs.Every.{at-each, from-to}
+use Rattle.tables.proofs.Shapes.{BinaryKind, each-binary, line-as, shape-unary, shape-binary, fits-as, once-as}
 use Rattle.tables.proofs.Answers.{Passed, all-passed}
 use Rattle.tables.proofs.Kept.{both, either}
 use Rattle.tables.proofs.Facts.{IsValue, IsWord, IsArray, IsSort, IsWordSort, IsArraySort, Same, OneKind, OkExpr, Ok, AllOk}
 use Rattle.tables.proofs.Laws.{or-true}
 use Rattle.tables.proofs.Places.{Sized}
-use Rattle.tables.proofs.Sound.{from-to, one-row, two-row}
+use Rattle.tables.proofs.Sound.{one-row, two-row}
 
 -- ---- classes
 
@@ -68,7 +68,7 @@ again p L G (Line.input s) k = refl
 again p L G (Line.state s) k = refl
 again p L G (Line.value s (Expr.const v)) k = refl
 again p L G (Line.value s (Expr.unary n a x y)) k = line-as (fields n s a x y) isUnary (unary-shape p n (k .kind))
-again p L G (Line.value s (Expr.binary n a b)) k = line-as (fields n s a b 0) isBinary (shape-binary n (k .least) (k .most))
+again p L G (Line.value s (Expr.binary n a b)) k = line-as (fields n s a b 0) isBinary (shape-binary n (k .kind))
 again p L G (Line.value s (Expr.equality true a b)) k = refl
 again p L G (Line.value s (Expr.equality false a b)) k = refl
 again p L G (Line.value s (Expr.ite c a b)) k = refl
@@ -95,9 +95,13 @@ circuits : (p : Bool) (k : ℕ) → p ≡ false → known false k ≡ true → k
 circuits p k e f = subst (λ (q : Bool). known q k ≡ true) (sym e) f
 
 one-known : (p : Bool) (k : ℕ) → OneKind p k → known p k ≡ true
-one-known false k h = and₂ (le-leb 1 k (omega arith)) (le-leb k 55 (omega arith))
+one-known false k h = rw (le-leb 1 k (omega arith), le-leb k 55 (omega arith))
 one-known true k (inl h) = rw (le-leb 3 k (omega arith), le-leb k 53 (omega arith))
 one-known true k (inr e) = ap (known true) e
+
+two-known : (p : Bool) (k : ℕ) → BinaryKind k → known p k ≡ true
+two-known false = each-binary (known false) tt tt
+two-known true = each-binary (known true) tt tt
 
 kind-any : (p : Bool) (k : ℕ) → OneKind p k → ((11 ≤ k) × (k ≤ 20)) ⊎ (k ≡ 56)
 kind-any false k h = inl h
@@ -129,9 +133,9 @@ unfolding rowOf
 one-third k (inl h) = from-to (λ (n : ℕ). plain (thirdClass (rowOf n))) 11 10 k (at-each (λ (m : ℕ). plain (thirdClass (rowOf (m + 11)))) 10 tt) (h .0) (omega arith)
 one-third k (inr e) = ap (λ (n : ℕ). plain (thirdClass (rowOf n))) e
 
-two-third : (k : ℕ) → 23 ≤ k → k ≤ 52 → plain (thirdClass (rowOf k)) ≡ true
+two-third : (k : ℕ) → BinaryKind k → plain (thirdClass (rowOf k)) ≡ true
 unfolding rowOf
-two-third k h l = from-to (λ (n : ℕ). plain (thirdClass (rowOf n))) 23 30 k (at-each (λ (m : ℕ). plain (thirdClass (rowOf (m + 23)))) 30 tt) h (omega arith)
+two-third = each-binary (λ (n : ℕ). plain (thirdClass (rowOf n))) tt tt
 
 module _ (p : Bool) (L : ℕ → Ty) (G : Bool → ℕ → Bool) where
   val-kept : (s : ℕ) (e : Expr) → OkExpr p L (sortAt p L s) e → keeps p L G (wordsOf (Line.value s e)) ≡ true
@@ -150,18 +154,18 @@ module _ (p : Bool) (L : ℕ → Ty) (G : Bool → ℕ → Bool) where
         once = sym (once-as (fields n s a x y) isUnary (unary-shape p n (k .kind)) G (L x) refl);
       })
   val-kept s (Expr.binary n a b) k =
-      let h = both (eqb (sortClass (rowOf n)) 5) _ (two-row n (k .least) (k .most)) in
+      let h = both (eqb (sortClass (rowOf n)) 5) _ (two-row n (k .kind)) in
       let h₂ = both (eqb (firstClass (rowOf n)) 1) _ (h .1) in
       let e₀ = eqb-true (sortClass (rowOf n)) 5 (h .0) in
       let e₁ = eqb-true (firstClass (rowOf n)) 1 (h₂ .0) in
       let e₂ = eqb-true (secondClass (rowOf n)) 1 (h₂ .1) in
-      kept p L G (fields n s a b 0) (shared p n (and₂ (le-leb 1 n (omega arith)) (le-leb n 55 (omega arith))) (rw (le-leb 3 n (omega arith), le-leb n 53 (omega arith))))
+      kept p L G (fields n s a b 0) (two-known p n (k .kind))
       (and₄ (used (sortClass (rowOf n)) 5 s e₀ refl) (used (firstClass (rowOf n)) 1 a e₁ refl) (used (secondClass (rowOf n)) 1 b e₂ refl) (unused-zero (thirdClass (rowOf n))))
       (record {
         class = and₄ (subst (λ (m : ℕ). suits m (sortAt p L s) ≡ true) (sym e₀) (of-word-sort (k .sort))) (subst (λ (m : ℕ). suits m (L a) ≡ true) (sym e₁) (of-word (k .left)))
-            (subst (λ (m : ℕ). suits m (L b) ≡ true) (sym e₂) (of-word (k .right))) (number-suits (thirdClass (rowOf n)) (L 0) (two-third n (k .least) (k .most)));
-        width = sym (fits-as (fields n s a b 0) isBinary (shape-binary n (k .least) (k .most)) (sortAt p L s) (L a) (L b) (L 0) (sym (and₂ (k .rule) refl)));
-        once = sym (once-as (fields n s a b 0) isBinary (shape-binary n (k .least) (k .most)) G (L b) refl);
+            (subst (λ (m : ℕ). suits m (L b) ≡ true) (sym e₂) (of-word (k .right))) (number-suits (thirdClass (rowOf n)) (L 0) (two-third n (k .kind)));
+        width = sym (fits-as (fields n s a b 0) isBinary (shape-binary n (k .kind)) (sortAt p L s) (L a) (L b) (L 0) (sym (and₂ (k .rule) refl)));
+        once = sym (once-as (fields n s a b 0) isBinary (shape-binary n (k .kind)) G (L b) refl);
       })
   val-kept s (Expr.equality true a b) k =
       kept p L G (fields 21 s a b 0) (shared p 21 refl refl) refl

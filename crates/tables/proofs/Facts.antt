@@ -11,6 +11,7 @@ use Rattle.tables.specs.Lines.{Line, Expr}
 use Rattle.tables.specs.Types.{marked, sortAt, Ctx, tyAt, given, grow}
 use Rattle.tables.specs.Rules.{fitsUnary, fitsBinary, valueIndex}
 use Rattle.tables.specs.Tables.{unused}
+use Rattle.tables.proofs.Shapes.{BinaryKind}
 
 pub record IsValue (t : Ty) : Type 0 where
   pub is : 2 ≤ t .role
@@ -58,8 +59,7 @@ pub record OkUnary (p : Bool) (t : Ty) (k : ℕ) (a : Ty) (x y : ℕ) : Type 0 w
   pub spare₃ : unused (thirdClass (rowOf k)) y ≡ true
 
 pub record OkBinary (t : Ty) (k : ℕ) (a b : Ty) : Type 0 where
-  pub least : 23 ≤ k
-  pub most : k ≤ 52
+  pub kind : BinaryKind k
   pub sort : IsWordSort t
   pub left : IsWord a
   pub right : IsWord b

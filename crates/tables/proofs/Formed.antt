@@ -4,7 +4,7 @@ use mathlib.Core.Path.{_≡_, refl, sym, ap, _∙_, subst}
 use mathlib.Core.Bool.{Bool, true, false}
 use mathlib.Core.List.{List}
 use native.Mathlib.Omega.{arith}
-use lib.Dec.{eqb, eqb→eq}
+use lib.Dec.{eqb}
 use lib.ListN.{length}
 use borrow.Author.Tests.{eqb-true}
 use Rattle.tables.specs.Pick.{all}
@@ -12,8 +12,7 @@ use Rattle.tables.specs.Kinds.{rowOf, sortClass, firstClass, secondClass
 use Rattle.tables.specs.Lines.{Shape, isBitvec, isArray, isConst, isInput, isState, isOutput, isUnary, isBinary, isIte, isRead, isWrite, isUnknown, isInitOrNext, isSignal, isEquality, shapeOf, build, lineOf, fields, wordsOf, kindIn, sortIn, firstIn, secondIn, thirdIn}
 use Rattle.tables.specs.Layout.{recordWords}
 use Rattle.tables.specs.Tables.{known, unused, tidy, formed}
-use Rattle.tables.proofs.Every.{at-each}
-use Rattle.tables.proofs.Shapes.{KindOf, kind-of, line-as, no-unknown}
+use Rattle.tables.proofs.Shapes.{BinaryKind, each-binary, KindOf, kind-of, line-as, no-unknown}
 use Rattle.tables.proofs.Kept.{both, known-range}
 use Rattle.tables.proofs.Places.{fields-of, fields-eq}
 
@@ -41,12 +40,9 @@ zeros row r e =
     }
 
 -- an operator of two words has no third place: one computed test
-two-third : (k : ℕ) → 23 ≤ k → k ≤ 52 → thirdClass (rowOf k) ≡ 0
+two-third : (k : ℕ) → BinaryKind k → thirdClass (rowOf k) ≡ 0
 unfolding rowOf
-two-third k h l =
-    let n : ℕ = k - 23 in
-    let q : n + 23 ≡ k = omega arith in
-    subst (λ (m : ℕ). thirdClass (rowOf m) ≡ 0) q (eqb→eq (thirdClass (rowOf (n + 23))) 0 (at-each (λ (m : ℕ). eqb (thirdClass (rowOf (m + 23))) 0) 30 tt n (omega arith)))
+two-third k b = eqb-true (thirdClass (rowOf k)) 0 (each-binary (λ (n : ℕ). eqb (thirdClass (rowOf n)) 0) tt tt k b)
 
 module _ (p : Bool) (k s a b c : ℕ) (h : formed p (fields k s a b c) ≡ true) where
   r : List ℕ
@@ -68,7 +64,7 @@ module _ (p : Bool) (k s a b c : ℕ) (h : formed p (fields k s a b c) ≡ true)
   back isState e q = let z = row-at 5 q in fields-eq (sym q) refl (sym (z .first refl)) (sym (z .second refl)) (sym (z .third refl))
   back isOutput e q = let z = row-at 10 q in fields-eq (sym q) (sym (z .sort refl)) refl (sym (z .second refl)) (sym (z .third refl))
   back isUnary e q = refl
-  back isBinary e q = fields-eq refl refl refl refl (sym (row-zeros .third (two-third k (q .0) (q .1))))
+  back isBinary e q = fields-eq refl refl refl refl (sym (row-zeros .third (two-third k q)))
   back isIte e q = fields-eq (sym q) refl refl refl refl
   back isRead e q = let z = row-at 54 q in fields-eq (sym q) refl refl refl (sym (z .third refl))
   back isWrite e q = fields-eq (sym q) refl refl refl refl

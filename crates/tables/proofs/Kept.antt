@@ -38,10 +38,15 @@ neither true b e = absurd (no-yes (sym e))
 neither false b e = (refl, e)
 
 -- a kind that is known has a row
-pub known-range : (p : Bool) (k : ℕ) → known p k ≡ true → (1 ≤ k) × (k ≤ 56)
-known-range false k e = let h = range 1 55 k e in (h .0, omega arith)
+pub known-range : (p : Bool) (k : ℕ) → known p k ≡ true → (1 ≤ k) × (k ≤ 63)
+known-range false k e =
+    either (inside 1 55 k) (inside 57 63 k) e (λ q. let h = range 1 55 k q in (h .0, omega arith)) (λ q. let h = range 57 63 k q in (omega arith, h .1))
 known-range true k e =
-    either (inside 3 53 k) (eqb k 56) e (λ q. let h = range 3 53 k q in (omega arith, omega arith)) (λ q. let h = eqb-true k 56 q in (omega arith, omega arith))
+    either (inside 3 53 k) (inside 56 63 k) e (λ q. let h = range 3 53 k q in (omega arith, omega arith)) (λ q. let h = range 56 63 k q in (omega arith, h .1))
+
+-- a circuit has no mask
+pub no-mask : (k : ℕ) → known false k ≡ true → k ≡ 56 → ⊥
+no-mask k e q = no-yes (subst (λ (m : ℕ). known false m ≡ true) q e)
 
 module _ (p : Bool) (L : ℕ → Ty) (G : Bool → ℕ → Bool) (r row : List ℕ) where
   pub breaks-kind : known p (kindIn r) ≡ false → false ≡ keeps p L G r

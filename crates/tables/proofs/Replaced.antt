@@ -21,7 +21,7 @@ use Rattle.tables.proofs.Every.{at-each}
 use Rattle.tables.proofs.Laws.{true-of, not-of}
 use Rattle.tables.proofs.Shapes.{once-as, no-once, range}
 use Rattle.tables.proofs.Answers.{Passed, passed, all-passed}
-use Rattle.tables.proofs.Kept.{both, all-at, kept-fault, no-yes}
+use Rattle.tables.proofs.Kept.{both, all-at, kept-fault, known-range, no-yes}
 use Rattle.tables.proofs.Places.{fields-of}
 use Rattle.tables.proofs.Facts.{Same}
 
@@ -94,10 +94,10 @@ reads (isInitOrNext m) r = namesLine (sortClass r) && (namesLine (firstClass r) 
 reads (isSignal m) r = namesLine (firstClass r)
 reads (isEquality e) r = namesLine (sortClass r) && (namesLine (firstClass r) && namesLine (secondClass r))
 
-reads-at : (k : ℕ) → 1 ≤ k → k ≤ 55 → T (reads (shapeOf k) (rowOf k))
+reads-at : (k : ℕ) → 1 ≤ k → k ≤ 63 → T (reads (shapeOf k) (rowOf k))
 unfolding rowOf
 reads-at zero a b = absurd (omega arith)
-reads-at (suc i) a b = at-each (λ n. reads (shapeOf (suc n)) (rowOf (suc n))) 55 tt i (omega arith)
+reads-at (suc i) a b = at-each (λ n. reads (shapeOf (suc n)) (rowOf (suc n))) 63 tt i (omega arith)
 
 -- ---- the three lists of tests
 
@@ -179,7 +179,7 @@ module _ (L L′ : ℕ → Ty) (k s a b c s′ a′ b′ c′ : ℕ) (P₁ : Rep
     passes : Passed false L′ G (fields k s′ a′ b′ c′)
     passes =
         let o = passed false L G (fields k s a b c) (kept-fault false L G (fields k s a b c) kp) in
-        let q = range 1 55 k (both (known false k) _ (both (formed false (fields k s a b c)) _ kp .0) .0) in
+        let q = known-range false k (both (known false k) _ (both (formed false (fields k s a b c)) _ kp .0) .0) in
         record {
           class = rw (P₁ .suit, P₂ .suit, P₃ .suit, P₄ .suit) refl;
           width = same-fits (shapeOf k) (reads-at k (q .0) (q .1)) ∙ o .width;

@@ -1,14 +1,14 @@
 -- The line of a record, by the kind's number. Assumes nothing.
-use Prim.Native.Nat.{ℕ, suc, _-_, _≤_, _<_}
+use Prim.Native.Nat.{ℕ, suc, _+_, _-_, _≤_, _<_}
 use mathlib.Core.Path.{_≡_, refl, sym, ap, _∙_, subst}
 use mathlib.Core.Logic.{_⊎_, inl, inr}
 use mathlib.Core.Bool.{Bool, true, false, not, _||_}
 use mathlib.Core.List.{List}
 use lib.Dec.{T, T-not, leb, eqb, leb→le}
-use Rattle.tables.proofs.Every.{at-each}
+use Rattle.tables.proofs.Every.{every, at-each, from-to}
 use Rattle.tables.proofs.Laws.{by-pick, past}
 use mir.Facts.{and-yes}
-use borrow.Author.Tests.{le-leb, lt-leb, ne-eqb, eqb-true, eqb-false}
+use borrow.Author.Tests.{le-leb, lt-leb, leb-true, leb-false, ne-eqb, eqb-true, eqb-false}
 use native.Mathlib.Omega.{arith}
 use Rattle.tables.specs.declared.Ty.{Ty}
 use Rattle.tables.specs.Pick.{inside, all}
@@ -22,8 +22,36 @@ line-as r S e = ap (λ (s : Shape). build s (kindIn r) (sortIn r) (firstIn r) (s
 pub shape-unary : (k : ℕ) → 11 ≤ k → k ≤ 20 → shapeOf k ≡ isUnary
 shape-unary k h l = rw (le-leb 11 k h, le-leb k 20 l)
 
-pub shape-binary : (k : ℕ) → 23 ≤ k → k ≤ 52 → shapeOf k ≡ isBinary
-shape-binary k h l = rw (le-leb 11 k (omega arith), lt-leb k 20 (omega arith), le-leb 23 k h, le-leb k 52 l)
+-- the kinds of operators of two words: overflow detectors stand apart from the others
+abbrev pub BinaryKind : ℕ → Type 0
+BinaryKind k = ((23 ≤ k) × (k ≤ 52)) ⊎ ((57 ≤ k) × (k ≤ 63))
+
+pub binary-range : {k : ℕ} → BinaryKind k → (23 ≤ k) × (k ≤ 63)
+binary-range (inl b) = (b .0, omega arith)
+binary-range (inr b) = (omega arith, b .1)
+
+-- between them stand ite, read and write
+pub binary-apart : {k : ℕ} → BinaryKind k → 52 < k → k < 56 → ⊥
+binary-apart (inl b) h l = omega arith
+binary-apart (inr b) h l = omega arith
+
+-- what is left of 23 to 63 where the other shapes' kinds are taken out
+pub binary-left : {k : ℕ} → 23 ≤ k → k ≤ 63 → (k ≡ 53 → ⊥) → (k ≡ 54 → ⊥) → (k ≡ 55 → ⊥) → (k ≡ 56 → ⊥) → BinaryKind k
+binary-left {k} h l n₁ n₂ n₃ n₄ = go (leb k 52) refl
+  where
+    go : (t : Bool) → leb k 52 ≡ t → BinaryKind k
+    go true e = inl (h, leb-true k 52 e)
+    go false e = inr (past (past (past (past (leb-false k 52 e) n₁) n₂) n₃) n₄, l)
+
+-- a test that is computed for all of them
+pub each-binary : (f : ℕ → Bool) → T (every (λ (m : ℕ). f (m + 23)) 30) → T (every (λ (m : ℕ). f (m + 57)) 7) → (k : ℕ) → BinaryKind k → f k ≡ true
+each-binary f g h k (inl b) = from-to f 23 30 k (at-each (λ (m : ℕ). f (m + 23)) 30 g) (b .0) (omega arith)
+each-binary f g h k (inr b) = from-to f 57 7 k (at-each (λ (m : ℕ). f (m + 57)) 7 h) (b .0) (omega arith)
+
+pub shape-binary : (k : ℕ) → BinaryKind k → shapeOf k ≡ isBinary
+shape-binary k (inl b) = rw (le-leb 11 k (omega arith), lt-leb k 20 (omega arith), le-leb 23 k (b .0), le-leb k 52 (b .1))
+shape-binary k (inr b) =
+    rw (le-leb 11 k (omega arith), lt-leb k 20 (omega arith), le-leb 23 k (omega arith), lt-leb k 52 (omega arith), le-leb 57 k (b .0), le-leb k 63 (b .1))
 
 pub shape-equality : {k : ℕ} → 21 ≤ k → k < 23 → shapeOf k ≡ isEquality (eqb k 21)
 shape-equality {k} h l = go (eqb k 21) refl
@@ -36,10 +64,10 @@ shape-equality {k} h l = go (eqb k 21) refl
 pub shape-zero : (k : ℕ) → k < 1 → shapeOf k ≡ isUnknown
 shape-zero k h = let e : k ≡ 0 = omega arith in ap shapeOf e
 
-pub shape-past : (k : ℕ) → 56 < k → shapeOf k ≡ isUnknown
+pub shape-past : (k : ℕ) → 63 < k → shapeOf k ≡ isUnknown
 shape-past k h =
     let ne : (n : ℕ) → n ≤ 56 → eqb k n ≡ false = λ n l. ne-eqb k n (λ e. omega arith) in
-    rw (lt-leb k 20 (omega arith), le-leb 11 k (omega arith), lt-leb k 52 (omega arith), le-leb 23 k (omega arith), ne 1 (omega arith), ne 2 (omega arith), ne 3 (omega arith), ne 4 (omega arith), ne 5 (omega arith), ne 6 (omega arith), ne 7 (omega arith), ne 8 (omega arith), ne 9 (omega arith), ne 10 (omega arith), ne 21 (omega arith), ne 22 (omega arith), ne 53 (omega arith), ne 54 (omega arith), ne 55 (omega arith), ne 56 (omega arith))
+    rw (lt-leb k 20 (omega arith), le-leb 11 k (omega arith), lt-leb k 52 (omega arith), le-leb 23 k (omega arith), lt-leb k 63 (omega arith), le-leb 57 k (omega arith), ne 1 (omega arith), ne 2 (omega arith), ne 3 (omega arith), ne 4 (omega arith), ne 5 (omega arith), ne 6 (omega arith), ne 7 (omega arith), ne 8 (omega arith), ne 9 (omega arith), ne 10 (omega arith), ne 21 (omega arith), ne 22 (omega arith), ne 53 (omega arith), ne 54 (omega arith), ne 55 (omega arith), ne 56 (omega arith))
 
 -- what the rules say of a record's line, they say of the line of its shape
 module _ (r : List ℕ) (S : Shape) (e : shapeOf (kindIn r) ≡ S) where
@@ -61,7 +89,7 @@ KindOf isInput k = k ≡ 4
 KindOf isState k = k ≡ 5
 KindOf isOutput k = k ≡ 10
 KindOf isUnary k = ((11 ≤ k) × (k ≤ 20)) ⊎ (k ≡ 56)
-KindOf isBinary k = (23 ≤ k) × (k ≤ 52)
+KindOf isBinary k = BinaryKind k
 KindOf isIte k = k ≡ 53
 KindOf isRead k = k ≡ 54
 KindOf isWrite k = k ≡ 55
@@ -76,7 +104,8 @@ range i j k e = let h = and-yes (leb i k) (leb k j) (subst T (sym e) tt) in (leb
 pub kind-of : (k : ℕ) → KindOf (shapeOf k) k
 kind-of k =
     by-pick P (inside 11 20 k) (λ e. inl (range 11 20 k e)) (λ _.
-    by-pick P (inside 23 52 k) (range 23 52 k) (λ _.
+    by-pick P (inside 23 52 k) (λ e. inl (range 23 52 k e)) (λ _.
+    by-pick P (inside 57 63 k) (λ e. inr (range 57 63 k e)) (λ _.
     by-pick P (eqb k 1) (eqb-true k 1) (λ _.
     by-pick P (eqb k 2) (eqb-true k 2) (λ _.
     by-pick P (eqb k 3) (eqb-true k 3) (λ _.
@@ -92,7 +121,7 @@ kind-of k =
     by-pick P (eqb k 53) (eqb-true k 53) (λ _.
     by-pick P (eqb k 54) (eqb-true k 54) (λ _.
     by-pick P (eqb k 55) (eqb-true k 55) (λ _.
-    by-pick P (eqb k 56) (λ e. inr (eqb-true k 56 e)) (λ _. tt))))))))))))))))))
+    by-pick P (eqb k 56) (λ e. inr (eqb-true k 56 e)) (λ _. tt)))))))))))))))))))
   where
     P : Shape → Type 0
     P S = KindOf S k
@@ -119,7 +148,7 @@ no-once r G b f g = go (shapeOf (kindIn r)) refl (kind-of (kindIn r))
     go (isSignal m) e h = once-as r (isSignal m) e G b refl
     go (isEquality q) e h = once-as r (isEquality q) e G b refl
 
--- every number from 1 to 56 is a kind: one computed test
+-- every number from 1 to 63 is a kind: one computed test
 abbrev isUnknown? : Shape → Bool
 isUnknown? isBitvec = false
 isUnknown? isArray = false
@@ -137,11 +166,11 @@ isUnknown? (isInitOrNext m) = false
 isUnknown? (isSignal m) = false
 isUnknown? (isEquality e) = false
 
-pub no-unknown : (k : ℕ) → 1 ≤ k → k ≤ 56 → shapeOf k ≡ isUnknown → ⊥
+pub no-unknown : (k : ℕ) → 1 ≤ k → k ≤ 63 → shapeOf k ≡ isUnknown → ⊥
 no-unknown k h l e =
     let n : ℕ = k - 1 in
     let q : suc n ≡ k = omega arith in
-    T-not (isUnknown? isUnknown) (subst (λ (S : Shape). T (not (isUnknown? S))) (ap shapeOf q ∙ e) (at-each (λ m. not (isUnknown? (shapeOf (suc m)))) 56 tt n (omega arith))) tt
+    T-not (isUnknown? isUnknown) (subst (λ (S : Shape). T (not (isUnknown? S))) (ap shapeOf q ∙ e) (at-each (λ m. not (isUnknown? (shapeOf (suc m)))) 63 tt n (omega arith))) tt
 
 -- ---- the types of lines
 
@@ -162,7 +191,7 @@ module _ (r : List ℕ) (t a b c : Ty) where
       go isOutput e k = type-as isOutput e refl
       go isUnary e (inl k) = absurd (omega arith)
       go isUnary e (inr k) = absurd (omega arith)
-      go isBinary e k = absurd (omega arith)
+      go isBinary e k = absurd (omega (arith, binary-range k))
       go isIte e k = absurd (omega arith)
       go isRead e k = absurd (omega arith)
       go isWrite e k = absurd (omega arith)
@@ -173,7 +202,7 @@ module _ (r : List ℕ) (t a b c : Ty) where
       go (isEquality false) e k = absurd (omega arith)
 
   -- of two operands: comparisons, operators of two words, read
-  pub two-type : 20 < kindIn r → kindIn r ≤ 56 → (kindIn r ≡ 53 → ⊥) → (kindIn r ≡ 55 → ⊥) → (kindIn r ≡ 56 → ⊥)
+  pub two-type : 20 < kindIn r → kindIn r ≤ 63 → (kindIn r ≡ 53 → ⊥) → (kindIn r ≡ 55 → ⊥) → (kindIn r ≡ 56 → ⊥)
       → ty (valueRole (marked a || marked b)) (t .iw) (t .w) ≡ typeOf (lineOf r) t a b c
   two-type h l n₁ n₂ n₃ = go (shapeOf (kindIn r)) refl (kind-of (kindIn r))
     where

@@ -19,7 +19,7 @@ use Rattle.tables.specs.Rules.{suits, classes, fault}
 use Rattle.tables.specs.Tables.{formed, keeps}
 use Rattle.tables.specs.Model.Notes.{blank, noteAt, lookIn, flagIn, givenIn, Shows, typed, withFlag, flaggedBy, noted}
 use Rattle.tables.proofs.Laws.{or-true, or-false, or-assoc}
-use Rattle.tables.proofs.Shapes.{KindOf, kind-of, line-as, no-unknown}
+use Rattle.tables.proofs.Shapes.{binary-range, KindOf, kind-of, line-as, no-unknown}
 use Rattle.tables.proofs.Answers.{passed}
 use Rattle.tables.proofs.Kept.{both}
 use Rattle.tables.proofs.Formed.{words-back}
@@ -91,7 +91,7 @@ given-as m c r = go (shapeOf (kindIn r)) refl (kind-of (kindIn r))
     go isOutput e q = rest isOutput e refl (other m (kindIn r) (λ z. omega arith) (λ z. omega arith))
     go isUnary e (inl q) = rest isUnary e refl (other m (kindIn r) (λ z. omega arith) (λ z. omega arith))
     go isUnary e (inr q) = rest isUnary e refl (other m (kindIn r) (λ z. omega arith) (λ z. omega arith))
-    go isBinary e q = rest isBinary e refl (other m (kindIn r) (λ z. omega arith) (λ z. omega arith))
+    go isBinary e q = let h = binary-range q in rest isBinary e refl (other m (kindIn r) (λ z. omega arith) (λ z. omega arith))
     go isIte e q = rest isIte e refl (other m (kindIn r) (λ z. omega arith) (λ z. omega arith))
     go isRead e q = rest isRead e refl (other m (kindIn r) (λ z. omega arith) (λ z. omega arith))
     go isWrite e q = rest isWrite e refl (other m (kindIn r) (λ z. omega arith) (λ z. omega arith))

@@ -20,10 +20,10 @@ use Rattle.tables.specs.Layout.{whole, room as roomOf, recordsOf, linesO
 use Rattle.tables.specs.Ids.{idsRight}
 use Rattle.tables.specs.Tables.{known, unused, tidy, formed, keeps, lawful, broken, checked}
 use Rattle.tables.proofs.Laws.{true-of}
-use Rattle.tables.proofs.Every.{at-each}
-use Rattle.tables.proofs.Shapes.{KindOf, kind-of, range}
+use Rattle.tables.proofs.Every.{at-each, from-to}
+use Rattle.tables.proofs.Shapes.{BinaryKind, each-binary, KindOf, kind-of, range}
 use Rattle.tables.proofs.Answers.{passed}
-use Rattle.tables.proofs.Kept.{both, no-yes}
+use Rattle.tables.proofs.Kept.{both, no-yes, no-mask}
 use Rattle.tables.proofs.Checking.{not-accepted}
 use Rattle.tables.proofs.Facts.{IsValue, IsWord, IsArray, IsSort, IsWordSort, IsArraySort, Same, OneKind, OkEquality, OkSignal, Ok, AllOk}
 
@@ -73,20 +73,14 @@ one-row? k = eqb (sortClass (rowOf k)) 5 && eqb (firstClass (rowOf k)) 1
 abbrev pub two-row? : ℕ → Bool
 two-row? k = eqb (sortClass (rowOf k)) 5 && (eqb (firstClass (rowOf k)) 1 && eqb (secondClass (rowOf k)) 1)
 
-pub from-to : (f : ℕ → Bool) (i n k : ℕ) → ((m : ℕ) → m < n → T (f (m + i))) → i ≤ k → k < n + i → f k ≡ true
-from-to f i n k g h l =
-    let m : ℕ = k - i in
-    let q : m + i ≡ k = omega arith in
-    true-of (f k) (subst (λ (x : ℕ). T (f x)) q (g m (omega arith)))
-
 pub one-row : (k : ℕ) → ((11 ≤ k) × (k ≤ 20)) ⊎ (k ≡ 56) → one-row? k ≡ true
 unfolding rowOf
 one-row k (inl h) = from-to one-row? 11 10 k (at-each (λ (m : ℕ). one-row? (m + 11)) 10 tt) (h .0) (omega arith)
 one-row k (inr e) = ap one-row? e
 
-pub two-row : (k : ℕ) → 23 ≤ k → k ≤ 52 → two-row? k ≡ true
+pub two-row : (k : ℕ) → BinaryKind k → two-row? k ≡ true
 unfolding rowOf
-two-row k h l = from-to two-row? 23 30 k (at-each (λ (m : ℕ). two-row? (m + 23)) 30 tt) h (omega arith)
+two-row = each-binary two-row? tt tt
 
 -- ---- a record that keeps the rules
 
@@ -97,7 +91,7 @@ in-circuit true k n e f h = absurd (no-yes (sym f ∙ subst (λ (m : ℕ). known
 one-kind : (p : Bool) (k : ℕ) → known p k ≡ true → ((11 ≤ k) × (k ≤ 20)) ⊎ (k ≡ 56) → OneKind p k
 one-kind true k h q = q
 one-kind false k h (inl q) = q
-one-kind false k h (inr e) = absurd (no-yes (subst (λ (m : ℕ). known false m ≡ true) e h))
+one-kind false k h (inr e) = absurd (no-mask k h e)
 
 module _ (p : Bool) (L : ℕ → Ty) (G : Bool → ℕ → Bool) (k s x y z : ℕ) (kn : known p k ≡ true) (ti : all (tidy (rowOf k) (k ∷ s ∷ x ∷ y ∷ z ∷ [])) ≡ true)
     (cl : all (classes (rowOf k) (sortAt p L s) (L x) (L y) (L z)) ≡ true) where
@@ -199,11 +193,10 @@ module _ (p : Bool) (L : ℕ → Ty) (G : Bool → ℕ → Bool) (k s x y z : �
       }
   shape-ok isBinary e q f o =
       let c = row-at k refl in
-      let r = both (eqb (sortClass (rowOf k)) 5) _ (two-row k (q .0) (q .1)) in
+      let r = both (eqb (sortClass (rowOf k)) 5) _ (two-row k q) in
       let r₂ = both (eqb (firstClass (rowOf k)) 1) _ (r .1) in
       record {
-        least = q .0;
-        most = q .1;
+        kind = q;
         sort = word-sort-of t (subst (λ (m : ℕ). suits m t ≡ true) (eqb-true (sortClass (rowOf k)) 5 (r .0)) (c .sort));
         left = word-of (L x) (subst (λ (m : ℕ). suits m (L x) ≡ true) (eqb-true (firstClass (rowOf k)) 1 (r₂ .0)) (c .first));
         right = word-of (L y) (subst (λ (m : ℕ). suits m (L y) ≡ true) (eqb-true (secondClass (rowOf k)) 1 (r₂ .1)) (c .second));

@@ -1,5 +1,5 @@
--- The one constant table of the kinds: for each of the kinds 1 to 55, in order, its word, the class of its sort and those of its operands. Five more words for a
--- constant, kind 3, are known to the reader alone: texts/specs/Forms has them. Assumes nothing.
+-- The one constant table of the kinds: for each of the kinds 1 to 63, in order, its word, the class of its sort and those of its operands. A mask, kind 56, stands in
+-- programs alone and has no word. Five more words for a constant, kind 3, are known to the reader alone: texts/specs/Forms has them. Assumes nothing.
 use Prim.Native.Nat.{ℕ, zero, suc, _+_, _-_}
 use Prim.Native.Char.{code}
 use Prim.Native.String.{String, [] as []ˢ, _∷_ as _∷ˢ_}
@@ -131,14 +131,21 @@ rows =
     ∷ row "ite" anySort (word ∷ value ∷ value ∷ [])
     ∷ row "read" wordSort (array ∷ word ∷ [])
     ∷ row "write" arraySort (array ∷ word ∷ word ∷ [])
+    -- 56: a program's mask
+    ∷ row "" wordSort (word ∷ [])
+    -- 57 to 63: overflow detectors
+    ∷ row "uaddo" wordSort (word ∷ word ∷ [])
+    ∷ row "saddo" wordSort (word ∷ word ∷ [])
+    ∷ row "usubo" wordSort (word ∷ word ∷ [])
+    ∷ row "ssubo" wordSort (word ∷ word ∷ [])
+    ∷ row "umulo" wordSort (word ∷ word ∷ [])
+    ∷ row "smulo" wordSort (word ∷ word ∷ [])
+    ∷ row "sdivo" wordSort (word ∷ word ∷ [])
     ∷ []
 
--- A kind's row. A mask, kind 56, stands in programs alone and has no word; it takes what `not`, kind 11, takes.
-abbrev pub rowPlace : ℕ → ℕ
-rowPlace k = pick (eqb k 56) 10 (k - 1)
-
+-- a kind's row
 unfoldable pub rowOf : ℕ → List ℕ
-rowOf k = getD rows (rowPlace k) []
+rowOf k = getD rows (k - 1) []
 
 -- the parts of a row
 abbrev pub wordOf : List ℕ → List ℕ

@@ -10,7 +10,7 @@ use Rattle.tables.specs.Pick.{pick, inside}
 -- what the lines that only have a value compute
 pub data Expr : Type 0 where
   const : (v : ℕ) → Expr
-  -- a word operator of the kind k: of one line and two numbers (11 to 20, and 56), 0 where it has none; of two lines (23 to 52)
+  -- a word operator of the kind k: of one line and two numbers (11 to 20, and 56), 0 where it has none; of two lines (23 to 52, and 57 to 63)
   unary : (k a x y : ℕ) → Expr
   binary : (k a b : ℕ) → Expr
   -- eq (true) and neq (false), of words or of arrays
@@ -44,6 +44,7 @@ abbrev pub shapeOf : ℕ → Shape
 shapeOf k =
     pick (inside 11 20 k) isUnary (
     pick (inside 23 52 k) isBinary (
+    pick (inside 57 63 k) isBinary (
     pick (eqb k 1) isBitvec (
     pick (eqb k 2) isArray (
     pick (eqb k 3) isConst (
@@ -60,7 +61,7 @@ shapeOf k =
     pick (eqb k 54) isRead (
     pick (eqb k 55) isWrite (
     pick (eqb k 56) isUnary (
-    isUnknown))))))))))))))))))
+    isUnknown)))))))))))))))))))
 
 abbrev pub build : Shape → (k s a b c : ℕ) → Line
 build isBitvec k s a b c = Line.bitvec a

@@ -37,10 +37,10 @@ fitsUnary k w u x y =
     pick (eqb k 18) (leb y x && (ltb x u && eqb (w + y) (suc x)))
     (eqb w (u + x))))
 
--- an operator of two words: comparisons; iff and implies; those of one width; concat
+-- an operator of two words: comparisons and overflow detectors; iff and implies; those of one width; concat
 abbrev pub fitsBinary : (k w u v : ℕ) → Bool
 fitsBinary k w u v =
-    pick (leb k 30) (eqb w 1 && eqb v u) (
+    pick (leb k 30 || leb 57 k) (eqb w 1 && eqb v u) (
     pick (leb k 32) (eqb w 1 && (eqb u 1 && eqb v 1)) (
     pick (leb k 51) (eqb u w && eqb v w)
     (eqb w (u + v))))

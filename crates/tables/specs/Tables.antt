@@ -17,10 +17,10 @@ use Rattle.tables.specs.Ids.{idsRightBy}
 use Rattle.tables.specs.Types.{Ctx, tyAt, given, grow, noCtx}
 use Rattle.tables.specs.Rules.{fault}
 
--- the kinds of a circuit, 1 to 55, and of a program, 3 to 53 and 56
+-- the kinds of a circuit, 1 to 55 and 57 to 63, and of a program, 3 to 53 and 56 to 63
 abbrev pub known : Bool → ℕ → Bool
-known false k = inside 1 55 k
-known true k = inside 3 53 k || eqb k 56
+known false k = inside 1 55 k || inside 57 63 k
+known true k = inside 3 53 k || inside 56 63 k
 
 -- a place that the line does not have holds 0
 abbrev pub unused : ℕ → ℕ → Bool

@@ -18,6 +18,7 @@ use Rattle.tables.specs.Types.{Ctx, noCtx, tyAt, given, grow}
 use Rattle.tables.specs.Tables.{unused, formed, keeps, lawful}
 use Rattle.tables.proofs.Every.{every, at-each}
 use Rattle.tables.proofs.Kept.{both}
+use Rattle.tables.proofs.Shapes.{binary-range}
 use Rattle.tables.proofs.Formed.{words-back}
 use Rattle.tables.proofs.Facts.{Ok, OkExpr, OkUnary}
 use Rattle.tables.proofs.Wide.{AllWide, grow-wide}
@@ -129,7 +130,7 @@ module _ (b : ℕ) (wide : 64 < b) (c : Ctx) (w : AllWide (tyAt c)) (few : lengt
       let z = one-numbers b wide (tyAt c s) (tyAt c a) n x y k (w s (omega (arith, k .sort .is)) .most) (w a (omega (arith, k .arg .is)) .most) in
       words n s a x y (low (omega (arith, k .kind))) (line s (omega (arith, k .sort .is))) (line a (omega (arith, k .arg .is))) (z .0) (z .1)
   expr-words s (Expr.binary n a d) k =
-      words n s a d 0 (low (omega (arith, k .most))) (line s (omega (arith, k .sort .is))) (line a (omega (arith, k .left .is))) (line d (omega (arith, k .right .is))) none
+      words n s a d 0 (low (omega (arith, binary-range (k .kind)))) (line s (omega (arith, k .sort .is))) (line a (omega (arith, k .left .is))) (line d (omega (arith, k .right .is))) none
   expr-words s (Expr.equality true a d) k = words 21 s a d 0 (low (lit≤ tt)) (line s (omega (arith, k .sort .is))) (line a (omega (arith, k .left .is))) (line d (omega (arith, k .right .is))) none
   expr-words s (Expr.equality false a d) k = words 22 s a d 0 (low (lit≤ tt)) (line s (omega (arith, k .sort .is))) (line a (omega (arith, k .left .is))) (line d (omega (arith, k .right .is))) none
   expr-words s (Expr.ite i a d) k =

@@ -17,8 +17,7 @@ use Rattle.tables.specs.Types.{isSort, isValue, Ctx, tyAt}
 use Rattle.tables.specs.Rules.{suits}
 use Rattle.tables.specs.Tables.{known, formed, keeps}
 use Rattle.tables.proofs.Every.{every, at-each}
-use Rattle.tables.proofs.Shapes.{range}
-use Rattle.tables.proofs.Kept.{both, kept-fault}
+use Rattle.tables.proofs.Kept.{both, known-range, kept-fault}
 use Rattle.tables.proofs.Answers.{passed}
 use Rattle.tables.proofs.Places.{fields-of, fields-eq}
 use Rattle.tables.proofs.Showing.{earlier}
@@ -88,20 +87,20 @@ low row = leb (sortClass row) 8 && (leb (firstClass row) 8 && (leb (secondClass 
 low-row : ℕ → Bool
 low-row i = low (rowOf (suc i))
 
-all-low : T (every low-row 55)
+all-low : T (every low-row 63)
 unfolding low-row rowOf
 all-low = tt
 
-low-at : (k : ℕ) → 1 ≤ k → k ≤ 55 → T (low (rowOf k))
+low-at : (k : ℕ) → 1 ≤ k → k ≤ 63 → T (low (rowOf k))
 unfolding low-row
 low-at zero a b = absurd (omega arith)
-low-at (suc i) a b = at-each low-row 55 all-low i (omega arith)
+low-at (suc i) a b = at-each low-row 63 all-low i (omega arith)
 
 pub resolved-same : (L : ℕ → Ty) (G : Bool → ℕ → Bool) (n : ℕ) (r : List ℕ) → Numbered L n → length r ≡ recordWords → keeps false L G r ≡ true → resolved (from 1 n) r ≡ r
 unfolding resolved
 resolved-same L G n r N l kp =
     let row = rowOf (kindIn r) in
-    let k = range 1 55 (kindIn r) (both (known false (kindIn r)) _ (both (formed false r) _ kp .0) .0) in
+    let k = known-range false (kindIn r) (both (known false (kindIn r)) _ (both (formed false r) _ kp .0) .0) in
     let t₁ = and-yes (leb (sortClass row) 8) _ (low-at (kindIn r) (k .0) (k .1)) in
     let t₂ = and-yes (leb (firstClass row) 8) _ (t₁ .1) in
     let t₃ = and-yes (leb (secondClass row) 8) _ (t₂ .1) in

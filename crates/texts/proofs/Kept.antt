@@ -8,9 +8,9 @@ use lib.Dec.{T, eqb, leb, ltb}
 use lib.ListN.{length, drop, getD, set, length-set, length-take}
 use lib.Seq.{getD-set-other}
 use mir.Facts.{and-yes}
-use borrow.Author.Tests.{eqb-true, eqb-false, eq-eqb, ltb-true, leb-true, not-false}
+use borrow.Author.Tests.{eqb-true, eqb-false, eq-eqb, ne-eqb, ltb-true, leb-true, not-false}
 use Rattle.tables.specs.declared.Ty.{Ty}
-use Rattle.tables.specs.Pick.{pick, all, inside}
+use Rattle.tables.specs.Pick.{pick, all}
 use Rattle.tables.specs.Kinds.{rowOf, sortClass, firstClass, secondClass, thirdClass}
 use Rattle.tables.specs.Lines.{fields, kindIn, sortIn, firstIn, secondIn, thirdIn}
 use Rattle.tables.specs.Layout.{recordWords}
@@ -30,7 +30,7 @@ use Rattle.texts.specs.Operands.{meant, resolved}
 use Rattle.texts.specs.Names.{used}
 use Rattle.texts.specs.Minus.{minusesFit, minuses}
 use Rattle.texts.specs.Reading.{Word, word, unknown, wordIn, formOf, behind, numbersFrom, placed, numberTokens, numbersIn, lastOf, signsIn, fresh, writtenRecord, settled, recordIn, isNext, valueOf, lineId, nameBehind, lineName, refusals, got, lowest, replyIn, readLine, Sofar, replyAfter}
-use Rattle.texts.proofs.Words.{InForms, word-forms}
+use Rattle.texts.proofs.Words.{IsForm, InForms, word-forms}
 use Rattle.texts.proofs.Steps.{settled-one, settled-ones, settled-other, settled-kind}
 use Rattle.texts.proofs.LineNames.{name-behind}
 use Rattle.texts.proofs.Lowest.{NoneHolds, got-none}
@@ -74,7 +74,7 @@ left-written f ts =
     let q : length (numbersIn f ts) ≤ m = omega (arith, length-numbers f j (numberTokens f ts), length-take m ts) in
     record { same-length = l .same-length; same-place = λ p o. l .same-place p (λ i h e. o i (omega arith) e) }
 
--- ---- the rows leave the unused places alone: one computed test
+-- ---- the rows but a mask's leave the unused places alone: one computed test
 
 abbrev beyond : ℕ → ℕ → ℕ → Bool
 beyond j m p = ltb p j || leb (j + m) p
@@ -84,21 +84,22 @@ spare c j m p = not (eqb c 0) || beyond j m p
 
 abbrev spares : ℕ → List ℕ → List ℕ → Bool
 spares f row own =
-    (inside 1 55 (kindOf f) && (not (eqb (firstClass own) 0) || leb f 58))
+    (known false (kindOf f) && (not (eqb (firstClass own) 0) || leb f 66))
     && (spare (sortClass own) (firstOf row) (numbersOf row) 1 && (spare (firstClass own) (firstOf row) (numbersOf row) 2
     && (spare (secondClass own) (firstOf row) (numbersOf row) 3 && spare (thirdClass own) (firstOf row) (numbersOf row) 4)))
 
 test : ℕ → Bool
-test i = spares (suc i) (formRow (suc i)) (rowOf (kindOf (suc i)))
+test i = eqb (suc i) 56 || spares (suc i) (formRow (suc i)) (rowOf (kindOf (suc i)))
 
-all-pass : T (every test 60)
+all-pass : T (every test 68)
 unfolding test formRow rowOf
 all-pass = tt
 
-at-form : (f : ℕ) → 1 ≤ f → f ≤ 60 → T (spares f (formRow f) (rowOf (kindOf f)))
+at-form : (f : ℕ) → 1 ≤ f → IsForm f → T (spares f (formRow f) (rowOf (kindOf f)))
 unfolding test
 at-form zero a b = absurd (omega arith)
-at-form (suc i) a b = at-each test 60 all-pass i (omega arith)
+at-form (suc i) a b =
+    subst (λ (q : Bool). T (q || spares (suc i) (formRow (suc i)) (rowOf (kindOf (suc i))))) (ne-eqb (suc i) 56 (b .1)) (at-each test 68 all-pass i (omega (arith, b .0)))
 
 outside-of : (j m p : ℕ) → T (beyond j m p) → Outside j m p
 outside-of j m p h = go (ltb p j) (leb (j + m) p) refl refl h
@@ -120,7 +121,7 @@ both-true a b x y = rw (x, y) refl
 
 -- ---- a record that was taken is formed
 
-module _ (w f : ℕ) (one-up : 1 ≤ f) (most : f ≤ 60) (rec : List ℕ) (l : Left (firstOf (formRow f)) (numbersOf (formRow f)) (fresh (kindOf f)) rec)
+module _ (w f : ℕ) (one-up : 1 ≤ f) (form : IsForm f) (rec : List ℕ) (l : Left (firstOf (formRow f)) (numbersOf (formRow f)) (fresh (kindOf f)) rec)
     (low : 1 ≤ firstOf (formRow f)) where
   abbrev j : ℕ
   j = firstOf (formRow f)
@@ -132,19 +133,19 @@ module _ (w f : ℕ) (one-up : 1 ≤ f) (most : f ≤ 60) (rec : List ℕ) (l : 
   kind = l .same-place 0 (λ i h e. omega (arith, low))
 
   settled-place : (p : ℕ) → (p ≡ 2 → ⊥) → getD (settled w f rec) p 0 ≡ getD rec p 0
-  settled-place p n = go (eqb f 59) (eqb f 60) refl refl
+  settled-place p n = go (eqb f 67) (eqb f 68) refl refl
     where
-      go : (a b : Bool) → eqb f 59 ≡ a → eqb f 60 ≡ b → getD (settled w f rec) p 0 ≡ getD rec p 0
-      go true b x y = ap (λ (r : List ℕ). getD r p 0) (settled-one w f rec (eqb-true f 59 x)) ∙ getD-set-other rec 2 p _ 0 n
-      go false true x y = ap (λ (r : List ℕ). getD r p 0) (settled-ones w f rec (eqb-true f 60 y)) ∙ getD-set-other rec 2 p _ 0 n
-      go false false x y = ap (λ (r : List ℕ). getD r p 0) (settled-other w f rec (eqb-false f 59 x) (eqb-false f 60 y))
+      go : (a b : Bool) → eqb f 67 ≡ a → eqb f 68 ≡ b → getD (settled w f rec) p 0 ≡ getD rec p 0
+      go true b x y = ap (λ (r : List ℕ). getD r p 0) (settled-one w f rec (eqb-true f 67 x)) ∙ getD-set-other rec 2 p _ 0 n
+      go false true x y = ap (λ (r : List ℕ). getD r p 0) (settled-ones w f rec (eqb-true f 68 y)) ∙ getD-set-other rec 2 p _ 0 n
+      go false false x y = ap (λ (r : List ℕ). getD r p 0) (settled-other w f rec (eqb-false f 67 x) (eqb-false f 68 y))
 
   -- a place that is not the value's
   zero-place : (p : ℕ) → (p ≡ 2 → ⊥) → getD (fresh (kindOf f)) p 0 ≡ 0 → T (beyond (firstOf (formRow f)) (numbersOf (formRow f)) p) → getD (settled w f rec) p 0 ≡ 0
   zero-place p n z h = settled-place p n ∙ (l .same-place p (outside-of j m p h) ∙ z)
 
   -- the value's place
-  zero-value : f ≤ 58 → T (beyond (firstOf (formRow f)) (numbersOf (formRow f)) 2) → getD (settled w f rec) 2 0 ≡ 0
+  zero-value : f ≤ 66 → T (beyond (firstOf (formRow f)) (numbersOf (formRow f)) 2) → getD (settled w f rec) 2 0 ≡ 0
   zero-value h o =
       ap (λ (r : List ℕ). getD r 2 0) (settled-other w f rec (λ e. omega arith) (λ e. omega arith)) ∙ l .same-place 2 (outside-of j m 2 o)
 
@@ -153,9 +154,9 @@ module _ (w f : ℕ) (one-up : 1 ≤ f) (most : f ≤ 60) (rec : List ℕ) (l : 
       let own : List ℕ = rowOf (kindOf f) in
       let s : List ℕ = settled w f rec in
       let k : kindIn s ≡ kindOf f = settled-kind w f rec ∙ kind in
-      let h = at-form f one-up most in
-      let h₀ = and-yes (inside 1 55 (kindOf f) && (not (eqb (firstClass own) 0) || leb f 58)) _ h in
-      let h₁ = and-yes (inside 1 55 (kindOf f)) _ (h₀ .0) in
+      let h = at-form f one-up form in
+      let h₀ = and-yes (known false (kindOf f) && (not (eqb (firstClass own) 0) || leb f 66)) _ h in
+      let h₁ = and-yes (known false (kindOf f)) _ (h₀ .0) in
       let h₂ = and-yes (spare (sortClass own) j m 1) _ (h₀ .1) in
       let h₃ = and-yes (spare (firstClass own) j m 2) _ (h₂ .1) in
       let h₄ = and-yes (spare (secondClass own) j m 3) _ (h₃ .1) in
@@ -164,14 +165,14 @@ module _ (w f : ℕ) (one-up : 1 ≤ f) (most : f ≤ 60) (rec : List ℕ) (l : 
       let g₃ : unused (secondClass own) (secondIn s) ≡ true = unused-of (secondClass own) (secondIn s) (beyond j m 3) (h₄ .0) (λ o. zero-place 3 (λ e. omega arith) refl o) in
       let g₄ : unused (thirdClass own) (thirdIn s) ≡ true = unused-of (thirdClass own) (thirdIn s) (beyond j m 4) (h₄ .1) (λ o. zero-place 4 (λ e. omega arith) refl o) in
       let g : all (tidy own s) ≡ true = both-true _ _ g₁ (both-true _ _ g₂ (both-true _ _ g₃ (both-true _ _ g₄ refl))) in
-      both-true (known false (kindIn s)) _ (subst (λ (x : ℕ). known false x ≡ true) (sym k) (true-of (inside 1 55 (kindOf f)) (h₁ .0))) (subst (λ (x : ℕ). all (tidy (rowOf x) s) ≡ true) (sym k) g)
+      both-true (known false (kindIn s)) _ (subst (λ (x : ℕ). known false x ≡ true) (sym k) (true-of (known false (kindOf f)) (h₁ .0))) (subst (λ (x : ℕ). all (tidy (rowOf x) s) ≡ true) (sym k) g)
     where
-      value-place : (own : List ℕ) → T (not (eqb (firstClass own) 0) || leb f 58) → T (spare (firstClass own) (firstOf (formRow f)) (numbersOf (formRow f)) 2)
+      value-place : (own : List ℕ) → T (not (eqb (firstClass own) 0) || leb f 66) → T (spare (firstClass own) (firstOf (formRow f)) (numbersOf (formRow f)) 2)
           → unused (firstClass own) (firstIn (settled w f rec)) ≡ true
       value-place own a b = go (eqb (firstClass own) 0) a b
         where
-          go : (q : Bool) → T (not q || leb f 58) → T (not q || beyond (firstOf (formRow f)) (numbersOf (formRow f)) 2) → (not q || eqb (firstIn (settled w f rec)) 0) ≡ true
-          go true t o = eq-eqb (firstIn (settled w f rec)) 0 (zero-value (leb-true f 58 (true-of (leb f 58) t)) o)
+          go : (q : Bool) → T (not q || leb f 66) → T (not q || beyond (firstOf (formRow f)) (numbersOf (formRow f)) 2) → (not q || eqb (firstIn (settled w f rec)) 0) ≡ true
+          go true t o = eq-eqb (firstIn (settled w f rec)) 0 (zero-value (leb-true f 66 (true-of (leb f 66) t)) o)
           go false t o = refl
 
 -- ---- places for ids: a word that the line does not use stays
@@ -204,14 +205,14 @@ module _ (w f : ℕ) (ds : List ℕ) (k s a b c : ℕ) where
   with-value v p q g = subst Formed (sym q) (formed-value ds k s a b c v (subst Formed p g))
 
   settled-fields : Formed (settled w f words) → Formed (settled w f (resolved ds words))
-  settled-fields g = go (eqb f 59) (eqb f 60) refl refl
+  settled-fields g = go (eqb f 67) (eqb f 68) refl refl
     where
-      go : (p q : Bool) → eqb f 59 ≡ p → eqb f 60 ≡ q → Formed (settled w f (resolved ds words))
-      go true q ep eq = let n = eqb-true f 59 ep in with-value 1 (settled-one w f words n) (settled-one w f (resolved ds words) n) g
-      go false true ep eq = let n = eqb-true f 60 eq in with-value (2 ^ w - 1) (settled-ones w f words n) (settled-ones w f (resolved ds words) n) g
+      go : (p q : Bool) → eqb f 67 ≡ p → eqb f 68 ≡ q → Formed (settled w f (resolved ds words))
+      go true q ep eq = let n = eqb-true f 67 ep in with-value 1 (settled-one w f words n) (settled-one w f (resolved ds words) n) g
+      go false true ep eq = let n = eqb-true f 68 eq in with-value (2 ^ w - 1) (settled-ones w f words n) (settled-ones w f (resolved ds words) n) g
       go false false ep eq =
-          let x = eqb-false f 59 ep in
-          let y = eqb-false f 60 eq in
+          let x = eqb-false f 67 ep in
+          let y = eqb-false f 68 eq in
           subst Formed (sym (settled-other w f (resolved ds words) x y)) (formed-resolved ds k s a b c (subst Formed (settled-other w f words x y) g))
 
 settled-formed : (w f : ℕ) (ds r : List ℕ) → length r ≡ recordWords → formed false (settled w f r) ≡ true → formed false (settled w f (resolved ds r)) ≡ true
@@ -226,9 +227,9 @@ resolved-length ds r = refl
 
 value-length : (w f : ℕ) (r : List ℕ) → length (settled w f r) ≡ length r
 unfolding settled
-value-length w f r = go (eqb f 59) (eqb f 60) refl refl
+value-length w f r = go (eqb f 67) (eqb f 68) refl refl
   where
-    go : (p q : Bool) → eqb f 59 ≡ p → eqb f 60 ≡ q → length (settled w f r) ≡ length r
+    go : (p q : Bool) → eqb f 67 ≡ p → eqb f 68 ≡ q → length (settled w f r) ≡ length r
     go true q ep eq = rw (ep, settled) (length-set r 2 1)
     go false true ep eq = rw (ep, eq, settled) (length-set r 2 (2 ^ w - 1))
     go false false ep eq = rw (ep, eq, settled) refl
@@ -288,7 +289,7 @@ module _ (L : ℕ → Ty) (G : Bool → ℕ → Bool) where
           let h = neither (eqb (fault false L G x) 8) _ (from-eight .0) .1 in
           ap₂ (λ (y : List Bool) (z : List ℕ). all (minusesFit L y z)) (sym are-signs) (sym is-record) ∙ not-false (all (minusesFit L (signsIn f (behind w)) x)) h
 
-      pub in-forms : (v : Word) → InForms v → eqb (formOf v) 0 ≡ false → (1 ≤ formOf v) × (formOf v ≤ 60)
+      pub in-forms : (v : Word) → InForms v → eqb (formOf v) 0 ≡ false → (1 ≤ formOf v) × IsForm (formOf v)
       in-forms unknown h k = let z : _≡_ {A = ℕ} 0 1 = cc in absurd (omega arith)
       in-forms (word f ts) h k = h
 

@@ -38,7 +38,7 @@ constant-line id s v =
       length-append (digits v) [],
     )
 
-line-short : (id : ℕ) (r : List ℕ) → id < 10 ^ 4 → (1 ≤ kindIn r) × (kindIn r ≤ 55) → Short (10 ^ 4) r → length (join (tokensOf id r) ++ (10 ∷ [])) ≤ 40
+line-short : (id : ℕ) (r : List ℕ) → id < 10 ^ 4 → (1 ≤ kindIn r) × (kindIn r ≤ 63) → Short (10 ^ 4) r → length (join (tokensOf id r) ++ (10 ∷ [])) ≤ 40
 line-short id r n k (below h) = omega (arith, line-within 4 id r (k .0) (k .1) (λ i. four (getD r i 0) (h i)), four id n)
 line-short id r n k (constant s v e hs hv) =
     subst (λ (x : List ℕ). length (join (tokensOf id x) ++ (10 ∷ [])) ≤ 40) (sym e) (omega (arith, constant-line id s v, four id n, four s hs, digits-most v hv))

@@ -43,5 +43,6 @@ pub mod UsedNames
 pub mod NamesApart
 pub mod NameOfLine
 pub mod SampleNames
+pub mod SampleDetectors
 pub mod Lengths
 pub mod Refused

@@ -9,7 +9,7 @@ use lib.ListN.{length, take, drop, length-take}
 use lib.Seq.{drop-drop, take-take, take-length}
 use Rattle.texts.specs.Split.{glue, split, upTo, nonEmpty, tokens, sameBytes}
 use Rattle.texts.specs.Forms.{formRow, numbersOf, sortWord}
-use Rattle.texts.specs.Reading.{wordIn, formWord, sortWords, findIn, lastOf, lineTokens, nameBehind, lineName}
+use Rattle.texts.specs.Reading.{wordIn, formWord, sortWords, findIn, findWord, lastOf, lineTokens, nameBehind, lineName}
 use Rattle.texts.specs.Names.{only}
 use Rattle.texts.specs.Naming.{Located, located, leads, lineFrom, lineWith, nameOf, locatedFrom, locatedTokens, namePlace}
 use Rattle.texts.proofs.Places.{take-upTo}
@@ -117,7 +117,7 @@ word-last t (u ∷ ts) h = go (sameBytes u sortWord) refl h
   where
     go : (q : Bool) → sameBytes u sortWord ≡ q → 0 < length (nameBehind (wordIn (u ∷ ts))) → nameBehind (wordIn (u ∷ ts)) ≡ lastOf u ts
     go true e = rw (e, wordIn) (sort-last u ts)
-    go false e = rw (e, wordIn) (form-last (findIn 3 58 u) u ts)
+    go false e = rw (e, wordIn) (form-last (findWord u) u ts)
 
 name-last : (t : List ℕ) (ts : List (List ℕ)) → 0 < length (lineName ts) → lineName ts ≡ lastOf t ts
 name-last t [] h = word-last t [] h

@@ -13,7 +13,7 @@ use Rattle.tables.proofs.Every.{every, at-each}
 use Rattle.texts.specs.Forms.{formRow, numbersOf, sortWord}
 use Rattle.texts.specs.Split.{glue, split, nonEmpty, tokens, sameBytes}
 use Rattle.texts.specs.Names.{only}
-use Rattle.texts.specs.Reading.{findIn, Word, word, unknown, formWord, sortWords, wordIn, formOf, behind, nameIn, nameBehind, lineName}
+use Rattle.texts.specs.Reading.{findIn, findWord, Word, word, unknown, formWord, sortWords, wordIn, formOf, behind, nameIn, nameBehind, lineName}
 use Rattle.texts.proofs.Words.{InForms, word-forms}
 
 -- ---- tokens take two bytes each, but the last
@@ -48,14 +48,14 @@ token-bytes l = omega (arith, filled-weight (split 32 l), split-weight 32 l .0)
 numbered? : ℕ → Bool
 numbered? i = ltb 0 (numbersOf (formRow (suc i)))
 
-all-numbered : T (every numbered? 60)
+all-numbered : T (every numbered? 68)
 unfolding numbered? formRow rowOf
 all-numbered = tt
 
-numbers-some : (f : ℕ) → 1 ≤ f → f ≤ 60 → 0 < numbersOf (formRow f)
+numbers-some : (f : ℕ) → 1 ≤ f → f ≤ 68 → 0 < numbersOf (formRow f)
 unfolding numbered?
 numbers-some zero a b = absurd (omega arith)
-numbers-some (suc i) a b = ltb-true 0 (numbersOf (formRow (suc i))) (true-of (numbered? i) (at-each numbered? 60 all-numbered i (omega arith)))
+numbers-some (suc i) a b = ltb-true 0 (numbersOf (formRow (suc i))) (true-of (numbered? i) (at-each numbered? 68 all-numbered i (omega arith)))
 
 -- its word is one of its tokens
 form-behind : (f : ℕ) (ts : List (List ℕ)) → length (behind (formWord f ts)) ≤ length ts
@@ -71,9 +71,9 @@ word-behind (t ∷ ts) h = go (sameBytes t sortWord)
     sorted [] = omega arith
     sorted (u ∷ us) = omega (arith, form-behind (findIn 1 2 u) us)
 
-    go : (q : Bool) → length (behind (elim q [ true ↦ sortWords ts | false ↦ formWord (findIn 3 58 t) ts ])) < length (t ∷ ts)
+    go : (q : Bool) → length (behind (elim q [ true ↦ sortWords ts | false ↦ formWord (findWord t) ts ])) < length (t ∷ ts)
     go true = omega (arith, sorted ts)
-    go false = omega (arith, form-behind (findIn 3 58 t) ts)
+    go false = omega (arith, form-behind (findWord t) ts)
 
 only-some : (ts : List (List ℕ)) → 0 < length (only ts) → 0 < length ts
 only-some [] h = absurd (omega arith)
@@ -82,7 +82,7 @@ only-some (t ∷ ts) h = omega arith
 name-some : (w : Word) → InForms w → 0 < length (nameBehind w) → 2 ≤ length (behind w)
 name-some unknown f h = absurd (omega arith)
 name-some (word f ts) b h =
-    let n = numbers-some f (b .0) (b .1) in
+    let n = numbers-some f (b .0) (b .1 .0) in
     omega (arith, n, only-some (drop (numbersOf (formRow f)) ts) h, length-drop (numbersOf (formRow f)) ts)
 
 -- nothing stands behind no word

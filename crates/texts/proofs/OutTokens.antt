@@ -24,26 +24,26 @@ use Rattle.texts.proofs.Scan.{without-sign, number-plain, sign-none}
 
 -- ---- one token
 
-no-binary : namesLine (classAt (formRow 56) 2) ≡ false
+no-binary : namesLine (classAt (formRow 64) 2) ≡ false
 unfolding formRow
 no-binary = refl
 
-no-hex : namesLine (classAt (formRow 57) 2) ≡ false
+no-hex : namesLine (classAt (formRow 65) 2) ≡ false
 unfolding formRow
 no-hex = refl
 
 -- a token that names a line is in decimal
 plain-line : (f j : ℕ) (t : List ℕ) → namesLine (classAt (formRow f) j) ≡ true → plainAt f j t ≡ decimal t
-plain-line f j t h = go (eqb f 56 && eqb j 2) (eqb f 57 && eqb j 2) refl refl
+plain-line f j t h = go (eqb f 64 && eqb j 2) (eqb f 65 && eqb j 2) refl refl
   where
     other : (g : ℕ) → namesLine (classAt (formRow g) 2) ≡ false → (eqb f g && eqb j 2) ≡ true → ⊥
     other g n e =
         let p = both (eqb f g) (eqb j 2) e in
         no-yes (sym n ∙ (ap (λ (x : ℕ). namesLine (classAt (formRow x) 2)) (sym (eqb-true f g (p .0))) ∙ (ap (λ (x : ℕ). namesLine (classAt (formRow f) x)) (sym (eqb-true j 2 (p .1))) ∙ h)))
 
-    go : (a b : Bool) → (eqb f 56 && eqb j 2) ≡ a → (eqb f 57 && eqb j 2) ≡ b → plainAt f j t ≡ decimal t
-    go true b p q = absurd (other 56 no-binary p)
-    go false true p q = absurd (other 57 no-hex q)
+    go : (a b : Bool) → (eqb f 64 && eqb j 2) ≡ a → (eqb f 65 && eqb j 2) ≡ b → plainAt f j t ≡ decimal t
+    go true b p q = absurd (other 64 no-binary p)
+    go false true p q = absurd (other 65 no-hex q)
     go false false p q = rw (p, q, plainAt) refl
 
 place-from-most : (b : ℕ) (ds : List ℕ) (d : ℕ) → placeByIdFrom b ds d ≤ b + length ds

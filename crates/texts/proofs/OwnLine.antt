@@ -22,7 +22,7 @@ use Rattle.texts.specs.Forms.{formRow, kindOf, firstOf, numbersOf, sortW
 use Rattle.texts.specs.Split.{sameBytes}
 use Rattle.texts.specs.Operands.{placeById, meant, resolved}
 use Rattle.texts.specs.Minus.{noSigns, minusAt, minusesFit}
-use Rattle.texts.specs.Reading.{Word, word, findIn, formWord, sortWords, wordIn, formOf, behind, signAt, numbersFrom, anyBad, anyBig, placed, signsFrom, fresh, settled, numberTokens, extraTokens, numbersIn, signsIn, writtenRecord, recordIn, refusals, got, readLine}
+use Rattle.texts.specs.Reading.{Word, word, findIn, findWord, formWord, sortWords, wordIn, formOf, behind, signAt, numbersFrom, anyBad, anyBig, placed, signsFrom, fresh, settled, numberTokens, extraTokens, numbersIn, signsIn, writtenRecord, recordIn, refusals, got, readLine}
 use Rattle.texts.specs.WrittenOut.{outTokens, notSorts, wordTokens, notsOf, sortPlace, numberTokensIn}
 use Rattle.texts.proofs.Words.{word-sort, word-other, word-forms, kind-high}
 use Rattle.texts.proofs.Steps.{settled-other, settled-one, settled-ones, settled-kind}
@@ -46,7 +46,7 @@ word-kept [] zs h = absurd (no-yes (sym h))
 word-kept (t ∷ ts) zs h = go (sameBytes t sortWord) refl
   where
     -- a word of one token, and of two
-    one : (f : ℕ) → sameBytes t sortWord ≡ false → findIn 3 58 t ≡ f → Kept (t ∷ ts) zs (formWord f ts)
+    one : (f : ℕ) → sameBytes t sortWord ≡ false → findWord t ≡ f → Kept (t ∷ ts) zs (formWord f ts)
     one zero e q k = absurd (no-yes (sym k))
     one (suc f) e q k =
         let z : suc (length ts) - length ts ≡ 1 = omega arith in
@@ -65,25 +65,25 @@ word-kept (t ∷ ts) zs h = go (sameBytes t sortWord) refl
 
     go : (b : Bool) → sameBytes t sortWord ≡ b → wordIn (wordTokens (t ∷ ts) ++ zs) ≡ word (formOf (wordIn (t ∷ ts))) zs
     go true e = let q = word-sort t ts e in subst (Kept (t ∷ ts) zs) (sym q) (two ts refl e) h
-    go false e = let q = word-other t ts e in subst (Kept (t ∷ ts) zs) (sym q) (one (findIn 3 58 t) e refl) h
+    go false e = let q = word-other t ts e in subst (Kept (t ∷ ts) zs) (sym q) (one (findWord t) e refl) h
 
 -- ---- the own line is read: its lines' numbers are places already
 
-settled-width : (w w₁ f : ℕ) (r : List ℕ) → (f ≡ 60 → w₁ ≡ w) → settled w₁ f r ≡ settled w f r
-settled-width w w₁ f r h = go (eqb f 59) (eqb f 60) refl refl
+settled-width : (w w₁ f : ℕ) (r : List ℕ) → (f ≡ 68 → w₁ ≡ w) → settled w₁ f r ≡ settled w f r
+settled-width w w₁ f r h = go (eqb f 67) (eqb f 68) refl refl
   where
-    go : (p q : Bool) → eqb f 59 ≡ p → eqb f 60 ≡ q → settled w₁ f r ≡ settled w f r
-    go true q x y = let e = eqb-true f 59 x in settled-one w₁ f r e ∙ sym (settled-one w f r e)
-    go false true x y = ap (λ (v : ℕ). settled v f r) (h (eqb-true f 60 y))
-    go false false x y = settled-other w₁ f r (eqb-false f 59 x) (eqb-false f 60 y) ∙ sym (settled-other w f r (eqb-false f 59 x) (eqb-false f 60 y))
+    go : (p q : Bool) → eqb f 67 ≡ p → eqb f 68 ≡ q → settled w₁ f r ≡ settled w f r
+    go true q x y = let e = eqb-true f 67 x in settled-one w₁ f r e ∙ sym (settled-one w f r e)
+    go false true x y = ap (λ (v : ℕ). settled v f r) (h (eqb-true f 68 y))
+    go false false x y = settled-other w₁ f r (eqb-false f 67 x) (eqb-false f 68 y) ∙ sym (settled-other w f r (eqb-false f 67 x) (eqb-false f 68 y))
 
 settled-sort : (w f k σ a b c : ℕ) → sortIn (settled w f (fields k σ a b c)) ≡ σ
-settled-sort w f k σ a b c = go (eqb f 59) (eqb f 60) refl refl
+settled-sort w f k σ a b c = go (eqb f 67) (eqb f 68) refl refl
   where
-    go : (p q : Bool) → eqb f 59 ≡ p → eqb f 60 ≡ q → sortIn (settled w f (fields k σ a b c)) ≡ σ
-    go true q x y = ap sortIn (settled-one w f (fields k σ a b c) (eqb-true f 59 x))
-    go false true x y = ap sortIn (settled-ones w f (fields k σ a b c) (eqb-true f 60 y))
-    go false false x y = ap sortIn (settled-other w f (fields k σ a b c) (eqb-false f 59 x) (eqb-false f 60 y))
+    go : (p q : Bool) → eqb f 67 ≡ p → eqb f 68 ≡ q → sortIn (settled w f (fields k σ a b c)) ≡ σ
+    go true q x y = ap sortIn (settled-one w f (fields k σ a b c) (eqb-true f 67 x))
+    go false true x y = ap sortIn (settled-ones w f (fields k σ a b c) (eqb-true f 68 y))
+    go false false x y = ap sortIn (settled-other w f (fields k σ a b c) (eqb-false f 67 x) (eqb-false f 68 y))
 
 module _ (L : ℕ → Ty) (G : Bool → ℕ → Bool) (n : ℕ) (N : Numbered L n) (σ a b c : ℕ) where
   -- a constant, whatever its value
@@ -92,20 +92,20 @@ module _ (L : ℕ → Ty) (G : Bool → ℕ → Bool) (n : ℕ) (N : Numbered L 
   valued v kp = let e : meant 5 (from 1 n) σ ≡ σ = ap sortIn (resolved-same L G n (fields 3 σ v b c) N refl kp) in λ i. fields 3 (e i) a b c
 
   resolved-out : (w f : ℕ) → keeps false L G (settled w f (fields (kindOf f) σ a b c)) ≡ true → resolved (from 1 n) (fields (kindOf f) σ a b c) ≡ fields (kindOf f) σ a b c
-  resolved-out w f kp = go (eqb f 59) (eqb f 60) refl refl
+  resolved-out w f kp = go (eqb f 67) (eqb f 68) refl refl
     where
-      value : (v : ℕ) → 55 < f → settled w f (fields (kindOf f) σ a b c) ≡ fields (kindOf f) σ v b c → resolved (from 1 n) (fields (kindOf f) σ a b c) ≡ fields (kindOf f) σ a b c
+      value : (v : ℕ) → 63 < f → settled w f (fields (kindOf f) σ a b c) ≡ fields (kindOf f) σ v b c → resolved (from 1 n) (fields (kindOf f) σ a b c) ≡ fields (kindOf f) σ a b c
       value v l e =
           let k = kind-high f l in
           subst (λ (x : ℕ). resolved (from 1 n) (fields x σ a b c) ≡ fields x σ a b c) (sym k)
           (valued v (subst (λ (x : ℕ). keeps false L G (fields x σ v b c) ≡ true) k (subst (λ (x : List ℕ). keeps false L G x ≡ true) e kp)))
 
-      go : (p q : Bool) → eqb f 59 ≡ p → eqb f 60 ≡ q → resolved (from 1 n) (fields (kindOf f) σ a b c) ≡ fields (kindOf f) σ a b c
-      go true q x y = let z = eqb-true f 59 x in value 1 (omega arith) (settled-one w f _ z)
-      go false true x y = let z = eqb-true f 60 y in value (2 ^ w - 1) (omega arith) (settled-ones w f _ z)
+      go : (p q : Bool) → eqb f 67 ≡ p → eqb f 68 ≡ q → resolved (from 1 n) (fields (kindOf f) σ a b c) ≡ fields (kindOf f) σ a b c
+      go true q x y = let z = eqb-true f 67 x in value 1 (omega arith) (settled-one w f _ z)
+      go false true x y = let z = eqb-true f 68 y in value (2 ^ w - 1) (omega arith) (settled-ones w f _ z)
       go false false x y =
           resolved-same L G n (fields (kindOf f) σ a b c) N refl
-          (subst (λ (x : List ℕ). keeps false L G x ≡ true) (settled-other w f _ (eqb-false f 59 x) (eqb-false f 60 y)) kp)
+          (subst (λ (x : List ℕ). keeps false L G x ≡ true) (settled-other w f _ (eqb-false f 67 x) (eqb-false f 68 y)) kp)
 
 length-out : (f j n : ℕ) (ds : List ℕ) (us : List (List ℕ)) → length (outTokens f j n ds us) ≡ length us
 length-out f j n ds [] = refl
@@ -141,9 +141,9 @@ module _ (c : Ctx) (m : ℕ) (ds : List ℕ) (ns : List (List ℕ)) (t : List �
   unfolding readLine
   free = none (tyAt c) (given c) m ds ns t (wordIn ts) (word-forms ts) r s h
 
-  bounds : (1 ≤ f) × (f ≤ 60)
+  bounds : (1 ≤ f) × (f ≤ 68)
   unfolding readLine
-  bounds = in-forms (tyAt c) (given c) m ds ns t (wordIn ts) (word-forms ts) r s h (wordIn ts) (word-forms ts) (free .1 .1 .0)
+  bounds = let b = in-forms (tyAt c) (given c) m ds ns t (wordIn ts) (word-forms ts) r s h (wordIn ts) (word-forms ts) (free .1 .1 .0) in (b .0, b .1 .0)
 
   is-row : recordIn (tyAt c) ds f rest ≡ r
   unfolding readLine
@@ -262,7 +262,7 @@ module _ (c : Ctx) (m : ℕ) (ds : List ℕ) (ns : List (List ℕ)) (t : List �
     same-sort = sym (out-number f (bounds .0) (bounds .1) 1 (omega arith) (omega arith) ds false 0 (P .σ) (λ e. absurd (no-yes e)))
 
     -- the sort of ones has a role
-    sort-role : f ≡ 60 → 1 ≤ tyAt c (sortIn asRead) .role
+    sort-role : f ≡ 68 → 1 ≤ tyAt c (sortIn asRead) .role
     sort-role e =
         let k : kindIn r ≡ 3 = own-kind ∙ ap kindOf e in
         let q : sortIn r ≡ sortIn asRead = ap sortIn is-settled ∙ settled-sort width f (kindOf f) _ _ _ _ in

@@ -46,14 +46,14 @@ rowsAgree own row =
 test : ℕ → Bool
 test i = all (rowsAgree (formRow (suc i)) (rowOf (kindOf (suc i))))
 
-all-agree : T (every test 60)
+all-agree : T (every test 68)
 unfolding test formRow rowOf
 all-agree = tt
 
-at-form : (f : ℕ) → 1 ≤ f → f ≤ 60 → (j : ℕ) → getD (rowsAgree (formRow f) (rowOf (kindOf f))) j true ≡ true
+at-form : (f : ℕ) → 1 ≤ f → f ≤ 68 → (j : ℕ) → getD (rowsAgree (formRow f) (rowOf (kindOf f))) j true ≡ true
 unfolding test
 at-form zero a b = absurd (omega arith)
-at-form (suc i) a b = all-at (rowsAgree (formRow (suc i)) (rowOf (kindOf (suc i)))) (true-of _ (at-each test 60 all-agree i (omega arith)))
+at-form (suc i) a b = all-at (rowsAgree (formRow (suc i)) (rowOf (kindOf (suc i)))) (true-of _ (at-each test 68 all-agree i (omega arith)))
 
 alike-same : (a b : Bool) → alike a (not b) ≡ true → a ≡ not b
 alike-same true true t = absurd (no-yes t)
@@ -61,7 +61,7 @@ alike-same true false t = refl
 alike-same false true t = refl
 alike-same false false t = absurd (no-yes t)
 
-module _ (f : ℕ) (low : 1 ≤ f) (high : f ≤ 60) where
+module _ (f : ℕ) (low : 1 ≤ f) (high : f ≤ 68) where
   abbrev row : List ℕ
   row = rowOf (kindOf f)
 
@@ -128,7 +128,7 @@ own-fields x y false false true n k σ a b c = refl
 own-fields x y false false false n k σ a b c = refl
 
 -- one and ones have no operands
-no-operands : (j : ℕ) → 2 ≤ j → j ≤ 4 → (namesLine (classAt (formRow 59) j) ≡ false) × (namesLine (classAt (formRow 60) j) ≡ false)
+no-operands : (j : ℕ) → 2 ≤ j → j ≤ 4 → (namesLine (classAt (formRow 67) j) ≡ false) × (namesLine (classAt (formRow 68) j) ≡ false)
 unfolding formRow
 no-operands zero a b = absurd (omega arith)
 no-operands (suc zero) a b = absurd (omega arith)
@@ -143,7 +143,7 @@ MinusesNamed f s = (j : ℕ) → 2 ≤ j → j ≤ 4 → minusAt s j ≡ true �
 
 -- a record with a minus has no value from its word
 pub minus-settled : (f : ℕ) (s : List Bool) → MinusesNamed f s → (j : ℕ) → 2 ≤ j → j ≤ 4 → minusAt s j ≡ true → (w : ℕ) (r : List ℕ) → settled w f r ≡ r
-minus-settled f s N j a b e w r = settled-other w f r (λ z. other 59 z (no-operands j a b .0)) (λ z. other 60 z (no-operands j a b .1))
+minus-settled f s N j a b e w r = settled-other w f r (λ z. other 67 z (no-operands j a b .0)) (λ z. other 68 z (no-operands j a b .1))
   where
     other : (g : ℕ) → f ≡ g → namesLine (classAt (formRow g) j) ≡ false → ⊥
     other g z n = no-yes (sym n ∙ (ap (λ (x : ℕ). namesLine (classAt (formRow x) j)) (sym z) ∙ N j a b e))
@@ -159,7 +159,7 @@ outFields f n ds σ a b c s₂ s₃ s₄ k =
     fields k (outNumber f 1 ds false 0 σ) (outNumber f 2 ds s₂ (suc n) a) (outNumber f 3 ds s₃ (suc (n + pick s₂ 1 0)) b)
     (outNumber f 4 ds s₄ (suc (n + pick s₂ 1 0 + pick s₃ 1 0)) c)
 
-module _ (f : ℕ) (low : 1 ≤ f) (high : f ≤ 60) (n : ℕ) (ds : List ℕ) (σ a b c : ℕ) (s₁ s₂ s₃ s₄ : Bool) (N : MinusesNamed f (false ∷ s₁ ∷ s₂ ∷ s₃ ∷ s₄ ∷ [])) where
+module _ (f : ℕ) (low : 1 ≤ f) (high : f ≤ 68) (n : ℕ) (ds : List ℕ) (σ a b c : ℕ) (s₁ s₂ s₃ s₄ : Bool) (N : MinusesNamed f (false ∷ s₁ ∷ s₂ ∷ s₃ ∷ s₄ ∷ [])) where
   abbrev signs : List Bool
   signs = false ∷ s₁ ∷ s₂ ∷ s₃ ∷ s₄ ∷ []
 
@@ -178,7 +178,7 @@ module _ (f : ℕ) (low : 1 ≤ f) (high : f ≤ 60) (n : ℕ) (ds : List ℕ) (
       (out-number f low high 4 (omega arith) (omega arith) ds s₄ (suc (n + pick s₂ 1 0 + pick s₃ 1 0)) c (N 4 (omega arith) (omega arith)))
 
   pub own-settled : (w : ℕ) → ownRecord signs 3 2 n (settled w f before) ≡ settled w f after
-  own-settled w = go (eqb f 59) (eqb f 60) refl refl
+  own-settled w = go (eqb f 67) (eqb f 68) refl refl
     where
       none : (g : ℕ) → f ≡ g → ((j : ℕ) → 2 ≤ j → j ≤ 4 → namesLine (classAt (formRow g) j) ≡ false) → (j : ℕ) → 2 ≤ j → j ≤ 4 → (b : Bool) → minusAt signs j ≡ b → minusAt signs j ≡ false
       none g z h j l u true e = absurd (no-yes (sym (h j l u) ∙ (ap (λ (x : ℕ). namesLine (classAt (formRow x) j)) (sym z) ∙ N j l u e)))
@@ -191,12 +191,12 @@ module _ (f : ℕ) (low : 1 ≤ f) (high : f ≤ 60) (n : ℕ) (ds : List ℕ) (
       by-still : ((r : List ℕ) → ownRecord signs 3 2 n r ≡ r) → ownRecord signs 3 2 n (settled w f before) ≡ settled w f after
       by-still h = h (settled w f before) ∙ ap (settled w f) (sym (h before) ∙ own-out)
 
-      go : (p q : Bool) → eqb f 59 ≡ p → eqb f 60 ≡ q → ownRecord signs 3 2 n (settled w f before) ≡ settled w f after
-      go true q x y = by-still (still 59 (eqb-true f 59 x) (λ j l u. no-operands j l u .0))
-      go false true x y = by-still (still 60 (eqb-true f 60 y) (λ j l u. no-operands j l u .1))
+      go : (p q : Bool) → eqb f 67 ≡ p → eqb f 68 ≡ q → ownRecord signs 3 2 n (settled w f before) ≡ settled w f after
+      go true q x y = by-still (still 67 (eqb-true f 67 x) (λ j l u. no-operands j l u .0))
+      go false true x y = by-still (still 68 (eqb-true f 68 y) (λ j l u. no-operands j l u .1))
       go false false x y =
-          let h = eqb-false f 59 x in
-          let k = eqb-false f 60 y in
+          let h = eqb-false f 67 x in
+          let k = eqb-false f 68 y in
           ap (ownRecord signs 3 2 n) (settled-other w f before h k) ∙ (own-out ∙ sym (settled-other w f after h k))
 
 -- ---- the numbers of a line: its sort, where it has one, and its operands
@@ -276,7 +276,7 @@ module _ (f n : ℕ) (ds : List ℕ) (ln : n < 2 ^ 32) (ld : length ds < 2 ^ 32)
       step : signAt f 1 t ≡ false → n + pick (signAt f 1 t) 1 0 ≡ n
       step e = ap (λ (x : Bool). n + pick x 1 0) e ∙ omega arith
 
-pub line-parts : (f : ℕ) → 1 ≤ f → f ≤ 60 → (n : ℕ) (ds : List ℕ) → n < 2 ^ 32 → length ds < 2 ^ 32 → (us : List (List ℕ)) → length us ≡ numbersOf (formRow f)
+pub line-parts : (f : ℕ) → 1 ≤ f → f ≤ 68 → (n : ℕ) (ds : List ℕ) → n < 2 ^ 32 → length ds < 2 ^ 32 → (us : List (List ℕ)) → length us ≡ numbersOf (formRow f)
     → anyBad (numbersFrom f (firstOf (formRow f)) us) ≡ false → anyBig (numbersFrom f (firstOf (formRow f)) us) ≡ false → LineParts f n ds (firstOf (formRow f)) us
 line-parts f low high n ds ln ld us l h k = go (eqb (sortClass (formRow f)) 0) refl us l h k
   where

@@ -24,8 +24,7 @@ use Rattle.tables.specs.Tables.{known, formed, keeps, lawful, checked}
 use Rattle.tables.specs.Answers.{told}
 use Rattle.tables.proofs.Outcomes.{told-as}
 use Rattle.tables.proofs.Every.{every, at-each}
-use Rattle.tables.proofs.Kept.{both}
-use Rattle.tables.proofs.Shapes.{range}
+use Rattle.tables.proofs.Kept.{both, known-range}
 use Rattle.tables.proofs.Places.{length-records, record-at}
 use Rattle.tables.proofs.Checking.{roomy}
 use Rattle.texts.specs.Forms.{sorted, firstOf, numbersOf}
@@ -120,10 +119,10 @@ and-then l p a l₁ p₁ b l₂ p₂ h k = (
 )
 
 -- what holds of a kind's row
-pub row-fit : (k : ℕ) → 1 ≤ k → k ≤ 55 → (getD (rowOf k) 0 0 ≤ 10) × (operandCount (rowOf k) ≤ 3)
+pub row-fit : (k : ℕ) → 1 ≤ k → k ≤ 63 → (getD (rowOf k) 0 0 ≤ 10) × (operandCount (rowOf k) ≤ 3)
 row-fit k a b = subst (λ (x : List ℕ). (getD x 0 0 ≤ 10) × (operandCount x ≤ 3)) (row-kind k b) (row-shape k a (omega arith))
 
-pub row-words : (r : List ℕ) (k : ℕ) → r ≡ rowOf k → 1 ≤ k → k ≤ 55 → getD r 0 0 ≤ 10
+pub row-words : (r : List ℕ) (k : ℕ) → r ≡ rowOf k → 1 ≤ k → k ≤ 63 → getD r 0 0 ≤ 10
 row-words r k e a b = subst (λ (x : List ℕ). getD x 0 0 ≤ 10) (sym e) (row-fit k a b .0)
 
 -- a line, from its parts; s says whether the row r has a sort
@@ -186,17 +185,17 @@ numbers-most d (suc m) j rec h =
 kind-short : ℕ → Bool
 kind-short i = leb (length (spaced (kindTokens (suc i)))) 12
 
-kinds-short : T (every kind-short 55)
+kinds-short : T (every kind-short 63)
 unfolding kind-short rowOf
 kinds-short = tt
 
-pub kind-most : (k : ℕ) → 1 ≤ k → k ≤ 55 → length (spaced (kindTokens k)) ≤ 12
+pub kind-most : (k : ℕ) → 1 ≤ k → k ≤ 63 → length (spaced (kindTokens k)) ≤ 12
 unfolding kind-short
 kind-most zero a b = absurd (omega arith)
-kind-most (suc i) a b = leb→le (length (spaced (kindTokens (suc i)))) 12 (at-each kind-short 55 kinds-short i (omega arith))
+kind-most (suc i) a b = leb→le (length (spaced (kindTokens (suc i)))) 12 (at-each kind-short 63 kinds-short i (omega arith))
 
 -- a line whose numbers have at most d digits
-pub line-within : (d id : ℕ) (rec : List ℕ) → 1 ≤ kindIn rec → kindIn rec ≤ 55 → ((i : ℕ) → length (digits (getD rec i 0)) ≤ d)
+pub line-within : (d id : ℕ) (rec : List ℕ) → 1 ≤ kindIn rec → kindIn rec ≤ 63 → ((i : ℕ) → length (digits (getD rec i 0)) ≤ d)
     → length (join (tokensOf id rec) ++ (10 ∷ [])) ≤ length (digits id) + 12 + 4 * suc d + 1
 line-within d id rec a b h =
     let m : ℕ = numbersOf (rowOf (kindIn rec)) in
@@ -210,7 +209,7 @@ line-within d id rec a b h =
     )
 
 -- a line is at most 128 bytes long
-pub line-most : (id : ℕ) (rec : List ℕ) → id < 2 ^ 64 → 1 ≤ kindIn rec → kindIn rec ≤ 55 → ((i : ℕ) → getD rec i 0 < 2 ^ 64)
+pub line-most : (id : ℕ) (rec : List ℕ) → id < 2 ^ 64 → 1 ≤ kindIn rec → kindIn rec ≤ 63 → ((i : ℕ) → getD rec i 0 < 2 ^ 64)
     → length (join (tokensOf id rec) ++ (10 ∷ [])) ≤ 128
 line-most id rec n a b h = omega (arith, line-within 20 id rec a b (λ i. digits-most (getD rec i 0) (h i)), digits-most id n)
 
@@ -227,10 +226,10 @@ text-more n r rs w h k =
     omega (arith, ap length q, length-append (join (tokensOf n r) ++ (10 ∷ [])) (writeFrom (suc n) rs), h, k, mul-suc w (length rs))
 
 -- the kind of a record that keeps the rules
-pub kept-kind : (c : Ctx) (r : List ℕ) → keeps false (tyAt c) (given c) r ≡ true → (1 ≤ kindIn r) × (kindIn r ≤ 55)
-kept-kind c r e = range 1 55 (kindIn r) (both (known false (kindIn r)) _ (both (formed false r) _ e .0) .0)
+pub kept-kind : (c : Ctx) (r : List ℕ) → keeps false (tyAt c) (given c) r ≡ true → (1 ≤ kindIn r) × (kindIn r ≤ 63)
+kept-kind c r e = known-range false (kindIn r) (both (known false (kindIn r)) _ (both (formed false r) _ e .0) .0)
 
-pub lawful-kind : (c : Ctx) (rs : List (List ℕ)) (i : ℕ) → lawful false c rs ≡ true → i < length rs → (1 ≤ kindIn (getD rs i [])) × (kindIn (getD rs i []) ≤ 55)
+pub lawful-kind : (c : Ctx) (rs : List (List ℕ)) (i : ℕ) → lawful false c rs ≡ true → i < length rs → (1 ≤ kindIn (getD rs i [])) × (kindIn (getD rs i []) ≤ 63)
 lawful-kind c [] i e h = absurd (omega arith)
 lawful-kind c (r ∷ rs) zero e h = kept-kind c r (both (keeps false (tyAt c) (given c) r) _ e .0)
 lawful-kind c (r ∷ rs) (suc i) e h = lawful-kind (grow false c (lineOf r)) rs i (both (keeps false (tyAt c) (given c) r) _ e .1) (omega arith)
@@ -304,8 +303,8 @@ module _ {t : List ℕ} {n : ℕ} {out₀ out : List ℕ} {at p : ℕ} (B : Befo
     this : r ≡ getD (recordsOf false t n) p []
     this = er ∙ sym (record-at false t n p l)
 
-    pub this-kind : (1 ≤ kindIn r) × (kindIn r ≤ 55)
-    this-kind = subst (λ (x : List ℕ). (1 ≤ kindIn x) × (kindIn x ≤ 55)) (sym this) (lawful-kind noCtx (recordsOf false t n) p law inside)
+    pub this-kind : (1 ≤ kindIn r) × (kindIn r ≤ 63)
+    this-kind = subst (λ (x : List ℕ). (1 ≤ kindIn x) × (kindIn x ≤ 63)) (sym this) (lawful-kind noCtx (recordsOf false t n) p law inside)
 
     pub this-fits : at + length (join (tokensOf (p + 1) r) ++ (10 ∷ [])) < 2 ^ 63
     this-fits = omega (arith, B .short, B .rest, lines-less (recordsOf false t n) p inside r this at)

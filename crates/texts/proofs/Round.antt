@@ -23,9 +23,9 @@ use Rattle.tables.specs.Rules.{fault}
 use Rattle.tables.specs.Tables.{known, unused, formed, keeps, lawful, checked}
 use Rattle.tables.proofs.Every.{every, at-each}
 use Rattle.tables.proofs.Laws.{and-true, or-false}
-use Rattle.tables.proofs.Shapes.{fits-as, range}
+use Rattle.tables.proofs.Shapes.{fits-as}
 use Rattle.tables.proofs.Answers.{passed}
-use Rattle.tables.proofs.Kept.{both}
+use Rattle.tables.proofs.Kept.{both, known-range}
 use Rattle.tables.proofs.Checking.{roomy}
 use Rattle.tables.proofs.Places.{fields-of, fields-eq, length-records}
 use Rattle.tables.proofs.Ids.{length-from, from-append}
@@ -39,7 +39,7 @@ use Rattle.texts.specs.Decimal.{decimal, digits}
 use Rattle.texts.specs.Operands.{resolved}
 use Rattle.texts.specs.Names.{only, used, withName}
 use Rattle.texts.specs.Minus.{noSigns, minusesFit, minuses}
-use Rattle.texts.specs.Reading.{Word, word, wordIn, formOf, behind, numberAt, numbersFrom, anyBad, anyBig, placed, lastOf, numberTokens, extraTokens, numbersIn, signsFrom, signsIn, fresh, writtenRecord, settled, recordIn, isNext, valueOf, lineId, wrongClass, misfit, noRecordsLeft, refusals, got, lowest, replyIn, readLine, done, lineTokens, readLines, readText, nameBehind, lineName, nameUsed, sofar}
+use Rattle.texts.specs.Reading.{Word, formOf, behind, numberAt, numbersFrom, anyBad, anyBig, placed, lastOf, numberTokens, extraTokens, numbersIn, signsFrom, signsIn, fresh, writtenRecord, settled, recordIn, isNext, valueOf, lineId, wrongClass, misfit, noRecordsLeft, refusals, got, lowest, replyIn, readLine, done, lineTokens, readLines, readText, nameBehind, lineName, nameUsed, sofar}
 use Rattle.texts.specs.Writing.{numbers, kindTokens, tokensOf, writeFrom, writeText, wrote, refuse, fitted, writeTable}
 use Rattle.texts.proofs.Splitting.{Toks, toks-append, tokens-join, lines-join}
 use Rattle.texts.proofs.Decimals.{digits-tok, decimal-digits}
@@ -79,7 +79,7 @@ placed-values : (m j : ℕ) (rec d : List ℕ) → placed j (values m j rec) d �
 placed-values zero j rec d = refl
 placed-values (suc m) j rec d = placed-values m (suc j) rec (set d j (getD rec j 0))
 
-module _ (k : ℕ) (low : k ≤ 55) (rec : List ℕ) (words : (j : ℕ) → getD rec j 0 < 2 ^ 64) where
+module _ (k : ℕ) (low : k ≤ 63) (rec : List ℕ) (words : (j : ℕ) → getD rec j 0 < 2 ^ 64) where
   number-read : (j : ℕ) → numberAt k j (digits (getD rec j 0)) ≡ Is (getD rec j 0)
   number-read j =
       let d = decimal-digits (getD rec j 0) (words j) in
@@ -116,14 +116,14 @@ counts row = leb (operandCount row) 3 && ((ltb 0 (operandCount row) || eqb (firs
 test : ℕ → Bool
 test i = counts (rowOf (suc i))
 
-all-count : T (every test 55)
+all-count : T (every test 63)
 unfolding test rowOf
 all-count = tt
 
-count-at : (k : ℕ) → 1 ≤ k → k ≤ 55 → T (counts (rowOf k))
+count-at : (k : ℕ) → 1 ≤ k → k ≤ 63 → T (counts (rowOf k))
 unfolding test
 count-at zero a b = absurd (omega arith)
-count-at (suc i) a b = at-each test 55 all-count i (omega arith)
+count-at (suc i) a b = at-each test 63 all-count i (omega arith)
 
 no-class : (n m c x : ℕ) → T (ltb m n || eqb c 0) → unused c x ≡ true → n ≤ m → x ≡ 0
 no-class n m c x t u h = go (ltb m n) refl t
@@ -136,7 +136,7 @@ copied-fields : (k s a b c : ℕ) → formed false (fields k s a b c) ≡ true �
 copied-fields k s a b c h =
     let row : List ℕ = rowOf k in
     let f = both (known false k) _ h in
-    let g = range 1 55 k (f .0) in
+    let g = known-range false k (f .0) in
     let u₁ = both (unused (sortClass (rowOf k)) s) _ (f .1) in
     let u₂ = both (unused (firstClass (rowOf k)) a) _ (u₁ .1) in
     let u₃ = both (unused (secondClass (rowOf k)) b) _ (u₂ .1) in
@@ -163,14 +163,6 @@ numbers-toks : (m j : ℕ) (rec : List ℕ) → Toks (numbers m j rec)
 numbers-toks zero j rec = tt
 numbers-toks (suc m) j rec = (digits-tok (getD rec j 0), numbers-toks m (suc j) rec)
 
-kind-word : (k : ℕ) → 1 ≤ k → k ≤ 55 → (rest : List (List ℕ)) → wordIn (kindTokens k ++ rest) ≡ word k rest
-kind-word zero a b rest = absurd (omega arith)
-kind-word (suc i) a b rest = word-found i (omega arith) rest
-
-kind-toks : (k : ℕ) → 1 ≤ k → k ≤ 55 → Toks (kindTokens k)
-kind-toks zero a b = absurd (omega arith)
-kind-toks (suc i) a b = word-toks i (omega arith)
-
 module _ (L : ℕ → Ty) (G : Bool → ℕ → Bool) (r : List ℕ) (sized : length r ≡ recordWords) (words : (j : ℕ) → getD r j 0 < 2 ^ 64) (kp : keeps false L G r ≡ true) where
   well : formed false r ≡ true
   well = both (formed false r) _ kp .0
@@ -178,14 +170,17 @@ module _ (L : ℕ → Ty) (G : Bool → ℕ → Bool) (r : List ℕ) (sized : le
   free : fault false L G r ≡ 0
   free = eqb-true (fault false L G r) 0 (both (formed false r) _ kp .1)
 
-  least : 1 ≤ kindIn r
-  least = range 1 55 (kindIn r) (both (known false (kindIn r)) _ well .0) .0
+  own-kind : known false (kindIn r) ≡ true
+  own-kind = both (known false (kindIn r)) _ well .0
 
-  most : kindIn r ≤ 55
-  most = range 1 55 (kindIn r) (both (known false (kindIn r)) _ well .0) .1
+  least : 1 ≤ kindIn r
+  least = known-range false (kindIn r) own-kind .0
+
+  most : kindIn r ≤ 63
+  most = known-range false (kindIn r) own-kind .1
 
   line-toks : (n : ℕ) → Toks (tokensOf n r)
-  line-toks n = (digits-tok n, toks-append (kindTokens (kindIn r)) _ (kind-toks (kindIn r) least most) (numbers-toks (numbersOf (rowOf (kindIn r))) (firstOf (rowOf (kindIn r))) r))
+  line-toks n = (digits-tok n, toks-append (kindTokens (kindIn r)) _ (word-toks (kindIn r) own-kind) (numbers-toks (numbersOf (rowOf (kindIn r))) (firstOf (rowOf (kindIn r))) r))
 
   settled-same : (w : ℕ) → settled w (kindIn r) r ≡ r
   settled-same w = settled-other w (kindIn r) r (λ e. omega (arith, most)) (λ e. omega (arith, most))
@@ -285,17 +280,17 @@ module _ (L : ℕ → Ty) (G : Bool → ℕ → Bool) (r : List ℕ) (sized : le
         all-left = ap (λ (s : List Bool). not (ltb (length ids + minuses s) m)) no-signs ∙ ap not (lt-ltb (length ids + 0) m (omega (arith, length-from 1 n)))
 
         no-misfit : misfit L G m ids ns (digits (suc n)) (kindIn r) printed ≡ false
-        no-misfit = rw (other-fault 9 (λ e. omega arith), ne-eqb (kindIn r) 56 (λ e. omega (arith, most))) refl
+        no-misfit = rw (other-fault 9 (λ e. omega arith), ne-eqb (kindIn r) 64 (λ e. omega (arith, most))) refl
 
     pub line-read : (m : ℕ) (ns : List (List ℕ)) → n < m → readLine L G m ids ns (tokensOf (suc n) r) ≡ got r noSigns
     unfolding readLine
     line-read m ns h =
-        ap (λ (w : Word). lowest (refusals L G m ids ns (digits (suc n)) (formOf w) (behind w)) (replyIn L ids (formOf w) (behind w))) (kind-word (kindIn r) least most printed)
+        ap (λ (w : Word). lowest (refusals L G m ids ns (digits (suc n)) (formOf w) (behind w)) (replyIn L ids (formOf w) (behind w))) (word-found (kindIn r) own-kind printed)
         ∙ (none-holds (refusals L G m ids ns (digits (suc n)) (kindIn r) printed) (replyIn L ids (kindIn r) printed) (none-refused m ns h) ∙ ap₂ got record-same no-signs)
 
     -- a printed line has no name
     pub no-name-read : lineName (tokensOf (suc n) r) ≡ []
-    no-name-read = ap nameBehind (kind-word (kindIn r) least most printed) ∙ ap only none-left
+    no-name-read = ap nameBehind (word-found (kindIn r) own-kind printed) ∙ ap only none-left
 
 -- ---- the lines, the text
 

@@ -193,17 +193,17 @@ digits-ok b m t p r n h l =
     let o : 1 * b ^ length t ≡ b ^ length t = one-mul (b ^ length t) in
     digits-is b m t n h l ∙ sym (rw (lt-ltb (valueFrom b 0 t) (2 ^ 64) (omega arith), valued) refl)
 
-pub number-binary : (f j : ℕ) (t : List ℕ) → f ≡ 56 → j ≡ 2 → plainAt f j t ≡ digitsIn 2 64 t
-number-binary f j t e k = rw (eq-eqb f 56 e, eq-eqb j 2 k, plainAt) refl
+pub number-binary : (f j : ℕ) (t : List ℕ) → f ≡ 64 → j ≡ 2 → plainAt f j t ≡ digitsIn 2 64 t
+number-binary f j t e k = rw (eq-eqb f 64 e, eq-eqb j 2 k, plainAt) refl
 
-pub number-hex : (f j : ℕ) (t : List ℕ) → f ≡ 57 → j ≡ 2 → plainAt f j t ≡ digitsIn 16 16 t
-number-hex f j t e k = rw (ne-eqb f 56 (λ x. omega arith), eq-eqb f 57 e, eq-eqb j 2 k, plainAt) refl
+pub number-hex : (f j : ℕ) (t : List ℕ) → f ≡ 65 → j ≡ 2 → plainAt f j t ≡ digitsIn 16 16 t
+number-hex f j t e k = rw (ne-eqb f 64 (λ x. omega arith), eq-eqb f 65 e, eq-eqb j 2 k, plainAt) refl
 
-pub number-other : (f j : ℕ) (t : List ℕ) → (f ≡ 56 → ⊥) → (f ≡ 57 → ⊥) → plainAt f j t ≡ decimal t
-number-other f j t e k = rw (ne-eqb f 56 e, ne-eqb f 57 k, plainAt) refl
+pub number-other : (f j : ℕ) (t : List ℕ) → (f ≡ 64 → ⊥) → (f ≡ 65 → ⊥) → plainAt f j t ≡ decimal t
+number-other f j t e k = rw (ne-eqb f 64 e, ne-eqb f 65 k, plainAt) refl
 
 pub number-first : (f j : ℕ) (t : List ℕ) → (j ≡ 2 → ⊥) → plainAt f j t ≡ decimal t
-number-first f j t e = rw (ne-eqb j 2 e, and-false (eqb f 56), plainAt) (rw (ne-eqb j 2 e, and-false (eqb f 57)) refl)
+number-first f j t e = rw (ne-eqb j 2 e, and-false (eqb f 64), plainAt) (rw (ne-eqb j 2 e, and-false (eqb f 65)) refl)
 
 -- ---- signs
 

@@ -108,7 +108,7 @@ module _ (L : ℕ → Ty) (G : Bool → ℕ → Bool) where
 
   -- a const token of len digits against the width of its sort
   abbrev uneven : (f len : ℕ) → List ℕ → Bool
-  uneven f len rec = eqb f 56 && not (eqb len (L (sortIn rec) .w))
+  uneven f len rec = eqb f 64 && not (eqb len (L (sortIn rec) .w))
 
   abbrev judgements : (f len : ℕ) → List ℕ → List (Refusal × Bool)
   judgements f len rec = (Misfit, eqb (fault false L G rec) 9 || uneven f len rec) ∷ (InitOrNext, eqb (fault false L G rec) 10) ∷ []

@@ -75,28 +75,28 @@ module _ (a : ℕ) (rec : List ℕ) (s : List Bool) where
   ruled-10 h k = rw (ne-eqb a 0 h, ne-eqb a 9 k, ruled) refl
 
 module _ (w f : ℕ) (rec : List ℕ) where
-  pub settled-one : f ≡ 59 → settled w f rec ≡ set rec 2 1
+  pub settled-one : f ≡ 67 → settled w f rec ≡ set rec 2 1
   unfolding settled
-  settled-one h = rw (eq-eqb f 59 h, settled) refl
+  settled-one h = rw (eq-eqb f 67 h, settled) refl
 
-  pub settled-ones : f ≡ 60 → settled w f rec ≡ set rec 2 (2 ^ w - 1)
+  pub settled-ones : f ≡ 68 → settled w f rec ≡ set rec 2 (2 ^ w - 1)
   unfolding settled
-  settled-ones h = rw (ne-eqb f 59 (λ x. omega arith), eq-eqb f 60 h, settled) refl
+  settled-ones h = rw (ne-eqb f 67 (λ x. omega arith), eq-eqb f 68 h, settled) refl
 
-  pub settled-other : (f ≡ 59 → ⊥) → (f ≡ 60 → ⊥) → settled w f rec ≡ rec
+  pub settled-other : (f ≡ 67 → ⊥) → (f ≡ 68 → ⊥) → settled w f rec ≡ rec
   unfolding settled
-  settled-other h k = rw (ne-eqb f 59 h, ne-eqb f 60 k, settled) refl
+  settled-other h k = rw (ne-eqb f 67 h, ne-eqb f 68 k, settled) refl
 
   -- a value is no kind
   pub settled-kind : kindIn (settled w f rec) ≡ kindIn rec
   unfolding settled
-  settled-kind = go (eqb f 59) (eqb f 60) refl refl
+  settled-kind = go (eqb f 67) (eqb f 68) refl refl
     where
       after-set : (v : ℕ) (r : List ℕ) → getD (set r 2 v) 0 0 ≡ getD r 0 0
       after-set v [] = refl
       after-set v (x ∷ r) = refl
 
-      go : (p q : Bool) → eqb f 59 ≡ p → eqb f 60 ≡ q → kindIn (settled w f rec) ≡ kindIn rec
+      go : (p q : Bool) → eqb f 67 ≡ p → eqb f 68 ≡ q → kindIn (settled w f rec) ≡ kindIn rec
       go true q x y = rw (x, settled) (after-set 1 rec)
       go false true x y = rw (x, y, settled) (after-set (2 ^ w - 1) rec)
       go false false x y = rw (x, y, settled) refl
@@ -156,17 +156,17 @@ module _ (L : ℕ → Ty) (G : Bool → ℕ → Bool) (f : ℕ) (rec : List ℕ)
   unfolding judged
   judged-8 h = rw (eq-eqb (fault false L G rec) 8 h, judged) refl
 
-  pub judged-9 : (fault false L G rec ≡ 8 → ⊥) → f ≡ 56 → (len ≡ L (sortIn rec) .w → ⊥) → judged L G f len rec s ≡ no Misfit
+  pub judged-9 : (fault false L G rec ≡ 8 → ⊥) → f ≡ 64 → (len ≡ L (sortIn rec) .w → ⊥) → judged L G f len rec s ≡ no Misfit
   unfolding judged
-  judged-9 h k n = rw (ne-eqb (fault false L G rec) 8 h, judged) (rw (eq-eqb f 56 k, ne-eqb len (L (sortIn rec) .w) n) refl)
+  judged-9 h k n = rw (ne-eqb (fault false L G rec) 8 h, judged) (rw (eq-eqb f 64 k, ne-eqb len (L (sortIn rec) .w) n) refl)
 
-  pub judged-const : (fault false L G rec ≡ 8 → ⊥) → f ≡ 56 → len ≡ L (sortIn rec) .w → judged L G f len rec s ≡ ruled (fault false L G rec) rec s
+  pub judged-const : (fault false L G rec ≡ 8 → ⊥) → f ≡ 64 → len ≡ L (sortIn rec) .w → judged L G f len rec s ≡ ruled (fault false L G rec) rec s
   unfolding judged
-  judged-const h k n = rw (ne-eqb (fault false L G rec) 8 h, judged) (rw (eq-eqb f 56 k, eq-eqb len (L (sortIn rec) .w) n) refl)
+  judged-const h k n = rw (ne-eqb (fault false L G rec) 8 h, judged) (rw (eq-eqb f 64 k, eq-eqb len (L (sortIn rec) .w) n) refl)
 
-  pub judged-other : (fault false L G rec ≡ 8 → ⊥) → (f ≡ 56 → ⊥) → judged L G f len rec s ≡ ruled (fault false L G rec) rec s
+  pub judged-other : (fault false L G rec ≡ 8 → ⊥) → (f ≡ 64 → ⊥) → judged L G f len rec s ≡ ruled (fault false L G rec) rec s
   unfolding judged
-  judged-other h k = rw (ne-eqb (fault false L G rec) 8 h, judged) (rw (ne-eqb f 56 k) refl)
+  judged-other h k = rw (ne-eqb (fault false L G rec) 8 h, judged) (rw (ne-eqb f 64 k) refl)
 
   pub minus-8 : all (minusesFit L s rec) ≡ false → allowed L G f len rec s ≡ no WrongClass
   unfolding allowed

@@ -1,8 +1,8 @@
 -- Words: a token against the word of a row, the search for a form, and what holds of all rows, each by one computed test. Assumes nothing.
-use mathlib.Core.Path.{_≡_, refl, sym, ap, _∙_}
-use mathlib.Core.Bool.{Bool, true, false, _&&_, not}
+use mathlib.Core.Path.{_≡_, refl, sym, ap, _∙_, subst}
+use mathlib.Core.Bool.{Bool, true, false, _&&_, _||_, not}
 use mathlib.Core.List.{List, [], _∷_, _++_}
-use Prim.Native.Nat.{ℕ, zero, suc, _+_, _-_, _≤_, _<_, zero-le}
+use Prim.Native.Nat.{ℕ, zero, suc, _+_, _-_, _≤_, _<_}
 use native.Mathlib.Omega.{arith}
 use native.Mathlib.Numerals.{add-one}
 use lib.Dec.{T, eqb, leb, leb→le, eqb→eq}
@@ -12,11 +12,13 @@ use mir.Facts.{and-yes}
 use borrow.Author.Tests.{eq-eqb, ne-eqb, le-leb, lt-leb, leb-true, leb-false}
 use Rattle.tables.specs.Pick.{pick}
 use Rattle.tables.specs.Kinds.{rows, rowOf, wordOf, operandCount}
+use Rattle.tables.specs.Tables.{known}
 use Rattle.tables.proofs.Every.{every, at-each}
 use Rattle.tables.proofs.Laws.{not-of, and-false}
+use Rattle.tables.proofs.Kept.{known-range}
 use Rattle.texts.specs.Forms.{extra, formRow, kindOf, sorted, sortWord}
 use Rattle.texts.specs.Split.{sameBytes, tokens}
-use Rattle.texts.specs.Reading.{findIn, Word, word, unknown, formWord, sortWords, wordIn}
+use Rattle.texts.specs.Reading.{findIn, orElse, findWord, Word, word, unknown, formWord, sortWords, wordIn, formOf}
 use Rattle.texts.specs.Writing.{headed, kindTokens}
 use Rattle.texts.specs.Model.Structs.{wordWith}
 use Rattle.texts.proofs.Splitting.{Clean, Tok, Toks}
@@ -75,7 +77,7 @@ pub word-sort : (t : List ℕ) (ts : List (List ℕ)) → sameBytes t sortWord �
 unfolding wordIn
 word-sort t ts h = rw (h, wordIn) refl
 
-pub word-other : (t : List ℕ) (ts : List (List ℕ)) → sameBytes t sortWord ≡ false → wordIn (t ∷ ts) ≡ formWord (findIn 3 58 t) ts
+pub word-other : (t : List ℕ) (ts : List (List ℕ)) → sameBytes t sortWord ≡ false → wordIn (t ∷ ts) ≡ formWord (findWord t) ts
 unfolding wordIn
 word-other t ts h = rw (h, wordIn) refl
 
@@ -87,21 +89,46 @@ pub known-at : (l : List ℕ) (f z : ℕ) → formWord f (tokens (drop z l)) ≡
 known-at l zero z = refl
 known-at l (suc f) z = refl
 
-pub find-most : (k n : ℕ) (t : List ℕ) → findIn k n t ≤ k + n - 1
-unfolding findIn
-find-most k zero t = zero-le
-find-most k (suc n) t = go (sameBytes t (wordOf (formRow k))) refl (find-most (suc k) n t)
-  where
-    go : (q : Bool) → sameBytes t (wordOf (formRow k)) ≡ q → findIn (suc k) n t ≤ suc k + n - 1 → findIn k (suc n) t ≤ k + suc n - 1
-    go true e h = rw (e, findIn) (omega arith)
-    go false e h = rw (e, findIn) (omega arith)
+-- of two searches the second is made where the first finds nothing
+pub else-found : (m n : ℕ) → (m ≡ 0 → ⊥) → orElse m n ≡ m
+else-found zero n h = absurd (h refl)
+else-found (suc m) n h = refl
 
--- a word that is known has one of the forms 1 to 60
+pub else-none : (m n : ℕ) → m ≡ 0 → orElse m n ≡ n
+else-none m n e = ap (λ (m : ℕ). orElse m n) e
+
+-- what a search for a word finds is at most 68, and no mask
+abbrev pub IsForm : ℕ → Type 0
+IsForm f = (f ≤ 68) × (f ≡ 56 → ⊥)
+
+else-form : (m n : ℕ) → IsForm m → IsForm n → IsForm (orElse m n)
+else-form zero n p q = q
+else-form (suc m) n p q = p
+
+-- where the search goes through no mask's row
+find-form : (k n : ℕ) (t : List ℕ) → k + n ≤ 69 → (56 < k + n → 56 < k) → IsForm (findIn k n t)
+unfolding findIn
+find-form k zero t l m = (omega arith, λ e. omega arith)
+find-form k (suc n) t l m = go (sameBytes t (wordOf (formRow k))) (find-form (suc k) n t (omega arith) (λ h. omega (arith, m (omega arith))))
+  where
+    go : (q : Bool) → IsForm (findIn (suc k) n t) → IsForm (elim q [ true ↦ k | false ↦ findIn (suc k) n t ])
+    go true r = (omega arith, λ e. omega (arith, m (omega arith)))
+    go false r = r
+
+pub sort-form : (t : List ℕ) → IsForm (findIn 1 2 t)
+sort-form t = find-form 1 2 t (omega arith) (λ h. omega arith)
+
+pub word-form : (t : List ℕ) → IsForm (findWord t)
+word-form t =
+    else-form (findIn 3 53 t) _ (find-form 3 53 t (omega arith) (λ h. omega arith))
+    (else-form (findIn 64 5 t) _ (find-form 64 5 t (omega arith) (λ h. omega arith)) (find-form 57 7 t (omega arith) (λ h. omega arith)))
+
+-- a word that is known has one of the forms 1 to 68, and is no mask
 abbrev pub InForms : Word → Type 0
 InForms unknown = Unit {0}
-InForms (word f ts) = (1 ≤ f) × (f ≤ 60)
+InForms (word f ts) = (1 ≤ f) × IsForm f
 
-known-forms : (f : ℕ) (ts : List (List ℕ)) → f ≤ 60 → InForms (formWord f ts)
+known-forms : (f : ℕ) (ts : List (List ℕ)) → IsForm f → InForms (formWord f ts)
 known-forms zero ts h = tt
 known-forms (suc f) ts h = (omega arith, h)
 
@@ -110,10 +137,21 @@ unfolding wordIn
 word-forms [] = tt
 word-forms (t ∷ ts) = go (sameBytes t sortWord) ts
   where
-    go : (b : Bool) (ts : List (List ℕ)) → InForms (elim b [ true ↦ sortWords ts | false ↦ formWord (findIn 3 58 t) ts ])
+    go : (b : Bool) (ts : List (List ℕ)) → InForms (elim b [ true ↦ sortWords ts | false ↦ formWord (findWord t) ts ])
     go true [] = tt
-    go true (u ∷ ts) = known-forms (findIn 1 2 u) ts (omega (arith, find-most 1 2 u))
-    go false ts = known-forms (findIn 3 58 t) ts (omega (arith, find-most 3 58 t))
+    go true (u ∷ ts) = known-forms (findIn 1 2 u) ts (sort-form u)
+    go false ts = known-forms (findWord t) ts (word-form t)
+
+-- no text names a mask
+pub no-mask-word : (t : List ℕ) → findWord t ≡ 56 → ⊥
+no-mask-word t = word-form t .1
+
+pub no-mask-line : (ts : List (List ℕ)) → formOf (wordIn ts) ≡ 56 → ⊥
+no-mask-line ts = go (wordIn ts) (word-forms ts)
+  where
+    go : (w : Word) → InForms w → formOf w ≡ 56 → ⊥
+    go unknown h e = omega arith
+    go (word f us) h e = h .1 .1 e
 
 same-at : (x y : List ℕ) (i : ℕ) → i < length x → i < length y → (getD x i 0 ≡ getD y i 0 → ⊥) → sameBytes x y ≡ false
 same-at [] y i h k n = absurd (omega arith)
@@ -143,120 +181,91 @@ sort-last (x ∷ y ∷ z ∷ w ∷ []) h a b c = rw (eq-eqb x 115 a, eq-eqb y 11
     and-true false = refl
 sort-last (x ∷ y ∷ z ∷ w ∷ u ∷ t) h a b c = absurd (omega arith)
 
--- ---- two searches, one after the other
-
-pub find-on : (k m n s : ℕ) (t : List ℕ) → 1 ≤ k → s ≡ m + n → findIn k m t ≡ 0 → findIn k s t ≡ findIn (k + m) n t
-unfolding findIn
-find-on k zero n s t h q e =
-    let a : s ≡ n = omega arith in
-    let b : k ≡ k + 0 = omega arith in
-    ap (λ (j : ℕ). findIn k j t) a ∙ ap (λ (j : ℕ). findIn j n t) b
-find-on k (suc m) n zero t h q e = absurd (omega arith)
-find-on k (suc m) n (suc s) t h q e = go (sameBytes t (wordOf (formRow k))) refl (λ x. find-on (suc k) m n s t (omega arith) (omega arith) x)
-  where
-    go : (b : Bool) → sameBytes t (wordOf (formRow k)) ≡ b → (findIn (suc k) m t ≡ 0 → findIn (suc k) s t ≡ findIn (suc k + m) n t)
-        → findIn k (suc s) t ≡ findIn (k + suc m) n t
-    go true x r = let z : k ≡ 0 = (rw (x, findIn) at e) in absurd (omega arith)
-    go false x r =
-        let z : findIn (suc k) m t ≡ 0 = (rw (x, findIn) at e) in
-        let w : suc k + m ≡ k + suc m = omega arith in
-        rw (x, findIn) (r z ∙ ap (λ (j : ℕ). findIn j n t) w)
-
-pub find-past : (k m n s : ℕ) (t : List ℕ) (f : ℕ) → s ≡ m + n → findIn k m t ≡ f → (f ≡ 0 → ⊥) → findIn k s t ≡ f
-unfolding findIn
-find-past k zero n s t f q e h = absurd (h (sym e))
-find-past k (suc m) n zero t f q e h = absurd (omega arith)
-find-past k (suc m) n (suc s) t f q e h = go (sameBytes t (wordOf (formRow k))) refl (λ x. find-past (suc k) m n s t f (omega arith) x h)
-  where
-    go : (b : Bool) → sameBytes t (wordOf (formRow k)) ≡ b → (findIn (suc k) m t ≡ f → findIn (suc k) s t ≡ f) → findIn k (suc s) t ≡ f
-    go true x r = rw (x, findIn) (rw (x, findIn) at e)
-    go false x r = rw (x, findIn) (r (rw (x, findIn) at e))
-
 -- ---- rows
 
 -- a kind's row, and that of another word for a constant
-pub row-kind : (f : ℕ) → f ≤ 55 → formRow f ≡ rowOf f
+pub row-kind : (f : ℕ) → f ≤ 63 → formRow f ≡ rowOf f
 unfolding formRow
-row-kind f h = rw (le-leb f 55 h) refl
+row-kind f h = rw (le-leb f 63 h) refl
 
-pub row-rows : (k : ℕ) → k ≤ 55 → formRow k ≡ getD rows (k - 1) []
+pub row-rows : (k : ℕ) → k ≤ 63 → formRow k ≡ getD rows (k - 1) []
 unfolding formRow rowOf
-row-rows k h = rw (le-leb k 55 h, ne-eqb k 56 (λ e. omega arith)) refl
+row-rows k h = rw (le-leb k 63 h) refl
 
-pub row-extra : (f : ℕ) → 55 < f → formRow f ≡ getD extra (f - 56) []
+pub row-extra : (f : ℕ) → 63 < f → formRow f ≡ getD extra (f - 64) []
 unfolding formRow
-row-extra f h = rw (lt-leb f 55 h) refl
+row-extra f h = rw (lt-leb f 63 h) refl
 
 -- the same, in the lists that a search goes through
-pub listed-kind : (ks : List (List ℕ)) (j : ℕ) → ks ≡ rows → j ≤ 55 → getD ks (j - 1) [] ≡ formRow j
+pub listed-kind : (ks : List (List ℕ)) (j : ℕ) → ks ≡ rows → j ≤ 63 → getD ks (j - 1) [] ≡ formRow j
 listed-kind ks j e h = ap (λ (l : List (List ℕ)). getD l (j - 1) []) e ∙ sym (row-rows j h)
 
-pub listed-other : (ks : List (List ℕ)) (j : ℕ) → ks ≡ extra → getD ks j [] ≡ formRow (j + 56)
+pub listed-other : (ks : List (List ℕ)) (j : ℕ) → ks ≡ extra → getD ks j [] ≡ formRow (j + 64)
 listed-other ks j e =
-    let q : j ≡ j + 56 - 56 = omega arith in
-    ap (λ (l : List (List ℕ)). getD l j []) e ∙ (ap (λ (i : ℕ). getD extra i []) q ∙ sym (row-extra (j + 56) (omega arith)))
+    let q : j ≡ j + 64 - 64 = omega arith in
+    ap (λ (l : List (List ℕ)). getD l j []) e ∙ (ap (λ (i : ℕ). getD extra i []) q ∙ sym (row-extra (j + 64) (omega arith)))
 
-pub kind-low : (f : ℕ) → f ≤ 55 → kindOf f ≡ f
-kind-low f h = rw (le-leb f 55 h, kindOf) refl
+pub kind-low : (f : ℕ) → f ≤ 63 → kindOf f ≡ f
+kind-low f h = rw (le-leb f 63 h, kindOf) refl
 
-pub kind-high : (f : ℕ) → 55 < f → kindOf f ≡ 3
-kind-high f h = rw (lt-leb f 55 h, kindOf) refl
+pub kind-high : (f : ℕ) → 63 < f → kindOf f ≡ 3
+kind-high f h = rw (lt-leb f 63 h, kindOf) refl
 
 -- a form's kind has a row
-pub kind-range : (f : ℕ) → 1 ≤ f → (1 ≤ kindOf f) × (kindOf f ≤ 55)
-kind-range f h = go (leb f 55) refl
+pub kind-range : (f : ℕ) → 1 ≤ f → (1 ≤ kindOf f) × (kindOf f ≤ 63)
+kind-range f h = go (leb f 63) refl
   where
-    go : (b : Bool) → leb f 55 ≡ b → (1 ≤ kindOf f) × (kindOf f ≤ 55)
-    go true e = let l = leb-true f 55 e in let q = kind-low f l in (omega arith, omega arith)
-    go false e = let q = kind-high f (leb-false f 55 e) in (omega arith, omega arith)
+    go : (b : Bool) → leb f 63 ≡ b → (1 ≤ kindOf f) × (kindOf f ≤ 63)
+    go true e = let l = leb-true f 63 e in let q = kind-low f l in (omega arith, omega arith)
+    go false e = let q = kind-high f (leb-false f 63 e) in (omega arith, omega arith)
 
 -- no row's word is longer than ten bytes, and no row has more than three operands
 shape : ℕ → Bool
 shape i = leb (getD (formRow (suc i)) 0 0) 10 && leb (operandCount (formRow (suc i))) 3
 
-all-shaped : T (every shape 60)
+all-shaped : T (every shape 68)
 unfolding shape formRow rowOf
 all-shaped = tt
 
-shaped-at : (i : ℕ) → i < 60 → (getD (formRow (suc i)) 0 0 ≤ 10) × (operandCount (formRow (suc i)) ≤ 3)
+shaped-at : (i : ℕ) → i < 68 → (getD (formRow (suc i)) 0 0 ≤ 10) × (operandCount (formRow (suc i)) ≤ 3)
 unfolding shape
 shaped-at i h =
-    let q = and-yes (leb (getD (formRow (suc i)) 0 0) 10) (leb (operandCount (formRow (suc i))) 3) (at-each shape 60 all-shaped i h) in
+    let q = and-yes (leb (getD (formRow (suc i)) 0 0) 10) (leb (operandCount (formRow (suc i))) 3) (at-each shape 68 all-shaped i h) in
     (leb→le (getD (formRow (suc i)) 0 0) 10 (q .0), leb→le (operandCount (formRow (suc i))) 3 (q .1))
 
-pub row-shape : (f : ℕ) → 1 ≤ f → f ≤ 60 → (getD (formRow f) 0 0 ≤ 10) × (operandCount (formRow f) ≤ 3)
+pub row-shape : (f : ℕ) → 1 ≤ f → f ≤ 68 → (getD (formRow f) 0 0 ≤ 10) × (operandCount (formRow f) ≤ 3)
 row-shape zero a b = absurd (omega arith)
 row-shape (suc i) a b = shaped-at i (omega arith)
 
--- a row has sixteen numbers, and its word some letter
+-- a row has sixteen numbers, and its word some letter, but for a mask's
 long : ℕ → Bool
-long i = eqb (length (formRow (suc i))) 16 && leb 1 (getD (formRow (suc i)) 0 0)
+long i = eqb (length (formRow (suc i))) 16 && (eqb (suc i) 56 || leb 1 (getD (formRow (suc i)) 0 0))
 
-all-long : T (every long 60)
+all-long : T (every long 68)
 unfolding long formRow rowOf
 all-long = tt
 
-row-long : (f : ℕ) → 1 ≤ f → f ≤ 60 → (length (formRow f) ≡ 16) × (1 ≤ getD (formRow f) 0 0)
+row-long : (f : ℕ) → 1 ≤ f → f ≤ 68 → (length (formRow f) ≡ 16) × ((f ≡ 56 → ⊥) → 1 ≤ getD (formRow f) 0 0)
 unfolding long
 row-long zero a b = absurd (omega arith)
 row-long (suc i) a b =
-    let q = and-yes (eqb (length (formRow (suc i))) 16) _ (at-each long 60 all-long i (omega arith)) in
-    (eqb→eq (length (formRow (suc i))) 16 (q .0), leb→le 1 (getD (formRow (suc i)) 0 0) (q .1))
+    let q = and-yes (eqb (length (formRow (suc i))) 16) _ (at-each long 68 all-long i (omega arith)) in
+    (eqb→eq (length (formRow (suc i))) 16 (q .0), λ n. leb→le 1 (getD (formRow (suc i)) 0 0) (subst (λ (b : Bool). T (b || leb 1 (getD (formRow (suc i)) 0 0))) (ne-eqb (suc i) 56 n) (q .1)))
 
 -- a token of another length, or with another first letter
-module _ (f : ℕ) (least : 1 ≤ f) (most : f ≤ 60) (t : List ℕ) where
+module _ (f : ℕ) (least : 1 ≤ f) (most : f ≤ 68) (t : List ℕ) where
   own-length : length (wordOf (formRow f)) ≡ getD (formRow f) 0 0
   own-length = word-length (formRow f) (row-long f least most .0) (row-shape f least most .0)
 
   pub other-length : (length t ≡ getD (formRow f) 0 0 → ⊥) → sameBytes t (wordOf (formRow f)) ≡ false
   other-length n = same-not t (wordOf (formRow f)) (λ e. n (e ∙ own-length))
 
-  pub no-letter : length t ≡ 0 → sameBytes t (wordOf (formRow f)) ≡ false
-  no-letter e = other-length (λ q. omega (arith, row-long f least most .1))
+  pub no-letter : (f ≡ 56 → ⊥) → length t ≡ 0 → sameBytes t (wordOf (formRow f)) ≡ false
+  no-letter m e = other-length (λ q. omega (arith, row-long f least most .1 m))
 
-  pub other-first : 0 < length t → (getD t 0 0 ≡ getD (formRow f) 1 0 → ⊥) → sameBytes t (wordOf (formRow f)) ≡ false
-  other-first h n =
-      let l = row-long f least most .1 in
+  pub other-first : (f ≡ 56 → ⊥) → 0 < length t → (getD t 0 0 ≡ getD (formRow f) 1 0 → ⊥) → sameBytes t (wordOf (formRow f)) ≡ false
+  other-first m h n =
+      let l = row-long f least most .1 m in
       same-first t (wordOf (formRow f)) h (λ q. n (q ∙ word-at (formRow f) 0 (omega arith))) (omega (arith, own-length))
 
 pub sorted-most : (r : List ℕ) → sorted r ≤ 1
@@ -302,31 +311,41 @@ tok-of (c ∷ t) h = clean-of (c ∷ t) h
 -- the word w of the kind k is found again, and is a token
 abbrev passes : Bool → ℕ → List ℕ → Bool
 passes true k w = tokb w && eqb (findIn 1 2 w) k
-passes false k w = tokb w && (eqb (findIn 3 58 w) k && not (sameBytes w sortWord))
+passes false k w = tokb w && (eqb (findWord w) k && not (sameBytes w sortWord))
 
-found : (q : Bool) (i : ℕ) (w : List ℕ) (rest : List (List ℕ)) → T (passes q (suc i) w) → wordIn (headed q w ++ rest) ≡ word (suc i) rest
+found : (q : Bool) (k : ℕ) (w : List ℕ) (rest : List (List ℕ)) → 1 ≤ k → T (passes q k w) → wordIn (headed q w ++ rest) ≡ word k rest
 unfolding wordIn
-found true i w rest h = rw (eqb→eq (findIn 1 2 w) (suc i) (and-right (tokb w) (eqb (findIn 1 2 w) (suc i)) h)) refl
-found false i w rest h =
-    let a = and-right (tokb w) (eqb (findIn 3 58 w) (suc i) && not (sameBytes w sortWord)) h in
-    rw (not-of (sameBytes w sortWord) (and-right (eqb (findIn 3 58 w) (suc i)) (not (sameBytes w sortWord)) a), wordIn)
-    (rw (eqb→eq (findIn 3 58 w) (suc i) (and-left (eqb (findIn 3 58 w) (suc i)) (not (sameBytes w sortWord)) a)) refl)
+found q zero w rest l h = absurd (omega arith)
+found true (suc i) w rest l h = rw (eqb→eq (findIn 1 2 w) (suc i) (and-right (tokb w) (eqb (findIn 1 2 w) (suc i)) h)) refl
+found false (suc i) w rest l h =
+    let a = and-right (tokb w) (eqb (findWord w) (suc i) && not (sameBytes w sortWord)) h in
+    rw (not-of (sameBytes w sortWord) (and-right (eqb (findWord w) (suc i)) (not (sameBytes w sortWord)) a), wordIn)
+    (rw (eqb→eq (findWord w) (suc i) (and-left (eqb (findWord w) (suc i)) (not (sameBytes w sortWord)) a)) refl)
 
 clear : (q : Bool) (k : ℕ) (w : List ℕ) → T (passes q k w) → Toks (headed q w)
 clear true k w h = (tok-of sortWord tt, (tok-of w (and-left (tokb w) (eqb (findIn 1 2 w) k) h), tt))
-clear false k w h = (tok-of w (and-left (tokb w) (eqb (findIn 3 58 w) k && not (sameBytes w sortWord)) h), tt)
+clear false k w h = (tok-of w (and-left (tokb w) (eqb (findWord w) k && not (sameBytes w sortWord)) h), tt)
 
 test : ℕ → Bool
-test i = passes (leb (suc i) 2) (suc i) (wordOf (rowOf (suc i)))
+test i = not (known false (suc i)) || passes (leb (suc i) 2) (suc i) (wordOf (rowOf (suc i)))
 
-all-pass : T (every test 55)
+all-pass : T (every test 63)
 unfolding test findIn formRow rowOf
 all-pass = tt
 
-pub word-found : (i : ℕ) → i < 55 → (rest : List (List ℕ)) → wordIn (kindTokens (suc i) ++ rest) ≡ word (suc i) rest
-unfolding test
-word-found i h rest = found (leb (suc i) 2) i (wordOf (rowOf (suc i))) rest (at-each test 55 all-pass i h)
+-- of a kind of a circuit
+module _ (k : ℕ) (h : known false k ≡ true) where
+  passed : T (passes (leb k 2) k (wordOf (rowOf k)))
+  unfolding test
+  passed =
+      let r = known-range false k h in
+      let i : ℕ = k - 1 in
+      let q : suc i ≡ k = omega (arith, r .0) in
+      let t : T (not (known false k) || passes (leb k 2) k (wordOf (rowOf k))) = subst (λ (n : ℕ). T (not (known false n) || passes (leb n 2) n (wordOf (rowOf n)))) q (at-each test 63 all-pass i (omega (arith, r .1))) in
+      subst (λ (b : Bool). T (not b || passes (leb k 2) k (wordOf (rowOf k)))) h t
 
-pub word-toks : (i : ℕ) → i < 55 → Toks (kindTokens (suc i))
-unfolding test
-word-toks i h = clear (leb (suc i) 2) (suc i) (wordOf (rowOf (suc i))) (at-each test 55 all-pass i h)
+  pub word-found : (rest : List (List ℕ)) → wordIn (kindTokens k ++ rest) ≡ word k rest
+  word-found rest = found (leb k 2) k (wordOf (rowOf k)) rest (known-range false k h .0) passed
+
+  pub word-toks : Toks (kindTokens k)
+  word-toks = clear (leb k 2) k (wordOf (rowOf k)) passed

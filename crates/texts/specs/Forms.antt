@@ -1,4 +1,4 @@
--- The forms of a text's lines: a form is a word with what follows it. The forms 1 to 55 are the kinds, by their rows; the forms 56 to 60 are five more words for a
+-- The forms of a text's lines: a form is a word with what follows it. The forms 1 to 63 are the kinds, by their rows; the forms 64 to 68 are five more words for a
 -- constant. Assumes nothing.
 use Prim.Native.Nat.{ℕ, _+_, _-_}
 use mathlib.Core.Bool.{true, false}
@@ -21,11 +21,11 @@ extra =
 
 -- the row of a form
 unfoldable pub formRow : ℕ → List ℕ
-formRow f = pick (leb f 55) (rowOf f) (getD extra (f - 56) [])
+formRow f = pick (leb f 63) (rowOf f) (getD extra (f - 64) [])
 
 -- the kind of a form
 abbrev pub kindOf : ℕ → ℕ
-kindOf f = elim (leb f 55) [ true ↦ f | false ↦ 3 ]
+kindOf f = elim (leb f 63) [ true ↦ f | false ↦ 3 ]
 
 -- A line's numbers are its sort, where it has one, and its operands. They go to the places of its record from `firstOf` on, `numbersOf` of them.
 abbrev pub sorted : List ℕ → ℕ

@@ -34,6 +34,16 @@ unfoldable pub findIn : ℕ → ℕ → List ℕ → ℕ
 findIn k zero t = 0
 findIn k (suc n) t = elim (sameBytes t (wordOf (formRow k))) [ true ↦ k | false ↦ findIn (suc k) n t ]
 
+-- m, or n where m is 0
+abbrev pub orElse : ℕ → ℕ → ℕ
+orElse zero n = n
+orElse (suc m) n = suc m
+
+-- The form other than a sort's that has the word t, or 0. A mask, kind 56, has no word: these are the kinds 3 to 55, the other words for a constant, and the overflow detectors.
+-- Their words differ, so the order in which they are gone through changes no answer.
+abbrev pub findWord : List ℕ → ℕ
+findWord t = orElse (findIn 3 53 t) (orElse (findIn 64 5 t) (findIn 57 7 t))
+
 -- a form and the tokens behind its word
 pub data Word : Type 0 where
   unknown : Word
@@ -50,7 +60,7 @@ sortWords (t ∷ ts) = formWord (findIn 1 2 t) ts
 
 unfoldable pub wordIn : List (List ℕ) → Word
 wordIn [] = unknown
-wordIn (t ∷ ts) = elim (sameBytes t sortWord) [ true ↦ sortWords ts | false ↦ formWord (findIn 3 58 t) ts ]
+wordIn (t ∷ ts) = elim (sameBytes t sortWord) [ true ↦ sortWords ts | false ↦ formWord (findWord t) ts ]
 
 -- its form, 0 where it is unknown or missing, and what stands behind it
 abbrev pub formOf : Word → ℕ
@@ -75,9 +85,9 @@ signAt f j t = namesLine (classAt (formRow f) j) && leadsMinus t
 -- a number without a sign: the value of const is in binary, that of consth in hexadecimal digits
 abbrev pub plainAt : (f j : ℕ) → List ℕ → Num
 plainAt f j t =
-    elim (eqb f 56 && eqb j 2) [
+    elim (eqb f 64 && eqb j 2) [
       | true ↦ digitsIn 2 64 t
-      | false ↦ elim (eqb f 57 && eqb j 2) [ true ↦ digitsIn 16 16 t | false ↦ decimal t ]
+      | false ↦ elim (eqb f 65 && eqb j 2) [ true ↦ digitsIn 16 16 t | false ↦ decimal t ]
     ]
 
 -- the number that a token is, for the place j of a record: that of its digits, behind the minus where it has one
@@ -143,7 +153,7 @@ writtenRecord f ts = placed (firstOf (formRow f)) (numbersIn f ts) (fresh (kindO
 
 -- one and ones have their value from the word; w is the width of the line's sort
 unfoldable pub settled : (w f : ℕ) → List ℕ → List ℕ
-settled w f rec = elim (eqb f 59) [ true ↦ set rec 2 1 | false ↦ elim (eqb f 60) [ true ↦ set rec 2 (2 ^ w - 1) | false ↦ rec ] ]
+settled w f rec = elim (eqb f 67) [ true ↦ set rec 2 1 | false ↦ elim (eqb f 68) [ true ↦ set rec 2 (2 ^ w - 1) | false ↦ rec ] ]
 
 -- the same with places for the ids that it names, after lines whose ids are ds
 abbrev pub placedRecord : List ℕ → ℕ → List (List ℕ) → List ℕ
@@ -215,7 +225,7 @@ module _ (L : ℕ → Ty) (G : Bool → ℕ → Bool) (m : ℕ) (ds : List ℕ) 
 
   -- 9: sorts, widths, bounds or a constant misfit; a const token, the last of its numbers, has as many digits as its width
   abbrev pub misfit : Bool
-  misfit = eqb (fault false L G (recordIn L ds f ts)) 9 || (eqb f 56 && not (eqb (length (lastOf [] (numberTokens f ts))) (L (sortIn (recordIn L ds f ts)) .w)))
+  misfit = eqb (fault false L G (recordIn L ds f ts)) 9 || (eqb f 64 && not (eqb (length (lastOf [] (numberTokens f ts))) (L (sortIn (recordIn L ds f ts)) .w)))
 
   -- 10: a second init or next of a state, or the init rule
   abbrev pub initOrNext : Bool

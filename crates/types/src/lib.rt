@@ -169,7 +169,7 @@ fn type_of_value(rec: [u64; WORDS], t: Ty, a: Ty, b: Ty, c: Ty) -> Ty
     if k <= 20 {
         return value(marked(a), t);
     }
-    if 56 < k {
+    if 63 < k {
         return Ty {
             role: 0,
             iw: 0,

@@ -10,9 +10,9 @@ ghost use Rattle.tables.specs.Lines.{kindIn};
 
 // Sets of kinds, a bit for each: those whose first operand has to be clean, those whose second operand does, and the three bits of the number that says when a kind's line
 // is loose. A constant array would be built anew at each use.
-const CLEAN_FIRST: u64 = 0x2f7c007ffb87c0;
+const CLEAN_FIRST: u64 = 0xfe2f7c007ffb87c0;
 
-const CLEAN_SECOND: u64 = 0x1ffc007fe000c0;
+const CLEAN_SECOND: u64 = 0xfe1ffc007fe000c0;
 
 const LOOSE_1: u64 = 0x1083fd80047810;
 
@@ -22,7 +22,7 @@ const LOOSE_4: u64 = 0x30000000000000;
 
 // 1 if the kind k is in the set, else 0.
 fn member(set: u64, k: u64) -> u8
-    requires { ⌜ k ≤ 55 ⌝ }
+    requires { ⌜ k ≤ 63 ⌝ }
     ensures { λ r. ⌜ (r ≡ set / 2 ^ k % 2) × (r ≤ 1) ⌝ }
 {
     ((set >> k) % 2) as u8
@@ -30,7 +30,7 @@ fn member(set: u64, k: u64) -> u8
 
 // Of a kind: whether its first operand has to be clean, whether its second does, and when its line is loose.
 pub fn row(k: u64) -> [u8; 3]
-    requires { ⌜ k ≤ 55 ⌝ }
+    requires { ⌜ k ≤ 63 ⌝ }
     ensures { λ r. ⌜ r ≡ usesOf k ⌝ }
 {
     let x = member(LOOSE_1, k);
@@ -138,7 +138,7 @@ fn mark_if(v: u8, a: u64, marks: &mut [u8])
 
 // A mark at each line that the record needs clean.
 pub fn mark(rec: [u64; WORDS], marks: &mut [u8])
-    requires { ⌜ kindIn rec ≤ 55 ⌝ }
+    requires { ⌜ kindIn rec ≤ 63 ⌝ }
     ensures { λ _. ⌜ now (marks .exit) ≡ usesMarked rec (now (marks .entry)) ⌝ }
 {
     let r = row(rec[0]);

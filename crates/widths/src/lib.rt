@@ -3,7 +3,8 @@ use tables::Ty;
 use tables::WORDS;
 ghost use mathlib.Core.Path.{_≡_};
 ghost use Prim.Native.Nat.{_^_};
-ghost use lib.Dec.{ltb};
+ghost use lib.Dec.{ltb, leb};
+ghost use mathlib.Core.Bool.{_||_};
 ghost use Rattle.tables.specs.Rules.{fitsUnary, fitsBinary, sameSort as sameOf, fitsEquality, fitsIte, fitsRead, fitsWrite, fitsInitOrNext, fits as fitsOf};
 ghost use Rattle.tables.specs.Pick.{all, inside};
 ghost use Rattle.tables.specs.Lines.{lineOf};
@@ -36,11 +37,21 @@ fn fits_unary(k: u64, w: u8, u: u8, x: u64, y: u64) -> bool
     (w as u64) == (u as u64) + x
 }
 
+// The kind is one of an operator of two words whose result is one bit, and whose operands have any width.
+fn tests(k: u64) -> bool
+    ensures { λ r. ⌜ r ≡ (leb k 30 || leb 57 k) ⌝ }
+{
+    if k <= 30 {
+        return true;
+    }
+    57 <= k
+}
+
 // The widths of an operator of two words fit.
 fn fits_binary(k: u64, w: u8, u: u8, v: u8) -> bool
     ensures { λ r. ⌜ r ≡ fitsBinary k w u v ⌝ }
 {
-    if k <= 30 {
+    if tests(k) {
         if w != 1 {
             return false;
         }
@@ -150,7 +161,7 @@ pub fn fits(rec: [u64; WORDS], t: Ty, a: Ty, b: Ty, c: Ty) -> bool
     let x = rec[2];
     match k {
         11..=20 => fits_unary(k, t.w, a.w, rec[3], rec[4]),
-        23..=52 => fits_binary(k, t.w, a.w, b.w),
+        23..=52 | 57..=63 => fits_binary(k, t.w, a.w, b.w),
         1 => is_width(x),
         2 => a.w <= 8,
         3 => fits_const(x, t.w),

@@ -9,7 +9,7 @@ use lib.Dec.{ltb}
 use lib.Pow.{pow-pos, shl-exact, field, mod-pow-add, high, low as low-digits}
 use lib.Bits.{bitAnd, bitOr, and-le-l, and-le-r, or-shifted}
 use Rattle.words.specs.Word.{shl, choose}
-use Rattle.words.specs.Op.{Op, not, neg, inc, dec, redand, redor, redxor, slice, uext, sext, eq, neq, ult, ulte, ugt, ugte, slt, slte, sgt, sgte, iff, implies, and, or, xor, nand, nor, xnor, add, sub, mul, udiv, urem, sdiv, srem, smod, sll, srl, sra, rol, ror, concat, ite, mask}
+use Rattle.words.specs.Op.{Op, not, neg, inc, dec, redand, redor, redxor, slice, uext, sext, eq, neq, ult, ulte, ugt, ugte, slt, slte, sgt, sgte, iff, implies, and, or, xor, nand, nor, xnor, add, sub, mul, udiv, urem, sdiv, srem, smod, sll, srl, sra, rol, ror, concat, ite, mask, overflow}
 use Rattle.words.specs.Circuit.{circ}
 use Rattle.words.specs.Program.{prog}
 use Rattle.words.specs.Model.Classes.{classOf}
@@ -139,3 +139,4 @@ module _ (u v a b c x y z : ℕ) (h : u ≤ 64) (ha : a < 2 ^ u) (hb : b < 2 ^ v
         subst (λ (n : ℕ). Stands l₁ (u + v) (bitOr (x * 2 ^ v % 2 ^ 64) n) (a * 2 ^ v + b)) (sym e₂) (join-law l₁ u v x a b g ha hb e₁)
     agree-lines ite g e₁ e₂ e₃ = subst (λ (n : ℕ). Stands (l₂ || l₃) v (choose n y z) (choose a b c)) (sym e₁) (pick-law l₂ l₃ v a b c y z hb hc e₂ e₃)
     agree-lines mask g e₁ e₂ e₃ = low₁ l₁ e₁ ∙ sym (mod-eq-of-lt ha)
+    agree-lines (overflow o) g e₁ e₂ e₃ = lowered (overflow o) e₁ e₂

@@ -13,7 +13,8 @@ use lib.Bits.{bitAnd, bitOr, bitXor, and-lt, or-lt, xor-lt}
 use lib.IntN.{ℤ, pos, negsuc}
 use lib.Signed.{shrZ, ltZ, leZ}
 use Rattle.words.specs.Word.{Width, bit, flip, twosComplement, signedValue, sdivZ, sremZ, smodZ, quotient, shl, shr, sar, rotl, rotr, choose}
-use Rattle.words.specs.Op.{Op, not, neg, inc, dec, redand, redor, redxor, slice, uext, sext, eq, neq, ult, ulte, ugt, ugte, slt, slte, sgt, sgte, iff, implies, and, or, xor, nand, nor, xnor, add, sub, mul, udiv, urem, sdiv, srem, smod, sll, srl, sra, rol, ror, concat, ite, mask}
+use Rattle.words.specs.Op.{Op, not, neg, inc, dec, redand, redor, redxor, slice, uext, sext, eq, neq, ult, ulte, ugt, ugte, slt, slte, sgt, sgte, iff, implies, and, or, xor, nand, nor, xnor, add, sub, mul, udiv, urem, sdiv, srem, smod, sll, srl, sra, rol, ror, concat, ite, mask, overflow}
+use Rattle.words.specs.Overflow.{overflows}
 use Rattle.words.specs.Circuit.{circ}
 use Rattle.words.specs.Program.{prog}
 use Rattle.words.specs.Model.Classes.{Class, turn, wrap, meet, merge, test, plain, copy, compare, low, extend, cut, left, join, pick, clear, classOf}
@@ -29,7 +30,7 @@ bit-lt : (t : Bool) → bit t < 2
 bit-lt true = lit< tt
 bit-lt false = lit< tt
 
-complement-lt : (w : ℕ) (z : ℤ) → twosComplement w z < 2 ^ w
+pub complement-lt : (w : ℕ) (z : ℤ) → twosComplement w z < 2 ^ w
 complement-lt w (pos n) = mod-lt n (pow-pos w)
 complement-lt w (negsuc n) = ones-sub-lt w (n % 2 ^ w)
 
@@ -146,6 +147,7 @@ module _ (u v a b c : ℕ) (k : Width u) (ha : a < 2 ^ u) (hb : b < 2 ^ v) (hc :
   circ-lt concat g = cat-lt u v (u + v) a b refl ha hb
   circ-lt ite g = choose-lt v a b c hb hc
   circ-lt mask g = mod-lt a (pow-pos u)
+  circ-lt (overflow o) g = bit-lt (overflows o u a b)
 
   pub masked : b < 2 ^ 64 → (op : Op) → Widths (classOf op) u v b c → prog op u v a b c % 2 ^ widthOf (classOf op) u v b c ≡ circ op u v a b c
   masked fb op g =
@@ -217,3 +219,4 @@ module _ (u v a b c : ℕ) (k : Width u) (ha : a < 2 ^ 64) (hb : b < 2 ^ 64) (hc
   prog-lt concat g = or-lt 64 (a * 2 ^ v % 2 ^ 64) b (mod-lt (a * 2 ^ v) (pow-pos 64)) hb
   prog-lt ite g = choose-lt 64 a b c hb hc
   prog-lt mask g = wide (k .most) (mod-lt a (pow-pos u))
+  prog-lt (overflow o) g = bit64 (overflows o u (a % 2 ^ u) (b % 2 ^ v))

@@ -1,7 +1,7 @@
 -- A program's operators by class: each is what `progBy` says of its class. Assumes nothing.
 use Prim.Native.Nat.{ℕ}
 use mathlib.Core.Path.{_≡_, refl}
-use Rattle.words.specs.Op.{Op, not, neg, inc, dec, redand, redor, redxor, slice, uext, sext, eq, neq, ult, ulte, ugt, ugte, slt, slte, sgt, sgte, iff, implies, and, or, xor, nand, nor, xnor, add, sub, mul, udiv, urem, sdiv, srem, smod, sll, srl, sra, rol, ror, concat, ite, mask}
+use Rattle.words.specs.Op.{Op, not, neg, inc, dec, redand, redor, redxor, slice, uext, sext, eq, neq, ult, ulte, ugt, ugte, slt, slte, sgt, sgte, iff, implies, and, or, xor, nand, nor, xnor, add, sub, mul, udiv, urem, sdiv, srem, smod, sll, srl, sra, rol, ror, concat, ite, mask, overflow}
 use Rattle.words.specs.Program.{prog}
 use Rattle.words.specs.Model.Classes.{classOf, progBy}
 
@@ -50,3 +50,4 @@ prog-by-class ror u v a b c = refl
 prog-by-class concat u v a b c = refl
 prog-by-class ite u v a b c = refl
 prog-by-class mask u v a b c = refl
+prog-by-class (overflow o) u v a b c = refl

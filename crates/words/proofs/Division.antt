@@ -37,14 +37,14 @@ module _ (w v c : ℕ) (k : Width w) where
   zero-signed = signed-low w 0 (pow-pos (w - 1))
 
   -- only the word 0 has the value 0, and only 2 ^ w - 1 the value -1
-  not-zero : {b : ℕ} → b < 2 ^ w → (b ≡ 0 → ⊥) → signedValue w b ≡ pos 0 → ⊥
+  pub not-zero : {b : ℕ} → b < 2 ^ w → (b ≡ 0 → ⊥) → signedValue w b ≡ pos 0 → ⊥
   not-zero {b} h f e = f (sym (complement-signed w b k h) ∙ ap (twosComplement w) e ∙ complement-zero w)
 
-  is-minus-one : {b : ℕ} → b < 2 ^ w → signedValue w b ≡ negsuc 0 → b ≡ 2 ^ w - 1
+  pub is-minus-one : {b : ℕ} → b < 2 ^ w → signedValue w b ≡ negsuc 0 → b ≡ 2 ^ w - 1
   is-minus-one {b} h e = sym (complement-signed w b k h) ∙ ap (twosComplement w) e ∙ complement-minus-one w
 
   -- and only 2 ^ (w - 1) the least one
-  is-least : {a : ℕ} → a < 2 ^ w → signedValue w a ≡ negsuc (2 ^ (w - 1) - 1) → a ≡ 2 ^ (w - 1)
+  pub is-least : {a : ℕ} → a < 2 ^ w → signedValue w a ≡ negsuc (2 ^ (w - 1) - 1) → a ≡ 2 ^ (w - 1)
   is-least {a} h e =
       sym (complement-signed w a k h) ∙ ap (twosComplement w) e ∙ ap (flip w) (mod-eq-of-lt (omega (arith, half w (k .least), pow-pos (w - 1))))
       ∙ omega (arith, half w (k .least), pow-pos (w - 1))
@@ -106,7 +106,7 @@ module _ (w v c : ℕ) (k : Width w) where
 
   -- ---- the least value by -1: there is no 2 ^ (w - 1) among the signed values, and arithmetic is modulo 2 ^ w
 
-  minus-one : signedValue w (2 ^ w - 1) ≡ negsuc 0
+  pub minus-one : signedValue w (2 ^ w - 1) ≡ negsuc 0
   minus-one = signed-high w (2 ^ w - 1) (omega (arith, half w (k .least), pow-pos (w - 1))) ∙ ap negsuc (omega (arith, pow-pos w))
 
   pub sdiv-least : circ sdiv w v (2 ^ (w - 1)) (2 ^ w - 1) c ≡ 2 ^ (w - 1)

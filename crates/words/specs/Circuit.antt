@@ -8,7 +8,8 @@ use lib.Bits.{bitAnd, bitOr, bitXor}
 use lib.Count.{onesIn}
 use lib.Signed.{ltZ, leZ}
 use Rattle.words.specs.Word.{bit, flip, signedValue, twosComplement, quotient, remainder, sdivZ, sremZ, smodZ, shl, shr, sar, rotl, rotr, choose}
-use Rattle.words.specs.Op.{Op, not, neg, inc, dec, redand, redor, redxor, slice, uext, sext, eq, neq, ult, ulte, ugt, ugte, slt, slte, sgt, sgte, iff, implies, and, or, xor, nand, nor, xnor, add, sub, mul, udiv, urem, sdiv, srem, smod, sll, srl, sra, rol, ror, concat, ite, mask}
+use Rattle.words.specs.Op.{Op, not, neg, inc, dec, redand, redor, redxor, slice, uext, sext, eq, neq, ult, ulte, ugt, ugte, slt, slte, sgt, sgte, iff, implies, and, or, xor, nand, nor, xnor, add, sub, mul, udiv, urem, sdiv, srem, smod, sll, srl, sra, rol, ror, concat, ite, mask, overflow}
+use Rattle.words.specs.Overflow.{overflows}
 
 -- redxor counts the set bits of all 64 places: past its width a word has none
 abbrev pub circ : Op → (u v a b c : ℕ) → ℕ
@@ -56,3 +57,4 @@ circ ror u v a b c = rotr u a (b % u)
 circ concat u v a b c = a * 2 ^ v + b
 circ ite u v a b c = choose a b c
 circ mask u v a b c = a % 2 ^ u
+circ (overflow o) u v a b c = bit (overflows o u a b)

@@ -19,9 +19,9 @@ looseKind k l₁ l₂ l₃ =
     alwaysLoose k
     || (eqb k 33 && l₁ && l₂) || (eqb k 34 && (l₁ || l₂)) || (eqb k 35 && (l₁ || l₂)) || (eqb k 53 && (l₂ || l₃)) || (eqb k 52 && l₁)
 
--- each operand that is a line has to be clean: 6 to 10, 15 to 17, 19 to 30, 42 to 46, 48 to 51
+-- each operand that is a line has to be clean: 6 to 10, 15 to 17, 19 to 30, 42 to 46, 48 to 51, and the overflow detectors, 57 to 63
 abbrev pub needEach : ℕ → Bool
-needEach k = within 6 10 k || within 15 17 k || within 19 30 k || within 42 46 k || within 48 51 k
+needEach k = within 6 10 k || within 15 17 k || within 19 30 k || within 42 46 k || within 48 51 k || within 57 63 k
 
 -- the first: those, and the condition of ite
 abbrev pub needKind₁ : ℕ → Bool

@@ -2,6 +2,7 @@
 -- the code's and the proofs' view of them.
 pub mod Word
 pub mod Op
+pub mod Overflow
 pub mod Circuit
 pub mod Program
 pub mod Kinds

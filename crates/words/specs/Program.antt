@@ -6,7 +6,7 @@ use mathlib.Core.Bool.{not as isNot}
 use lib.Dec.{ltb, eqb}
 use lib.Bits.{bitAnd, bitOr, bitXor}
 use Rattle.words.specs.Word.{bit, flip, shl, choose}
-use Rattle.words.specs.Op.{Op, not, neg, inc, dec, redand, redor, redxor, slice, uext, sext, eq, neq, ult, ulte, ugt, ugte, slt, slte, sgt, sgte, iff, implies, and, or, xor, nand, nor, xnor, add, sub, mul, udiv, urem, sdiv, srem, smod, sll, srl, sra, rol, ror, concat, ite, mask}
+use Rattle.words.specs.Op.{Op, not, neg, inc, dec, redand, redor, redxor, slice, uext, sext, eq, neq, ult, ulte, ugt, ugte, slt, slte, sgt, sgte, iff, implies, and, or, xor, nand, nor, xnor, add, sub, mul, udiv, urem, sdiv, srem, smod, sll, srl, sra, rol, ror, concat, ite, mask, overflow}
 use Rattle.words.specs.Circuit.{circ}
 
 abbrev pub prog : Op → (u v a b c : ℕ) → ℕ
@@ -64,3 +64,5 @@ prog ite u v a b c = choose a b c
 prog redand u v a b c = bit (eqb a (2 ^ u - 1))
 -- "kind 56 masks its operand to its width"
 prog mask u v a b c = a % 2 ^ u
+-- "a program reads the low w bits of each operand", of overflow detectors
+prog (overflow o) u v a b c = circ (overflow o) u v (a % 2 ^ u) (b % 2 ^ v) c

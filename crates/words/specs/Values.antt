@@ -3,7 +3,7 @@ use Prim.Native.Nat.{ℕ}
 use mathlib.Core.Path.{_≡_, refl}
 use mathlib.Core.List.{List, [], _∷_, map}
 use lib.Count.{onesIn}
-use Rattle.words.specs.Op.{Op, not, neg, inc, dec, redand, redor, redxor, slice, uext, sext, eq, neq, ult, slt, iff, implies, and, or, xor, nand, nor, xnor, add, sub, mul, udiv, urem, sdiv, srem, smod, sll, srl, sra, rol, ror, concat, ite, mask}
+use Rattle.words.specs.Op.{Op, not, neg, inc, dec, redand, redor, redxor, slice, uext, sext, eq, neq, ult, slt, iff, implies, and, or, xor, nand, nor, xnor, add, sub, mul, udiv, urem, sdiv, srem, smod, sll, srl, sra, rol, ror, concat, ite, mask, Detector, uaddo, saddo, usubo, ssubo, umulo, smulo, sdivo, overflow}
 use Rattle.words.specs.Circuit.{circ}
 use Rattle.words.specs.Program.{prog}
 
@@ -52,6 +52,44 @@ wide =
 pub wide-values : computed 64 wide ≡ expected wide
 unfolding onesIn
 wide-values = refl
+
+-- ---- overflow detectors, at the edges of widths 1, 3 and 64
+
+abbrev pub detectors : List Detector
+detectors = uaddo ∷ saddo ∷ usubo ∷ ssubo ∷ umulo ∷ smulo ∷ sdivo ∷ []
+
+-- what all seven give at width w, in their order
+abbrev pub detected : (w a b : ℕ) → List ℕ
+detected w a b = map (λ (o : Detector). circ (overflow o) w w a b 0) detectors
+
+pub overflow-values : detected 3 4 7 ∷ detected 3 2 2 ∷ detected 3 3 0 ∷ []
+    ≡ (1 ∷ 1 ∷ 1 ∷ 0 ∷ 1 ∷ 1 ∷ 1 ∷ []) ∷ (0 ∷ 1 ∷ 0 ∷ 0 ∷ 0 ∷ 1 ∷ 0 ∷ []) ∷ (0 ∷ 0 ∷ 0 ∷ 0 ∷ 0 ∷ 0 ∷ 0 ∷ []) ∷ []
+overflow-values = refl
+
+-- signed at width 1, the words are 0 and -1
+pub overflow-bits : detected 1 0 1 ∷ detected 1 1 0 ∷ detected 1 1 1 ∷ []
+    ≡ (0 ∷ 0 ∷ 1 ∷ 1 ∷ 0 ∷ 0 ∷ 0 ∷ []) ∷ (0 ∷ 0 ∷ 0 ∷ 0 ∷ 0 ∷ 0 ∷ 0 ∷ []) ∷ (1 ∷ 1 ∷ 0 ∷ 0 ∷ 0 ∷ 1 ∷ 1 ∷ []) ∷ []
+overflow-bits = refl
+
+abbrev pub wideDetectors : List Row
+wideDetectors =
+    row (overflow umulo) 0x1_0000_0000 0x1_0000_0000 1
+    ∷ row (overflow umulo) 0x1_0000_0000 0xffff_ffff 0
+    ∷ row (overflow umulo) 6148914691236517205 3 0
+    ∷ row (overflow umulo) 6148914691236517206 3 1
+    ∷ row (overflow smulo) 0x8000_0000_0000_0000 1 0
+    ∷ row (overflow smulo) 0x8000_0000_0000_0000 0xffff_ffff_ffff_ffff 1
+    ∷ row (overflow smulo) 0x4000_0000_0000_0000 0xffff_ffff_ffff_fffe 0
+    ∷ row (overflow smulo) 0x4000_0000_0000_0000 2 1
+    ∷ row (overflow smulo) 3037000499 3037000499 0
+    ∷ row (overflow smulo) 3037000500 3037000500 1
+    ∷ row (overflow ssubo) 0 0x8000_0000_0000_0000 1
+    ∷ row (overflow ssubo) 0xffff_ffff_ffff_ffff 0x8000_0000_0000_0000 0
+    ∷ row (overflow sdivo) 0x8000_0000_0000_0000 0xffff_ffff_ffff_ffff 1
+    ∷ row (overflow sdivo) 0x8000_0000_0000_0000 0 0 ∷ []
+
+pub wide-overflows : computed 64 wideDetectors ≡ expected wideDetectors
+wide-overflows = refl
 
 -- ---- a program's words: a row is an operator, the widths of its first two operands, its three operands and the result
 
@@ -123,7 +161,13 @@ looseRows =
     ∷ programRow redand 3 0 15 0 0 0
     ∷ programRow redand 3 0 7 0 0 1
     -- "kind 56 masks its operand to its width"
-    ∷ programRow mask 3 0 13 0 0 5 ∷ []
+    ∷ programRow mask 3 0 13 0 0 5
+    -- "a program reads the low w bits of each operand"
+    ∷ programRow (overflow uaddo) 3 3 9 10 0 0
+    ∷ programRow (overflow umulo) 3 3 9 10 0 0
+    ∷ programRow (overflow uaddo) 3 3 15 15 0 1
+    ∷ programRow (overflow umulo) 3 3 15 15 0 1
+    ∷ programRow (overflow usubo) 3 3 2 8 0 0 ∷ []
 
 pub loose-values : map (λ (r : ProgramRow). prog (r .op) (r .u) (r .v) (r .a) (r .b) (r .c)) looseRows ≡ map (λ (r : ProgramRow). r .result) looseRows
 unfolding onesIn

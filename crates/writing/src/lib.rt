@@ -63,7 +63,7 @@ pub fn put_word(out: &mut [u8], at: usize, r: [u8; 16]) -> usize
 
 // The word of the kind k, whose row is r, or two words for a sort, with a space before each.
 fn put_kind(out: &mut [u8], at: usize, k: u64, r: [u8; 16]) -> usize
-    requires { ⌜ (1 ≤ k) × ((k ≤ 55) × ((r ≡ rowOf k) × (at + length (spaced (kindTokens k)) < 2 ^ 63))) ⌝ }
+    requires { ⌜ (1 ≤ k) × ((k ≤ 63) × ((r ≡ rowOf k) × (at + length (spaced (kindTokens k)) < 2 ^ 63))) ⌝ }
     ensures { λ x. ⌜ (x ≡ at + length (spaced (kindTokens k))) × (now (out .exit) ≡ sets (now (out .entry)) at (spaced (kindTokens k))) ⌝ }
 {
     if k <= 2 {
@@ -98,8 +98,8 @@ pub fn put_numbers(out: &mut [u8], at: usize, m: usize, j: usize, rec: [u64; WOR
 }
 
 // The line of a record, with its LF.
-fn put_line(kinds: &[[u8; 16]; 55], out: &mut [u8], at: usize, id: u64, rec: [u64; WORDS]) -> usize
-    requires { ⌜ (now kinds ≡ rows) × ((1 ≤ kindIn rec) × ((kindIn rec ≤ 55) × (at + length (join (tokensOf id rec) ++ (10 ∷ [])) < 2 ^ 63))) ⌝ }
+fn put_line(kinds: &[[u8; 16]; 63], out: &mut [u8], at: usize, id: u64, rec: [u64; WORDS]) -> usize
+    requires { ⌜ (now kinds ≡ rows) × ((1 ≤ kindIn rec) × ((kindIn rec ≤ 63) × (at + length (join (tokensOf id rec) ++ (10 ∷ [])) < 2 ^ 63))) ⌝ }
     ensures { λ x. ⌜ (x ≡ at + length (join (tokensOf id rec) ++ (10 ∷ []))) × (now (out .exit) ≡ sets (now (out .entry)) at (join (tokensOf id rec) ++ (10 ∷ []))) ⌝ }
 {
     let k = rec[0];

@@ -27,7 +27,7 @@ fn reading_minus_operands() {
 fn reading_minus_operands_at_the_edges() {
     on_stack(|| {
         let (mut random, mut answers) = (Random::new(12), BTreeMap::new());
-        for kind in 1..=55 {
+        for kind in (1..=63).filter(|&kind| independent::kinds::in_circuits(kind)) {
             let edge = Edge::new(&mut random);
             let n = edge.count();
             for r in edge.records(&mut random, kind) {

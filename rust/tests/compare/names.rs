@@ -53,7 +53,7 @@ fn named_lines(random: &mut Random, text: &[u8], end: &str) -> Vec<u8> {
 fn reading_names_at_the_edges() {
     on_stack(|| {
         let (mut random, mut answers) = (Random::new(13), BTreeMap::new());
-        for kind in 1..=55 {
+        for kind in (1..=63).filter(|&kind| independent::kinds::in_circuits(kind)) {
             let edge = Edge::new(&mut random);
             let n = edge.count();
             for r in edge.records(&mut random, kind) {

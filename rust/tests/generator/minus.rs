@@ -247,7 +247,7 @@ impl Minus {
         damage_records(random, &mut rows, false);
         let (table, n) = (columns(&rows, false), rows.len() / record_size(false));
         let records = records(&table, n, false);
-        if !records.iter().all(|r| (1..=55).contains(&r[0])) {
+        if !records.iter().all(|r| in_circuits(r[0])) {
             return self.text(random);
         }
         let (mut printed, others) = (all_tokens(&records, &ids(&table, n)), random.one_in(4));

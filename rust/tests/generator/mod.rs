@@ -3,12 +3,13 @@
 //! Records are made, and damaged, one behind the other (`rows`); a list of them is laid out in columns when it is whole.
 #![allow(dead_code)]
 
+pub mod detectors;
 pub mod minus;
 pub mod minus_edges;
 pub mod names;
 pub mod zero_ids;
 
-use crate::independent::kinds::{is_value, row, Place, KINDS};
+use crate::independent::kinds::{in_circuits, is_value, row, Place, KINDS};
 use crate::independent::rules::{check_program, check_table, ones, Lines, Sort};
 use crate::independent::{columns, ids, layout, records, size as record_size, Record, MOST_ID, MOST_RECORDS};
 use names::Names;
@@ -424,7 +425,9 @@ impl Builder<'_> {
         let (a, w) = self.any_word();
         // A register file has more of the lines with three operands.
         let three = self.cones.is_some() && self.random.one_in(6);
-        let kind = if three { 53 } else { 11 + self.random.below(43) as u64 };
+        // Kinds 11 to 53 and 57 to 63.
+        let any = 11 + self.random.below(50) as u64;
+        let kind = if three { 53 } else { any + if any > 53 { 3 } else { 0 } };
         let bit = Sort::Word(1);
         match kind {
             11..=14 => {
@@ -472,10 +475,11 @@ impl Builder<'_> {
                 let (a, b) = if self.random.one_in(2) { (a, b) } else { (b, a) };
                 self.emit([52, own, a, b, 0]);
             }
-            _ => {
+            53 => {
                 let (condition, b, own) = (self.word(1), self.word(w), self.sort_line(Sort::Word(w)));
                 self.emit([53, own, condition, a, b]);
             }
+            _ => self.detector(kind, a, w),
         }
     }
 }
@@ -697,6 +701,10 @@ pub const STRANGE: &[&[u8]] = &[
     b"justice",
     b"fair",
     b"mask",
+    b"udivo",
+    b"sddivo",
+    b"SADDO",
+    b"uaddo",
     b"ADD",
     b"x",
     b"\t",
@@ -727,7 +735,7 @@ pub fn damaged_text(random: &mut Random, lines: &Lines) -> Vec<u8> {
         damage_records(random, &mut rows, false);
         let (table, n) = (columns(&rows, false), rows.len() / record_size(false));
         let records = records(&table, n, false);
-        if records.iter().all(|r| (1..=55).contains(&r[0])) {
+        if records.iter().all(|r| in_circuits(r[0])) {
             let mut printed = all_tokens(&records, &ids(&table, n));
             for line in &mut printed {
                 if line[1] == b"constd" && random.one_in(4) {
@@ -846,6 +854,9 @@ pub fn babble(random: &mut Random) -> Vec<u8> {
         "sort bitvec",
         "sort array",
         "output",
+        "smulo",
+        "sdivo",
+        "mask",
     ];
     let mut text = Vec::new();
     for line in 0..random.below(12) as u64 {
@@ -909,7 +920,8 @@ fn damage_text(random: &mut Random, text: &mut Vec<u8>) {
                 }
                 7 => line.insert(token, line[token].clone()),
                 8 => line[token].insert(0, b'0'),
-                9 if line.len() > 1 => line[1] = KINDS[random.below(55)].word.as_bytes().to_vec(),
+                // Kind 56 has no word.
+                9 if line.len() > 1 => line[1] = KINDS[random.below(63)].word.as_bytes().to_vec(),
                 10 => lines.insert(at, other),
                 _ => {
                     lines.remove(at);
@@ -957,7 +969,7 @@ pub fn damage_records(random: &mut Random, rows: &mut Vec<u64>, program: bool) {
     let size = record_size(program);
     let n = rows.len() / size;
     if n == 0 {
-        let kind = random.word() % 60;
+        let kind = random.word() % 66;
         extend(random, rows, [kind, 0, 1, 0, 0], program);
         return;
     }
@@ -965,9 +977,9 @@ pub fn damage_records(random: &mut Random, rows: &mut Vec<u64>, program: bool) {
         let (record, other) = (random.below(n), size * random.below(n));
         let at = size * record;
         let word = at + 1 + random.below(4);
-        match random.below(if program { 14 } else { 16 }) {
-            0 => rows[at] = random.pick(&[0, 1, 2, 3, 53, 54, 55, 56, 57, 255, 256, 311, u64::MAX]),
-            1 => rows[at] = 1 + random.next() % 56,
+        match random.below(if program { 15 } else { 17 }) {
+            0 => rows[at] = random.pick(&[0, 1, 2, 3, 53, 54, 55, 56, 57, 63, 64, 255, 256, 311, u64::MAX]),
+            1 => rows[at] = 1 + random.next() % 64,
             2..=4 => rows[word] = 1 + random.next() % n as u64,
             5 => rows[word] = random.word(),
             6 => rows[word] = rows[word].wrapping_add(random.pick(&[1, u64::MAX, 256, 1 << 32])),
@@ -981,7 +993,8 @@ pub fn damage_records(random: &mut Random, rows: &mut Vec<u64>, program: bool) {
                 extend(random, rows, again, program);
             }
             12 => late_init(random, rows, program),
-            14 | 15 => damage_id(random, rows, record),
+            13 => detectors::damage(random, rows, program),
+            15 | 16 => damage_id(random, rows, record),
             _ => {
                 // Among inits and nexts only.
                 let held: Vec<usize> = (0..n).filter(|i| matches!(rows[size * i], 6 | 7)).collect();

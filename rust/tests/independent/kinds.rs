@@ -39,8 +39,8 @@ const W: Option<Place> = Some(WordSort);
 const A: Option<Place> = Some(ArraySort);
 const ANY: Option<Place> = Some(AnySort);
 
-/// Row k - 1 describes kind k. Kind 56, the mask, stands in programs alone.
-pub const KINDS: [Kind; 56] = [
+/// Row k - 1 describes kind k. Kind 56, the mask, stands in programs alone and has no word.
+pub const KINDS: [Kind; 63] = [
     kind("sort bitvec", None, &[Number]),
     kind("sort array", None, &[WordSort, WordSort]),
     kind("constd", W, &[Number]),
@@ -97,14 +97,31 @@ pub const KINDS: [Kind; 56] = [
     kind("read", W, &[Array, Word]),
     kind("write", A, &[Array, Word, Word]),
     kind("", W, UNARY),
+    kind("uaddo", W, BINARY),
+    kind("saddo", W, BINARY),
+    kind("usubo", W, BINARY),
+    kind("ssubo", W, BINARY),
+    kind("umulo", W, BINARY),
+    kind("smulo", W, BINARY),
+    kind("sdivo", W, BINARY),
 ];
 
-/// The row of a kind from 1 to 56.
+/// The row of a kind from 1 to 63.
 pub fn row(kind: u64) -> &'static Kind {
     &KINDS[kind as usize - 1]
 }
 
-/// Kinds 3 to 5 and 11 to 56 are value lines.
+/// Kinds 3 to 5 and 11 to 63 are value lines.
 pub fn is_value(kind: u64) -> bool {
-    matches!(kind, 3..=5 | 11..=56)
+    matches!(kind, 3..=5 | 11..=63)
+}
+
+/// Kinds 1 to 55 and 57 to 63 stand in circuits.
+pub fn in_circuits(kind: u64) -> bool {
+    matches!(kind, 1..=55 | 57..=63)
+}
+
+/// Kinds 3 to 53 and 56 to 63 stand in programs.
+pub fn in_programs(kind: u64) -> bool {
+    matches!(kind, 3..=53 | 56..=63)
 }

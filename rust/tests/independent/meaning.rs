@@ -34,7 +34,26 @@ pub fn signed_division(kind: u64, a: i128, b: i128) -> i128 {
     }
 }
 
-/// The word of a line of kinds 11 to 52, and 53 on words.
+/// Whether the result of a detector, kinds 57 to 63, taken as a whole number, lies outside the width w of its operands.
+pub fn overflows(kind: u64, w: u64, a: u64, b: u64) -> bool {
+    let unsigned_outside = |n: i128| !(0..1 << w).contains(&n);
+    let signed_outside = |n: i128| !(-1 << (w - 1)..1 << (w - 1)).contains(&n);
+    let (ua, ub) = (i128::from(a), i128::from(b));
+    let (sa, sb) = (signed(a, w), signed(b, w));
+    match kind {
+        57 => unsigned_outside(ua + ub),
+        58 => signed_outside(sa + sb),
+        59 => unsigned_outside(ua - ub),
+        60 => signed_outside(sa - sb),
+        // A product of 128 bits is no i128.
+        61 => u128::from(a) * u128::from(b) >= 1 << w,
+        62 => signed_outside(sa * sb),
+        63 => sb != 0 && signed_outside(sa / sb),
+        _ => unreachable!("kind {kind} is no detector"),
+    }
+}
+
+/// The word of a line of kinds 11 to 52 and 57 to 63, and 53 on words.
 /// `w` is the line's width, `widths` are those of its operands, `x` their words,
 /// or the plain numbers of slice, uext and sext.
 pub fn apply(kind: u64, w: u64, widths: [u64; 3], x: [u64; 3]) -> u64 {
@@ -116,6 +135,7 @@ pub fn apply(kind: u64, w: u64, widths: [u64; 3], x: [u64; 3]) -> u64 {
                 c
             }
         }
+        57..=63 => u64::from(overflows(kind, wa, a, b)),
         _ => unreachable!("kind {kind} is no operator on words"),
     }
 }

@@ -1,7 +1,7 @@
 //! The rules for tables and programs: 8 (classes), 9 (widths and bounds),
 //! 10 (second init or next, the init rule), the ids, and the checks 11 and 20.
 
-use super::kinds::{is_value, row, Place};
+use super::kinds::{in_circuits, in_programs, is_value, row, Place};
 use super::{columns, ids, records, room, Record, MOST_ID};
 
 #[derive(Clone, Copy, PartialEq, Eq, Debug)]
@@ -151,14 +151,14 @@ impl Lines {
             18 => r[4] <= r[3] && r[3] < width(1) && w == r[3] - r[4] + 1,
             19 | 20 => u128::from(w) == u128::from(width(1)) + u128::from(r[3]),
             21 | 22 => w == 1 && sort(1) == sort(2),
-            23..=30 => w == 1 && width(1) == width(2),
+            23..=30 | 57..=63 => w == 1 && width(1) == width(2),
             31 | 32 => w == 1 && width(1) == 1 && width(2) == 1,
             33..=51 => width(1) == w && width(2) == w,
             52 => w == width(1) + width(2),
             53 => width(1) == 1 && own == Some(sort(2)) && own == Some(sort(3)),
             54 => matches!(sort(1), Sort::Array(i, e) if width(2) == i && w == e),
             55 => own == Some(sort(1)) && matches!(sort(1), Sort::Array(i, e) if width(2) == i && width(3) == e),
-            _ => unreachable!("kinds are 1 to 56"),
+            _ => unreachable!("kinds are 1 to 63"),
         }
     }
 
@@ -222,8 +222,8 @@ impl Lines {
     }
 
     fn accepts(&self, r: &Record) -> bool {
-        let known = if self.program { matches!(r[0], 3..=53 | 56) } else { matches!(r[0], 1..=55) };
-        if !known {
+        let known = if self.program { in_programs } else { in_circuits };
+        if !known(r[0]) {
             return false;
         }
         let kind = row(r[0]);

@@ -1,6 +1,6 @@
 //! Reading, writing and naming.
 
-use super::kinds::{row, Place, KINDS};
+use super::kinds::{in_circuits, row, Place};
 use super::rules::{check_table, ones, Lines, Sort};
 use super::{is_whole, room, store, Record, MOST_TEXT};
 use std::collections::HashSet;
@@ -58,8 +58,8 @@ fn form(tokens: &[&[u8]]) -> Option<Form> {
         b"one" => known(3, Constant::One, 2),
         b"ones" => known(3, Constant::Ones, 2),
         _ => {
-            let at = KINDS[2..55].iter().position(|k| k.word.as_bytes() == word)?;
-            known(at as u64 + 3, Constant::Decimal, 2)
+            let kind = (3..=63).filter(|&kind| in_circuits(kind)).find(|&kind| row(kind).word.as_bytes() == word)?;
+            known(kind, Constant::Decimal, 2)
         }
     }
 }

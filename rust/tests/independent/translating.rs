@@ -28,7 +28,7 @@ fn loose_lines(lines: &Lines) -> Vec<bool> {
 /// Whether a kind needs its operand, from 1, clean.
 fn needs_clean(kind: u64, operand: usize) -> bool {
     match kind {
-        6..=10 | 15..=17 | 19..=30 | 42..=46 | 48..=51 => true,
+        6..=10 | 15..=17 | 19..=30 | 42..=46 | 48..=51 | 57..=63 => true,
         47 | 52 => operand == 2,
         53 => operand == 1,
         _ => false,

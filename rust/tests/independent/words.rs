@@ -1,9 +1,9 @@
 //! What the operators mean in a program: 64-bit words, of which only the low bits may count.
 
-use super::meaning::{modulo, signed, signed_division};
+use super::meaning::{modulo, overflows, signed, signed_division};
 use super::rules::ones;
 
-/// The word of an instruction of kinds 11 to 53 and 56.
+/// The word of an instruction of kinds 11 to 53 and 56 to 63.
 /// `w` is its width, `widths` are those of its operands, `x` their whole words,
 /// or the plain numbers of slice, uext and sext.
 pub fn apply(kind: u64, w: u64, widths: [u64; 3], x: [u64; 3]) -> u64 {
@@ -83,6 +83,7 @@ pub fn apply(kind: u64, w: u64, widths: [u64; 3], x: [u64; 3]) -> u64 {
             }
         }
         56 => a & ones(w),
+        57..=63 => u64::from(overflows(kind, wa, a & ones(wa), low_b)),
         _ => unreachable!("kind {kind} is no operator of a program"),
     }
 }

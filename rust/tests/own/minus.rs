@@ -241,7 +241,7 @@ fn written_out() {
 #[test]
 fn generator_reaches_minus_operands() {
     let mut random = Random::new(9);
-    let (mut signs, mut kinds, mut equal, mut other_sort, mut index) = ([0; 5], [0; 57], 0, 0, 0);
+    let (mut signs, mut kinds, mut equal, mut other_sort, mut index) = ([0; 5], [0; 64], 0, 0, 0);
     let (mut answers, mut late, mut zeros, mut kept, mut broken) = (BTreeMap::new(), 0, 0, 0, 0);
     for _ in 0..3000 {
         let size = generator::size(&mut random);
@@ -275,7 +275,8 @@ fn generator_reaches_minus_operands() {
     println!("minus operands by place {:?}, twice one {equal}, of another sort line {other_sort}, of a constant index {index}", &signs[2..]);
     println!("answers {answers:?}, {late} times 4 came last; tables: {kept} keep the rules, {broken} break them, {zeros} ids of 0");
     assert!(signs[..2] == [0, 0] && signs[2..].iter().all(|&n| n > 1000), "{signs:?}");
-    assert!(kinds[7..56].iter().all(|&n| n > 20) && kinds[..7].iter().all(|&n| n == 0), "{kinds:?}");
+    let signed = kinds[7..56].iter().chain(&kinds[57..]);
+    assert!(signed.into_iter().all(|&n| n > 20) && kinds[..7].iter().all(|&n| n == 0), "{kinds:?}");
     for n in [equal, other_sort, index, late, zeros] {
         assert!(n > 50, "{equal} {other_sort} {index} {late} {zeros}");
     }

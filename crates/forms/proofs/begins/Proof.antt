@@ -11,7 +11,7 @@ use Rattle.forms.proofs.begins.Statement.{statement}
 use Rattle.forms.proofs.begins.Tie as tie
 
 returns : tie.Need-returns
-returns c = let s = c .before .args in λ z. no-letter (s .j) (omega arith) (omega arith) (s .t .now) (c .if1 .taken)
+returns c = let s = c .before .args in λ z. no-letter (s .j) (omega arith) (omega arith) (s .t .now) (c .before .pre .1 .1 .1) (c .if1 .taken)
 
 sub-r : tie.Need-sub-r
 sub-r c = search needs
@@ -32,7 +32,7 @@ returns-2 : tie.Need-returns-2
 returns-2 c =
     let s = c .before .before .before .before .args in
     let e = listed-kind (s .kinds .now) (s .j) (c .before .before .before .before .pre .0) (omega arith) in
-    λ z. other-first (s .j) (omega arith) (omega arith) (s .t .now) (omega (arith, c .before .before .before .if1 .left)) (λ q. c .if2 .taken (q ∙ ap (λ (r : List ℕ). getD r 1 0) (sym e)))
+    λ z. other-first (s .j) (omega arith) (omega arith) (s .t .now) (c .before .before .before .before .pre .1 .1 .1) (omega (arith, c .before .before .before .if1 .left)) (λ q. c .if2 .taken (q ∙ ap (λ (r : List ℕ). getD r 1 0) (sym e)))
 
 array-read-result : tie.Need-array-read-result
 array-read-result c = search needs

@@ -28,7 +28,10 @@ loop-holds : tie.Need-loop-holds Inv-loop μ-loop
 loop-holds c = (search needs, (search needs, (search needs, ap (λ (m : ℕ). findIn (c .before .args .k) m (c .before .args .t .now)) (omega arith))))
 
 begins-requires : tie.Need-begins-requires Inv-loop μ-loop
-begins-requires c κs = let p = c .before .before .before .pre in (p .0, (omega (arith, p .1 .0, c .before .loop .inv .0), omega (arith, p .1 .1, c .before .loop .inv .1 .1 .0)))
+begins-requires c κs =
+    let p = c .before .before .before .pre in
+    let v = c .before .loop .inv in
+    (p .0, (omega (arith, p .1 .0, v .0), (omega (arith, p .1 .1 .0, v .1 .1 .0), λ e. omega (arith, v .0, p .1 .1 .1 (omega (arith, v .1 .1 .0))))))
 
 sub-r : tie.Need-sub-r Inv-loop μ-loop
 sub-r c = search needs

@@ -21,7 +21,7 @@ array-copy-out-result : tie.Need-array-copy-out-result
 array-copy-out-result c = search needs
 
 returns : tie.Need-returns
-returns c = ap (λ (t : List (List ℕ)). getD t (c .before .before .before .args .f - 56) []) (c .before .others .ensures) ∙ sym (row-extra (c .before .before .before .args .f) (c .before .before .if1 .taken))
+returns c = ap (λ (t : List (List ℕ)). getD t (c .before .before .before .args .f - 64) []) (c .before .others .ensures) ∙ sym (row-extra (c .before .before .before .args .f) (c .before .before .if1 .taken))
 
 row-of-requires : tie.Need-row-of-requires
 row-of-requires c κs = search needs

@@ -4,15 +4,18 @@ use Prim.Native.Nat.{ℕ, zero, suc, _+_, _-_, _≤_, _<_}
 use native.Mathlib.Omega.{arith}
 use lib.Dec.{eqb}
 use lib.Arith.{lt-of-le-ne}
-use lib.ListN.{List·getD-eq-default}
+use mathlib.Core.Logic.{⊎-elim}
 use borrow.Author.Needs.{needs}
 use Rattle.words.specs.Word.{bit, choose}
-use Rattle.words.specs.Op.{Op, ops, opOf, mask}
+use Rattle.words.specs.Op.{Op, opOf, mask, overflow}
 use Rattle.words.specs.Program.{prog}
+use Rattle.words.specs.Model.Classes.{classOf}
+use Rattle.words.specs.Model.Widths.{Widths}
+use Rattle.words.proofs.KindLaws.{detectorOf, detector-kind, mask-between, mask-past}
 use Rattle.instructions.proofs.prog_word.Statement.{statement}
 use Rattle.instructions.proofs.prog_word.Tie as tie
 
--- ---- the last arm: a kind that is none of 11 to 53
+-- ---- the last arms: a kind that is none of 11 to 53
 
 -- k is none of the d numbers from 11 on
 abbrev NoneOf : ℕ → ℕ → Type 0
@@ -22,10 +25,6 @@ NoneOf (suc d) k = NoneOf d k × (k ≡ 11 + d → ⊥)
 past : (d k : ℕ) → 11 ≤ k → NoneOf d k → 11 + d ≤ k
 past zero k h n = h
 past (suc d) k h n = let l : 11 + d < k = lt-of-le-ne (past d k h (n .0)) (λ e. n .1 (sym e)) in omega arith
-
--- past the list of operators stands the mask
-beyond : (k : ℕ) → 54 ≤ k → opOf k ≡ mask
-beyond k h = let l : 43 ≤ k - 11 = omega arith in List·getD-eq-default ops mask l
 
 -- ---- single answers
 
@@ -48,11 +47,25 @@ shl-result c = let g = rw (c .match .keys42) at (c .before .pre .2) in omega ari
 redand-arm : tie.Need-returns-5
 redand-arm c = rw (c .before .before .match .keys5) (c .eq .ensures ∙ ap (λ (n : ℕ). bit (eqb (c .before .before .before .args .a) n)) (c .before .mask .ensures))
 
-mask-arm : tie.Need-returns-45
+-- the operands of a detector have one width, and it has no third one
+one-width : (k u v a b c : ℕ) → 57 ≤ k → k ≤ 63 → Widths (classOf (opOf k)) u v b c → prog (opOf k) u u a b 0 ≡ prog (opOf k) u v a b c
+one-width k u v a b c h l g =
+    let e = detector-kind k h l in
+    let q : u ≡ v = rw e at g in
+    ap (λ (op : Op). prog op u u a b 0) e ∙ ap (λ (n : ℕ). prog (overflow (detectorOf k)) u n a b c) q ∙ sym (ap (λ (op : Op). prog op u v a b c) e)
+
+detect-arm : tie.Need-returns-45
+detect-arm c =
+    let g = c .before .before .before .before in
+    c .detect .ensures ∙ one-width (g .args .kind) (g .args .u) (g .args .v) (g .args .a) (g .args .b) (g .args .c) (c .before .before .if2 .left) (omega (arith, c .before .if3 .taken)) (g .pre .2)
+
+mask-arm : tie.Need-returns-46
 mask-arm c =
-    let g = c .before .before in
-    c .low .ensures .0
-    ∙ sym (ap (λ (op : Op). prog op (g .args .u) (g .args .v) (g .args .a) (g .args .b) (g .args .c)) (beyond (g .args .kind) (past 43 (g .args .kind) (g .pre .0) (c .before .match .rest))))
+    let g = c .before .before .before in
+    let e : opOf (g .args .kind) ≡ mask =
+    ⊎-elim (λ w. mask-between (g .args .kind) (past 43 (g .args .kind) (g .pre .0) (c .before .before .match .rest)) (w .taken)) (λ w. mask-past (g .args .kind) (w .1 .left)) (c .before .if2 .came)
+    in
+    c .low .ensures .0 ∙ sym (ap (λ (op : Op). prog op (g .args .u) (g .args .v) (g .args .a) (g .args .b) (g .args .c)) e)
 
 -- first what the calls and shifts ask, then what the arms return. Where both operands are read by their low bits, the precondition says that
 -- they have one width
@@ -93,6 +106,7 @@ prog-word-spec =
     (λ c κs. search needs)
     (λ c κs. search needs)
     shl-result
+    (λ c κs. search needs)
     (λ c κs. search needs)
     (λ c. rw (c .match .keys1) refl)
     (λ c. rw (c .before .match .keys2) (omega arith))
@@ -138,4 +152,5 @@ prog-word-spec =
     (λ c. rw (c .match .keys42) refl)
     (λ c. let g = c .before .before .args in rw (c .before .match .keys43) (chosen (g .a) (g .b) (g .c) (c .if1 .taken)))
     (λ c. let g = c .before .before .args in rw (c .before .match .keys43) (other (g .a) (g .b) (g .c) (c .if1 .left)))
+    detect-arm
     mask-arm)

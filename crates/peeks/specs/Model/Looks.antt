@@ -113,15 +113,15 @@ pub record CellFound (t : List ℕ) (n : ℕ) (S R : List ℕ) (K : List (List �
 pub record FirstLine (r : List ℕ) (d a : ℕ) : Type 0 where
   pub none : kindIn r < 5 → a ≡ 0
   pub init : kindIn r ≡ 5 → a ≡ d
-  pub operand : 5 < kindIn r → kindIn r < 54 → a ≡ firstIn r
-  pub index : 53 < kindIn r → a ≡ secondIn r
+  pub operand : 5 < kindIn r → (53 < kindIn r → kindIn r < 56 → ⊥) → a ≡ firstIn r
+  pub index : 53 < kindIn r → kindIn r < 56 → a ≡ secondIn r
 
 -- and the line b that it looks at next, where the first one's word is x
 pub record SecondLine (r : List ℕ) (x b : ℕ) : Type 0 where
   pub none : kindIn r < 21 → b ≡ 0
-  pub operand : 20 < kindIn r → kindIn r < 53 → b ≡ secondIn r
+  pub operand : 20 < kindIn r → (52 < kindIn r → kindIn r < 56 → ⊥) → b ≡ secondIn r
   pub chosen : kindIn r ≡ 53 → b ≡ ifNonzero x (secondIn r) (thirdIn r)
-  pub array : 53 < kindIn r → b ≡ firstIn r
+  pub array : 53 < kindIn r → kindIn r < 56 → b ≡ firstIn r
 
 -- the start word of the cell c of the state on the line n
 abbrev pub startIn : (P : List (List ℕ)) (S : List ℕ) (n c : ℕ) → ℕ

@@ -6,7 +6,7 @@ use native.Mathlib.Omega.{arith}
 use lib.ListN.{replicate, getD}
 use Rattle.tables.specs.Pick.{pick}
 use Rattle.tables.specs.Lines.{isConst, isInput, isState, isUnary, isBinary, isIte, isRead, isWrite, isInitOrNext, isSignal, isEquality, shapeOf, kindIn}
-use Rattle.tables.proofs.Shapes.{shape-unary, shape-binary}
+use Rattle.tables.proofs.Shapes.{binary-range, binary-left, shape-unary, shape-binary}
 use Rattle.circuits.specs.Cells.{put}
 use Rattle.circuits.specs.Model.Work.{numIn, posIn, wordKept, cellsKept}
 use Rattle.circuits.proofs.Dispatch.{fit-line, does-line, idle-line, alike-true, alike-false, from-two}
@@ -84,7 +84,7 @@ line-unary-requires-2 : tie.Need-line-unary-requires-2
 line-unary-requires-2 c κs = let h = fit-line (c .before .before .before .before .before .before .before .args .t3) isUnary (shape-unary (kindIn (c .before .before .before .before .before .before .before .args .t3)) (c .before .before .if1 .left) (omega (arith, c .before .if2 .taken))) (c .before .before .before .before .before .before .before .args .program) (c .before .before .before .before .before .before .before .args .laid .now) (c .before .before .before .before .before .before .before .args .all) (c .before .before .before .before .before .before .before .args .row .now) (c .before .before .before .before .before .before .before .args .work .now) (c .before .before .before .before .before .before .before .args .sig .now) (c .before .before .before .before .before .before .before .args .n) (c .before .before .before .before .before .before .before .pre) in (h .own .word, h .expr)
 
 line-binary-requires : tie.Need-line-binary-requires
-line-binary-requires c κs = let h = fit-line (c .before .before .before .before .before .before .before .before .args .t3) isBinary (shape-binary (kindIn (c .before .before .before .before .before .before .before .before .args .t3)) (from-two (c .before .before .if2 .left) (c .before .before .before .before .match .rest .0 .0 .0 .0 .0 .1) (c .before .before .before .before .match .rest .0 .0 .0 .0 .1)) (omega (arith, c .before .if3 .taken))) (c .before .before .before .before .before .before .before .before .args .program) (c .before .before .before .before .before .before .before .before .args .laid .now) (c .before .before .before .before .before .before .before .before .args .all) (c .before .before .before .before .before .before .before .before .args .row .now) (c .before .before .before .before .before .before .before .before .args .work .now) (c .before .before .before .before .before .before .before .before .args .sig .now) (c .before .before .before .before .before .before .before .before .args .n) (c .before .before .before .before .before .before .before .before .pre) in (h .own .word, h .expr)
+line-binary-requires c κs = let h = fit-line (c .before .before .before .before .before .before .before .before .args .t3) isBinary (shape-binary (kindIn (c .before .before .before .before .before .before .before .before .args .t3)) (binary-left (from-two (c .before .before .if2 .left) (c .before .before .before .before .match .rest .0 .0 .0 .0 .0 .1) (c .before .before .before .before .match .rest .0 .0 .0 .0 .1)) (omega (arith, c .before .if3 .taken)) (c .before .before .before .before .match .rest .0 .0 .0 .1) (c .before .before .before .before .match .rest .0 .0 .1) (c .before .before .before .before .match .rest .0 .1) (c .before .before .before .before .match .rest .1))) (c .before .before .before .before .before .before .before .before .args .program) (c .before .before .before .before .before .before .before .before .args .laid .now) (c .before .before .before .before .before .before .before .before .args .all) (c .before .before .before .before .before .before .before .before .args .row .now) (c .before .before .before .before .before .before .before .before .args .work .now) (c .before .before .before .before .before .before .before .before .args .sig .now) (c .before .before .before .before .before .before .before .before .args .n) (c .before .before .before .before .before .before .before .before .pre) in (h .own .word, h .expr)
 
 same-length : tie.Need-same-length
 same-length c = search needs
@@ -171,7 +171,7 @@ returns-13 : tie.Need-returns-13
 returns-13 c = does-line (c .before .before .before .before .before .before .before .before .args .t3) isUnary (ap shapeOf (c .before .before .before .before .match .keys13)) (c .before .before .before .before .before .before .before .before .args .program) (c .before .before .before .before .before .before .before .before .args .first) (c .before .before .before .before .before .before .before .before .args .laid .now) (c .before .before .before .before .before .before .before .before .args .all) (c .before .before .before .before .before .before .before .before .args .row .now) (c .before .before .before .before .before .before .before .before .args .work .now) (c .before .before .before .before .before .before .before .before .args .sig .now) (c .before .before .before .before .before .before .before .before .args .n) (c .before .before .line-unary .ensures) refl
 
 returns-14 : tie.Need-returns-14
-returns-14 c = idle-line (c .before .before .before .before .before .args .t3) (c .before .before .before .before .before .args .program) (c .before .before .before .before .before .args .first) (c .before .before .before .before .before .args .laid .now) (c .before .before .before .before .before .args .all) (c .before .before .before .before .before .args .row .now) (c .before .before .before .before .before .args .work .now) (c .before .before .before .before .before .args .sig .now) (c .before .before .before .before .before .args .n) (c .before .match .rest .0 .0 .0 .0 .0 .0 .0 .0 .0 .0 .0 .0 .1) (c .before .match .rest .0 .0 .0 .0 .0 .0 .0 .0 .0 .0 .0 .1) (c .before .match .rest .0 .0 .0 .0 .0 .0 .0 .0 .0 .0 .1) (c .before .match .rest .0 .0 .0 .0 .0 .0 .0 .0 .0 .1) (c .before .match .rest .0 .0 .0 .0 .0 .0 .0 .0 .1) (c .before .match .rest .0 .0 .0 .0 .0 .0 .0 .1) (c .before .match .rest .0 .0 .0 .0 .0 .0 .1) (λ h l. omega (arith, c .if1 .taken)) (c .before .match .rest .0 .0 .0 .0 .0 .1) (c .before .match .rest .0 .0 .0 .0 .1) (λ h l. omega (arith, c .if1 .taken)) (c .before .match .rest .0 .0 .0 .1) (c .before .match .rest .0 .0 .1) (c .before .match .rest .0 .1) (c .before .match .rest .1)
+returns-14 c = idle-line (c .before .before .before .before .before .args .t3) (c .before .before .before .before .before .args .program) (c .before .before .before .before .before .args .first) (c .before .before .before .before .before .args .laid .now) (c .before .before .before .before .before .args .all) (c .before .before .before .before .before .args .row .now) (c .before .before .before .before .before .args .work .now) (c .before .before .before .before .before .args .sig .now) (c .before .before .before .before .before .args .n) (c .before .match .rest .0 .0 .0 .0 .0 .0 .0 .0 .0 .0 .0 .0 .1) (c .before .match .rest .0 .0 .0 .0 .0 .0 .0 .0 .0 .0 .0 .1) (c .before .match .rest .0 .0 .0 .0 .0 .0 .0 .0 .0 .0 .1) (c .before .match .rest .0 .0 .0 .0 .0 .0 .0 .0 .0 .1) (c .before .match .rest .0 .0 .0 .0 .0 .0 .0 .0 .1) (c .before .match .rest .0 .0 .0 .0 .0 .0 .0 .1) (c .before .match .rest .0 .0 .0 .0 .0 .0 .1) (λ h l. omega (arith, c .if1 .taken)) (c .before .match .rest .0 .0 .0 .0 .0 .1) (c .before .match .rest .0 .0 .0 .0 .1) (λ h. omega (arith, c .if1 .taken, binary-range h)) (c .before .match .rest .0 .0 .0 .1) (c .before .match .rest .0 .0 .1) (c .before .match .rest .0 .1) (c .before .match .rest .1)
 
 same-length-16 : tie.Need-same-length-16
 same-length-16 c = search needs
@@ -183,10 +183,10 @@ same-length-17 : tie.Need-same-length-17
 same-length-17 c = search needs
 
 returns-16 : tie.Need-returns-16
-returns-16 c = does-line (c .before .before .before .before .before .before .before .before .before .before .before .args .t3) isBinary (shape-binary (kindIn (c .before .before .before .before .before .before .before .before .before .before .before .args .t3)) (from-two (c .before .before .before .before .before .if2 .left) (c .before .before .before .before .before .before .before .match .rest .0 .0 .0 .0 .0 .1) (c .before .before .before .before .before .before .before .match .rest .0 .0 .0 .0 .1)) (omega (arith, c .before .before .before .before .if3 .taken))) (c .before .before .before .before .before .before .before .before .before .before .before .args .program) (c .before .before .before .before .before .before .before .before .before .before .before .args .first) (c .before .before .before .before .before .before .before .before .before .before .before .args .laid .now) (c .before .before .before .before .before .before .before .before .before .before .before .args .all) (c .before .before .before .before .before .before .before .before .before .before .before .args .row .now) (c .before .before .before .before .before .before .before .before .before .before .before .args .work .now) (c .before .before .before .before .before .before .before .before .before .before .before .args .sig .now) (c .before .before .before .before .before .before .before .before .before .before .before .args .n) (c .before .before .line-binary .ensures) refl
+returns-16 c = does-line (c .before .before .before .before .before .before .before .before .before .before .before .args .t3) isBinary (shape-binary (kindIn (c .before .before .before .before .before .before .before .before .before .before .before .args .t3)) (binary-left (from-two (c .before .before .before .before .before .if2 .left) (c .before .before .before .before .before .before .before .match .rest .0 .0 .0 .0 .0 .1) (c .before .before .before .before .before .before .before .match .rest .0 .0 .0 .0 .1)) (omega (arith, c .before .before .before .before .if3 .taken)) (c .before .before .before .before .before .before .before .match .rest .0 .0 .0 .1) (c .before .before .before .before .before .before .before .match .rest .0 .0 .1) (c .before .before .before .before .before .before .before .match .rest .0 .1) (c .before .before .before .before .before .before .before .match .rest .1))) (c .before .before .before .before .before .before .before .before .before .before .before .args .program) (c .before .before .before .before .before .before .before .before .before .before .before .args .first) (c .before .before .before .before .before .before .before .before .before .before .before .args .laid .now) (c .before .before .before .before .before .before .before .before .before .before .before .args .all) (c .before .before .before .before .before .before .before .before .before .before .before .args .row .now) (c .before .before .before .before .before .before .before .before .before .before .before .args .work .now) (c .before .before .before .before .before .before .before .before .before .before .before .args .sig .now) (c .before .before .before .before .before .before .before .before .before .before .before .args .n) (c .before .before .line-binary .ensures) refl
 
 returns-17 : tie.Need-returns-17
-returns-17 c = idle-line (c .before .before .before .before .before .before .before .args .t3) (c .before .before .before .before .before .before .before .args .program) (c .before .before .before .before .before .before .before .args .first) (c .before .before .before .before .before .before .before .args .laid .now) (c .before .before .before .before .before .before .before .args .all) (c .before .before .before .before .before .before .before .args .row .now) (c .before .before .before .before .before .before .before .args .work .now) (c .before .before .before .before .before .before .before .args .sig .now) (c .before .before .before .before .before .before .before .args .n) (c .before .before .before .match .rest .0 .0 .0 .0 .0 .0 .0 .0 .0 .0 .0 .0 .1) (c .before .before .before .match .rest .0 .0 .0 .0 .0 .0 .0 .0 .0 .0 .0 .1) (c .before .before .before .match .rest .0 .0 .0 .0 .0 .0 .0 .0 .0 .0 .1) (c .before .before .before .match .rest .0 .0 .0 .0 .0 .0 .0 .0 .0 .1) (c .before .before .before .match .rest .0 .0 .0 .0 .0 .0 .0 .0 .1) (c .before .before .before .match .rest .0 .0 .0 .0 .0 .0 .0 .1) (c .before .before .before .match .rest .0 .0 .0 .0 .0 .0 .1) (λ h l. omega (arith, c .if3 .left)) (c .before .before .before .match .rest .0 .0 .0 .0 .0 .1) (c .before .before .before .match .rest .0 .0 .0 .0 .1) (λ h l. omega (arith, c .if3 .left)) (c .before .before .before .match .rest .0 .0 .0 .1) (c .before .before .before .match .rest .0 .0 .1) (c .before .before .before .match .rest .0 .1) (c .before .before .before .match .rest .1)
+returns-17 c = idle-line (c .before .before .before .before .before .before .before .args .t3) (c .before .before .before .before .before .before .before .args .program) (c .before .before .before .before .before .before .before .args .first) (c .before .before .before .before .before .before .before .args .laid .now) (c .before .before .before .before .before .before .before .args .all) (c .before .before .before .before .before .before .before .args .row .now) (c .before .before .before .before .before .before .before .args .work .now) (c .before .before .before .before .before .before .before .args .sig .now) (c .before .before .before .before .before .before .before .args .n) (c .before .before .before .match .rest .0 .0 .0 .0 .0 .0 .0 .0 .0 .0 .0 .0 .1) (c .before .before .before .match .rest .0 .0 .0 .0 .0 .0 .0 .0 .0 .0 .0 .1) (c .before .before .before .match .rest .0 .0 .0 .0 .0 .0 .0 .0 .0 .0 .1) (c .before .before .before .match .rest .0 .0 .0 .0 .0 .0 .0 .0 .0 .1) (c .before .before .before .match .rest .0 .0 .0 .0 .0 .0 .0 .0 .1) (c .before .before .before .match .rest .0 .0 .0 .0 .0 .0 .0 .1) (c .before .before .before .match .rest .0 .0 .0 .0 .0 .0 .1) (λ h l. omega (arith, c .if3 .left)) (c .before .before .before .match .rest .0 .0 .0 .0 .0 .1) (c .before .before .before .match .rest .0 .0 .0 .0 .1) (λ h. omega (arith, c .if3 .left, binary-range h)) (c .before .before .before .match .rest .0 .0 .0 .1) (c .before .before .before .match .rest .0 .0 .1) (c .before .before .before .match .rest .0 .1) (c .before .before .before .match .rest .1)
 
 pub line-spec : {M : Type 1} → statement M
 line-spec =

@@ -63,7 +63,7 @@ module _ (L : ℕ → Ty) (G : Bool → ℕ → Bool) where
       elim (eqb (fault false L G rec) 8) [
         | true ↦ no WrongClass
         | false ↦
-            elim (eqb f 56 && not (eqb len (L (sortIn rec) .w))) [
+            elim (eqb f 64 && not (eqb len (L (sortIn rec) .w))) [
               | true ↦ no Misfit
               | false ↦ ruled (fault false L G rec) rec s
             ]

@@ -1,9 +1,8 @@
-use Rattle.tables.proofs.Shapes.{shape-unary, shape-binary, shape-zero, shape-past, fits-as}
 use mathlib.Core.Bool.{true, false}
 use mathlib.Core.Path.{refl, sym, ap, _∙_}
 use Rattle.tables.specs.Lines.{isBitvec, isArray, isConst, isInput, isState, isOutput, isUnary, isBinary, isIte, isRead, isWrite, isUnknown, isInitOrNext, isSignal, isEquality, shapeOf, kindIn}
 use Rattle.tables.proofs.Laws.{and-true, past, within}
-use Rattle.tables.proofs.Shapes.{shape-unary, shape-binary, fits-as}
+use Rattle.tables.proofs.Shapes.{binary-left, shape-unary, shape-binary, shape-zero, shape-past, fits-as}
 use borrow.Author.Needs.{needs}
 use Rattle.widths.proofs.fits.Statement.{statement}
 use Rattle.widths.proofs.fits.Tie as tie
@@ -119,15 +118,14 @@ returns-17 c = let s = c .before .before .before .before .args in
 returns-18 : tie.Need-returns-18
 returns-18 c = let s = c .before .before .before .before .before .args in
     let h = past (past (c .before .before .if2 .left) (c .before .before .before .before .match .rest .0 .0 .0 .0 .0 .0 .0 .0 .1)) (c .before .before .before .before .match .rest .0 .0 .0 .0 .0 .0 .0 .1) in
-    fits-as (s .t1) isBinary (shape-binary (kindIn (s .t1)) h (within (c .before .if3 .taken))) (s .t) (s .a) (s .b) (s .c) (c .fits-binary .ensures ∙ sym (and-true _))
+    let n = c .before .before .before .before .match .rest in
+    fits-as (s .t1) isBinary (shape-binary (kindIn (s .t1)) (binary-left h (within (c .before .if3 .taken)) (n .0 .0 .0 .0 .0 .0 .1) (n .0 .0 .0 .0 .0 .1) (n .0 .0 .0 .0 .1) (n .0 .0 .0 .1))) (s .t) (s .a) (s .b) (s .c) (c .fits-binary .ensures ∙ sym (and-true _))
 
 returns-19 : tie.Need-returns-19
 returns-19 c = let s = c .before .before .args in fits-as (s .t1) isUnknown (shape-zero (kindIn (s .t1)) (c .if1 .taken)) (s .t) (s .a) (s .b) (s .c) refl
 
 returns-20 : tie.Need-returns-20
-returns-20 c = let s = c .before .before .before .before .args in
-    let h = past (past (past (past (c .if3 .left) (c .before .before .before .match .rest .0 .0 .0 .0 .0 .0 .1)) (c .before .before .before .match .rest .0 .0 .0 .0 .0 .1)) (c .before .before .before .match .rest .0 .0 .0 .0 .1)) (c .before .before .before .match .rest .0 .0 .0 .1) in
-    fits-as (s .t1) isUnknown (shape-past (kindIn (s .t1)) h) (s .t) (s .a) (s .b) (s .c) refl
+returns-20 c = let s = c .before .before .before .before .args in fits-as (s .t1) isUnknown (shape-past (kindIn (s .t1)) (c .if3 .left)) (s .t) (s .a) (s .b) (s .c) refl
 
 pub fits-spec : {M : Type 1} → statement M
 fits-spec =

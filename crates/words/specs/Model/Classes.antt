@@ -5,7 +5,7 @@ use Prim.Native.Nat.{ℕ, _*_, _/_, _%_, _^_}
 use lib.Dec.{ltb}
 use lib.Bits.{bitOr}
 use Rattle.words.specs.Word.{shl}
-use Rattle.words.specs.Op.{Op, not, neg, inc, dec, redand, redor, redxor, slice, uext, sext, eq, neq, ult, ulte, ugt, ugte, slt, slte, sgt, sgte, iff, implies, and, or, xor, nand, nor, xnor, add, sub, mul, udiv, urem, sdiv, srem, smod, sll, srl, sra, rol, ror, concat, ite, mask}
+use Rattle.words.specs.Op.{Op, not, neg, inc, dec, redand, redor, redxor, slice, uext, sext, eq, neq, ult, ulte, ugt, ugte, slt, slte, sgt, sgte, iff, implies, and, or, xor, nand, nor, xnor, add, sub, mul, udiv, urem, sdiv, srem, smod, sll, srl, sra, rol, ror, concat, ite, mask, overflow}
 use Rattle.words.specs.Circuit.{circ}
 
 pub data Class : Type 0 where
@@ -16,7 +16,7 @@ pub data Class : Type 0 where
   test : Class  -- redand, redor, redxor, eq, neq and the unsigned comparisons: whole words; the result is one bit
   plain : Class  -- udiv, urem, srl: whole words; the result is of the operands' width
   copy : Class  -- uext: the whole word, as it is
-  compare : Class  -- the signed comparisons: the operands' low bits; the result is one bit
+  compare : Class  -- the signed comparisons and the overflow detectors: the operands' low bits; the result is one bit
   low : Class  -- sdiv, srem, smod, sra, rol, ror: the operands' low bits; the result is of their width
   extend : Class  -- sext: the operand's low bits; the result is wider
   cut : Class  -- slice: the whole word, shifted and not cut off above; always loose
@@ -70,6 +70,7 @@ classOf ror = low
 classOf concat = join
 classOf ite = pick
 classOf mask = clear
+classOf (overflow o) = compare
 
 -- an operator in a program, from its class and what it is in a circuit: at width 64, as it is, or on low bits
 abbrev pub progBy : Class → Op → (u v a b c : ℕ) → ℕ

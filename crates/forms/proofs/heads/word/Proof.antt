@@ -7,7 +7,7 @@ use lib.ListN.{take, drop}
 use Rattle.texts.specs.Split.{tokens}
 use Rattle.texts.specs.Reading.{wordIn, formWord, sortWords}
 use Rattle.texts.proofs.Places.{next-token, no-token}
-use Rattle.texts.proofs.Words.{word-none, word-sort, word-other, known-at, find-most}
+use Rattle.texts.proofs.Words.{word-none, word-sort, word-other, known-at, sort-form, word-form}
 use borrow.Author.Needs.{needs}
 use Rattle.forms.proofs.heads.word.Statement.{statement}
 use Rattle.forms.proofs.heads.word.Tie as tie
@@ -77,7 +77,7 @@ returns-3 c =
     sym (c .before .before .before .before .skip2 .ensures .1 .1 .0) ∙ next-token l b y (omega arith) (c .before .before .before .before .skip2 .ensures .1 .1 .1 (omega arith)) (c .before .before .find-byte2 .ensures .1 .1) in (
       omega arith,
       (
-        omega (arith, c .find-kind .ensures, find-most 1 2 (take (y - b) (drop b l))),
+        omega (arith, c .find-kind .ensures, sort-form (take (y - b) (drop b l)) .0),
         ap (λ (x : List (List ℕ)). wordIn x) n ∙ (word-sort (take (z - a) (drop a l)) (tokens (drop z l)) (sym (c .before .before .before .before .before .before .is-sort .ensures) ∙ c .before .before .before .before .before .if2 .taken)
             ∙ (ap (λ (x : List (List ℕ)). sortWords x) k ∙ (ap (λ (f : ℕ). formWord f (tokens (drop y l))) (sym (c .find-kind .ensures)) ∙ known-at l (c .find-kind .result) y))),
       ),
@@ -104,7 +104,7 @@ returns-4 c =
     sym (c .before .before .before .before .before .before .before .skip .ensures .1 .1 .0) ∙ next-token l a z (omega arith) (c .before .before .before .before .before .before .before .skip .ensures .1 .1 .1 (omega arith)) (c .before .before .before .before .before .find-byte .ensures .1 .1) in (
       omega arith,
       (
-        omega (arith, c .find .ensures, find-most 3 58 (take (z - a) (drop a l))),
+        omega (arith, c .find .ensures, word-form (take (z - a) (drop a l)) .0),
         ap (λ (x : List (List ℕ)). wordIn x) n ∙ (word-other (take (z - a) (drop a l)) (tokens (drop z l)) (sym (c .before .before .before .is-sort .ensures) ∙ c .before .before .if2 .left)
             ∙ (ap (λ (f : ℕ). formWord f (tokens (drop z l))) (sym (c .find .ensures)) ∙ known-at l (c .find .result) z)),
       ),
