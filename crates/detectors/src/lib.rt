@@ -2,12 +2,13 @@
 // worked out that could pass 64 bits. In each, x and y are words of the width w, m is the greatest word of it and h the greatest signed number; a word above h is negative,
 // -1 - (m - x).
 ghost use mathlib.Core.Path.{_≡_};
-ghost use Prim.Native.Nat.{_≤_, _<_, _^_, _*_};
+ghost use Prim.Native.Nat.{_≤_, _*_};
 ghost use lib.Dec.{ltb};
 ghost use Rattle.words.specs.Word.{Width, bit as bitOf};
 ghost use Rattle.words.specs.Op.{opOf, uaddo, saddo, usubo, ssubo, umulo, smulo, sdivo};
 ghost use Rattle.words.specs.Overflow.{overflows};
 ghost use Rattle.words.specs.Program.{prog};
+ghost use Rattle.words.specs.Model.Widths.{Words};
 
 // The product of p and q is above the limit. It may not fit a machine word: one division tells.
 fn passes(limit: u64, p: u64, q: u64) -> bool
@@ -20,21 +21,21 @@ fn passes(limit: u64, p: u64, q: u64) -> bool
 }
 
 fn uaddo(w: u64, x: u64, y: u64) -> bool
-    requires { ⌜ Width w × ((x < 2 ^ w) × (y < 2 ^ w)) ⌝ }
+    requires { ⌜ Words w x y ⌝ }
     ensures { λ r. ⌜ r ≡ overflows uaddo w x y ⌝ }
 {
     operators::mask(w) - x < y
 }
 
 fn usubo(w: u64, x: u64, y: u64) -> bool
-    requires { ⌜ Width w × ((x < 2 ^ w) × (y < 2 ^ w)) ⌝ }
+    requires { ⌜ Words w x y ⌝ }
     ensures { λ r. ⌜ r ≡ overflows usubo w x y ⌝ }
 {
     x < y
 }
 
 fn umulo(w: u64, x: u64, y: u64) -> bool
-    requires { ⌜ Width w × ((x < 2 ^ w) × (y < 2 ^ w)) ⌝ }
+    requires { ⌜ Words w x y ⌝ }
     ensures { λ r. ⌜ r ≡ overflows umulo w x y ⌝ }
 {
     passes(operators::mask(w), x, y)
@@ -42,7 +43,7 @@ fn umulo(w: u64, x: u64, y: u64) -> bool
 
 // Numbers of two signs have a sum between them.
 fn saddo(w: u64, x: u64, y: u64) -> bool
-    requires { ⌜ Width w × ((x < 2 ^ w) × (y < 2 ^ w)) ⌝ }
+    requires { ⌜ Words w x y ⌝ }
     ensures { λ r. ⌜ r ≡ overflows saddo w x y ⌝ }
 {
     let m = operators::mask(w);
@@ -61,7 +62,7 @@ fn saddo(w: u64, x: u64, y: u64) -> bool
 
 // Numbers of one sign have a difference between the least and the greatest.
 fn ssubo(w: u64, x: u64, y: u64) -> bool
-    requires { ⌜ Width w × ((x < 2 ^ w) × (y < 2 ^ w)) ⌝ }
+    requires { ⌜ Words w x y ⌝ }
     ensures { λ r. ⌜ r ≡ overflows ssubo w x y ⌝ }
 {
     let m = operators::mask(w);
@@ -80,7 +81,7 @@ fn ssubo(w: u64, x: u64, y: u64) -> bool
 
 // The product of the sizes: up to h where the signs are the same, else up to h + 1.
 fn smulo(w: u64, x: u64, y: u64) -> bool
-    requires { ⌜ Width w × ((x < 2 ^ w) × (y < 2 ^ w)) ⌝ }
+    requires { ⌜ Words w x y ⌝ }
     ensures { λ r. ⌜ r ≡ overflows smulo w x y ⌝ }
 {
     let m = operators::mask(w);
@@ -99,7 +100,7 @@ fn smulo(w: u64, x: u64, y: u64) -> bool
 
 // Of all quotients only that of the least value by -1 is no word; by 0 there is none.
 fn sdivo(w: u64, x: u64, y: u64) -> bool
-    requires { ⌜ Width w × ((x < 2 ^ w) × (y < 2 ^ w)) ⌝ }
+    requires { ⌜ Words w x y ⌝ }
     ensures { λ r. ⌜ r ≡ overflows sdivo w x y ⌝ }
 {
     let m = operators::mask(w);

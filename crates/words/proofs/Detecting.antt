@@ -112,13 +112,13 @@ exact o w v a b c k ha hb f =
 
 module _ (w v c : ℕ) (k : Width w) where
   pub sdivo-by-zero : (a : ℕ) → a < 2 ^ w → circ (overflow sdivo) w v a 0 c ≡ 0
-  sdivo-by-zero a h = ap bit (sym (sdivo-else w a 0 (2 ^ w - 1) k refl h (pow-pos w) ((2 ^ w - 1) / 2 ^ 1) refl (λ e f. omega (arith, half w (k .least), pow-pos (w - 1)))))
+  sdivo-by-zero a h = ap bit (sym (sdivo-else (record { width = k; first = h; second = pow-pos w }) refl refl (λ e f. omega (arith, half w (k .least), pow-pos (w - 1)))))
 
   pub sdivo-one : circ (overflow sdivo) w v (2 ^ (w - 1)) (2 ^ w - 1) c ≡ 1
   sdivo-one =
       let m = 2 ^ w - 1 in
       let e : 2 ^ (w - 1) ≡ m / 2 ^ 1 + 1 = omega (arith, half w (k .least), pow-pos (w - 1)) in
-      ap bit (sym (sdivo-least w (2 ^ (w - 1)) m m k refl (omega (arith, half w (k .least), pow-pos (w - 1))) (omega (arith, pow-pos w)) (m / 2 ^ 1) refl e refl))
+      ap bit (sym (sdivo-least (record { width = k; first = omega (arith, half w (k .least), pow-pos (w - 1)); second = omega (arith, pow-pos w) }) refl refl e refl))
 
   pub sdivo-only : (a b : ℕ) → a < 2 ^ w → b < 2 ^ w → circ (overflow sdivo) w v a b c ≡ 1 → (a ≡ 2 ^ (w - 1)) × (b ≡ 2 ^ w - 1)
   sdivo-only a b ha hb q = go (eqb a (m / 2 ^ 1 + 1)) (eqb b m) refl refl
@@ -127,7 +127,7 @@ module _ (w v c : ℕ) (k : Width w) where
       m = 2 ^ w - 1
 
       none : (a ≡ m / 2 ^ 1 + 1 → b ≡ m → ⊥) → ⊥
-      none f = let z : _≡_ {A = ℕ} 0 1 = ap bit (sdivo-else w a b m k refl ha hb (m / 2 ^ 1) refl f) ∙ q in omega arith
+      none f = let z : _≡_ {A = ℕ} 0 1 = ap bit (sdivo-else (record { width = k; first = ha; second = hb }) refl refl f) ∙ q in omega arith
 
       go : (s t : Bool) → eqb a (m / 2 ^ 1 + 1) ≡ s → eqb b m ≡ t → (a ≡ 2 ^ (w - 1)) × (b ≡ 2 ^ w - 1)
       go true true e f = let x = eqb-true a (m / 2 ^ 1 + 1) e in (omega (arith, half w (k .least), pow-pos (w - 1)), eqb-true b m f)

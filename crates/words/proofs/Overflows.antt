@@ -12,6 +12,7 @@ use lib.Pow.{pow-pos}
 use lib.IntN.{ℤ, pos, negsuc, negℤ, _+ℤ_, _-ℤ_, _*ℤ_}
 use lib.Signed.{mag, ltZ, leZ, quotZ}
 use Rattle.words.specs.Word.{Width, signedValue}
+use Rattle.words.specs.Model.Widths.{Words}
 use Rattle.words.specs.Op.{uaddo, saddo, usubo, ssubo, umulo, smulo, sdivo}
 use Rattle.words.specs.Overflow.{outside, overflows}
 use Rattle.words.proofs.Signed.{half, signed-low, signed-high}
@@ -71,7 +72,7 @@ apart H a b ha hb lb = go (ltb a b)
 
 -- ---- the detectors
 
-module _ (w x y m : ℕ) (k : Width w) (em : m ≡ 2 ^ w - 1) (hx : x < 2 ^ w) (hy : y < 2 ^ w) where
+module _ {w x y m : ℕ} (ws : Words w x y) (em : m ≡ 2 ^ w - 1) where
   -- `m - x < y`
   pub uaddo-test : ltb (m - x) y ≡ overflows uaddo w x y
   uaddo-test = lt-as-le (m - x) y (2 ^ w) (x + y) (λ l. omega arith) (λ l. omega (arith, pow-pos w)) ∙ sym (outside-unsigned w (x + y))
@@ -94,9 +95,9 @@ module _ (w x y m : ℕ) (k : Width w) (em : m ≡ 2 ^ w - 1) (hx : x < 2 ^ w) (
 
   -- ---- signed: h is the greatest signed number
 
-  module _ (h : ℕ) (eh : h ≡ m / 2 ^ 1) where
+  module _ {h : ℕ} (eh : h ≡ m / 2 ^ 1) where
     pub top : 2 ^ (w - 1) ≡ suc h
-    top = omega (arith, half w (k .least), pow-pos (w - 1))
+    top = omega (arith, half w (ws .width .least), pow-pos (w - 1))
 
     -- a word up to h is itself, one above it is less than 0 by m - x + 1
     low : {a : ℕ} → a ≤ h → signedValue w a ≡ pos a
@@ -117,13 +118,13 @@ module _ (w x y m : ℕ) (k : Width w) (em : m ≡ 2 ^ w - 1) (hx : x < 2 ^ w) (
 
     pub saddo-high : h < x → h < y → leb (h - (m - x)) (m - y) ≡ overflows saddo w x y
     saddo-high lx ly =
-        le-as-le (h - (m - x)) (m - y) (suc h) (suc (m - x + (m - y))) (λ l. omega arith) (λ l. omega (arith, top, half w (k .least))) ∙ sym (by-size _+ℤ_ (high hx lx) (high hy ly))
+        le-as-le (h - (m - x)) (m - y) (suc h) (suc (m - x + (m - y))) (λ l. omega arith) (λ l. omega (arith, top, half w (ws .width .least))) ∙ sym (by-size _+ℤ_ (high (ws .first) lx) (high (ws .second) ly))
 
     pub saddo-left : h < x → y ≤ h → false ≡ overflows saddo w x y
-    saddo-left lx ly = below _+ℤ_ (high hx lx) (low ly) (apart (suc h) y (suc (m - x)) (omega arith) (omega (arith, top, half w (k .least))) (omega arith))
+    saddo-left lx ly = below _+ℤ_ (high (ws .first) lx) (low ly) (apart (suc h) y (suc (m - x)) (omega arith) (omega (arith, top, half w (ws .width .least))) (omega arith))
 
     pub saddo-right : x ≤ h → h < y → false ≡ overflows saddo w x y
-    saddo-right lx ly = below _+ℤ_ (low lx) (high hy ly) (apart (suc h) x (suc (m - y)) (omega arith) (omega (arith, top, half w (k .least))) (omega arith))
+    saddo-right lx ly = below _+ℤ_ (low lx) (high (ws .second) ly) (apart (suc h) x (suc (m - y)) (omega arith) (omega (arith, top, half w (ws .width .least))) (omega arith))
 
     pub ssubo-low : x ≤ h → y ≤ h → false ≡ overflows ssubo w x y
     ssubo-low lx ly = below _-ℤ_ (low lx) (low ly) (go y ly)
@@ -133,16 +134,16 @@ module _ (w x y m : ℕ) (k : Width w) (em : m ≡ 2 ^ w - 1) (hx : x < 2 ^ w) (
         go (suc b) l = apart (suc h) x (suc b) (omega arith) (omega arith) (omega arith)
 
     pub ssubo-high : h < x → h < y → false ≡ overflows ssubo w x y
-    ssubo-high lx ly = below _-ℤ_ (high hx lx) (high hy ly) (apart (suc h) (suc (m - y)) (suc (m - x)) (omega (arith, top, half w (k .least))) (omega (arith, top, half w (k .least))) (omega arith))
+    ssubo-high lx ly = below _-ℤ_ (high (ws .first) lx) (high (ws .second) ly) (apart (suc h) (suc (m - y)) (suc (m - x)) (omega (arith, top, half w (ws .width .least))) (omega (arith, top, half w (ws .width .least))) (omega arith))
 
     pub ssubo-right : x ≤ h → h < y → leb (h - x) (m - y) ≡ overflows ssubo w x y
-    ssubo-right lx ly = le-as-le (h - x) (m - y) (suc h) (x + suc (m - y)) (λ l. omega arith) (λ l. omega arith) ∙ sym (by-size _-ℤ_ (low lx) (high hy ly))
+    ssubo-right lx ly = le-as-le (h - x) (m - y) (suc h) (x + suc (m - y)) (λ l. omega arith) (λ l. omega arith) ∙ sym (by-size _-ℤ_ (low lx) (high (ws .second) ly))
 
     pub ssubo-left : h < x → y ≤ h → ltb (h - (m - x)) y ≡ overflows ssubo w x y
-    ssubo-left lx ly = go y ∙ sym (by-size _-ℤ_ (high hx lx) (low ly))
+    ssubo-left lx ly = go y ∙ sym (by-size _-ℤ_ (high (ws .first) lx) (low ly))
       where
         p-le : m - x ≤ h
-        p-le = omega (arith, top, half w (k .least))
+        p-le = omega (arith, top, half w (ws .width .least))
 
         go : (b : ℕ) → ltb (h - (m - x)) b ≡ leb (suc h) (mag (negsuc (m - x) -ℤ pos b))
         go zero = le-ltb (h - (m - x)) 0 zero-le ∙ sym (lt-leb (suc h) _ (apart (suc h) 0 (suc (m - x)) (omega arith) (omega (arith, p-le)) (omega arith)))
@@ -156,26 +157,26 @@ module _ (w x y m : ℕ) (k : Width w) (em : m ≡ 2 ^ w - 1) (hx : x < 2 ^ w) (
     pub smulo-high : h < x → h < y → ltb h ((m - x + 1) * (m - y + 1)) ≡ overflows smulo w x y
     smulo-high lx ly =
         ap₂ (λ (p q : ℕ). ltb h (p * q)) (add-one (m - x)) (add-one (m - y))
-        ∙ lt-as-le h (suc (m - x) * suc (m - y)) (suc h) (suc (m - x) * suc (m - y)) (λ l. l) (λ l. omega arith) ∙ sym (by-size _*ℤ_ (high hx lx) (high hy ly))
+        ∙ lt-as-le h (suc (m - x) * suc (m - y)) (suc h) (suc (m - x) * suc (m - y)) (λ l. l) (λ l. omega arith) ∙ sym (by-size _*ℤ_ (high (ws .first) lx) (high (ws .second) ly))
 
     pub smulo-left : h < x → y ≤ h → ltb (h + 1) ((m - x + 1) * y) ≡ overflows smulo w x y
     smulo-left lx ly =
         ap₂ (λ (l p : ℕ). ltb l (p * y)) (add-one h) (add-one (m - x))
-        ∙ sym (by-size _*ℤ_ (high hx lx) (low ly) ∙ mag-minus (suc h) (suc (m - x) * y) (omega arith))
+        ∙ sym (by-size _*ℤ_ (high (ws .first) lx) (low ly) ∙ mag-minus (suc h) (suc (m - x) * y) (omega arith))
 
     pub smulo-right : x ≤ h → h < y → ltb (h + 1) (x * (m - y + 1)) ≡ overflows smulo w x y
     smulo-right lx ly =
         ap₂ (λ (l q : ℕ). ltb l (x * q)) (add-one h) (add-one (m - y))
-        ∙ sym (by-size _*ℤ_ (low lx) (high hy ly) ∙ mag-minus (suc h) (x * suc (m - y)) (omega arith))
+        ∙ sym (by-size _*ℤ_ (low lx) (high (ws .second) ly) ∙ mag-minus (suc h) (x * suc (m - y)) (omega arith))
 
     -- ---- the least value by -1
 
     pub sdivo-least : x ≡ h + 1 → y ≡ m → true ≡ overflows sdivo w x y
     sdivo-least ex ey =
-        sym (by-size quotZ (high hx (omega arith) ∙ ap negsuc (omega (arith, top, half w (k .least)))) (ap (signedValue w) (ey ∙ em) ∙ minus-one w w 0 k) ∙ le-leb (suc h) (suc h / 1) (omega (arith, div-one (suc h))))
+        sym (by-size quotZ (high (ws .first) (omega arith) ∙ ap negsuc (omega (arith, top, half w (ws .width .least)))) (ap (signedValue w) (ey ∙ em) ∙ minus-one w w 0 (ws .width)) ∙ le-leb (suc h) (suc h / 1) (omega (arith, div-one (suc h))))
 
     pub sdivo-else : (x ≡ h + 1 → y ≡ m → ⊥) → false ≡ overflows sdivo w x y
     sdivo-else f =
         below quotZ refl refl
         (subst (λ (H : ℕ). mag (quotZ (signedValue w x) (signedValue w y)) < H) top
-        (quot-range (signedValue w x) (signedValue w y) (2 ^ (w - 1)) (signed-range w x k hx) (λ e g. f (is-least w w 0 k hx e ∙ top ∙ sym (add-one h)) (is-minus-one w w 0 k hy g ∙ sym em))))
+        (quot-range (signedValue w x) (signedValue w y) (2 ^ (w - 1)) (signed-range w x (ws .width) (ws .first)) (λ e g. f (is-least w w 0 (ws .width) (ws .first) e ∙ top ∙ sym (add-one h)) (is-minus-one w w 0 (ws .width) (ws .second) g ∙ sym em))))

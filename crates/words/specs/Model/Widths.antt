@@ -1,10 +1,16 @@
 -- What the operands' widths and the plain numbers of an operator have to be for the laws of its class, and its result's width. Both
 -- follow from BTOR2's rules; they speak of u and v, the widths of the first and second operands, and of b and c, the second and
 -- third operands where these are numbers. There v has no meaning: 64, say. Assumes nothing.
-use Prim.Native.Nat.{ℕ, suc, _+_, _-_, _≤_, _<_}
+use Prim.Native.Nat.{ℕ, suc, _+_, _-_, _^_, _≤_, _<_}
 use mathlib.Core.Path.{_≡_}
 use Rattle.words.specs.Word.{Width}
 use Rattle.words.specs.Model.Classes.{Class, turn, wrap, meet, merge, test, plain, copy, compare, low, extend, cut, left, join, pick, clear}
+
+-- x and y are words of the width w
+pub record Words (w x y : ℕ) : Type 0 where
+  pub width : Width w
+  pub first : x < 2 ^ w
+  pub second : y < 2 ^ w
 
 abbrev pub Widths : Class → (u v b c : ℕ) → Type 0
 Widths turn u v b c = Unit {0}
