@@ -1,11 +1,11 @@
 -- A record that keeps the rules has a line of which the named facts hold. Assumes nothing.
-use Prim.Native.Nat.{ℕ, _+_, _-_, _^_, _≤_, _<_}
+use Prim.Native.Nat.{ℕ, _+_, _^_, _≤_}
 use mathlib.Core.Path.{_≡_, refl, sym, ap, _∙_, subst}
 use mathlib.Core.Logic.{_⊎_, inl, inr}
 use mathlib.Core.Bool.{Bool, true, false, not, _&&_}
 use mathlib.Core.List.{List, [], _∷_, map}
 use native.Mathlib.Omega.{arith}
-use lib.Dec.{T, eqb, leb, ltb}
+use lib.Dec.{eqb, leb, ltb}
 use lib.ListN.{length}
 use borrow.Author.Tests.{eqb-true, ltb-true, leb-true, not-true}
 use Rattle.tables.specs.declared.Ty.{Ty}
@@ -19,7 +19,6 @@ use Rattle.tables.specs.Rules.{suits, classes, fits, sameSort, onceRules
 use Rattle.tables.specs.Layout.{whole, room as roomOf, recordsOf, linesOf}
 use Rattle.tables.specs.Ids.{idsRight}
 use Rattle.tables.specs.Tables.{known, unused, tidy, formed, keeps, lawful, broken, checked}
-use Rattle.tables.proofs.Laws.{true-of}
 use Rattle.tables.proofs.Every.{at-each, from-to}
 use Rattle.tables.proofs.Shapes.{BinaryKind, each-binary, KindOf, kind-of, range}
 use Rattle.tables.proofs.Answers.{passed}

@@ -3,7 +3,7 @@
 use mathlib.Core.Path.{_≡_, refl, sym, ap, ap₂, _∙_, subst}
 use mathlib.Core.Bool.{Bool, true, false, cond, _||_, or-false}
 use Prim.Native.Nat.{ℕ, zero, suc, _+_, _-_, _*_, _/_, _^_, _≤_, _<_, zero-le}
-use native.Mathlib.Nat.{div-lt-iff-lt-mul, mul-comm, zero-mul, div-one, mod-eq-of-lt, le-refl}
+use native.Mathlib.Nat.{div-lt-iff-lt-mul, mul-comm, zero-mul, div-one}
 use native.Mathlib.Numerals.{add-one}
 use native.Mathlib.Omega.{arith}
 use borrow.Author.Tests.{lt-ltb, le-ltb, le-leb, lt-leb, ltb-true, ltb-false, leb-true, leb-false}
@@ -11,7 +11,7 @@ use lib.Dec.{ltb, leb}
 use lib.Pow.{pow-pos}
 use lib.IntN.{ℤ, pos, negsuc, negℤ, _+ℤ_, _-ℤ_, _*ℤ_}
 use lib.Signed.{mag, ltZ, leZ, quotZ}
-use Rattle.words.specs.Word.{Width, signedValue}
+use Rattle.words.specs.Word.{signedValue}
 use Rattle.words.specs.Model.Widths.{Words}
 use Rattle.words.specs.Op.{uaddo, saddo, usubo, ssubo, umulo, smulo, sdivo}
 use Rattle.words.specs.Overflow.{outside, overflows}
@@ -112,6 +112,8 @@ module _ {w x y m : ℕ} (ws : Words w x y) (em : m ≡ 2 ^ w - 1) where
 
     below : (f : ℤ → ℤ → ℤ) {n d : ℤ} → signedValue w x ≡ n → signedValue w y ≡ d → mag (f n d) < suc h → false ≡ outside true w (f (signedValue w x) (signedValue w y))
     below f en ed l = sym (by-size f en ed ∙ lt-leb (suc h) (mag (f _ _)) l)
+
+    -- by the signs: both words up to h, both above it, and the left or the right one alone above it
 
     pub saddo-low : x ≤ h → y ≤ h → ltb (h - x) y ≡ overflows saddo w x y
     saddo-low lx ly = lt-as-le (h - x) y (suc h) (x + y) (λ l. omega arith) (λ l. omega arith) ∙ sym (by-size _+ℤ_ (low lx) (low ly))
