@@ -45,6 +45,14 @@
  * may have the same: the later one is refused. Tables hold no names, and written
  * texts have none.
  *
+ * A state is free where no counted record is a next line of it, wherever in the
+ * table that stands; a next line with the state as its own value does set it. A row
+ * of a run has a word for each input line, in line order, and behind them one for
+ * each cell of each free state, states in line order, cells rising, wherever they
+ * stand among the inputs. At step 0 every state has its start word or init value, and
+ * the free states' words are present and not read; from step 1 on a free state's cells
+ * are the row's words modulo 2^w, in a program too. A peek takes the row of step 0.
+ *
  * A list is passed as a pointer and its length (in elements). Each function
  * returns 0 when done, else the number of the first refusal that holds, in the
  * order given with the function:
@@ -66,7 +74,7 @@
  *   12  more records than the target or 16,384 holds
  *   13  steps above 4,096
  *   14  start words: not one for each state cell
- *   15  input words: not one for each input and step
+ *   15  input words: not one for each input and each cell of each free state, for each step (for a peek: one row)
  *   16  signal bytes: not one for each bad and constraint line and step
  *   17  work area below one word for each cell of each value line plus each state cell
  *   18  above 64 records, not a value line, or no such cell
@@ -131,8 +139,8 @@ uint64_t gofeshan_translate(const uint64_t *table, size_t table_len, size_t coun
                             uint64_t *answer, size_t answer_len);
 
 /* Runs a circuit. 1, 11, 13, 14, 15, 16, 17.
- * starts:  a word for each state cell, in line order, cells rising; unused where there is an init.
- * inputs:  a row for each step, a word for each input line.
+ * starts:  a word for each state cell, free or not, in line order, cells rising; unused where there is an init.
+ * inputs:  a row for each step: a word for each input line, then one for each cell of each free state.
  * signals: gets a byte, 0 or 1, for each step and each bad and constraint line.
  * work:    a word for each cell of each value line plus each state cell, or more.
  * answer:  1, step, place of the first counted bad (the step from 0, the place among the bad lines from 1); else 0, 0, 0. */
@@ -151,8 +159,9 @@ uint64_t gofeshan_run_program(const uint64_t *table, size_t table_len, size_t co
                               uint64_t *work, size_t work_len,
                               uint64_t *answer, size_t answer_len);
 
-/* The value of a line's cell at step 0, from start words and one row of inputs.
- * `line` is the record's place, not its id; a word has cell 0 only. 1, 11, 14, 15, 18.
+/* The value of a line's cell at step 0, from start words and one row: a word for each input line, then one for each
+ * cell of each free state, which is not read. `line` is the record's place, not its id; a word has cell 0 only.
+ * 1, 11, 14, 15, 18.
  * answer[0]: the value. */
 uint64_t gofeshan_peek(const uint64_t *table, size_t table_len, size_t count, size_t line, size_t cell,
                        const uint64_t *starts, size_t starts_len,

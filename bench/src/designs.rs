@@ -19,7 +19,7 @@ fn folder() -> PathBuf {
 fn run(program: bool, lines: &Lines) -> [f64; 3] {
     let (table, n) = (lines.words(), lines.records.len());
     let mut random = Random::new(3);
-    let (starts, inputs) = (random.words(lines.state_cells()), random.words(STEPS * lines.inputs()));
+    let (starts, inputs) = (random.words(lines.state_cells()), random.words(STEPS * lines.row_words()));
     let length = STEPS * lines.signals();
     let (mut a, mut b, mut c) = (vec![1; length], vec![2; length], vec![3; length]);
     let (mut x, mut y, mut z, mut work) = ([1; 3], [2; 3], [3; 3], vec![3; lines.work()]);

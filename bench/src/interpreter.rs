@@ -159,6 +159,8 @@ struct Machine {
     stores: Vec<u32>,
     values: Vec<u64>,
     states: Vec<u64>,
+    /// The places of the free states' words, and the masks of their widths, in the order of a row.
+    free: Vec<(u32, u64)>,
     signals: usize,
     inputs: usize,
 }
@@ -211,6 +213,8 @@ impl Machine {
             std::iter::once(0).chain(instructions.iter().map(of)).collect()
         };
         let cells = |n: usize| lines.lines[n].sort.map_or(1, |s| s.cells() as u32);
+        let free = instructions.iter().zip(&lines.lines).filter(|(_, line)| line.is_free());
+        let free = free.flat_map(|(i, _)| (i.a..i.a + i.cells).map(|place| (place, ones(i.of.w)))).collect();
         let mut machine = Machine {
             table: lines.words(),
             places: first(&|i| i.to),
@@ -220,6 +224,7 @@ impl Machine {
             instructions,
             values: vec![0; at as usize],
             states: starts.to_vec(),
+            free,
             signals: lines.signals(),
             inputs: lines.inputs(),
         };
@@ -361,6 +366,13 @@ impl Machine {
         }
     }
 
+    /// The free states take the words of a row behind its inputs.
+    fn feed(&mut self, words: &[u64]) {
+        for (&(place, mask), &word) in self.free.iter().zip(words) {
+            self.states[place as usize] = word & mask;
+        }
+    }
+
     fn walk<const P: bool, const D: bool>(&mut self, stores: u8, row: &[u64], signals: &mut [u8]) {
         if D {
             self.walk_decoded::<P>(stores, row, signals);
@@ -380,12 +392,17 @@ fn run<const P: bool, const D: bool>(
 ) {
     let mut machine = Machine::new(lines, starts);
     let (n, s) = (machine.inputs, machine.signals);
+    let row = n + machine.free.len();
     machine.walk::<P, D>(6, &vec![0; n], &mut []);
     let kinds: Vec<u64> = lines.lines.iter().map(|l| l.kind).filter(|k| matches!(k, 8 | 9)).collect();
     let mut held = true;
     for k in 0..steps {
         let bytes = &mut signals[k * s..(k + 1) * s];
-        machine.walk::<P, D>(7, &inputs[k * n..(k + 1) * n], bytes);
+        let (ins, fresh) = inputs[k * row..(k + 1) * row].split_at(n);
+        if k > 0 {
+            machine.feed(fresh);
+        }
+        machine.walk::<P, D>(7, ins, bytes);
         if answer[0] == 0 && held {
             held = kinds.iter().zip(bytes.iter()).all(|(&kind, &b)| kind == 8 || b == 1);
             let mut bads = kinds.iter().zip(bytes.iter()).filter(|(&kind, _)| kind == 8);
@@ -415,7 +432,7 @@ pub fn run_table<const D: bool>(
     };
     if steps > MOST_STEPS
         || starts.len() != lines.state_cells()
-        || inputs.len() != steps * lines.inputs()
+        || inputs.len() != steps * lines.row_words()
         || signals.len() != steps * lines.signals()
     {
         return 13;

@@ -5,7 +5,8 @@
 //! with gaps in their ids are measured beside texts of the same lines without, register files with inits beside the same
 //! files with nexts, which need no cone; the independent implementation searches the cone of each init value. Texts with
 //! minus operands stand by themselves (`minus.rs`); texts full of names stand beside the same lines without (`names.rs`). Runs
-//! of one overflow detector each stand behind additions alone (`detectors.rs`).
+//! of one overflow detector each stand behind additions alone (`detectors.rs`), runs of free states behind the same states kept
+//! by next lines (`free_states.rs`).
 //! `bash bench/run -- write` measures one operation alone, `-- edges` the inputs that could take long. `bench profile write` calls the proved one at its largest size
 //! and measures nothing; `bench/profile` runs that under callgrind.
 #![allow(dead_code, unused_imports)]
@@ -21,6 +22,8 @@ mod clock;
 mod designs;
 #[cfg(all(feature = "run_circuit", feature = "run_program"))]
 mod detectors;
+#[cfg(all(feature = "run_circuit", feature = "run_program"))]
+mod free_states;
 #[path = "../../rust/tests/generator/mod.rs"]
 mod generator;
 #[path = "../../rust/tests/independent/mod.rs"]
@@ -442,7 +445,7 @@ type Running = fn(&[u64], usize, usize, &[u64], &[u64], &mut [u8], &mut [u64], &
 fn run_row(rows: &mut Table, operation: &str, run: Running, program: bool, lines: &Lines, steps: usize) {
     let mut random = Random::new(3);
     let (table, n) = (lines.words(), lines.records.len());
-    let (starts, inputs) = (random.words(lines.state_cells()), random.words(steps * lines.inputs()));
+    let (starts, inputs) = (random.words(lines.state_cells()), random.words(steps * lines.row_words()));
     let length = steps * lines.signals();
     let (mut a, mut b, mut c) = (vec![1; length], vec![2; length], vec![3; length]);
     let (mut x, mut y, mut z, mut work) = ([1; 3], [2; 3], [3; 3], vec![3; lines.work()]);
@@ -504,6 +507,11 @@ fn circuit_rows() {
 fn detector_rows() {
     #[cfg(all(feature = "run_circuit", feature = "run_program"))]
     detectors::rows();
+}
+
+fn free_state_rows() {
+    #[cfg(all(feature = "run_circuit", feature = "run_program"))]
+    free_states::rows();
 }
 
 fn program_rows() {
@@ -599,12 +607,13 @@ fn main() {
     println!("Minus operands: `ites` are lines `n ite 1 -2 -2 -2`, `mixed` are lines of all kinds in which about every second operand that may have a minus has one.");
     println!("Names: lines `n bad 2 NAME` beside the lines `n bad 2`; the names of `one hash` are all looked through for each of them.");
     println!("Overflow detectors: lines that are all one detector on four inputs, and their program, behind such of additions.");
+    println!("Free states: states that are all free, as words or as memories of 256 cells, and their program, behind the same states kept by next lines.");
     println!("Register files, as texts and as tables: the values are all the last line of one chain (`chain`), or each a line over the one before (`deep`).\n");
     println!(
         "{:<12} {:<34} {:>10} {:>10} {:>6} {:>10} {:>6} {:>24} {:>6} {:>6}",
         "operation", "size", "proved", "plain", "ratio", "same shape", "ratio", "proved per unit", "growth", "plain"
     );
-    let rows: [(&str, fn()); 14] = [
+    let rows: [(&str, fn()); 15] = [
         ("read", read_rows),
         ("read_gaps", gap_rows),
         ("read_minus", minus::rows),
@@ -619,6 +628,7 @@ fn main() {
         ("run_circuit", circuit_rows),
         ("run_program", program_rows),
         ("run_detectors", detector_rows),
+        ("run_free_states", free_state_rows),
     ];
     let only = std::env::args().nth(if profiled() { 2 } else { 1 });
     for (operation, rows) in rows {

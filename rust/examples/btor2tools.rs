@@ -2,9 +2,10 @@
 //! the PATH.
 //!
 //! `catbtor` parses and prints the text of each circuit and of its flat circuit; it has to print the same tokens. `btorsim`
-//! gets the first counted bad of each run as a witness, with all start and input words, and has to agree; a witness that
-//! claims the bad one step earlier has to be refused. Every second circuit has minus operands in its text. Half of the
-//! circuits have no overflow detectors: a `btorsim` that does not support them says so, and such runs are counted apart.
+//! gets the first counted bad of each run as a witness, with all start words, the words of free states at each later step, and
+//! all input words, and has to agree; a witness that claims the bad one step earlier has to be refused. Every second circuit
+//! has minus operands in its text. Half of the circuits have no overflow detectors: a `btorsim` that does not support them
+//! says so, and such runs are counted apart.
 
 #[path = "../tests/generator/mod.rs"]
 mod generator;
@@ -37,31 +38,41 @@ fn same_tokens(a: &str, b: &str) -> bool {
     tokens(a) == tokens(b)
 }
 
-/// A witness: the claimed bad line, the start words of states without init, the input words of every step.
+/// A witness: the claimed bad line, the start words of states without init, the words of free states at each later step, the
+/// input words of every step.
 fn witness(lines: &Lines, place: u64, steps: usize, starts: &[u64], inputs: &[u64]) -> String {
-    let mut out = format!("sat\nb{}\n#0\n", place - 1);
-    let (mut cell, mut state) = (0, 0);
+    let mut out = format!("sat\nb{}\n", place - 1);
     let binary = |x: u64, w: u64| format!("{:0width$b}", x & independent::rules::ones(w), width = w as usize);
-    for line in lines.lines.iter().filter(|l| l.kind == 5) {
-        let sort = line.sort.unwrap();
-        for k in 0..sort.cells() {
-            if !line.init {
-                match sort {
-                    Sort::Word(w) => out += &format!("{state} {}\n", binary(starts[cell + k], w)),
-                    Sort::Array(i, w) => {
-                        out += &format!("{state} [{}] {}\n", binary(k as u64, i), binary(starts[cell + k], w))
-                    }
+    let widths: Vec<u64> = lines.lines.iter().filter(|l| l.kind == 4).map(|l| l.sort.unwrap().width()).collect();
+    for k in 0..steps {
+        let row = &inputs[k * lines.row_words()..(k + 1) * lines.row_words()];
+        let (ins, mut words) = row.split_at(widths.len());
+        if k == 0 {
+            words = starts;
+        }
+        if k == 0 || lines.free_cells() > 0 {
+            out += &format!("#{k}\n");
+        }
+        for (state, line) in lines.lines.iter().filter(|l| l.kind == 5).enumerate() {
+            // The start words are those of all states, a row's those of the free ones.
+            if k > 0 && !line.is_free() {
+                continue;
+            }
+            let (own, behind) = words.split_at(line.sort.unwrap().cells());
+            words = behind;
+            if k == 0 && line.init {
+                continue;
+            }
+            for (cell, &word) in own.iter().enumerate() {
+                match line.sort.unwrap() {
+                    Sort::Word(w) => out += &format!("{state} {}\n", binary(word, w)),
+                    Sort::Array(i, w) => out += &format!("{state} [{}] {}\n", binary(cell as u64, i), binary(word, w)),
                 }
             }
         }
-        cell += sort.cells();
-        state += 1;
-    }
-    let widths: Vec<u64> = lines.lines.iter().filter(|l| l.kind == 4).map(|l| l.sort.unwrap().width()).collect();
-    for k in 0..steps {
         out += &format!("@{k}\n");
-        for (i, &w) in widths.iter().enumerate() {
-            out += &format!("{i} {}\n", binary(inputs[k * widths.len() + i], w));
+        for (i, (&word, &w)) in ins.iter().zip(&widths).enumerate() {
+            out += &format!("{i} {}\n", binary(word, w));
         }
     }
     out + ".\n"
@@ -106,7 +117,7 @@ fn main() {
         let mut flat = vec![0; gofeshan::RECORD * independent::MOST_RECORDS];
         let Ok(flat_count) = gofeshan::flatten(&table, count, &mut flat) else { continue };
         let steps = 1 + random.below(6);
-        let (starts, inputs) = (random.words(lines.state_cells()), random.words(steps * lines.inputs()));
+        let (starts, inputs) = (random.words(lines.state_cells()), random.words(steps * lines.row_words()));
         let (mut signals, mut work) = (vec![0; steps * lines.signals()], vec![0; lines.work()]);
         let bad = gofeshan::run_circuit(&table, count, steps, &starts, &inputs, &mut signals, &mut work).unwrap();
         let flat_text = text(&flat, flat_count);

@@ -24,6 +24,13 @@
 //! numbered 1, 2, 3, their not lines too. A line may have a name, one token behind
 //! its numbers, that no earlier line has; tables hold no names.
 //!
+//! A state is *free* where no counted record is a next line of it; a next line with the
+//! state as its own value does set it. A *row* has a word for each input line, in line
+//! order, and behind them one for each cell of each free state, states in line order,
+//! cells rising. At step 0 every state has its start word or init value, and the row's
+//! words for free states are present and not read; from step 1 on they are, modulo 2^w,
+//! what the free states hold, in a circuit and in a program.
+//!
 //! Every operation ends with a listed answer. A refusal is a number
 //! ([`Refusal::number`], documented by [`Refusal::reason`]); after it
 //! everything lent for writing is zero. Past the end of a result everything
@@ -214,7 +221,8 @@ pub mod interface {
         change(c::gofeshan_translate, table, count, target, answer)
     }
 
-    /// Runs a circuit. `answer` is 1, step, place of the first counted bad, or three zeros.
+    /// Runs a circuit; `inputs` are rows: inputs, then the cells of free states. `answer` is 1, step, place of the first
+    /// counted bad, or three zeros.
     #[cfg(feature = "run_circuit")]
     #[allow(clippy::too_many_arguments)]
     pub fn run_circuit(
@@ -282,7 +290,7 @@ pub mod interface {
         }
     }
 
-    /// The value of a line's cell at step 0; the line is told by its record's place. `answer[0]` is the value.
+    /// The value of a line's cell at step 0, from one row; the line is told by its record's place. `answer[0]` is the value.
     #[cfg(feature = "peek")]
     pub fn peek(
         table: &[u64],
@@ -371,7 +379,7 @@ impl Refusal {
             12 => "more records than the target holds",
             13 => "more than 4,096 steps",
             14 => "not one start word for each state cell",
-            15 => "not one input word for each input and step",
+            15 => "not a row of words, one for each input and each cell of each free state, for each step",
             16 => "not one signal byte for each bad and constraint line and step",
             17 => "the work area is too small",
             18 => "no such value or cell, or more than 64 records",
@@ -451,6 +459,19 @@ pub fn translate(table: &[u64], count: usize, target: &mut [u64]) -> Result<usiz
 /// `inputs` a row of words for each step, `signals` gets a byte for each bad
 /// and constraint line and step, and `work` has a word for each cell of each
 /// value line plus each state cell, or more.
+///
+/// A row is the words of the inputs and then those of the free states, which take them from step 1 on:
+///
+/// ```
+/// let mut table = [0; gofeshan::RECORD * 9];
+/// let text = b"1 sort bitvec 4\n2 state 1\n3 input 1\n4 sort bitvec 1\n5 eq 4 2 3\n6 bad 5\n";
+/// let count = gofeshan::read(text, &mut table).unwrap();
+/// // Two words a row: the input, and then the state, which is 7, 2 and 18 modulo 16 in turn.
+/// let (starts, inputs) = ([7], [7, 0, 3, 2, 2, 18]);
+/// let (mut signals, mut work) = ([0; 3], [0; 4]);
+/// gofeshan::run_circuit(&table, count, 3, &starts, &inputs, &mut signals, &mut work).unwrap();
+/// assert_eq!(signals, [1, 0, 1]);
+/// ```
 #[cfg(feature = "run_circuit")]
 pub fn run_circuit(
     table: &[u64],
@@ -482,9 +503,10 @@ pub fn run_program(
     first_bad(number, answer)
 }
 
-/// The value of a line's cell at step 0, from start words and one row of
-/// inputs, in a circuit of at most 64 records. The line is told by its record's
-/// place, not by its id; a word has cell 0 only.
+/// The value of a line's cell at step 0, from start words and one row, in a
+/// circuit of at most 64 records. The row is that of a run, as long as any: its
+/// words for free states make no difference at step 0. The line is told by its
+/// record's place, not by its id; a word has cell 0 only.
 #[cfg(feature = "peek")]
 pub fn peek(
     table: &[u64],

@@ -13,6 +13,8 @@
 
 #[path = "compare/detectors.rs"]
 mod detectors;
+#[path = "compare/free_states.rs"]
+mod free_states;
 mod generator;
 mod independent;
 #[path = "compare/minus.rs"]
@@ -611,7 +613,9 @@ fn run_of(random: &mut Random, lines: &Lines) -> Run {
     let steps = if steps == 4_096 && lines.work() > 60 { 4_097 } else { steps };
     let rows = if steps > 4_096 { 1 } else { steps };
     let exact = |random: &mut Random, n| if random.one_in(3) { length(random, n) } else { n };
-    let (starts, inputs) = (exact(random, lines.state_cells()), exact(random, rows * lines.inputs()));
+    let starts = exact(random, lines.state_cells());
+    // Seldom the inputs alone, without the words of free states.
+    let inputs = if random.one_in(12) { rows * lines.inputs() } else { exact(random, rows * lines.row_words()) };
     Run {
         steps,
         starts: random.words(starts),
@@ -629,9 +633,12 @@ fn run_circuit_case(random: &mut Random) -> u64 {
     if random.one_in(5) {
         lines = flat_of(&lines).unwrap_or_default();
     }
-    let run = run_of(random, &lines);
     let (table, count) =
         if random.one_in(3) { table_of(random, &lines) } else { (roomy(random, &lines), lines.records.len()) };
+    // The lists fit what is counted, where it is accepted, or the lines as they were.
+    let counted = independent::rules::check_table(&table, count).filter(|_| table.len() % RECORD == 0);
+    let fitting = counted.filter(|_| random.one_in(2)).unwrap_or(lines);
+    let run = run_of(random, &fitting);
     both_run(random, (independent::run_circuit, proved::run_circuit), (&table, count, false), &run)
 }
 
@@ -652,9 +659,11 @@ fn run_program_case(random: &mut Random) -> u64 {
         assert!(records.len() > independent::MOST_RECORDS);
         return 20;
     };
-    let run = run_of(random, &lines);
     let (table, count) =
         if random.one_in(3) { table_of(random, &lines) } else { (roomy(random, &lines), lines.records.len()) };
+    let counted = independent::rules::check_program(&table, count).filter(|_| table.len() % PROGRAM_RECORD == 0);
+    let fitting = counted.filter(|_| random.one_in(2)).unwrap_or(lines);
+    let run = run_of(random, &fitting);
     both_run(random, (independent::run_program, proved::run_program), (&table, count, true), &run)
 }
 
@@ -807,12 +816,12 @@ fn all_results(random: &mut Random, lines: &Lines) -> Vec<(Vec<u64>, Vec<u8>)> {
     let number = proved::write(&table, n, &mut text, &mut answer);
     keep(number, answer, vec![], text);
     let (k, s) = (3, Random::new(n as u64).words(lines.state_cells()));
-    let i = Random::new(n as u64 + 1).words(k * lines.inputs());
+    let i = Random::new(n as u64 + 1).words(k * lines.row_words());
     let (mut signals, mut work) = (random.bytes(k * lines.signals()), random.words(lines.work()));
     let number = proved::run_circuit(&table, n, k, &s, &i, &mut signals, &mut work, &mut answer);
     keep(number, answer, work, signals);
     for line in 0..=n.min(64) + 1 {
-        let number = proved::peek(&table, n, line, 0, &s, &i[..lines.inputs()], &mut answer);
+        let number = proved::peek(&table, n, line, 0, &s, &i[..lines.row_words()], &mut answer);
         keep(number, answer, vec![], vec![]);
     }
     results
@@ -847,7 +856,7 @@ fn alike(random: &mut Random, lines: &Lines) -> u64 {
     let mut p = random.words(PROGRAM_RECORD * (2 * flat).min(16_384));
     let Ok(program) = gofeshan::translate(&f, flat, &mut p) else { return 12 };
     let k = 1 + random.below(12);
-    let (starts, inputs) = (random.words(lines.state_cells()), random.words(k * lines.inputs()));
+    let (starts, inputs) = (random.words(lines.state_cells()), random.words(k * lines.row_words()));
     let length = k * lines.signals();
     let run = |of: usize, random: &mut Random| {
         let (mut signals, mut work) = (random.bytes(length), random.words(3 * room.max(lines.work())));
@@ -886,7 +895,7 @@ fn runs_of_circuit_flat_circuit_and_program() {
         let Some(flat) = flat_of(&lines) else { return 12 };
         let Some(program) = program_of(&flat) else { return 12 };
         let k = 1 + random.below(12);
-        let (starts, inputs) = (random.words(lines.state_cells()), random.words(k * lines.inputs()));
+        let (starts, inputs) = (random.words(lines.state_cells()), random.words(k * lines.row_words()));
         let expected = lines.run(k, &starts, &inputs);
         let bad = lines.first_bad(k, &expected).map(|(step, place)| gofeshan::FirstBad { step, place });
         for of in [&lines, &flat, &program] {
@@ -908,7 +917,7 @@ fn independent_circuit_flat_circuit_and_program() {
         let Some(flat) = flat_of(&lines) else { return 12 };
         let Some(program) = program_of(&flat) else { return 12 };
         let k = 1 + random.below(12);
-        let (starts, inputs) = (random.words(lines.state_cells()), random.words(k * lines.inputs()));
+        let (starts, inputs) = (random.words(lines.state_cells()), random.words(k * lines.row_words()));
         let of = |lines: &Lines| {
             let signals = lines.run(k, &starts, &inputs);
             let bad = lines.first_bad(k, &signals);
@@ -1038,7 +1047,7 @@ fn peek_case(random: &mut Random) -> u64 {
     };
     let cells = lines.line(line as u64).and_then(|l| l.sort).map_or(1, |s| s.cells());
     let cell = if random.one_in(12) { random.pick(&[cells, usize::MAX, 1 << 32]) } else { random.below(cells) };
-    let (starts, row) = (lines.state_cells(), lines.inputs());
+    let (starts, row) = (lines.state_cells(), if random.one_in(12) { lines.inputs() } else { lines.row_words() });
     let (starts, row) = if random.one_in(4) { (length(random, starts), length(random, row)) } else { (starts, row) };
     let answer = answer_length(random);
     let (starts, row) = (random.words(starts), random.words(row));
@@ -1072,11 +1081,13 @@ fn peeking_at_doubling_lines() {
         }
         let table = numbered(&records);
         let starts: Vec<u64> = (0..256).map(|i| i * 7 % 256).collect();
+        // The array is free: its words stand behind the input.
+        let row = vec![3; 257];
         for cell in 0..256 {
             let mut words = [0; 3];
-            let number = independent::peek(&table, n as usize, array as usize, cell, &starts, &[3], &mut words);
+            let number = independent::peek(&table, n as usize, array as usize, cell, &starts, &row, &mut words);
             assert_eq!(number, 0);
-            assert_eq!(gofeshan::peek(&table, n as usize, array as usize, cell, &starts, &[3]), Ok(words[0]));
+            assert_eq!(gofeshan::peek(&table, n as usize, array as usize, cell, &starts, &row), Ok(words[0]));
         }
     });
 }

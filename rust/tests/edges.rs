@@ -236,11 +236,53 @@ fn peeking_through_arrays() {
         }
         records.push([21, 3, a, b, 0]);
         let table = independent::numbered(&records);
-        // All cells alike, so that every comparison goes through all of them.
-        let starts = vec![7; 512];
-        let took = least(|| assert_eq!(gofeshan::peek(&table, n as usize + 1, n as usize + 1, 0, &starts, &[]), Ok(1)));
+        // All cells alike, so that every comparison goes through all of them. Both states are free, and have words in the row.
+        let (starts, row, last) = (vec![7; 512], vec![3; 512], n as usize + 1);
+        let took = least(|| assert_eq!(gofeshan::peek(&table, last, last, 0, &starts, &row), Ok(1)));
         println!("a peek through {} lines of arrays: {took:?}", n + 1);
         assert!(took < MOST, "the peek took {took:?}");
+    });
+}
+
+/// As many states as there may be, free or with next lines behind all of them, the last state's first: which states are free is
+/// not looked up in the whole table for each.
+#[cfg(all(feature = "run_circuit", feature = "peek"))]
+#[test]
+fn running_free_states() {
+    on_stack(|| {
+        let most = gofeshan::MOST_RECORDS as u64;
+        let states = |n: u64, sort: u64| {
+            let mut records = vec![[1, 0, 8, 0, 0], [2, 0, 1, 1, 0]];
+            (0..n).for_each(|_| records.push([5, sort, 0, 0, 0]));
+            records
+        };
+        let nexts = |n: u64, share: u64| {
+            let mut records = states(n, 1);
+            (3..n + 3).rev().filter(|state| state % share == 0).for_each(|state| records.push([7, 1, state, state, 0]));
+            records
+        };
+        for (name, records) in [
+            ("16,382 free states", states(most - 2, 1)),
+            ("8,191 states with next lines", nexts(8_191, 1)),
+            ("10,900 states, half of them free", nexts(10_900, 2)),
+            ("100 free memories", states(100, 2)),
+        ] {
+            let (table, count) = (independent::numbered(&records), records.len());
+            let lines = independent::rules::check_table(&table, count).unwrap();
+            let (starts, row, steps) = (vec![5; lines.state_cells()], vec![300; lines.row_words()], 3);
+            let (inputs, mut work) = (row.repeat(steps), vec![1; lines.work()]);
+            let run = || {
+                assert_eq!(gofeshan::run_circuit(&table, count, steps, &starts, &inputs, &mut [], &mut work), Ok(None))
+            };
+            let took = least(run);
+            println!("running {name}, {steps} steps: {took:?}");
+            assert!(took < MOST, "running {name} took {took:?}");
+            // Above 64 records.
+            let peek = || assert_eq!(gofeshan::peek(&table, count, 3, 0, &starts, &row).map_err(|r| r.number), Err(18));
+            let took = least(peek);
+            println!("a peek among {name}: {took:?}");
+            assert!(took < MOST, "a peek among {name} took {took:?}");
+        }
     });
 }
 

@@ -40,7 +40,10 @@ struct Example {
 
 impl Example {
     fn new(name: &str) -> Example {
-        let text = file(name);
+        Example::of(name, file(name))
+    }
+
+    fn of(name: &str, text: Vec<u8>) -> Example {
         let mut table = vec![0; RECORD * 1000];
         let count = gofeshan::read(&text, &mut table).unwrap_or_else(|e| panic!("{name}: {e}"));
         let (mut flat, mut program) = (vec![0; RECORD * MOST_RECORDS], vec![0; PROGRAM_RECORD * MOST_RECORDS]);
@@ -71,23 +74,41 @@ impl Example {
         bad
     }
 
-    /// A run from start words 0 whose inputs are given by their names.
-    fn driven(&self, steps: usize, input: impl Fn(&[u8], u64) -> u64) -> Option<(u64, u64)> {
-        let of_kind_4 = self.lines.ids.iter().zip(&self.lines.records).filter(|(_, r)| r[0] == 4);
-        let names: Vec<&[u8]> = of_kind_4.map(|(&id, _)| gofeshan::name(&self.text, id)).collect();
-        let inputs: Vec<u64> = (0..steps as u64)
+    /// The names of a row's words: those of the inputs, and then those of the free states, for each of their cells. yosys names
+    /// a line `uext` by 0 bits over a free state, and not the state.
+    fn row_names(&self) -> Vec<&[u8]> {
+        let name = |place: usize| gofeshan::name(&self.text, self.lines.ids[place]);
+        let state_name = |place: usize| {
+            let over = self.lines.records.iter().position(|r| (r[0], r[2], r[3]) == (19, place as u64 + 1, 0));
+            over.filter(|_| name(place).is_empty()).map_or(name(place), name)
+        };
+        let lines = || self.lines.lines.iter().enumerate();
+        let inputs = lines().filter(|(_, line)| line.kind == 4).map(|(place, _)| name(place));
+        let free = lines().filter(|(_, line)| line.is_free());
+        inputs.chain(free.flat_map(|(place, l)| vec![state_name(place); l.sort.unwrap().cells()])).collect()
+    }
+
+    /// Rows whose words are given by their names and the step.
+    fn rows(&self, steps: usize, word: impl Fn(&[u8], u64) -> u64) -> Vec<u64> {
+        let names = self.row_names();
+        (0..steps as u64)
             .flat_map(|k| names.iter().map(move |name| (k, *name)))
-            .map(|(k, name)| input(name, k))
-            .collect();
-        self.run(steps, &vec![0; self.lines.state_cells()], &inputs).map(|bad| (bad.step, bad.place))
+            .map(|(k, name)| word(name, k))
+            .collect()
+    }
+
+    /// A run from start words 0 on such rows.
+    fn driven(&self, steps: usize, word: impl Fn(&[u8], u64) -> u64) -> Option<(u64, u64)> {
+        let rows = self.rows(steps, word);
+        self.run(steps, &vec![0; self.lines.state_cells()], &rows).map(|bad| (bad.step, bad.place))
     }
 
     /// Runs on any words.
     fn tried(&self) {
         let mut random = Random::new(self.count as u64);
         for steps in [0, 1, 2, 50, 300] {
-            let (starts, inputs) = (random.words(self.lines.state_cells()), random.words(steps * self.lines.inputs()));
-            self.run(steps, &starts, &inputs);
+            let (starts, rows) = (random.words(self.lines.state_cells()), random.words(steps * self.lines.row_words()));
+            self.run(steps, &starts, &rows);
         }
     }
 }
@@ -184,6 +205,62 @@ fn accepted() {
         for example in [counter, fifo, lfsr, caption, own, alu, registers, worked, gaps, minus, overflow] {
             example.tried();
         }
+    });
+}
+
+/// Free states: a design with `$anyseq`, which yosys writes as a state without a next line, and `$anyconst`, which it writes as
+/// a state that is its own next value.
+#[test]
+fn left_open() {
+    on_stack(|| {
+        let watch = Example::new("verilog/watch.btor2");
+        assert_eq!(watch.row_names(), [&b"clk"[..], b"", b"", b"place", b"letter"]);
+        assert_eq!((watch.lines.inputs(), watch.lines.free_cells()), (3, 2));
+        let typed = |place: fn(u64) -> u64, letter: fn(u64) -> u64| {
+            move |name: &[u8], k: u64| match name {
+                b"place" => place(k),
+                b"letter" => letter(k),
+                _ => k,
+            }
+        };
+        // From start words 0 the cell 0 is watched, and the letter 0 is typed there at step 0. Another letter is typed there
+        // when the place comes again, which is 16 modulo 16 at step 16.
+        assert_eq!(watch.driven(300, typed(|k| k, |k| 65 + k)), Some((16, 2)));
+        assert_eq!(watch.driven(16, typed(|k| k, |k| 65 + k)), None);
+        // Where the letter is the same in all steps, or the place does not come again, nothing is typed over it.
+        assert_eq!(watch.driven(300, typed(|k| k, |_| 256)), None);
+        assert_eq!(watch.driven(300, typed(|k| 1 + k % 15, |k| k)), None);
+        // The first claim holds on any rows; the second does not.
+        let mixed = |name: &[u8], k: u64| (k + 1).wrapping_mul(0x9e37_79b9_7f4a_7c15 + name.len() as u64) >> 7;
+        let (rows, starts) = (watch.rows(1000, mixed), vec![0; watch.lines.state_cells()]);
+        assert!(watch.run(1000, &starts, &rows).is_some_and(|bad| bad.place == 2));
+        assert!(watch.lines.run(1000, &starts, &rows).chunks(2).all(|claims| claims[0] == 0));
+        // It holds because the watched cell stays the same. Without the next line of its place, that is free too: at step 2
+        // another cell is watched, where another letter is.
+        let moved = |name: &[u8], k: u64| match name {
+            b"watched" => [0, 3][usize::from(k == 2)],
+            b"place" => [5, 3][usize::from(k == 1)],
+            _ => 65,
+        };
+        assert_eq!(watch.driven(300, moved), None);
+        let text = String::from_utf8(watch.text.clone()).unwrap().replace("\n9 next 5 8 8\n", "\n");
+        let unkept = Example::of("watch without a next line", text.into_bytes());
+        assert_eq!(unkept.row_names(), [&b"clk"[..], b"", b"", b"watched", b"place", b"letter"]);
+        assert_eq!(unkept.driven(300, moved), Some((2, 1)));
+
+        // Four tables whose wishes are left open, of which one is served; the wish for 13 is shown a step later.
+        let free = Example::new("free.btor2");
+        assert_eq!(free.row_names(), [&b"pause"[..], b"wished", b"wished", b"wished", b"wished"]);
+        assert_eq!(free.program_kinds().iter().filter(|&&kind| kind == 56).count(), 1);
+        let pauses = |pause: u64| -> Vec<u64> {
+            let wishes = [[13, 13, 13, 13], [13, 13, 0, 13], [0, 0, 13, 0], [0, 0, 29, 0], [0; 4]];
+            wishes.iter().zip([0, 0, 1, pause, 0]).flat_map(|(wish, pause)| [&[pause], &wish[..]].concat()).collect()
+        };
+        for (served, pause, bad) in [(2, 0, Some(4)), (6, 2, Some(4)), (2, 1, None), (1, 0, Some(2)), (4, 1, Some(2))] {
+            let told = free.run(5, &[13, 13, 13, 13, served, 13], &pauses(pause));
+            assert_eq!(told.map(|bad| bad.step), bad, "{served} {pause}");
+        }
+        [watch, unkept, free].iter().for_each(Example::tried);
     });
 }
 

@@ -3,6 +3,8 @@
 
 #[path = "own/detectors.rs"]
 mod detectors;
+#[path = "own/free_states.rs"]
+mod free_states;
 mod generator;
 mod independent;
 #[path = "own/minus.rs"]
@@ -304,17 +306,17 @@ fn constraints_bar_bads() {
 
 #[test]
 fn next_values_together() {
-    // Two states that swap, an init below its state, and a state that keeps its value.
+    // Two states that swap, an init below its state, and a free state, which takes the words 2 and 3 at the steps 1 and 2.
     let text = "1 sort bitvec 1\n2 one 1\n3 state 1\n4 state 1\n5 init 1 3 2\n6 next 1 3 4\n7 next 1 4 3\n8 bad 3\n9 bad 4\n10 state 1\n11 bad 10\n";
     let (t, n) = table(text);
     let (mut signals, mut work, mut answer) = ([0; 9], [0; 7], [0; 3]);
-    assert_eq!(run_circuit(&t, n, 3, &[0, 0, 5], &[], &mut signals, &mut work, &mut answer), 0);
-    assert_eq!((signals, answer), ([1, 0, 1, 0, 1, 1, 1, 0, 1], [1, 0, 1]));
-    assert_eq!(peek(&t, n, 3, 0, &[0, 2, 5], &[], &mut answer), 0);
+    assert_eq!(run_circuit(&t, n, 3, &[0, 0, 5], &[0, 2, 3], &mut signals, &mut work, &mut answer), 0);
+    assert_eq!((signals, answer), ([1, 0, 1, 0, 1, 0, 1, 0, 1], [1, 0, 1]));
+    assert_eq!(peek(&t, n, 3, 0, &[0, 2, 5], &[0], &mut answer), 0);
     assert_eq!(answer, [1, 0, 0]);
-    assert_eq!(peek(&t, n, 3, 1, &[0, 2, 5], &[], &mut answer), 18);
-    assert_eq!(peek(&t, n, 5, 0, &[0, 2, 5], &[], &mut answer), 18);
-    assert_eq!(peek(&t, n, 0, 0, &[0, 2, 5], &[], &mut answer), 18);
+    assert_eq!(peek(&t, n, 3, 1, &[0, 2, 5], &[0], &mut answer), 18);
+    assert_eq!(peek(&t, n, 5, 0, &[0, 2, 5], &[0], &mut answer), 18);
+    assert_eq!(peek(&t, n, 0, 0, &[0, 2, 5], &[0], &mut answer), 18);
 }
 
 /// The example with gaps in its ids; line 8 has a name.
@@ -510,7 +512,7 @@ fn generator_reaches() {
             loose_ite += usize::from(r[0] == 53 && record(r[2])[0] == 4);
         }
         let k = 4;
-        let (starts, inputs) = (random.words(lines.state_cells()), random.words(k * lines.inputs()));
+        let (starts, inputs) = (random.words(lines.state_cells()), random.words(k * lines.row_words()));
         let signals = lines.run(k, &starts, &inputs);
         counted += usize::from(lines.first_bad(k, &signals).is_some());
         let flat = flattening::flat_records(&lines, MOST_RECORDS).unwrap();
@@ -706,7 +708,7 @@ fn converted_circuits() {
 /// The generator makes lists that are longer than they have to be, and lists whose words stand in wrong places.
 #[test]
 fn generator_reaches_layouts() {
-    let mut random = generator::Random::new(6);
+    let mut random = generator::Random::new(12);
     let (mut longer, mut far, mut wrong, mut right, mut accepted) = (0, 0, 0, 0, 0);
     for _ in 0..6000 {
         let size = generator::size(&mut random);

@@ -9,12 +9,12 @@ use Rattle.tables.specs.declared.Checked.the-variants.{Accepted}
 use Rattle.tables.specs.Lines.{Line}
 use Rattle.tables.specs.Layout.{linesOf}
 use Rattle.circuits.specs.Layout.{layout}
-use Rattle.circuits.specs.Run.{run, bytes, firstBad}
-use Rattle.flattening.proofs.Leaves.{answered, flat-accepted, flat-counts, flat-run}
+use Rattle.circuits.specs.Run.{rowLength, run, bytes, firstBad}
+use Rattle.flattening.proofs.Leaves.{answered, flat-accepted, flat-counts, flat-row, flat-run}
 use Rattle.programs.proofs.LaidLines.{same-counts}
-use Rattle.programs.proofs.Runs.{Small, alike}
+use Rattle.programs.proofs.Runs.{Small, row-alike, alike}
 use Rattle.programs.proofs.Done.{is-done, flat-ok, target-accepted, target-lines}
-use Rattle.agreement.specs.Comparison.{Table, Runs, flatTable, programTable, starts, totals, Words, Given, Agree}
+use Rattle.agreement.specs.Comparison.{Table, Runs, flatTable, programTable, starts, totals, row, Words, Given, Agree}
 use Rattle.agreement.proofs.Ready.{is-ready, answers, leaves}
 
 small : (xs : List ℕ) → Words xs → Small xs
@@ -43,17 +43,20 @@ module _ (R : Runs) (G : Given R) where
   abbrev lines : Bool → Table → List Line
   lines p T = linesOf p (T .words) (T .count)
 
-  -- F has as many state words, inputs and signals as C
-  countsF : (totals false F .states ≡ totals false C .states) × ((totals false F .inputs ≡ totals false C .inputs) × (totals false F .signals ≡ totals false C .signals))
-  countsF = let c = flat-counts (C .words) (C .count) (R .flatWords) (R .flatCount) (G .flat) in (c .states, (c .inputs, c .signals))
+  -- F has as many state words and signals as C, and its rows as many words
+  countsF : (totals false F .states ≡ totals false C .states) × ((row false F ≡ row false C) × (totals false F .signals ≡ totals false C .signals))
+  countsF =
+      let c = flat-counts (C .words) (C .count) (R .flatWords) (R .flatCount) (G .flat) in
+      (c .states, (flat-row (C .words) (C .count) (R .flatWords) (R .flatCount) (G .flat), c .signals))
 
   -- and P as many as F
-  countsP : (totals true P .states ≡ totals false F .states) × ((totals true P .inputs ≡ totals false F .inputs) × (totals true P .signals ≡ totals false F .signals))
+  countsP : (totals true P .states ≡ totals false F .states) × ((row true P ≡ row false F) × (totals true P .signals ≡ totals false F .signals))
   countsP =
       let d = is-done (F .words) (F .count) (R .programWords) (R .programCount) (G .program) in
-      let c = same-counts (lines false F) (flat-ok (F .words) (F .count) (R .programWords) (R .programCount) (G .program)) (d .flat) in
-      subst⁻¹ (λ (X : List Line). (layout true X .counts .states ≡ totals false F .states) × ((layout true X .counts .inputs ≡ totals false F .inputs) × (layout true X .counts .signals ≡ totals false F .signals)))
-      (target-lines (F .words) (F .count) (R .programWords) (R .programCount) (G .program)) (c .states, (c .inputs, c .signals))
+      let o = flat-ok (F .words) (F .count) (R .programWords) (R .programCount) (G .program) in
+      let c = same-counts (lines false F) o (d .flat) in
+      subst⁻¹ (λ (X : List Line). (layout true X .counts .states ≡ totals false F .states) × ((rowLength true X ≡ row false F) × (layout true X .counts .signals ≡ totals false F .signals)))
+      (target-lines (F .words) (F .count) (R .programWords) (R .programCount) (G .program)) (c .states, (row-alike (lines false F) o (d .flat), c .signals))
 
   readyC : starts false C (R .lent) (R .workC) ≡ Accepted
   readyC = is-ready false C (R .lent) (R .workC) (answered (C .words) (C .count) (R .flatWords) (R .flatCount) (G .flat) .accepted) (G .steps) (G .starts) (G .inputs) (G .signals) (G .workC)

@@ -14,7 +14,7 @@ use Rattle.tables.specs.Answers.{told, ifAccepted, fitting, leftBy}
 use Rattle.tables.proofs.Sound.{accepted-table}
 use Rattle.texts.specs.Writing.{writeText, writtenBy, writeTable, writeAnswer, bufferOf, writes}
 use Rattle.circuits.specs.Layout.{typeAt, layout}
-use Rattle.circuits.specs.Run.{run, bytes, firstBad}
+use Rattle.circuits.specs.Run.{rowLength, run, bytes, firstBad}
 use Rattle.circuits.specs.Answers.{lent, andThen, ready, answerOf, leftOf, ran, signalsLeft, toldRun, runs}
 use Rattle.peeks.specs.Peek.{peekAt, mayPeek, seenAs, peeked, toldPeek, peeks}
 use Rattle.flattening.specs.Flat.{flatten, flatRecords}
@@ -62,7 +62,7 @@ module _ (t u : List ℕ) (n : ℕ) (same : SameLines t u n) where
   run-alike k S I g w =
       λ i.
       let C = lines i in
-      let c = andThen (accepts i) (lent (layout false C .counts) k (length S) (length I) g w) in
+      let c = andThen (accepts i) (lent (layout false C .counts) (rowLength false C) k (length S) (length I) g w) in
       toldRun (answerOf c (firstBad 0 (run false C k S I))) (leftOf c g (bytes (run false C k S I)) ∷ replicate w 0 ∷ [])
 
   peek-alike : (line cell : ℕ) (S R : List ℕ) → peeks t n line cell S R ≡ peeks u n line cell S R
@@ -71,7 +71,7 @@ module _ (t u : List ℕ) (n : ℕ) (same : SameLines t u n) where
       λ i.
       let C = lines i in
       toldPeek
-      (seenAs (andThen (accepts i) (mayPeek (layout false C .counts) (typeAt (layout false C) line) n cell (length S) (length R))) (peekAt C S R line cell))
+      (seenAs (andThen (accepts i) (mayPeek (layout false C .counts) (rowLength false C) (typeAt (layout false C) line) n cell (length S) (length R))) (peekAt C S R line cell))
 
   pub ids-of-no-matter : SameOutcomes t u n
   ids-of-no-matter = record { writing = text-alike; flattening = flat-alike; translating = program-alike; running = run-alike; peeking = peek-alike }

@@ -7,3 +7,4 @@ pub mod SampleMasks
 pub mod SampleIds
 pub mod SampleMinus
 pub mod SampleDetectors
+pub mod SampleFree

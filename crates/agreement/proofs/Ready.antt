@@ -9,10 +9,10 @@ use Rattle.tables.specs.Layout.{linesOf}
 use Rattle.tables.specs.Tables.{checked}
 use Rattle.circuits.specs.Run.{run, bytes, firstBad}
 use Rattle.circuits.specs.Answers.{ready, ran, signalsLeft}
-use Rattle.agreement.specs.Comparison.{Table, Lent, starts, bad, signals, totals, Roomy}
+use Rattle.agreement.specs.Comparison.{Table, Lent, starts, bad, signals, totals, row, Roomy}
 
 module _ (p : Bool) (T : Table) (L : Lent) (w : ℕ) where
-  pub is-ready : checked p (T .words) (T .count) ≡ Accepted → L .steps ≤ 4096 → length (L .starts) ≡ totals p T .states → length (L .inputs) ≡ L .steps * totals p T .inputs
+  pub is-ready : checked p (T .words) (T .count) ≡ Accepted → L .steps ≤ 4096 → length (L .starts) ≡ totals p T .states → length (L .inputs) ≡ L .steps * row p T
       → L .signals ≡ L .steps * totals p T .signals → Roomy p T w → starts p T L w ≡ Accepted
   unfolding ready
   is-ready a b c d e f =
@@ -20,7 +20,7 @@ module _ (p : Bool) (T : Table) (L : Lent) (w : ℕ) where
         a,
         le-leb (L .steps) 4096 b,
         eq-eqb (length (L .starts)) (totals p T .states) c,
-        eq-eqb (length (L .inputs)) (L .steps * totals p T .inputs) d,
+        eq-eqb (length (L .inputs)) (L .steps * row p T) d,
         eq-eqb (L .signals) (L .steps * totals p T .signals) e,
         le-leb _ w f,
       )

@@ -9,6 +9,7 @@ use Rattle.tables.specs.Rules.{suits, fault}
 use Rattle.tables.specs.Tables.{checked}
 use Rattle.circuits.specs.Examples.{circuit}
 use Rattle.circuits.specs.Layout.{layout}
+use Rattle.circuits.specs.Free.{sources}
 use Rattle.flattening.specs.Flat.{flatten, flatRecords}
 use Rattle.flattening.specs.Placed.{flatFilled}
 use Rattle.flattening.specs.Answers.{flattened, flatLeft}
@@ -32,7 +33,7 @@ sample =
     }
 
 given : Given sample
-unfolding filledBy flattened flatLeft flatten flatRecords flatFilled translated programLeft translate checked fault suits rowOf layout
+unfolding filledBy flattened flatLeft flatten flatRecords flatFilled translated programLeft translate checked fault suits rowOf layout sources
 given =
     record {
       flat = refl;

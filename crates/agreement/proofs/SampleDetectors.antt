@@ -14,7 +14,8 @@ use Rattle.circuits.specs.declared.Ran.the-variants.{Bad}
 use Rattle.circuits.specs.Cells.{put}
 use Rattle.circuits.specs.Layout.{layout}
 use Rattle.circuits.specs.Meaning.{step}
-use Rattle.circuits.specs.Run.{start, steps, run}
+use Rattle.circuits.specs.Free.{sources}
+use Rattle.circuits.specs.Run.{start, stepFrom, wordsBefore, steps, run}
 use Rattle.circuits.specs.Answers.{ready, ran, signalsLeft}
 use Rattle.flattening.specs.Flat.{flatten, flatRecords}
 use Rattle.flattening.specs.Placed.{flatFilled}
@@ -47,7 +48,7 @@ sampleDetectors =
     }
 
 detectors-given : Given sampleDetectors
-unfolding filledBy flattened flatLeft flatten flatRecords flatFilled translated programLeft translate checked fault suits rowOf layout
+unfolding filledBy flattened flatLeft flatten flatRecords flatFilled translated programLeft translate checked fault suits rowOf layout sources
 detectors-given =
     record {
       flat = refl;
@@ -69,11 +70,11 @@ detectors-agree = demand-3 sampleDetectors detectors-given
 
 pub detectors-signals : signals false (sampleDetectors .circuit) (sampleDetectors .lent) 9
     ≡ 1 ∷ 1 ∷ 1 ∷ 0 ∷ 1 ∷ 1 ∷ 1 ∷ 0 ∷ 1 ∷ 0 ∷ 0 ∷ 0 ∷ 1 ∷ 0 ∷ 1 ∷ 1 ∷ 1 ∷ 0 ∷ 1 ∷ 1 ∷ 1 ∷ 0 ∷ 0 ∷ 0 ∷ 0 ∷ 0 ∷ 0 ∷ 0 ∷ []
-unfolding filledBy signalsLeft ready checked fault suits rowOf layout run start steps step put
+unfolding filledBy signalsLeft ready checked fault suits rowOf layout sources run start stepFrom wordsBefore steps step put
 detectors-signals = refl
 
 pub detectors-bad : bad false (sampleDetectors .circuit) (sampleDetectors .lent) 9 ≡ Bad 0 1
-unfolding filledBy ran ready checked fault suits rowOf layout run start steps step put
+unfolding filledBy ran ready checked fault suits rowOf layout sources run start stepFrom wordsBefore steps step put
 detectors-bad = refl
 
 -- ---- a detector is copied, and needs both operands clean

@@ -15,7 +15,8 @@ use Rattle.circuits.specs.declared.Ran.the-variants.{Bad}
 use Rattle.circuits.specs.Cells.{put}
 use Rattle.circuits.specs.Layout.{layout}
 use Rattle.circuits.specs.Meaning.{step}
-use Rattle.circuits.specs.Run.{start, steps, run}
+use Rattle.circuits.specs.Free.{sources}
+use Rattle.circuits.specs.Run.{start, stepFrom, wordsBefore, steps, run}
 use Rattle.circuits.specs.Answers.{ready, ran, signalsLeft}
 use Rattle.flattening.specs.Flat.{flatten, flatRecords}
 use Rattle.flattening.specs.Placed.{flatFilled}
@@ -50,7 +51,7 @@ sampleMasks =
     }
 
 masks-given : Given sampleMasks
-unfolding filledBy flattened flatLeft flatten flatRecords flatFilled translated programLeft translate checked fault suits rowOf layout
+unfolding filledBy flattened flatLeft flatten flatRecords flatFilled translated programLeft translate checked fault suits rowOf layout sources
 masks-given =
     record {
       flat = refl;
@@ -71,11 +72,11 @@ masks-agree = demand-3 sampleMasks masks-given
 -- ---- what they agree on: of each step the bytes of the constraint and of the two bads; the first counted bad is the second bad line, at step 2
 
 pub masks-signals : signals false (sampleMasks .circuit) (sampleMasks .lent) 100 ≡ 1 ∷ 0 ∷ 0 ∷ 1 ∷ 0 ∷ 0 ∷ 1 ∷ 0 ∷ 1 ∷ 0 ∷ 1 ∷ 0 ∷ []
-unfolding filledBy signalsLeft ready checked fault suits rowOf layout run start steps step put
+unfolding filledBy signalsLeft ready checked fault suits rowOf layout sources run start stepFrom wordsBefore steps step put
 masks-signals = refl
 
 pub masks-bad : bad false (sampleMasks .circuit) (sampleMasks .lent) 100 ≡ Bad 2 2
-unfolding filledBy ran ready checked fault suits rowOf layout run start steps step put
+unfolding filledBy ran ready checked fault suits rowOf layout sources run start stepFrom wordsBefore steps step put
 masks-bad = refl
 
 -- ---- the masks: the add that is the index has one, which the write's eq lines take; the not that is the condition has one, which both lines of the array ite take
@@ -103,7 +104,7 @@ abbrev looseIndex : Table
 looseIndex = record { words = changed (changed (changed (programTable sampleMasks .words) 15 (fields 21 1 13 1 0)) 17 (fields 21 1 13 2 0)) 28 (fields 21 1 13 1 0); count = 35 }
 
 index-matters : signals true looseIndex (sampleMasks .lent) 100 ≡ 1 ∷ 0 ∷ 0 ∷ 1 ∷ 0 ∷ 0 ∷ 1 ∷ 1 ∷ 0 ∷ 0 ∷ 1 ∷ 0 ∷ []
-unfolding filledBy flattened flatLeft flatten flatRecords flatFilled translated programLeft translate signalsLeft ready checked fault suits rowOf layout run start steps step put
+unfolding filledBy flattened flatLeft flatten flatRecords flatFilled translated programLeft translate signalsLeft ready checked fault suits rowOf layout sources run start stepFrom wordsBefore steps step put
 index-matters = refl
 
 -- the loose condition is never 0: at step 0 the array is written
@@ -111,5 +112,5 @@ abbrev looseCondition : Table
 looseCondition = record { words = changed (changed (programTable sampleMasks .words) 21 (fields 53 3 19 16 4)) 23 (fields 53 3 19 18 5); count = 35 }
 
 condition-matters : signals true looseCondition (sampleMasks .lent) 100 ≡ 1 ∷ 0 ∷ 0 ∷ 1 ∷ 1 ∷ 0 ∷ 1 ∷ 0 ∷ 1 ∷ 0 ∷ 1 ∷ 0 ∷ []
-unfolding filledBy flattened flatLeft flatten flatRecords flatFilled translated programLeft translate signalsLeft ready checked fault suits rowOf layout run start steps step put
+unfolding filledBy flattened flatLeft flatten flatRecords flatFilled translated programLeft translate signalsLeft ready checked fault suits rowOf layout sources run start stepFrom wordsBefore steps step put
 condition-matters = refl

@@ -18,7 +18,8 @@ use Rattle.texts.specs.Reading.{findIn, wordIn, settled, lowest, readLine, read
 use Rattle.circuits.specs.Cells.{put}
 use Rattle.circuits.specs.Layout.{layout}
 use Rattle.circuits.specs.Meaning.{step}
-use Rattle.circuits.specs.Run.{start, steps, run}
+use Rattle.circuits.specs.Free.{sources}
+use Rattle.circuits.specs.Run.{start, stepFrom, wordsBefore, steps, run}
 use Rattle.circuits.specs.Answers.{ready, signalsLeft}
 use Rattle.flattening.specs.Flat.{flatten, flatRecords}
 use Rattle.flattening.specs.Placed.{flatFilled}
@@ -56,7 +57,7 @@ sampleMinus =
 
 minus-given : Given sampleMinus
 unfolding readTextBy readLinesBy readLine lowest settled resolved wordIn findIn formRow split upTo tokens decimal scanned valued allIn valueFrom digit
-    filledBy flattened flatLeft flatten flatRecords flatFilled translated programLeft translate checked fault suits rowOf layout
+    filledBy flattened flatLeft flatten flatRecords flatFilled translated programLeft translate checked fault suits rowOf layout sources
 minus-given =
     record {
       flat = refl;
@@ -77,5 +78,5 @@ minus-agree = demand-3 sampleMinus minus-given
 -- of each step the bytes of the two bads: the second is the complement of the first
 pub minus-signals : signals false (sampleMinus .circuit) (sampleMinus .lent) 10 ≡ 0 ∷ 1 ∷ 1 ∷ 0 ∷ 0 ∷ 1 ∷ []
 unfolding readTextBy readLinesBy readLine lowest settled resolved wordIn findIn formRow split upTo tokens decimal scanned valued allIn valueFrom digit
-    filledBy signalsLeft ready checked fault suits rowOf layout run start steps step put
+    filledBy signalsLeft ready checked fault suits rowOf layout sources run start stepFrom wordsBefore steps step put
 minus-signals = refl

@@ -11,6 +11,7 @@ use Rattle.tables.specs.declared.Checked.the-variants.{Accepted}
 use Rattle.tables.specs.Layout.{linesOf}
 use Rattle.circuits.specs.declared.Ran.{Ran}
 use Rattle.circuits.specs.Layout.{Counts, layout}
+use Rattle.circuits.specs.Run.{rowLength}
 use Rattle.circuits.specs.Answers.{ready, ran, signalsLeft}
 use Rattle.flattening.specs.Answers.{flattened, flatLeft}
 use Rattle.programs.specs.Answers.{translated, programLeft}
@@ -64,6 +65,10 @@ signals p T L w = signalsLeft p (T .words) (T .count) (L .steps) (L .starts) (L 
 abbrev pub totals : Bool → Table → Counts
 totals p T = layout p (linesOf p (T .words) (T .count)) .counts
 
+-- the words of a row of a table's lines: the inputs, and one for each cell of each free state
+abbrev pub row : Bool → Table → ℕ
+row p T = rowLength p (linesOf p (T .words) (T .count))
+
 -- a work area of w words that 17 lets pass
 abbrev pub Roomy : Bool → Table → (w : ℕ) → Type 0
 Roomy p T w = totals p T .cells + totals p T .states ≤ w
@@ -81,7 +86,7 @@ pub record Given (R : Runs) : Type 0 where
   pub program : translated (flatTable R .words) (flatTable R .count) (R .programWords) ≡ Done (R .programCount)
   pub steps : R .lent .steps ≤ 4096
   pub starts : length (R .lent .starts) ≡ totals false (R .circuit) .states
-  pub inputs : length (R .lent .inputs) ≡ R .lent .steps * totals false (R .circuit) .inputs
+  pub inputs : length (R .lent .inputs) ≡ R .lent .steps * row false (R .circuit)
   pub signals : R .lent .signals ≡ R .lent .steps * totals false (R .circuit) .signals
   pub words : Words (R .lent .inputs)
   pub workC : Roomy false (R .circuit) (R .workC)

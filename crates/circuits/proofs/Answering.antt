@@ -2,7 +2,7 @@
 use Prim.Native.Nat.{ℕ, zero, suc, _+_, _*_, _≤_, _<_}
 use mathlib.Core.Path.{_≡_, refl, sym, ap, ap₂, _∙_}
 use mathlib.Core.Bool.{Bool, true, false}
-use mathlib.Core.List.{List, [], _∷_, _++_, append-nil, append-assoc}
+use mathlib.Core.List.{List, [], _∷_, _++_, map, append-nil, append-assoc}
 use native.Mathlib.Omega.{arith}
 use native.Mathlib.Nat.{mul-le-mul-left, mul-comm, zero-add, zero-mul}
 use lib.Dec.{leb, eqb}
@@ -22,48 +22,49 @@ use Rattle.circuits.specs.declared.Ran.{Ran}
 use Rattle.circuits.specs.declared.Ran.the-variants.{Nothing, Refused as RefusedRun}
 use Rattle.circuits.specs.Layout.{Counts, Layout, noLayout, lay, layAll, layout, countsAfter, size, lineTypeIn}
 use Rattle.circuits.specs.Meaning.{Signal, signalByte, Frame, noFrame, evalLine, evalAll, signalsAfter, step}
-use Rattle.circuits.specs.Run.{rowLength, start, steps, run, bytesOf, bytes, firstBad}
-use Rattle.tables.specs.Layout.{linesOf}
+use Rattle.circuits.specs.Run.{rowLength, inputsAt, freeAt, start, entered, stepFrom, wordsBefore, steps, run, bytesOf, bytes, firstBad}
+use Rattle.tables.specs.Layout.{linesOf, from}
 use Rattle.circuits.specs.Answers.{lent, ready, ran, signalsLeft, toldRun, runs}
 use Rattle.circuits.specs.Model.Passes.{countsOf, totalsOf}
 use Rattle.circuits.specs.Model.Signals.{badMark, marks, zipSig, sigRows}
 use Rattle.circuits.specs.Model.Answers.{started, lentRuns}
+use Rattle.circuits.proofs.Repeated.{steps-many}
 
 -- ---- 13 to 17
 
-module _ (c : Counts) (k s i g w : ℕ) where
-  pub is-13 : 4096 < k → Refused TooManySteps ≡ lent c k s i g w
+module _ (c : Counts) (row k s i g w : ℕ) where
+  pub is-13 : 4096 < k → Refused TooManySteps ≡ lent c row k s i g w
   is-13 h = rw (lt-leb k 4096 h)
 
-  pub is-14 : k ≤ 4096 → (s ≡ c .states → ⊥) → Refused StartWords ≡ lent c k s i g w
+  pub is-14 : k ≤ 4096 → (s ≡ c .states → ⊥) → Refused StartWords ≡ lent c row k s i g w
   is-14 h n = rw (le-leb k 4096 h, ne-eqb s (c .states) n)
 
-  pub is-15 : k ≤ 4096 → s ≡ c .states → (i ≡ k * c .inputs → ⊥) → Refused InputWords ≡ lent c k s i g w
-  is-15 h e n = rw (le-leb k 4096 h, eq-eqb s (c .states) e, ne-eqb i (k * c .inputs) n)
+  pub is-15 : k ≤ 4096 → s ≡ c .states → (i ≡ k * row → ⊥) → Refused InputWords ≡ lent c row k s i g w
+  is-15 h e n = rw (le-leb k 4096 h, eq-eqb s (c .states) e, ne-eqb i (k * row) n)
 
-  pub is-16 : k ≤ 4096 → s ≡ c .states → i ≡ k * c .inputs → (g ≡ k * c .signals → ⊥) → Refused SignalBytes ≡ lent c k s i g w
-  is-16 h e f n = rw (le-leb k 4096 h, eq-eqb s (c .states) e, eq-eqb i (k * c .inputs) f, ne-eqb g (k * c .signals) n)
+  pub is-16 : k ≤ 4096 → s ≡ c .states → i ≡ k * row → (g ≡ k * c .signals → ⊥) → Refused SignalBytes ≡ lent c row k s i g w
+  is-16 h e f n = rw (le-leb k 4096 h, eq-eqb s (c .states) e, eq-eqb i (k * row) f, ne-eqb g (k * c .signals) n)
 
-  pub is-17 : k ≤ 4096 → s ≡ c .states → i ≡ k * c .inputs → g ≡ k * c .signals → w < c .cells + c .states → Refused WorkArea ≡ lent c k s i g w
-  is-17 h e f q l = rw (le-leb k 4096 h, eq-eqb s (c .states) e, eq-eqb i (k * c .inputs) f, eq-eqb g (k * c .signals) q, lt-leb (c .cells + c .states) w l)
+  pub is-17 : k ≤ 4096 → s ≡ c .states → i ≡ k * row → g ≡ k * c .signals → w < c .cells + c .states → Refused WorkArea ≡ lent c row k s i g w
+  is-17 h e f q l = rw (le-leb k 4096 h, eq-eqb s (c .states) e, eq-eqb i (k * row) f, eq-eqb g (k * c .signals) q, lt-leb (c .cells + c .states) w l)
 
-  pub is-lent : k ≤ 4096 → s ≡ c .states → i ≡ k * c .inputs → g ≡ k * c .signals → c .cells + c .states ≤ w → Accepted ≡ lent c k s i g w
-  is-lent h e f q l = rw (le-leb k 4096 h, eq-eqb s (c .states) e, eq-eqb i (k * c .inputs) f, eq-eqb g (k * c .signals) q, le-leb (c .cells + c .states) w l)
+  pub is-lent : k ≤ 4096 → s ≡ c .states → i ≡ k * row → g ≡ k * c .signals → c .cells + c .states ≤ w → Accepted ≡ lent c row k s i g w
+  is-lent h e f q l = rw (le-leb k 4096 h, eq-eqb s (c .states) e, eq-eqb i (k * row) f, eq-eqb g (k * c .signals) q, le-leb (c .cells + c .states) w l)
 
-pub record Lent (c : Counts) (k s i g w : ℕ) : Type 0 where
+pub record Lent (c : Counts) (row k s i g w : ℕ) : Type 0 where
   pub steps : k ≤ 4096
   pub starts : s ≡ c .states
-  pub inputs : i ≡ k * c .inputs
+  pub inputs : i ≡ k * row
   pub signals : g ≡ k * c .signals
   pub work : c .cells + c .states ≤ w
 
-pub lent-facts : (c : Counts) (k s i g w : ℕ) → lent c k s i g w ≡ Accepted → Lent c k s i g w
-lent-facts c k s i g w = go (leb k 4096) (eqb s (c .states)) (eqb i (k * c .inputs)) (eqb g (k * c .signals)) (leb (c .cells + c .states) w) refl refl refl refl refl
+pub lent-facts : (c : Counts) (row k s i g w : ℕ) → lent c row k s i g w ≡ Accepted → Lent c row k s i g w
+lent-facts c row k s i g w = go (leb k 4096) (eqb s (c .states)) (eqb i (k * row)) (eqb g (k * c .signals)) (leb (c .cells + c .states) w) refl refl refl refl refl
   where
-    go : (a b d e f : Bool) → leb k 4096 ≡ a → eqb s (c .states) ≡ b → eqb i (k * c .inputs) ≡ d → eqb g (k * c .signals) ≡ e → leb (c .cells + c .states) w ≡ f
-        → pick a (pick b (pick d (pick e (pick f Accepted (Refused WorkArea)) (Refused SignalBytes)) (Refused InputWords)) (Refused StartWords)) (Refused TooManySteps) ≡ Accepted → Lent c k s i g w
+    go : (a b d e f : Bool) → leb k 4096 ≡ a → eqb s (c .states) ≡ b → eqb i (k * row) ≡ d → eqb g (k * c .signals) ≡ e → leb (c .cells + c .states) w ≡ f
+        → pick a (pick b (pick d (pick e (pick f Accepted (Refused WorkArea)) (Refused SignalBytes)) (Refused InputWords)) (Refused StartWords)) (Refused TooManySteps) ≡ Accepted → Lent c row k s i g w
     go true true true true true a b d e f z =
-        record { steps = leb-true k 4096 a; starts = eqb-true s (c .states) b; inputs = eqb-true i (k * c .inputs) d; signals = eqb-true g (k * c .signals) e; work = leb-true (c .cells + c .states) w f }
+        record { steps = leb-true k 4096 a; starts = eqb-true s (c .states) b; inputs = eqb-true i (k * row) d; signals = eqb-true g (k * c .signals) e; work = leb-true (c .cells + c .states) w f }
     go true true true true false a b d e f z = absurd (not-accepted WorkArea z)
     go true true true false y a b d e f z = absurd (not-accepted SignalBytes z)
     go true true false x y a b d e f z = absurd (not-accepted InputWords z)
@@ -119,20 +120,34 @@ unfolding marksOf
 rest-back [] rest = refl
 rest-back (signalByte m v ∷ g) rest = rest-back g rest
 
-rows-back : (p : Bool) (C : List Line) (k : ℕ) (σ I : List ℕ) → sigRows (marks C) k (bytes (steps p C k σ I)) ≡ steps p C k σ I
-unfolding steps
-rows-back p C zero σ I = refl
-rows-back p C (suc k) σ I =
-    let A = step p false C σ (take (rowLength p C) I) in
-    let r = bytes (steps p C k (A .sts) (drop (rowLength p C) I)) in
-    let e : marks C ≡ marksOf (A .sigs) = sym (step-marks p false C σ (take (rowLength p C) I)) in
-    ap₂ (λ (x : List Signal) (y : List (List Signal)). x ∷ y) (ap (λ (m : List ℕ). zipSig m (bytesOf (A .sigs) ++ r)) e ∙ zip-back (A .sigs) r)
-    (ap (sigRows (marks C) k) (ap (λ (m : List ℕ). drop (length m) (bytesOf (A .sigs) ++ r)) e ∙ rest-back (A .sigs) r) ∙ rows-back p C k (A .sts) (drop (rowLength p C) I))
+-- each step has the marks ms
+abbrev AllMarked : (ms : List ℕ) → List (List Signal) → Type 0
+AllMarked ms [] = Unit {0}
+AllMarked ms (g ∷ gs) = (marksOf g ≡ ms) × AllMarked ms gs
+
+rows-back : (ms : List ℕ) (gs : List (List Signal)) → AllMarked ms gs → sigRows ms (length gs) (bytes gs) ≡ gs
+rows-back ms [] h = refl
+rows-back ms (g ∷ gs) h =
+    ap₂ (λ (x : List Signal) (y : List (List Signal)). x ∷ y) (ap (λ (m : List ℕ). zipSig m (bytesOf g ++ bytes gs)) (sym (h .0)) ∙ zip-back g (bytes gs))
+    (ap (sigRows ms (length gs)) (ap (λ (m : List ℕ). drop (length m) (bytesOf g ++ bytes gs)) (sym (h .0)) ∙ rest-back g (bytes gs)) ∙ rows-back ms gs (h .1))
+
+module _ (p : Bool) (C : List Line) (σ I : List ℕ) where
+  steps-marked : (ts : List ℕ) → AllMarked (marks C) (map (λ (t : ℕ). stepFrom p C I t (wordsBefore p C I σ t) .sigs) ts)
+  unfolding stepFrom
+  steps-marked [] = tt
+  steps-marked (t ∷ ts) = (step-marks p false C (entered p C t (wordsBefore p C I σ t) (freeAt p C I t)) (inputsAt p C I t), steps-marked ts)
+
+  all-marked : (k : ℕ) → AllMarked (marks C) (steps p C k σ I)
+  unfolding steps
+  all-marked k = steps-marked (from 0 k)
+
+  steps-back : (k : ℕ) → sigRows (marks C) k (bytes (steps p C k σ I)) ≡ steps p C k σ I
+  steps-back k = ap (λ (n : ℕ). sigRows (marks C) n (bytes (steps p C k σ I))) (sym (steps-many p C k σ I)) ∙ rows-back (marks C) (steps p C k σ I) (all-marked k)
 
 -- the first counted bad, as it is found
 pub bad-found : (p : Bool) (C : List Line) (k : ℕ) (S I : List ℕ) {m g : List ℕ} → m ≡ marks C → g ≡ bytes (run p C k S I) → firstBad 0 (sigRows m k g) ≡ firstBad 0 (run p C k S I)
 unfolding run
-bad-found p C k S I em eg = ap₂ (λ (x y : List ℕ). firstBad 0 (sigRows x k y)) em eg ∙ ap (firstBad 0) (rows-back p C k (start p C S I) I)
+bad-found p C k S I em eg = ap₂ (λ (x y : List ℕ). firstBad 0 (sigRows x k y)) em eg ∙ ap (firstBad 0) (steps-back p C (start p C S I) I k)
 
 signal-line : (c : Counts) (m : ℕ) (l : Line) → countsAfter c m l .signals ≡ c .signals + length (badMark l)
 signal-line c m (Line.bitvec w) = omega arith
@@ -195,11 +210,11 @@ module _ (p : Bool) (t : List ℕ) (n k : ℕ) (S I : List ℕ) (g w : ℕ) wher
   unfolding runs ran signalsLeft ready
   runs-lent e = rw e refl
 
-  pub lent-refused : {r : Refusal} {s v : List ℕ} → lent (layout p (linesOf p t n) .counts) k (length S) (length I) g w ≡ Refused r → s ≡ replicate g 0 → v ≡ replicate w 0
+  pub lent-refused : {r : Refusal} {s v : List ℕ} → lent (layout p (linesOf p t n) .counts) (rowLength p (linesOf p t n)) k (length S) (length I) g w ≡ Refused r → s ≡ replicate g 0 → v ≡ replicate w 0
       → toldRun (RefusedRun r) (s ∷ v ∷ []) ≡ lentRuns p t n k S I g w
   lent-refused e a b = rw (e, a, b) refl
 
-  pub lent-runs : lent (layout p (linesOf p t n) .counts) k (length S) (length I) g w ≡ Accepted → started p (linesOf p t n) k S I w ≡ lentRuns p t n k S I g w
+  pub lent-runs : lent (layout p (linesOf p t n) .counts) (rowLength p (linesOf p t n)) k (length S) (length I) g w ≡ Accepted → started p (linesOf p t n) k S I w ≡ lentRuns p t n k S I g w
   lent-runs e = rw e refl
 
 pub nonzero : (k : ℕ) → (k ≡ 0 → ⊥) → 0 < k
@@ -207,5 +222,6 @@ nonzero zero n = absurd (n refl)
 nonzero (suc k) n = omega arith
 
 -- the tests 13 to 17 on the counts that the pass has found
-pub lent-on : (c : Counts) (k s i g w : ℕ) {tot : Totals} {d x : Checked} → tot ≡ totalsOf c → d ≡ lent (countsOf tot) k s i g w → d ≡ x → lent c k s i g w ≡ x
-lent-on c k s i g w et ed ex = sym (ed ∙ ap (λ (y : Totals). lent (countsOf y) k s i g w) et) ∙ ex
+pub lent-on : (c : Counts) (f k s i g w : ℕ) {tot : Totals} {d x : Checked} → tot ≡ totalsOf c f → d ≡ lent (countsOf tot) (tot .inputs + tot .free) k s i g w → d ≡ x
+    → lent c (c .inputs + f) k s i g w ≡ x
+lent-on c f k s i g w et ed ex = sym (ed ∙ ap (λ (y : Totals). lent (countsOf y) (y .inputs + y .free) k s i g w) et) ∙ ex

@@ -17,7 +17,7 @@ use Rattle.tables.proofs.Facts.{Ok, AllOk}
 use Rattle.circuits.specs.Cells.{ifNonzero, eqOrNeq, sameCells, part, put}
 use Rattle.circuits.specs.Layout.{Layout, typeAt, placeAt, size, lay, layout, lineTypeIn}
 use Rattle.circuits.specs.Meaning.{Frame, cellsAt, wordAt, widthAt, opWord, cellsE, stateWords, cellsOf, statesAfter, evalLine, evalAll, noFrame, step}
-use Rattle.circuits.specs.Run.{rowLength, start}
+use Rattle.circuits.specs.Run.{inputCount, start}
 use Rattle.circuits.proofs.Laid.{more-types}
 use Rattle.circuits.proofs.Walked.{accAt, acc-suc, acc-lay, eval-append}
 
@@ -163,4 +163,4 @@ module _ (p : Bool) (σ ι ι′ : List ℕ) where
 pub start-any-row : (p : Bool) (C : List Line) (S I J : List ℕ) → AllOk p noCtx C → start p C S I ≡ start p C S J
 unfolding start step
 start-any-row p C S I J h =
-    starts-alike p S (take (rowLength p C) I) (take (rowLength p C) J) noFrame noFrame C (record { lay = refl; longA = refl; longB = refl; cells = λ x e. refl }) refl h
+    starts-alike p S (take (inputCount p C) I) (take (inputCount p C) J) noFrame noFrame C (record { lay = refl; longA = refl; longB = refl; cells = λ x e. refl }) refl h

@@ -6,8 +6,11 @@ pub mod Laid
 pub mod Held
 pub mod Simulation
 pub mod Walked
+pub mod Sources
 pub mod Repeated
+pub mod Feeding
 pub mod Placing
+pub mod Stepping
 pub mod Rows
 pub mod Answering
 pub mod Earlier
@@ -16,6 +19,7 @@ pub mod WordCells
 pub mod WordLines
 pub mod StateWords
 pub mod States
+pub mod FreeStates
 pub mod NextLines
 pub mod Pending
 pub mod Starts

@@ -6,28 +6,31 @@ use mathlib.Core.Bool.{Bool, true, false}
 use mathlib.Core.List.{List, [], _∷_, _++_, append-nil, append-assoc}
 use native.Mathlib.Omega.{arith}
 use native.Mathlib.Numerals.{add-one}
-use native.Mathlib.Nat.{mod-eq-of-lt, one-mul, add-zero}
+use native.Mathlib.Nat.{mod-eq-of-lt, one-mul, add-zero, zero-add}
 use lib.Pow.{pow-lt, pow-mono}
-use lib.ListN.{length, take, getD, set, length-set, length-append}
-use lib.Seq.{getD-set-same, getD-set-other, take-suc-set, take-suc, take-length, length-take-le}
+use lib.ListN.{length, take, drop, getD, set, length-set, length-append}
+use lib.Seq.{getD-set-same, getD-set-other, take-suc-set, take-suc, take-length, length-take-le, drop-cons, drop-length}
 use Rattle.tables.specs.declared.Ty.{Ty}
 use Rattle.tables.specs.Lines.{Line, Shape, isBitvec, isArray, isConst, isInput, isState, isOutput, isUnary, isBinary, isIte, isRead, isWrite, isUnknown, isInitOrNext, isSignal, isEquality, shapeOf, build, lineOf, kindIn, sortIn, firstIn, secondIn, thirdIn}
 use Rattle.tables.specs.Layout.{recordAt, linesOf}
-use Rattle.tables.specs.Types.{tyAt, Ctx, growAll, context}
-use Rattle.tables.specs.Model.Notes.{lookIn}
+use Rattle.tables.specs.Types.{tyAt, Ctx, given, growAll, context}
+use Rattle.tables.specs.Model.Notes.{lookIn, givenIn}
 use Rattle.tables.proofs.Shapes.{binary-range, KindOf, kind-of, line-as, no-unknown}
 use Rattle.tables.proofs.Showing.{by-place}
 use Rattle.circuits.specs.declared.Spot.{Spot}
 use Rattle.circuits.specs.Layout.{Counts, Layout, counting, typeAt, placeAt, size, lineTypeIn, placeOf, countsAfter, noLayout, lay, layAll, layout}
+use Rattle.circuits.specs.Free.{ifState, sourcesHere, sourcesFrom, sources, freeCount}
+use Rattle.circuits.specs.Run.{rowLength}
 use Rattle.circuits.specs.Model.Work.{laidAs, laidIn}
 use Rattle.circuits.specs.Model.Places.{offAt, ShowsAll, Ready}
-use Rattle.circuits.specs.Model.Passes.{Noted, countsOf, totalsOf, spot, noSpot, spotBy, Small}
+use Rattle.circuits.specs.Model.Passes.{Noted, countsOf, totalsOf, freeHere, spot, noSpot, spotBy, Small}
 use Rattle.circuits.specs.Model.Signals.{badMark, marks}
 use Rattle.tables.specs.declared.Checked.the-variants.{Accepted}
 use Rattle.tables.specs.Tables.{checked}
 use Rattle.tables.proofs.Encoding.{fits-table}
 use Rattle.circuits.specs.declared.Totals.{Totals}
 use Rattle.circuits.proofs.Walked.{sound-at, ok-here, lay-next, later-at, number-at, lay-done, line-here, lines-many}
+use Rattle.circuits.proofs.Sources.{sources-many, free-append, here-free, free-few}
 use Rattle.circuits.proofs.Answering.{signals-many}
 use Rattle.circuits.proofs.Offsets.{off-new, off-old}
 use Rattle.circuits.proofs.Laid.{Sound, type-new, place-new, type-old, place-old, more-places, more-types, line-deep}
@@ -194,15 +197,35 @@ shows-more p Y l P n m w s S en few h es em ew pl a q =
       isPos = ap (λ (r : List ℕ). getD r 2 0) er ∙ k .isPos ∙ sym eq;
     })
 
+-- the state q has a next line, among all lines
+abbrev pub driven : (p : Bool) (C : List Line) (q : ℕ) → Bool
+driven p C q = given (layout p C .ctx) false q
+
 pub record Sofar (p : Bool) (t : List ℕ) (n i : ℕ) (tot : Totals) (P : List (List ℕ)) : Type 0 where
   pub most : i ≤ n
   pub long : length P ≡ 16385
-  pub counts : tot ≡ totalsOf (layAll p noLayout (take i (linesOf p t n)) .counts)
+  pub counts : tot ≡ totalsOf (layAll p noLayout (take i (linesOf p t n)) .counts) (tot .free)
   pub shows : ShowsAll P (layAll p noLayout (take i (linesOf p t n)))
+  -- the free words so far, and those of the lines to come
+  pub free : tot .free + freeCount (sourcesFrom p (driven p (linesOf p t n)) (layAll p noLayout (take i (linesOf p t n))) (drop i (linesOf p t n))) ≡ freeCount (sources p (linesOf p t n))
 
 module _ (p : Bool) (t : List ℕ) (n : ℕ) (xs : List (List ℕ)) (k : Noted p t n xs) where
-  pub begun : (P : List (List ℕ)) {P′ : List (List ℕ)} → length P ≡ 16385 → P′ ≡ set P 0 (laidAs 0 1 0 0) → Sofar p t n 0 (record { cells = 0; states = 0; inputs = 0; signals = 0 }) P′
-  begun P lp e = rw e (record { most = omega arith; long = length-set P 0 (laidAs 0 1 0 0) ∙ lp; counts = refl; shows = shows-none P (omega arith) })
+  pub begun : (P : List (List ℕ)) {P′ : List (List ℕ)} → length P ≡ 16385 → P′ ≡ set P 0 (laidAs 0 1 0 0) → Sofar p t n 0 (record { cells = 0; states = 0; inputs = 0; signals = 0; free = 0 }) P′
+  unfolding sources
+  begun P lp e =
+      rw e
+      (record {
+        most = omega arith;
+        long = length-set P 0 (laidAs 0 1 0 0) ∙ lp;
+        counts = refl;
+        shows = shows-none P (omega arith);
+        free = zero-add (freeCount (sourcesFrom p (driven p (linesOf p t n)) noLayout (linesOf p t n)));
+      })
+
+  -- the notes tell which states are driven
+  pub driven-noted : (q : ℕ) → givenIn xs false q ≡ driven p (linesOf p t n) q
+  unfolding context layout
+  driven-noted q = k .shows .flags false q ∙ ap (λ (c : Ctx). given c false q) (sym (lay-ctx p noLayout (linesOf p t n)))
 
   module _ (i : ℕ) (h : i < n) where
     -- the note of the line at hand has its type
@@ -227,11 +250,21 @@ module _ (p : Bool) (t : List ℕ) (n : ℕ) (xs : List (List ℕ)) (k : Noted p
         record { cells = omega (arith, S .few-cells); states = omega (arith, S .few-states); inputs = omega (arith, S .few-inputs); signals = omega (arith, S .few-signals) } in
         (subst (λ (x : Totals). Small (countsOf x) m) (sym (s .counts)) q, hm)
 
+    -- the free words are at most the state words
+    pub free-small : {tot : Totals} {P : List (List ℕ)} → Sofar p t n i tot P → tot .free ≤ 4194560
+    free-small {tot} s =
+        let S = sound-at p t n (k .accepted) n in
+        let e = number-at p t n (k .accepted) n (omega arith) in
+        let f = fits-table p t n (k .accepted) in
+        let d = ap (λ (Y : Layout). Y .counts .states) (lay-done p t n (k .accepted)) in
+        omega (arith, s .free, free-few (sources p (linesOf p t n)), sources-many p (linesOf p t n), S .few-states)
+
     -- one line more: r is the record at hand, y its type
-    pub further : {r : List ℕ} {y : Ty} {m : ℕ} {o : Spot} {tot tot′ : Totals} (P : List (List ℕ)) {P′ : List (List ℕ)} → Sofar p t n i tot P → r ≡ recordAt p t i → y ≡ lookIn xs (i + 1) → m ≡ size y
-        → o ≡ spotBy (countsOf tot) (lineOf r) → tot′ ≡ totalsOf (countsAfter (countsOf tot) m (lineOf r)) → P′ ≡ set P (i + 1) (laidAs (o .off) m (o .at) (y .w))
-        → Sofar p t n (i + 1) tot′ P′
-    further {r} {y} {m} {o} {tot} {tot′} P {P′} s er ey em eo et e =
+    pub further : {r : List ℕ} {y : Ty} {m : ℕ} {o : Spot} {tot tot′ tot″ : Totals} (P : List (List ℕ)) {P′ : List (List ℕ)} → Sofar p t n i tot P → r ≡ recordAt p t i → y ≡ lookIn xs (i + 1) → m ≡ size y
+        → o ≡ spotBy (countsOf tot) (lineOf r) → tot′ ≡ totalsOf (countsAfter (countsOf tot) m (lineOf r)) (tot .free) → P′ ≡ set P (i + 1) (laidAs (o .off) m (o .at) (y .w))
+        → tot″ ≡ totalsOf (countsOf tot′) (tot′ .free + freeHere (givenIn xs false (i + 1)) m (lineOf r))
+        → Sofar p t n (i + 1) tot″ P′
+    further {r} {y} {m} {o} {tot} {tot′} {tot″} P {P′} s er ey em eo et e ef =
         let Y = layAll p noLayout (take i (linesOf p t n)) in
         let l = getD (linesOf p t n) i Line.unknown in
         let S = sound-at p t n (k .accepted) i in
@@ -246,16 +279,31 @@ module _ (p : Bool) (t : List ℕ) (n : ℕ) (xs : List (List ℕ)) (k : Noted p
         record {
           most = omega arith;
           long = ap length e ∙ length-set P (i + 1) (laidAs (o .off) m (o .at) (y .w)) ∙ hl;
-          counts = et ∙ ap totalsOf (ap₂ (λ (c : Counts) (x : Line). countsAfter c m x) ec el ∙ ap (λ (x : ℕ). countsAfter (Y .counts) x l) sm) ∙ ap (λ (Z : Layout). totalsOf (Z .counts)) (sym next);
+          counts = ef ∙ ap₂ totalsOf (ap countsOf et ∙ ap₂ (λ (c : Counts) (x : Line). countsAfter c m x) ec el ∙ ap (λ (x : ℕ). countsAfter (Y .counts) x l) sm ∙ ap (λ (Z : Layout). Z .counts) (sym next)) (sym (ap (λ (x : Totals). x .free) ef));
           shows = subst (λ (Z : Layout). ShowsAll P′ Z) (sym next)
               (rw e (shows-more p Y l P (i + 1) m (y .w) o S (number-at p t n (k .accepted) i (omega arith)) (omega arith) (omega arith) eq sm (ap (λ (x : Ty). x .w) ty) (s .shows)));
+          free =
+              let G = driven p (linesOf p t n) in
+              let rest = drop (i + 1) (linesOf p t n) in
+              let ln : length (Y .places) ≡ i + 1 = S .long ∙ number-at p t n (k .accepted) i (omega arith) in
+              let here : freeHere (givenIn xs false (i + 1)) m (lineOf r) ≡ freeCount (sourcesHere p G Y l) =
+              ap₂ (λ (b : Bool) (x : Line). freeHere b m x) (driven-noted (i + 1) ∙ ap G (sym ln)) el ∙ ap (λ (x : ℕ). freeHere (G (length (Y .places))) x l) sm ∙ sym (here-free p G Y l) in
+              let cut : freeCount (sourcesFrom p G Y (drop i (linesOf p t n))) ≡ freeCount (sourcesHere p G Y l) + freeCount (sourcesFrom p G (lay p Y l) rest) =
+              ap (λ (x : List Line). freeCount (sourcesFrom p G Y x)) (drop-cons (linesOf p t n) i Line.unknown (omega (arith, lines-many p t n (k .accepted))) ∙ ap (λ (j : ℕ). l ∷ drop j (linesOf p t n)) (sym (add-one i)))
+              ∙ free-append (sourcesHere p G Y l) (sourcesFrom p G (lay p Y l) rest) in
+              let tf : tot′ .free ≡ tot .free = ap (λ (x : Totals). x .free) et in
+              let tg : tot″ .free ≡ tot′ .free + freeHere (givenIn xs false (i + 1)) m (lineOf r) = ap (λ (x : Totals). x .free) ef in
+              ap (λ (Z : Layout). tot″ .free + freeCount (sourcesFrom p G Z rest)) next ∙ omega (arith, here, cut, tf, tg, s .free);
         }
 
-  pub laid : {i : ℕ} {tot : Totals} {P : List (List ℕ)} → n ≤ i → Sofar p t n i tot P → ShowsAll P (layout p (linesOf p t n)) × (tot ≡ totalsOf (layout p (linesOf p t n) .counts))
+  pub laid : {i : ℕ} {tot : Totals} {P : List (List ℕ)} → n ≤ i → Sofar p t n i tot P → ShowsAll P (layout p (linesOf p t n)) × (tot ≡ totalsOf (layout p (linesOf p t n) .counts) (freeCount (sources p (linesOf p t n))))
   laid {i} {tot} {P} h s =
       let e : i ≡ n = omega (arith, s .most) in
       let q : layAll p noLayout (take i (linesOf p t n)) ≡ layout p (linesOf p t n) = ap (λ (j : ℕ). layAll p noLayout (take j (linesOf p t n))) e ∙ lay-done p t n (k .accepted) in
-      (subst (λ (Z : Layout). ShowsAll P Z) q (s .shows), s .counts ∙ ap (λ (Z : Layout). totalsOf (Z .counts)) q)
+      let none : drop i (linesOf p t n) ≡ [] = ap (λ (j : ℕ). drop j (linesOf p t n)) (e ∙ sym (lines-many p t n (k .accepted))) ∙ drop-length (linesOf p t n) in
+      let all : tot .free ≡ freeCount (sources p (linesOf p t n)) =
+      sym (add-zero (tot .free)) ∙ ap (λ (x : List Line). tot .free + freeCount (sourcesFrom p (driven p (linesOf p t n)) (layAll p noLayout (take i (linesOf p t n))) x)) (sym none) ∙ s .free in
+      (subst (λ (Z : Layout). ShowsAll P Z) q (s .shows), s .counts ∙ ap₂ (λ (Z : Layout) (f : ℕ). totalsOf (Z .counts) f) q all)
 
 pub place-small : (c : Counts) (m : ℕ) (l : Line) → Small c m → (spotBy c l .off < 4294967296) × (spotBy c l .at < 4294967296)
 place-small c m (Line.bitvec w) s = (omega arith, omega arith)
@@ -271,6 +319,32 @@ place-small c m Line.unknown s = (omega arith, omega arith)
 -- ---- the marks of the signals
 
 module _ (r : List ℕ) {kind : ℕ} (e : kind ≡ kindIn r) where
+  state-as : (S : Shape) → shapeOf kind ≡ S → {A : Type 0} (x y : A) {z : A} → z ≡ ifState (build S (kindIn r) (sortIn r) (firstIn r) (secondIn r) (thirdIn r)) x y → z ≡ ifState (lineOf r) x y
+  state-as S s x y h = h ∙ ap (λ (l : Line). ifState l x y) (sym (line-as r S (ap shapeOf (sym e) ∙ s)))
+
+  pub state-line : kind ≡ 5 → {A : Type 0} (x y : A) → x ≡ ifState (lineOf r) x y
+  state-line k x y = state-as isState (ap shapeOf k) x y refl
+
+  pub other-line : (kind ≡ 5 → ⊥) → {A : Type 0} (x y : A) → y ≡ ifState (lineOf r) x y
+  other-line n₅ {A} x y = go (shapeOf kind) refl (kind-of kind)
+    where
+      go : (S : Shape) → shapeOf kind ≡ S → KindOf S kind → y ≡ ifState (lineOf r) x y
+      go isBitvec e k = state-as isBitvec e x y refl
+      go isArray e k = state-as isArray e x y refl
+      go isConst e k = state-as isConst e x y refl
+      go isInput e k = state-as isInput e x y refl
+      go isState e k = absurd (n₅ k)
+      go isOutput e k = state-as isOutput e x y refl
+      go isUnary e k = state-as isUnary e x y refl
+      go isBinary e k = state-as isBinary e x y refl
+      go isIte e k = state-as isIte e x y refl
+      go isRead e k = state-as isRead e x y refl
+      go isWrite e k = state-as isWrite e x y refl
+      go isUnknown e k = state-as isUnknown e x y refl
+      go (isInitOrNext d) e k = state-as (isInitOrNext d) e x y refl
+      go (isSignal d) e k = state-as (isSignal d) e x y refl
+      go (isEquality d) e k = state-as (isEquality d) e x y refl
+
   mark-as : (S : Shape) → shapeOf kind ≡ S → badMark (build S (kindIn r) (sortIn r) (firstIn r) (secondIn r) (thirdIn r)) ≡ badMark (lineOf r)
   mark-as S s = ap badMark (sym (line-as r S (ap shapeOf (sym e) ∙ s)))
 
@@ -385,7 +459,7 @@ module _ (p : Bool) (t : List ℕ) (n : ℕ) (acc : checked p t n ≡ Accepted) 
 
   -- ---- what the pass leaves is what the steps ask for
 
-  pub ready-laid : {P : List (List ℕ)} {tot : Totals} → ShowsAll P (layout p (linesOf p t n)) → tot ≡ totalsOf (layout p (linesOf p t n) .counts) → Ready p t n P (tot .cells) (tot .states) (tot .inputs) (tot .signals)
+  pub ready-laid : {P : List (List ℕ)} {tot : Totals} → ShowsAll P (layout p (linesOf p t n)) → {f : ℕ} → tot ≡ totalsOf (layout p (linesOf p t n) .counts) f → Ready p t n P (tot .cells) (tot .states) (tot .inputs) (tot .signals)
   ready-laid sh e =
       record {
         accepted = acc;
@@ -396,7 +470,12 @@ module _ (p : Bool) (t : List ℕ) (n : ℕ) (acc : checked p t n ≡ Accepted) 
         signals = ap (λ (x : Totals). x .signals) (sym e);
       }
 
-  pub lent-small : {tot : Totals} → tot ≡ totalsOf (layout p (linesOf p t n) .counts) → (tot .cells + tot .states < 4294967296) × ((tot .inputs < 4294967296) × (tot .signals < 4294967296))
+  -- and the words of a row
+  pub row-few : rowLength p (linesOf p t n) ≤ 4210945
+  row-few = omega (arith, inputs-few, words-few .1, free-few (sources p (linesOf p t n)), sources-many p (linesOf p t n))
+
+  pub lent-small : {tot : Totals} → tot ≡ totalsOf (layout p (linesOf p t n) .counts) (freeCount (sources p (linesOf p t n)))
+      → (tot .cells + tot .states < 4294967296) × ((tot .inputs + tot .free < 4294967296) × (tot .signals < 4294967296))
   lent-small {tot} e =
-      subst (λ (x : Totals). (x .cells + x .states < 4294967296) × ((x .inputs < 4294967296) × (x .signals < 4294967296))) (sym e)
-      (omega (arith, words-few), (omega (arith, inputs-few), omega (arith, signals-few)))
+      subst (λ (x : Totals). (x .cells + x .states < 4294967296) × ((x .inputs + x .free < 4294967296) × (x .signals < 4294967296))) (sym e)
+      (omega (arith, words-few), (omega (arith, row-few), omega (arith, signals-few)))

@@ -17,7 +17,7 @@ use Rattle.tables.proofs.Kept.{no-yes}
 use Rattle.circuits.specs.Cells.{maskWords, part, put}
 use Rattle.circuits.specs.Layout.{Layout, typeAt, placeAt, size, lineTypeIn, noLayout, lay, layAll, layout}
 use Rattle.circuits.specs.Meaning.{Frame, wordAt, evalLine, evalAll, noFrame, step}
-use Rattle.circuits.specs.Run.{rowLength, start, steps, run}
+use Rattle.circuits.specs.Run.{inputCount, start, steps, run}
 use Rattle.circuits.proofs.Puts as laws
 use Rattle.circuits.proofs.Laid.{sound-none, later}
 use Rattle.circuits.proofs.Held.{put-front, put-end}
@@ -217,7 +217,7 @@ module _ (p : Bool) (t : List ℕ) (n : ℕ) (acc : checked p t n ≡ Accepted) 
     start-unused =
         let few : length C ≤ 16384 = omega (arith, lines-many p t n acc, few-here p t n acc) in
         let ok = lines-ok p t n acc in
-        let ι = take (rowLength p C) I in
+        let ι = take (inputCount p C) I in
         agrees-all p S S′ ι (layAll p noLayout C .counts .states) noFrame noFrame C (record { lay = refl; longA = refl; longB = refl; cells = λ x e. refl })
         (walk-none p true S ι C ok few enough) (walk-none p true S′ ι C ok few enough′)
         (λ j h. ⊎-elim (λ e. inl e) (λ x. ⊎-elim (λ b. absurd (no-yes b)) (λ r. inr r) (comes p (x .state) j noLayout C sound-none ok (x .init) (x .from) (x .to))) (same j h)) refl

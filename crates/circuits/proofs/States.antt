@@ -1,5 +1,5 @@
--- What a step of an accepted circuit (p is false) or program (true) does to its states. Its lines see the state words that it began with, and then all next values are set together; a
--- state without next keeps its value. C are the table's lines, Y is their layout, and σ the state words before the step, ι its input row. Assumes nothing.
+-- What a step of an accepted circuit (p is false) or program (true) does to its states. Its lines see the state words that it began with, and then all next values are set together.
+-- C are the table's lines, Y is their layout, and σ the state words before the step, ι its input row. Assumes nothing.
 use Prim.Native.Nat.{ℕ, suc, _^_, _≤_, _<_}
 use mathlib.Core.Path.{_≡_, refl, sym, ap, ap₂, _∙_, subst}
 use mathlib.Core.Bool.{Bool, true, false}
@@ -30,14 +30,9 @@ masked-small : (w : ℕ) (xs : List ℕ) → ((j : ℕ) → getD xs j 0 < 2 ^ w)
 masked-small w [] h = refl
 masked-small w (x ∷ xs) h = ap₂ (λ (y : ℕ) (ys : List ℕ). y ∷ ys) (mod-eq-of-lt (h 0)) (masked-small w xs (λ j. h (suc j)))
 
-settled : (p : Bool) (w : ℕ) (xs : List ℕ) → (p ≡ false → (j : ℕ) → getD xs j 0 < 2 ^ w) → stateWords p false w xs ≡ xs
+pub settled : (p : Bool) (w : ℕ) (xs : List ℕ) → (p ≡ false → (j : ℕ) → getD xs j 0 < 2 ^ w) → stateWords p false w xs ≡ xs
 settled false w xs h = masked-small w xs (h refl)
 settled true w xs h = refl
-
--- the state words after a step on each of the rows
-abbrev pub wordsAfter : (p : Bool) (C : List Line) (σ : List ℕ) (rows : List (List ℕ)) → List ℕ
-wordsAfter p C σ [] = σ
-wordsAfter p C σ (ι ∷ rows) = wordsAfter p C (step p false C σ ι .sts) rows
 
 module _ (p : Bool) (t : List ℕ) (n : ℕ) (acc : checked p t n ≡ Accepted) where
   abbrev C : List Line
@@ -131,27 +126,6 @@ module _ (p : Bool) (t : List ℕ) (n : ℕ) (acc : checked p t n ≡ Accepted) 
         state-value after (omega (arith, words-many σ enough false ι)) false ι′ q is-state
         ∙ ap (stateWords p false w) (next-words σ ι enough i s q v h e)
         ∙ settled p w (cellsAt (step p false C σ ι) v) (λ b j. subst (λ (m : ℕ). getD (cellsAt (step p false C σ ι) v) j 0 < 2 ^ m) x (cells-below (ended σ enough false ι) v r b j))
-
-  -- ---- "A state without next keeps its value."
-
-  module _ (q : ℕ) (state : typeAt Y q .role ≡ stateRole) (none : given (Y .ctx) false q ≡ false) where
-    kept-once : (σ ι ι′ : List ℕ) → Y .counts .states ≤ length σ
-        → cellsAt (step p false C (step p false C σ ι .sts) ι′) q ≡ cellsAt (step p false C σ ι) q
-    kept-once σ ι ι′ enough =
-        let after : List ℕ = step p false C σ ι .sts in
-        let w = typeAt Y q .w in
-        let xs : List ℕ = wordsOfState Y σ q in
-        let own = state-value σ enough false ι q state in
-        state-value after (omega (arith, words-many σ enough false ι)) false ι′ q state
-        ∙ ap (stateWords p false w) (words-kept σ enough false ι q state none ∙ own) ∙ settled p w (stateWords p false w xs) (λ b. state-small p false w xs b) ∙ sym own
-
-    -- Its value at any later step, after steps on any rows, is the one that it has now.
-    pub value-kept : (σ : List ℕ) (rows : List (List ℕ)) (ι ι′ : List ℕ) → Y .counts .states ≤ length σ
-        → cellsAt (step p false C (wordsAfter p C σ rows) ι′) q ≡ cellsAt (step p false C σ ι) q
-    value-kept σ [] ι ι′ enough = state-value σ enough false ι′ q state ∙ sym (state-value σ enough false ι q state)
-    value-kept σ (row ∷ rows) ι ι′ enough =
-        value-kept (step p false C σ row .sts) rows row ι′ (omega (arith, words-many σ enough false row)) ∙ kept-once σ row row enough
-        ∙ state-value σ enough false row q state ∙ sym (state-value σ enough false ι q state)
 
   -- ---- an init's word goes to every cell
 

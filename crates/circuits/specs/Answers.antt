@@ -17,14 +17,14 @@ use Rattle.tables.specs.Answers.{Outcome, outcome}
 use Rattle.circuits.specs.declared.Ran.{Ran}
 use Rattle.circuits.specs.declared.Ran.the-variants.{Nothing, Bad, Refused as RefusedRun}
 use Rattle.circuits.specs.Layout.{Counts, layout}
-use Rattle.circuits.specs.Run.{run, bytes, firstBad}
+use Rattle.circuits.specs.Run.{rowLength, run, bytes, firstBad}
 
--- the tests after the table's, where s start words, i input words, g signal bytes and w words of work area are lent for k steps
-abbrev pub lent : Counts → (k s i g w : ℕ) → Checked
-lent c k s i g w =
+-- the tests after the table's, where s start words, i input words, g signal bytes and w words of work area are lent for k steps, each with a row of so many words
+abbrev pub lent : Counts → (row k s i g w : ℕ) → Checked
+lent c row k s i g w =
     pick (leb k 4096) (
     pick (eqb s (c .states)) (
-    pick (eqb i (k * c .inputs)) (
+    pick (eqb i (k * row)) (
     pick (eqb g (k * c .signals)) (
     pick (leb (c .cells + c .states) w) Accepted
     (Refused WorkArea)) (Refused SignalBytes)) (Refused InputWords)) (Refused StartWords)) (Refused TooManySteps)
@@ -35,7 +35,7 @@ andThen (Refused r) d = Refused r
 
 -- may a run start
 unfoldable pub ready : (program : Bool) (t : List ℕ) (n k : ℕ) (S I : List ℕ) (g w : ℕ) → Checked
-ready program t n k S I g w = andThen (checked program t n) (lent (layout program (linesOf program t n) .counts) k (length S) (length I) g w)
+ready program t n k S I g w = andThen (checked program t n) (lent (layout program (linesOf program t n) .counts) (rowLength program (linesOf program t n)) k (length S) (length I) g w)
 
 abbrev pub answerOf : Checked → Ran → Ran
 answerOf Accepted r = r

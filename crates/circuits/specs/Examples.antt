@@ -12,7 +12,8 @@ use Rattle.circuits.specs.declared.Ran.the-variants.{Bad}
 use Rattle.circuits.specs.Cells.{put}
 use Rattle.circuits.specs.Layout.{layout}
 use Rattle.circuits.specs.Meaning.{step}
-use Rattle.circuits.specs.Run.{start, steps, run}
+use Rattle.circuits.specs.Free.{sources}
+use Rattle.circuits.specs.Run.{start, stepFrom, wordsBefore, steps, run}
 use Rattle.circuits.specs.Answers.{ready, ran, signalsLeft}
 
 -- 1 sort bitvec 1, 2 sort bitvec 3, 3 sort array 1 2, 4 state 3, 5 input 1, 6 constd 2 5, 7 write 3 4 5 6, 8 next 3 4 7, 9 read 2 4 5, 10 eq 1 9 6, 11 bad 10
@@ -36,22 +37,22 @@ program =
     ∷ fields 53 3 10 7 4 ∷ fields 7 3 3 9 0 ∷ fields 7 3 4 11 0 ∷ fields 21 1 6 1 0 ∷ fields 53 3 14 3 4 ∷ fields 21 1 15 7 0 ∷ fields 8 0 16 0 0 ∷ [])
 
 circuit-signals : signalsLeft false circuit 11 3 (0 ∷ 0 ∷ []) (0 ∷ 0 ∷ 1 ∷ []) 3 17 ≡ 0 ∷ 1 ∷ 0 ∷ []
-unfolding filledBy signalsLeft ready checked fault suits kindRow layout run start steps step put
+unfolding filledBy signalsLeft ready checked fault suits kindRow layout sources run start stepFrom wordsBefore steps step put
 circuit-signals = refl
 
 circuit-bad : ran false circuit 11 3 (0 ∷ 0 ∷ []) (0 ∷ 0 ∷ 1 ∷ []) 3 17 ≡ Bad 1 1
-unfolding filledBy ran ready checked fault suits kindRow layout run start steps step put
+unfolding filledBy ran ready checked fault suits kindRow layout sources run start stepFrom wordsBefore steps step put
 circuit-bad = refl
 
 program-signals : signalsLeft true program 17 3 (0 ∷ 0 ∷ []) (0 ∷ 0 ∷ 1 ∷ []) 3 17 ≡ 0 ∷ 1 ∷ 0 ∷ []
-unfolding filledBy signalsLeft ready checked fault suits kindRow layout run start steps step put
+unfolding filledBy signalsLeft ready checked fault suits kindRow layout sources run start stepFrom wordsBefore steps step put
 program-signals = refl
 
 program-bad : ran true program 17 3 (0 ∷ 0 ∷ []) (0 ∷ 0 ∷ 1 ∷ []) 3 17 ≡ Bad 1 1
-unfolding filledBy ran ready checked fault suits kindRow layout run start steps step put
+unfolding filledBy ran ready checked fault suits kindRow layout sources run start stepFrom wordsBefore steps step put
 program-bad = refl
 
 -- a program's start words are masked: a state of width 1 that starts from 2, and a bad of it
 start-masked : signalsLeft true (tableWith true (fields 5 1 0 0 0 ∷ fields 8 0 1 0 0 ∷ [])) 2 1 (2 ∷ []) [] 1 2 ≡ 0 ∷ []
-unfolding filledBy signalsLeft ready checked fault suits kindRow layout run start steps step put
+unfolding filledBy signalsLeft ready checked fault suits kindRow layout sources run start stepFrom wordsBefore steps step put
 start-masked = refl

@@ -1,8 +1,10 @@
 pub mod Cells
 pub mod Layout
 pub mod Meaning
+pub mod Free
 pub mod Run
 pub mod Answers
 pub mod Model
 pub mod Examples
 pub mod StateExamples
+pub mod FreeExamples

@@ -4,3 +4,4 @@ pub mod Places
 pub mod Passes
 pub mod Signals
 pub mod Answers
+pub mod Feeding

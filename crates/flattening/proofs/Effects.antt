@@ -32,10 +32,10 @@ abbrev pub Fresh : List ℕ → List ℕ → Type 0
 Fresh d [] = Unit {0}
 Fresh d (q ∷ qs) = (among q d ≡ false) × Fresh d qs
 
-pub among-append : (x : ℕ) (d e : List ℕ) → among x d ≡ false → among x e ≡ false → among x (d ++ e) ≡ false
+among-append : (x : ℕ) (d e : List ℕ) → among x d ≡ false → among x e ≡ false → among x (d ++ e) ≡ false
 among-append x d e h k = among-join x d e ∙ rw (h, k) refl
 
-among-one : (x q : ℕ) → x ≢ q → among x (q ∷ []) ≡ false
+pub among-one : (x q : ℕ) → x ≢ q → among x (q ∷ []) ≡ false
 among-one x q n = rw (ne-eqb x q n)
 
 -- a state and those whose state words come after its own are different lines

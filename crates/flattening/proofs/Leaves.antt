@@ -27,11 +27,11 @@ use Rattle.tables.proofs.Checking.{roomy}
 use Rattle.tables.proofs.Places.{record-at}
 use Rattle.tables.proofs.Sound.{accepted-ok}
 use Rattle.circuits.specs.Layout.{layout}
-use Rattle.circuits.specs.Run.{run, bytes, firstBad}
+use Rattle.circuits.specs.Run.{rowLength, run, bytes, firstBad}
 use Rattle.flattening.specs.Flat.{flatten, flatLines, flatRecords}
 use Rattle.flattening.specs.Placed.{flatFilled}
 use Rattle.flattening.specs.Answers.{flattened, flatLeft}
-use Rattle.flattening.proofs.Alike.{flat-ok, SameCounts, counts-alike, runs-alike}
+use Rattle.flattening.proofs.Alike.{flat-ok, SameCounts, counts-alike, rows-alike, runs-alike}
 use Rattle.flattening.proofs.Arrayless.{flat-plain, no-kind-two}
 use Rattle.flattening.proofs.Placing.{length-flat-filled, records-flat, accepted-flat, lines-flat, ids-flat}
 
@@ -111,6 +111,10 @@ module _ (t : List ℕ) (n len m : ℕ) (e : flattened t n len ≡ Done m) where
   -- it has as many state words, inputs and signals
   pub flat-counts : SameCounts (linesOf false t n) (linesOf false (flatLeft t n len) m)
   flat-counts = subst⁻¹ (λ (x : List Line). SameCounts (linesOf false t n) x) flat-lines (counts-alike (linesOf false t n) ok)
+
+  -- and rows as long: inputs, and words for free states
+  pub flat-row : rowLength false (linesOf false (flatLeft t n len) m) ≡ rowLength false (linesOf false t n)
+  flat-row = ap (rowLength false) flat-lines ∙ rows-alike (linesOf false t n) ok
 
   -- and the same run: signals with their marks, hence bytes and the first counted bad
   pub flat-run : (k : ℕ) (S I : List ℕ) → layout false (linesOf false t n) .counts .states ≤ length S → run false (linesOf false (flatLeft t n len) m) k S I ≡ run false (linesOf false t n) k S I

@@ -8,6 +8,7 @@ pub mod Fitting
 pub mod SimWords
 pub mod SimStates
 pub mod SimArrays
+pub mod FreeCells
 pub mod Alike
 pub mod Arrayless
 pub mod Leaves

@@ -13,7 +13,7 @@ use Rattle.tables.proofs.Facts.{Ok, AllOk}
 use Rattle.circuits.specs.Layout.{Layout}
 use Rattle.circuits.specs.Meaning.{Frame, noFrame, step}
 use Rattle.flattening.specs.Flat.{Info, noInfo, Chunk, chunk, flattenFrom, flatten}
-use Rattle.flattening.proofs.Walk.{Ext, ext-refl, ext-trans, ext-line, Even, ev1, evs, evs-append, len-all, states-all}
+use Rattle.flattening.proofs.Walk.{Ext, ev1, evs, evs-append, len-all, ext-all, states-all}
 use Rattle.flattening.proofs.Rel.{Inv}
 use Rattle.flattening.proofs.Alike.{sim-line, at-start, step-lay, zeros, zeros-many}
 
@@ -89,10 +89,6 @@ module _ (C : List Line) where
   pub ok-at : AllOk false noCtx C → (i : ℕ) → i < length C → Ok false (tyAt (walked i .lay .ctx)) (given (walked i .lay .ctx)) (lineIn C i)
   ok-at k i h = ok-from noFrame C k i h
 
-  ext-all : {A : Frame} → Even A → (ls : List Line) → Ext A (evs true σ [] A ls)
-  ext-all ev [] = ext-refl ev
-  ext-all ev (l ∷ ls) = ext-trans (ext-line true σ [] ev l) (ext-all (ext-line true σ [] ev l .even) ls)
-
   -- all lines come after the first i
   walked-all : (i : ℕ) → evs true σ [] (walked i) (drop i C) ≡ step false true C σ []
   unfolding step
@@ -119,7 +115,7 @@ module _ (C : List Line) where
 
   -- what is known of a line after the first i stays known
   pub walked-ext : AllOk false noCtx C → (i : ℕ) → i ≤ length C → Ext (walked i) (step false true C σ [])
-  walked-ext k i h = subst (λ (A : Frame). Ext (walked i) A) (walked-all i) (ext-all (inv-at k i h .evenA) (drop i C))
+  walked-ext k i h = subst (λ (A : Frame). Ext (walked i) A) (walked-all i) (ext-all true σ [] (inv-at k i h .evenA) (drop i C))
 
   pub walked-length : (i : ℕ) → i ≤ length C → length (walked i .env) ≡ suc i
   walked-length i h = omega (arith, len-all true σ [] noFrame (take i C), length-take-le i C h)

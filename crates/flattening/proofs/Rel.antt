@@ -103,6 +103,10 @@ word-rel x k r e h s c = val-rel x k r (W.more h W.none) (rw e) (s, tt) c
 
 -- ---- all lines
 
+-- no line that is still to come has an init or a next
+abbrev pub Ahead : Frame → Type 0
+Ahead A = (m : Bool) (p : ℕ) → length (A .env) ≤ p → given (A .lay .ctx) m p ≡ false
+
 pub record Inv (A B : Frame) (I : List Info) : Type 0 where
   pub evenA : Even A
   pub evenB : Even B
@@ -112,9 +116,10 @@ pub record Inv (A B : Frame) (I : List Info) : Type 0 where
   pub rel : (i : ℕ) → Rel B (typeAt (A .lay) i) (placeAt (A .lay) i) (cellsAt A i) (infoAt I i)
   -- what stands before a state is held below the state's lines
   pub below : (q : ℕ) → typeAt (A .lay) q .role ≡ 4 → (i : ℕ) → i < q → 2 ≤ typeAt (A .lay) i .role → (j : ℕ) → j < length (linesAt I i) → getD (linesAt I i) j 0 < lineAt I q
-  -- a state that has no init or next has none for its cells; and no line that is still to come has one
-  pub free : (m : Bool) (q : ℕ) → typeAt (A .lay) q .role ≡ 4 → given (A .lay .ctx) m q ≡ false → (j : ℕ) → j < length (linesAt I q) → given (B .lay .ctx) m (getD (linesAt I q) j 0) ≡ false
-  pub bound : (m : Bool) (p : ℕ) → length (B .env) ≤ p → given (B .lay .ctx) m p ≡ false
+  -- each cell of a state has an init or a next just where the state has one
+  pub same : (m : Bool) (q : ℕ) → typeAt (A .lay) q .role ≡ 4 → (j : ℕ) → j < length (linesAt I q) → given (B .lay .ctx) m (getD (linesAt I q) j 0) ≡ given (A .lay .ctx) m q
+  pub aheadA : Ahead A
+  pub aheadB : Ahead B
 
 -- a word of the circuit is held by its flat line
 pub word-of : {A B : Frame} {I : List Info} → Inv A B I → (a : ℕ) → IsWord (typeAt (A .lay) a) → Word B (not (marked (typeAt (A .lay) a))) (lineAt I a) (typeAt (A .lay) a .w) (wordAt A a)
@@ -158,15 +163,16 @@ below-at {x} {y′ = y′} e₁ e₂ h =
     subst⁻¹ (λ (z : Info). (j : ℕ) → j < length (z .cells) → getD (z .cells) j 0 < getD (y′ .cells) 0 0) e₁
     (subst⁻¹ (λ (z : Info). (j : ℕ) → j < length (x .cells) → getD (x .cells) j 0 < getD (z .cells) 0 0) e₂ h)
 
--- what a new state is: none of its lines has been given an init or a next, and every value so far is held below them
-pub record NewState (A B : Frame) (I : List Info) (g : Info) : Type 0 where
+-- what a new state is: none of its lines has been given an init or a next, as little as the state, and every value so far is held below them
+pub record NewState (A A′ B′ : Frame) (I : List Info) (g : Info) : Type 0 where
   pub below : (i : ℕ) → 2 ≤ typeAt (A .lay) i .role → (j : ℕ) → j < length (linesAt I i) → getD (linesAt I i) j 0 < getD (g .cells) 0 0
-  pub free : (m : Bool) (j : ℕ) → j < length (g .cells) → given (B .lay .ctx) m (getD (g .cells) j 0) ≡ false
+  pub same : (m : Bool) (j : ℕ) → j < length (g .cells) → given (B′ .lay .ctx) m (getD (g .cells) j 0) ≡ given (A′ .lay .ctx) m (length (A .env))
 
 -- the states of A, after a line more
 pub record Once (A A′ B′ : Frame) (I : List Info) : Type 0 where
-  pub free : (m : Bool) (q : ℕ) → typeAt (A .lay) q .role ≡ 4 → given (A′ .lay .ctx) m q ≡ false → (j : ℕ) → j < length (linesAt I q) → given (B′ .lay .ctx) m (getD (linesAt I q) j 0) ≡ false
-  pub bound : (m : Bool) (p : ℕ) → length (B′ .env) ≤ p → given (B′ .lay .ctx) m p ≡ false
+  pub same : (m : Bool) (q : ℕ) → typeAt (A .lay) q .role ≡ 4 → (j : ℕ) → j < length (linesAt I q) → given (B′ .lay .ctx) m (getD (linesAt I q) j 0) ≡ given (A′ .lay .ctx) m q
+  pub aheadA : Ahead A′
+  pub aheadB : Ahead B′
 
 quiet-state : (A : Frame) (l : Line) → T (quiet l) → lineTypeIn false (A .lay) l .role ≡ 4 → ⊥
 quiet-state A (Line.bitvec w) q t = omega arith
@@ -181,7 +187,7 @@ quiet-state A Line.unknown q t = omega arith
 
 module _ (f : Bool) (σ ι : List ℕ) where
   pub extend : {A B B′ : Frame} {I : List Info} (l : Line) (g : Info) → Inv A B I → Ext B B′ → Alike (ev1 f σ ι A l) B′ → length (ev1 f σ ι A l .sts) ≡ ev1 f σ ι A l .lay .counts .states
-      → Rel B′ (lineTypeIn false (A .lay) l) (placeOf (A .lay) l) (cellsOf false f σ ι A l) g → (lineTypeIn false (A .lay) l .role ≡ 4 → NewState A B′ I g) → Once A (ev1 f σ ι A l) B′ I
+      → Rel B′ (lineTypeIn false (A .lay) l) (placeOf (A .lay) l) (cellsOf false f σ ι A l) g → (lineTypeIn false (A .lay) l .role ≡ 4 → NewState A (ev1 f σ ι A l) B′ I g) → Once A (ev1 f σ ι A l) B′ I
       → Inv (ev1 f σ ι A l) B′ (I ++ (g ∷ []))
   extend {A} {B} {B′} {I} l g v x al mn r st on =
       record {
@@ -192,8 +198,9 @@ module _ (f : Bool) (σ ι : List ℕ) where
         many = mn;
         rel = λ i. rel-by i (spot N i);
         below = λ q s i h k j. below-by q s i h k j (spot N q);
-        free = λ m q s h j. free-by m q s h j (spot N q);
-        bound = on .bound;
+        same = λ m q s j. same-by m q s j (spot N q);
+        aheadA = on .aheadA;
+        aheadB = on .aheadB;
       }
     where
       A′ : Frame
@@ -240,23 +247,24 @@ module _ (f : Bool) (σ ι : List ℕ) where
           let k′ = subst (λ (t : Ty). 2 ≤ t .role) (y .type i zi) k in
           below-at (info-old i zi) (info-new q e) (st s′ .below i k′) j b
 
-      free-by : (m : Bool) (q : ℕ) → typeAt (A′ .lay) q .role ≡ 4 → given (A′ .lay .ctx) m q ≡ false → (j : ℕ) → Spot N q → j < length (linesAt J q) → given (B′ .lay .ctx) m (getD (linesAt J q) j 0) ≡ false
-      free-by m q s h j (past z) b = absurd (no-past q z s)
-      free-by m q s h j (old z) b =
+      same-by : (m : Bool) (q : ℕ) → typeAt (A′ .lay) q .role ≡ 4 → (j : ℕ) → Spot N q → j < length (linesAt J q) → given (B′ .lay .ctx) m (getD (linesAt J q) j 0) ≡ given (A′ .lay .ctx) m q
+      same-by m q s j (past z) b = absurd (no-past q z s)
+      same-by m q s j (old z) b =
           let s′ = sym (ap (λ (t : Ty). t .role) (y .type q z)) ∙ s in
-          subst⁻¹ (λ (x : Info). j < length (x .cells) → given (B′ .lay .ctx) m (getD (x .cells) j 0) ≡ false) (info-old q z) (on .free m q s′ h j) b
-      free-by m q s h j (new e) b =
+          subst⁻¹ (λ (x : Info). j < length (x .cells) → given (B′ .lay .ctx) m (getD (x .cells) j 0) ≡ given (A′ .lay .ctx) m q) (info-old q z) (on .same m q s′ j) b
+      same-by m q s j (new e) b =
           let s′ = sym (ap (λ (t : Ty). t .role) (new-type f σ ι (v .evenA) l q e)) ∙ s in
-          subst⁻¹ (λ (x : Info). j < length (x .cells) → given (B′ .lay .ctx) m (getD (x .cells) j 0) ≡ false) (info-new q e) (st s′ .free m j) b
+          subst⁻¹ (λ (x : Info). j < length (x .cells) → given (B′ .lay .ctx) m (getD (x .cells) j 0) ≡ given (A′ .lay .ctx) m q) (info-new q e)
+          (λ h. st s′ .same m j h ∙ ap (given (A′ .lay .ctx) m) (sym e)) b
 
   -- lines that give nothing to a state
   pub same-given : {A B B′ : Frame} {I : List Info} (l : Line) → gives l ≡ false → Inv A B I → length (B .env) ≤ length (B′ .env)
       → ((m : Bool) → givenBy m (B′ .lay .ctx) ≡ givenBy m (B .lay .ctx)) → Once A (ev1 f σ ι A l) B′ I
   same-given {A} {B} {B′} {I} l e v n g =
       record {
-        free = λ m q s h j b.
-            ap (λ (d : List ℕ). among (getD (linesAt I q) j 0) d) (g m) ∙ v .free m q s (sym (ap (λ (d : List ℕ). among q d) (gave-same f σ ι A l e m)) ∙ h) j b;
-        bound = λ m p h. ap (λ (d : List ℕ). among p d) (g m) ∙ v .bound m p (le-trans n h);
+        same = λ m q s j b. ap (among (getD (linesAt I q) j 0)) (g m) ∙ v .same m q s j b ∙ sym (ap (among q) (gave-same f σ ι A l e m));
+        aheadA = λ m p h. ap (among p) (gave-same f σ ι A l e m) ∙ v .aheadA m p (omega (arith, len1 f σ ι A l));
+        aheadB = λ m p h. ap (among p) (g m) ∙ v .aheadB m p (le-trans n h);
       }
 
   pub extend-quiet : {A B B′ : Frame} {I : List Info} (l : Line) (g : Info) → T (quiet l) → Inv A B I → Grew B B′

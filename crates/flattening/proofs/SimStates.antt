@@ -2,34 +2,34 @@
 use Prim.Native.Nat.{ℕ, zero, suc, _+_, _^_, _≤_, _<_}
 use mathlib.Core.Path.{_≡_, refl, sym, ap, ap₂, _∙_, subst, subst⁻¹}
 use mathlib.Core.Logic.{_≢_}
-use mathlib.Core.Bool.{Bool, true, false, not}
+use mathlib.Core.Bool.{Bool, true, false, not, _||_}
 use mathlib.Core.Option.{none as nothing}
 use mathlib.Core.List.{List, [], _∷_, _++_}
 use native.Mathlib.Nat.{le-refl, le-trans}
 use native.Mathlib.Omega.{arith}
 use native.Mathlib.Decide.{decLt}
-use lib.Dec.{T, eqb}
+use lib.Dec.{T}
 use lib.Pow.{pow-pos}
 use lib.ListN.{length, getD, replicate, length-append, length-replicate}
-use borrow.Author.Tests.{eqb-false, ne-eqb}
+use borrow.Author.Tests.{eq-eqb, ne-eqb}
 use Rattle.tables.specs.declared.Ty.{Ty}
 use Rattle.tables.specs.Pick.{pick, among, alike}
 use Rattle.tables.specs.Lines.{state, initOrNext}
 use Rattle.tables.specs.Types.{marked, tyAt, given, givenBy}
 use Rattle.tables.specs.Rules.{valueIndex}
 use Rattle.tables.specs.Layout.{from}
-use Rattle.tables.proofs.Kept.{neither}
-use Rattle.tables.proofs.Showing.{among-join}
+use Rattle.tables.proofs.Laws.{or-true}
+use Rattle.tables.proofs.Showing.{by-place, among-join, earlier}
 use Rattle.tables.proofs.Facts.{Ok, OkValue}
 use Rattle.tables.proofs.Ids.{from-at, length-from}
 use Rattle.circuits.specs.Cells.{part, put}
 use Rattle.circuits.specs.Layout.{typeAt, placeAt, size}
 use Rattle.circuits.specs.Meaning.{Frame, cellsAt, wordAt, stateCells, givenWords}
 use Rattle.flattening.specs.Flat.{Info, noInfo, infoAt, linesAt, lineAt, valueInfo, chunk, valueLines, initOrNextLines}
-use Rattle.flattening.proofs.Walk.{Holds, States, Small, none, more, ext-refl, holds-length, states-room, ev1, evs, holds-at}
+use Rattle.flattening.proofs.Walk.{Holds, States, Small, none, more, ext-refl, holds-length, states-room, ev1, evs, len1, gave-same, holds-at}
 use Rattle.flattening.proofs.CellLaws.{taken, lows-taken, state-lows, length-taken, small-taken, holds-replicate}
 use Rattle.flattening.proofs.Stores.{length-stored}
-use Rattle.flattening.proofs.Effects.{Fresh, Under, Inits, Gives, among-append, run-states, run-gives, gave-init-next}
+use Rattle.flattening.proofs.Effects.{Fresh, Under, Inits, Gives, among-one, run-states, run-gives, gave-init-next}
 use Rattle.flattening.proofs.Rel.{SortRel, ValRel, Inv, sortrel-ext, sort-of-value, rel-none, word-for, cells-for, extend, same-given}
 use Rattle.flattening.proofs.SimWords.{Keeps}
 
@@ -47,12 +47,19 @@ under-all : (lo n v : ℕ) → v < lo → Under lo (replicate n v)
 under-all lo zero v h = tt
 under-all lo (suc n) v h = (h, under-all lo n v h)
 
--- what is in neither part
-among-front : (x : ℕ) (d e : List ℕ) → among x (d ++ e) ≡ false → among x d ≡ false
-among-front x d e h = neither (among x d) (among x e) (sym (among-join x d e) ∙ h) .0
+among-at : (qs : List ℕ) (j : ℕ) → j < length qs → among (getD qs j 0) qs ≡ true
+among-at [] j h = absurd (omega arith)
+among-at (q ∷ qs) zero h = rw (eq-eqb q q refl)
+among-at (q ∷ qs) (suc j) h = rw (among-at qs j (omega arith), or-true)
 
-among-back : (x : ℕ) (d e : List ℕ) → among x (d ++ e) ≡ false → among x e ≡ false
-among-back x d e h = neither (among x d) (among x e) (sym (among-join x d e) ∙ h) .1
+-- in a list that ys are put behind, or not
+among-pick : (c : Bool) (xs ys : List ℕ) (x : ℕ) → among x (pick c (xs ++ ys) xs) ≡ pick c (among x xs || among x ys) (among x xs)
+among-pick true xs ys x = among-join x xs ys
+among-pick false xs ys x = refl
+
+nowhere : (c : Bool) {x y : Bool} → x ≡ false → y ≡ false → pick c (x || y) x ≡ false
+nowhere true e d = rw (e, d)
+nowhere false e d = e
 
 states-low : {A : Frame} {lo w a : ℕ} {qs : List ℕ} → States A lo w a qs → (j : ℕ) → j < length qs → lo ≤ getD qs j 0
 states-low none j h = absurd (omega arith)
@@ -136,10 +143,11 @@ module _ (f : Bool) (σ ι : List ℕ) where
             (λ z.
             record {
               below = λ i h j l. subst⁻¹ (λ (x : ℕ). getD (linesAt I i) j 0 < x) (first ∙ e) (held-below v i h j l);
-              free =
+              same =
                   λ m j l.
                   let h : j < g .size = subst (λ (x : ℕ). j < x) (length-from b (g .size)) l in
-                  ap (λ (d : List ℕ). among (getD (from b (g .size)) j 0) d) (r .gave m) ∙ v .bound m (getD (from b (g .size)) j 0) (omega (arith, from-at b (g .size) j h));
+                  ap (among (getD (from b (g .size)) j 0)) (r .gave m) ∙ v .aheadB m (getD (from b (g .size)) j 0) (omega (arith, from-at b (g .size) j h))
+                  ∙ sym (ap (among (length (A .env))) (gave-same f σ ι A (state s) refl m) ∙ v .aheadA m (length (A .env)) (le-refl (length (A .env))));
             })
             (same-given f σ ι (state s) refl v (r .left .ext .len) (r .gave));
         ok = r .left .ok;
@@ -161,8 +169,9 @@ module _ (f : Bool) (σ ι : List ℕ) where
             (length-stored (alike f m) (A .sts) at cs (omega (arith, room, holds-length (gr .held), gr .len, v .many)) ∙ v .many)
             rel-none (λ z. absurd (omega arith))
             (record {
-              free = λ n p h g j l. free-by n p h j l (alike n m) refl g;
-              bound = λ n p h. bound-by n p h (alike n m) refl;
+              same = λ n p h j l. gave-B n (getD (linesAt I p) j 0) ∙ ap₂ (λ (x y : Bool). pick (alike n m) (x || y) x) (v .same n p h j l) (named p h j l) ∙ sym (gave-A n p);
+              aheadA = λ n p h. gave-A n p ∙ nowhere (alike n m) (v .aheadA n p (omega (arith, len1 f σ ι A (initOrNext m s q a)))) (among-one p q (λ z. omega (arith, len1 f σ ι A (initOrNext m s q a), inA)));
+              aheadB = λ n p h. gave-B n p ∙ nowhere (alike n m) (v .aheadB n p (le-trans (r .left .ext .len) h)) (not-among p qs (λ i l z. let x = held-below v q is i l in let y = r .left .ext .len in omega arith));
             });
         ok = r .left .ok;
       }
@@ -217,7 +226,7 @@ module _ (f : Bool) (σ ι : List ℕ) where
 
       r : Gives f σ ι B m (initOrNextLines m (infoAt I s .elem) qs (valueLines I m (length qs) a)) qs (pick (alike f m) (put (B .sts) at cs) (B .sts))
       r =
-          run-gives f σ ι m (ext-refl (v .evenB)) (rs .elem) places (gr .held) (gr .len) (gr .inits) (fresh-all (givenBy m (B .lay .ctx)) qs (v .free m q (k .state) (k .once)))
+          run-gives f σ ι m (ext-refl (v .evenB)) (rs .elem) places (gr .held) (gr .len) (gr .inits) (fresh-all (givenBy m (B .lay .ctx)) qs (λ j l. v .same m q (k .state) j l ∙ k .once))
           (subst⁻¹ (λ (x : List ℕ). at + length qs ≤ length x) (v .alike .sts) room)
 
       B′ : Frame
@@ -237,23 +246,18 @@ module _ (f : Bool) (σ ι : List ℕ) where
               let y = states-low (v .rel p .value val-p .states h) j l in
               omega arith
 
-      free-by : (n : Bool) (p : ℕ) → typeAt (A .lay) p .role ≡ 4 → (j : ℕ) → j < length (linesAt I p) → (c : Bool) → alike n m ≡ c → given (ev1 f σ ι A (initOrNext m s q a) .lay .ctx) n p ≡ false
-          → given (B′ .lay .ctx) n (getD (linesAt I p) j 0) ≡ false
-      free-by n p h j l true e g =
-          let x = getD (linesAt I p) j 0 in
-          let g′ : among p (givenBy n (A .lay .ctx) ++ (q ∷ [])) ≡ false = sym (ap (λ (d : List ℕ). among p d) (gave-init-next f σ ι A m s q a n ∙ ap (λ (c : Bool). pick c (givenBy n (A .lay .ctx) ++ (q ∷ [])) (givenBy n (A .lay .ctx))) e)) ∙ g in
-          let d : p ≢ q = eqb-false p q (neither (eqb p q) false (among-back p (givenBy n (A .lay .ctx)) (q ∷ []) g′) .0) in
-          ap (λ (d : List ℕ). among x d) (r .gave n ∙ ap (λ (c : Bool). pick c (givenBy n (B .lay .ctx) ++ qs) (givenBy n (B .lay .ctx))) e)
-          ∙ among-append x (givenBy n (B .lay .ctx)) qs (v .free n p h (among-front p (givenBy n (A .lay .ctx)) (q ∷ []) g′) j l) (apart p h d j l)
-      free-by n p h j l false e g =
-          let x = getD (linesAt I p) j 0 in
-          let g′ : among p (givenBy n (A .lay .ctx)) ≡ false = sym (ap (λ (d : List ℕ). among p d) (gave-init-next f σ ι A m s q a n ∙ ap (λ (c : Bool). pick c (givenBy n (A .lay .ctx) ++ (q ∷ [])) (givenBy n (A .lay .ctx))) e)) ∙ g in
-          ap (λ (d : List ℕ). among x d) (r .gave n ∙ ap (λ (c : Bool). pick c (givenBy n (B .lay .ctx) ++ qs) (givenBy n (B .lay .ctx))) e) ∙ v .free n p h g′ j l
+      -- the lines of q hold those of no other state
+      named : (p : ℕ) → typeAt (A .lay) p .role ≡ 4 → (j : ℕ) → j < length (linesAt I p) → among (getD (linesAt I p) j 0) qs ≡ among p (q ∷ [])
+      named p h j l =
+          by-place p q
+          (λ e. subst (λ (x : ℕ). among (getD (linesAt I p) j 0) (linesAt I x) ≡ true) e (among-at (linesAt I p) j l) ∙ sym (rw (eq-eqb p q e)))
+          (λ d. apart p h d j l ∙ sym (among-one p q d))
 
-      bound-by : (n : Bool) (p : ℕ) → length (B′ .env) ≤ p → (c : Bool) → alike n m ≡ c → given (B′ .lay .ctx) n p ≡ false
-      bound-by n p h true e =
-          let hB : length (B .env) ≤ p = le-trans (r .left .ext .len) h in
-          ap (λ (d : List ℕ). among p d) (r .gave n ∙ ap (λ (c : Bool). pick c (givenBy n (B .lay .ctx) ++ qs) (givenBy n (B .lay .ctx))) e)
-          ∙ among-append p (givenBy n (B .lay .ctx)) qs (v .bound n p hB) (not-among p qs (λ i l z. let x = held-below v q is i l in omega arith))
-      bound-by n p h false e =
-          ap (λ (d : List ℕ). among p d) (r .gave n ∙ ap (λ (c : Bool). pick c (givenBy n (B .lay .ctx) ++ qs) (givenBy n (B .lay .ctx))) e) ∙ v .bound n p (le-trans (r .left .ext .len) h)
+      inA : q < length (A .env)
+      inA = subst (λ (x : ℕ). q < x) (v .evenA .types) (earlier (A .lay .ctx .tys) q (omega arith))
+
+      gave-A : (n : Bool) (p : ℕ) → given (ev1 f σ ι A (initOrNext m s q a) .lay .ctx) n p ≡ pick (alike n m) (given (A .lay .ctx) n p || among p (q ∷ [])) (given (A .lay .ctx) n p)
+      gave-A n p = ap (among p) (gave-init-next f σ ι A m s q a n) ∙ among-pick (alike n m) (givenBy n (A .lay .ctx)) (q ∷ []) p
+
+      gave-B : (n : Bool) (p : ℕ) → given (B′ .lay .ctx) n p ≡ pick (alike n m) (given (B .lay .ctx) n p || among p qs) (given (B .lay .ctx) n p)
+      gave-B n p = ap (among p) (r .gave n) ∙ among-pick (alike n m) (givenBy n (B .lay .ctx)) qs p

@@ -17,7 +17,7 @@ use Rattle.tables.specs.Types.{ty, markedRole, noTy, marked, valueRole, givenBy
 use Rattle.tables.proofs.Kept.{no-yes}
 use Rattle.tables.proofs.Values.{role-least, role-mark}
 use Rattle.tables.proofs.Facts.{IsWord, IsWordSort, AllOk}
-use Rattle.circuits.specs.Layout.{typeAt, placeAt, size, lineTypeIn, placeOf}
+use Rattle.circuits.specs.Layout.{typeAt, placeAt, size, lineTypeIn, placeOf, layAll}
 use Rattle.circuits.specs.Meaning.{Frame, cellsAt, wordAt, cellsOf, evalLine, evalAll}
 use Rattle.circuits.proofs.Laid.{grew}
 
@@ -287,6 +287,15 @@ module _ (f : Bool) (σ ι : List ℕ) where
               places = length-snoc (A .lay .places) (placeOf (A .lay) l) ∙ ap suc (ev .places) ∙ sym (len1 A l);
             };
       }
+
+  pub ext-all : {A : Frame} → Even A → (ls : List Line) → Ext A (evs A ls)
+  ext-all ev [] = ext-refl ev
+  ext-all ev (l ∷ ls) = ext-trans (ext-line ev l) (ext-all (ext-line ev l .even) ls)
+
+  -- the places of lines depend on no value
+  pub evs-lay : (A : Frame) (ls : List Line) → evs A ls .lay ≡ layAll false (A .lay) ls
+  evs-lay A [] = refl
+  evs-lay A (l ∷ ls) = evs-lay (ev1 A l) ls
 
   pub states-all : (A : Frame) (ls : List Line) → A .lay .counts .states ≤ evs A ls .lay .counts .states
   states-all A [] = le-refl (A .lay .counts .states)

@@ -9,7 +9,7 @@ use tables::Refusal;
 use tables::Ty;
 ghost use mathlib.Core.Path.{_≡_};
 ghost use mathlib.Core.Bool.{false};
-ghost use Prim.Native.Nat.{_≤_};
+ghost use Prim.Native.Nat.{_+_, _≤_, _<_};
 ghost use Rattle.tables.specs.Layout.{linesOf};
 ghost use Rattle.peeks.specs.Peek.{peekAt, mayPeek, toldPeek, peeks};
 ghost use Rattle.peeks.specs.Model.Looks.{Laid, HasCell, lentPeek};
@@ -39,15 +39,15 @@ fn find(
     peek_cells::cell(table, count, laid, &ini, starts, row, &mut kept, n, k)
 }
 
-// 14, 15 and 18: s start words and i inputs are lent, for the cell k of a line of the type y.
+// 14, 15 and 18: s start words and i words of a row are lent, for the cell k of a line of the type y.
 fn may_peek(t: Totals, y: Ty, count: usize, k: usize, s: usize, i: usize) -> Checked
-    requires { ⌜ (2 ≤ y .role → y .iw ≤ 8) ⌝ }
-    ensures { λ r. ⌜ r ≡ mayPeek (countsOf t) y count k s i ⌝ }
+    requires { ⌜ (t .inputs + t .free < 4294967296) × (2 ≤ y .role → y .iw ≤ 8) ⌝ }
+    ensures { λ r. ⌜ r ≡ mayPeek (countsOf t) (t .inputs + t .free) y count k s i ⌝ }
 {
     if s != t.states {
         return Checked::Refused(Refusal::StartWords);
     }
-    if i != t.inputs {
+    if i != t.inputs + t.free {
         return Checked::Refused(Refusal::InputWords);
     }
     if 64 < count {

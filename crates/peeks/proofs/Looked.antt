@@ -8,7 +8,7 @@ use native.Mathlib.Nat.{mod-eq-of-lt, mod-mod, pow-suc}
 use lib.Dec.{leb}
 use lib.Pow.{pow-pos}
 use lib.ListN.{length, take, getD, set, getD-replicate}
-use lib.Seq.{take-all, getD-set-same, getD-set-other}
+use lib.Seq.{getD-take, getD-set-same, getD-set-other}
 use Rattle.words.specs.Word.{Width, bit}
 use Rattle.tables.specs.declared.Ty.{Ty}
 use Rattle.tables.specs.declared.Checked.the-variants.{Accepted}
@@ -23,7 +23,7 @@ use Rattle.tables.proofs.Wide.{sort-wide}
 use Rattle.circuits.specs.Cells.{ifNonzero, eqOrNeq, sameCells, maskWords, part}
 use Rattle.circuits.specs.Layout.{Layout, typeAt, placeAt, size, lineTypeIn, placeOf, noLayout, lay, layout}
 use Rattle.circuits.specs.Meaning.{opWord, cellsE, Frame, cellsAt, wordAt, widthAt, cellsOf, step}
-use Rattle.circuits.specs.Run.{rowLength, start}
+use Rattle.circuits.specs.Run.{inputCount, start}
 use Rattle.peeks.specs.Peek.{stepZero}
 use Rattle.circuits.specs.Model.Work.{posIn, widIn}
 use Rattle.circuits.specs.Model.Fits.{FitWord}
@@ -181,10 +181,10 @@ module _ {t : List ℕ} {n : ℕ} {P : List (List ℕ)} {ini S R : List ℕ} (lk
   Z = layout false (linesOf false t n)
 
   abbrev ι : List ℕ
-  ι = take (rowLength false (linesOf false t n)) R
+  ι = take (inputCount false (linesOf false t n)) R
 
   abbrev σ : List ℕ
-  σ = step false true (linesOf false t n) S (take (rowLength false (linesOf false t n)) R) .sts
+  σ = step false true (linesOf false t n) S (take (inputCount false (linesOf false t n)) R) .sts
 
   abbrev A : Frame
   A = step false false (linesOf false t n) σ ι
@@ -195,9 +195,6 @@ module _ {t : List ℕ} {n : ℕ} {P : List (List ℕ)} {ini S R : List ℕ} (lk
   zero-is : stepZero (linesOf false t n) S R ≡ A
   unfolding stepZero start
   zero-is = refl
-
-  row-is : ι ≡ R
-  row-is = take-all (rowLength false (linesOf false t n)) R (omega (arith, lk .laid .row))
 
   many : length σ ≡ Z .counts .states
   many =
@@ -424,7 +421,7 @@ module _ {t : List ℕ} {n : ℕ} {P : List (List ℕ)} {ini S R : List ℕ} (lk
           flat = ap (λ (y : Ty). y .iw) ty ∙ flat;
           inside = omega (arith, lk .laid .row);
           wide = width-of (suc i) (subst (λ (y : Ty). 2 ≤ y .role) (sym ty) (omega arith));
-          is = ap₂ (λ (x : List ℕ) (m : ℕ). getD x (posIn P (suc i)) 0 % 2 ^ m) (sym row-is) ew ∙ ap (λ (m : ℕ). getD ι m 0 % 2 ^ (lineTypeIn false (B .lay) (Line.input s) .w)) ep
+          is = ap₂ (λ (v m : ℕ). v % 2 ^ m) (sym (getD-take (inputCount false (linesOf false t n)) R (posIn P (suc i)) 0 (omega arith))) ew ∙ ap (λ (m : ℕ). getD ι m 0 % 2 ^ (lineTypeIn false (B .lay) (Line.input s) .w)) ep
               ∙ sym (ap (λ (x : List ℕ). getD x 0 0) (own-cells ∙ ap (cellsOf false false σ ι B) el));
         }
 

@@ -1,5 +1,5 @@
 -- The answers of a peek, test by test, and the value where none holds. Assumes nothing.
-use Prim.Native.Nat.{ℕ, zero, suc, _≤_, _<_}
+use Prim.Native.Nat.{ℕ, zero, suc, _+_, _≤_, _<_}
 use mathlib.Core.Path.{_≡_, refl, sym, ap, ap₂, _∙_, subst}
 use mathlib.Core.Bool.{Bool, true, false}
 use mathlib.Core.List.{List, []}
@@ -26,7 +26,8 @@ use Rattle.circuits.specs.Layout.{Counts, typeAt, size, layout}
 use Rattle.circuits.specs.Meaning.{cellsAt, wordAt}
 use Rattle.tables.specs.Lines.{Line}
 use Rattle.tables.specs.Layout.{linesOf}
-use Rattle.circuits.specs.Run.{rowLength, start}
+use Rattle.circuits.specs.Free.{sources, freeCount}
+use Rattle.circuits.specs.Run.{inputCount, rowLength, start}
 use Rattle.circuits.proofs.Earlier.{cells-first}
 use Rattle.peeks.specs.Peek.{stepZero, peekAt, hasCell, mayPeek, seenAs, peeked, toldPeek, peeks}
 use Rattle.circuits.specs.Model.Work.{numIn}
@@ -38,49 +39,45 @@ use Rattle.peeks.proofs.Looked.{shown, one-cell, more-cells}
 
 -- ---- 14, 15 and 18
 
-module _ (c : Counts) (y : Ty) (n k s i : ℕ) where
-  pub may-14 : (s ≡ c .states → ⊥) → Refused StartWords ≡ mayPeek c y n k s i
+module _ (c : Counts) (row : ℕ) (y : Ty) (n k s i : ℕ) where
+  pub may-14 : (s ≡ c .states → ⊥) → Refused StartWords ≡ mayPeek c row y n k s i
   may-14 e = rw (ne-eqb s (c .states) e)
 
-  pub may-15 : s ≡ c .states → (i ≡ c .inputs → ⊥) → Refused InputWords ≡ mayPeek c y n k s i
-  may-15 e f = rw (eq-eqb s (c .states) e, ne-eqb i (c .inputs) f)
+  pub may-15 : s ≡ c .states → (i ≡ row → ⊥) → Refused InputWords ≡ mayPeek c row y n k s i
+  may-15 e f = rw (eq-eqb s (c .states) e, ne-eqb i row f)
 
-  module _ (e : s ≡ c .states) (f : i ≡ c .inputs) where
-    pub may-many : 64 < n → Refused NoSuchCell ≡ mayPeek c y n k s i
-    may-many h = rw (eq-eqb s (c .states) e, eq-eqb i (c .inputs) f, lt-leb n 64 h)
+  module _ (e : s ≡ c .states) (f : i ≡ row) where
+    pub may-many : 64 < n → Refused NoSuchCell ≡ mayPeek c row y n k s i
+    may-many h = rw (eq-eqb s (c .states) e, eq-eqb i row f, lt-leb n 64 h)
 
-    pub may-class : n ≤ 64 → y .role < 2 → Refused NoSuchCell ≡ mayPeek c y n k s i
-    may-class h q = rw (eq-eqb s (c .states) e, eq-eqb i (c .inputs) f, le-leb n 64 h, lt-leb 2 (y .role) q)
+    pub may-class : n ≤ 64 → y .role < 2 → Refused NoSuchCell ≡ mayPeek c row y n k s i
+    may-class h q = rw (eq-eqb s (c .states) e, eq-eqb i row f, le-leb n 64 h, lt-leb 2 (y .role) q)
 
-    pub may-cell : {m : ℕ} → m ≡ size y → n ≤ 64 → 2 ≤ y .role → m ≤ k → Refused NoSuchCell ≡ mayPeek c y n k s i
-    may-cell {m} z h q l = rw (eq-eqb s (c .states) e, eq-eqb i (c .inputs) f, le-leb n 64 h, le-leb 2 (y .role) q, le-ltb k (size y) (subst (λ (x : ℕ). x ≤ k) z l))
+    pub may-cell : {m : ℕ} → m ≡ size y → n ≤ 64 → 2 ≤ y .role → m ≤ k → Refused NoSuchCell ≡ mayPeek c row y n k s i
+    may-cell {m} z h q l = rw (eq-eqb s (c .states) e, eq-eqb i row f, le-leb n 64 h, le-leb 2 (y .role) q, le-ltb k (size y) (subst (λ (x : ℕ). x ≤ k) z l))
 
-    pub may-see : {m : ℕ} → m ≡ size y → n ≤ 64 → 2 ≤ y .role → k < m → Accepted ≡ mayPeek c y n k s i
-    may-see {m} z h q l = rw (eq-eqb s (c .states) e, eq-eqb i (c .inputs) f, le-leb n 64 h, le-leb 2 (y .role) q, lt-ltb k (size y) (subst (λ (x : ℕ). k < x) z l))
+    pub may-see : {m : ℕ} → m ≡ size y → n ≤ 64 → 2 ≤ y .role → k < m → Accepted ≡ mayPeek c row y n k s i
+    may-see {m} z h q l = rw (eq-eqb s (c .states) e, eq-eqb i row f, le-leb n 64 h, le-leb 2 (y .role) q, lt-ltb k (size y) (subst (λ (x : ℕ). k < x) z l))
 
-pub record May (c : Counts) (y : Ty) (n k s i : ℕ) : Type 0 where
+pub record May (c : Counts) (row : ℕ) (y : Ty) (n k s i : ℕ) : Type 0 where
   pub starts : s ≡ c .states
-  pub row : i ≡ c .inputs
+  pub full : i ≡ row
   pub few : n ≤ 64
   pub value : 2 ≤ y .role
   pub inside : k < size y
 
-pub may-facts : (c : Counts) (y : Ty) (n k s i : ℕ) → mayPeek c y n k s i ≡ Accepted → May c y n k s i
-may-facts c y n k s i = go (eqb s (c .states)) (eqb i (c .inputs)) (hasCell y n k) refl refl refl
+pub may-facts : (c : Counts) (row : ℕ) (y : Ty) (n k s i : ℕ) → mayPeek c row y n k s i ≡ Accepted → May c row y n k s i
+may-facts c row y n k s i = go (eqb s (c .states)) (eqb i row) (hasCell y n k) refl refl refl
   where
-    go : (a b d : Bool) → eqb s (c .states) ≡ a → eqb i (c .inputs) ≡ b → hasCell y n k ≡ d
-        → pick a (pick b (pick d Accepted (Refused NoSuchCell)) (Refused InputWords)) (Refused StartWords) ≡ Accepted → May c y n k s i
+    go : (a b d : Bool) → eqb s (c .states) ≡ a → eqb i row ≡ b → hasCell y n k ≡ d
+        → pick a (pick b (pick d Accepted (Refused NoSuchCell)) (Refused InputWords)) (Refused StartWords) ≡ Accepted → May c row y n k s i
     go true true true a b d z =
         let h = both (leb n 64) _ d in
         let l = both (isValue y) _ (h .1) in
-        record { starts = eqb-true s (c .states) a; row = eqb-true i (c .inputs) b; few = leb-true n 64 (h .0); value = leb-true 2 (y .role) (l .0); inside = ltb-true k (size y) (l .1) }
+        record { starts = eqb-true s (c .states) a; full = eqb-true i row b; few = leb-true n 64 (h .0); value = leb-true 2 (y .role) (l .0); inside = ltb-true k (size y) (l .1) }
     go true true false a b d z = absurd (not-accepted NoSuchCell z)
     go true false w a b d z = absurd (not-accepted InputWords z)
     go false v w a b d z = absurd (not-accepted StartWords z)
-
--- the tests on what the pass and the check have found
-pub may-on : (c : Counts) (z : Ty) (n k s i : ℕ) {t : Totals} {y : Ty} {d x : Checked} → t ≡ totalsOf c → y ≡ z → d ≡ mayPeek (countsOf t) y n k s i → d ≡ x → mayPeek c z n k s i ≡ x
-may-on c z n k s i et ey ed ex = sym (ed ∙ ap₂ (λ (t : Totals) (y : Ty). mayPeek (countsOf t) y n k s i) et ey) ∙ ex
 
 -- ---- what a peek begins with
 
@@ -101,7 +98,7 @@ kept-none C S R {K} e =
     zeros (suc m) (suc a) = zeros m a
 
     go : (a : ℕ) → keptMark K a ≡ 1 → keptWord K a ≡ wordAt (stepZero C S R) a
-    go zero k = ap (λ (x : List (List ℕ)). keptWord x 0) e ∙ sym (ap (λ (x : List ℕ). getD x 0 0) (cells-first false false C (start false C S R) (take (rowLength false C) R) 0 0 (omega arith) (omega arith)))
+    go zero k = ap (λ (x : List (List ℕ)). keptWord x 0) e ∙ sym (ap (λ (x : List ℕ). getD x 0 0) (cells-first false false C (start false C S R) (take (inputCount false C) R) 0 0 (omega arith) (omega arith)))
     go (suc a) k = absurd (omega (arith, sym k ∙ ap (λ (x : List (List ℕ)). keptMark x (suc a)) e ∙ zeros 64 a))
 
 pub looks-all : {t : List ℕ} {n : ℕ} {P : List (List ℕ)} {ini S R : List ℕ} → Laid t n P S R → length ini ≡ length {A = ℕ} (replicate 65 0)
@@ -140,25 +137,31 @@ module _ {t : List ℕ} {n : ℕ} {P : List (List ℕ)} {S R : List ℕ} (l : La
 
 module _ {t : List ℕ} {n : ℕ} {xs : List (List ℕ)} (z : Noted false t n xs) (m : ℕ) where
   -- the note of the line peeked at has its type
-  pub type-is : {y : Ty} → y ≡ lookIn xs m → y ≡ typeAt (layout false (linesOf false t n)) m
+  type-is : {y : Ty} → y ≡ lookIn xs m → y ≡ typeAt (layout false (linesOf false t n)) m
   type-is e = e ∙ noted-types false t n z m
 
   pub type-deep : {y : Ty} → y ≡ lookIn xs m → 2 ≤ y .role → y .iw ≤ 8
   type-deep e q = let f = type-is e in omega (arith, ap (λ (u : Ty). u .iw) f, all-sound false t n (z .accepted) .wide m (omega (arith, ap (λ (u : Ty). u .role) f)) .deep)
 
+  -- the tests on what the pass and the check have found
+  pub may-on : (k : ℕ) (S R : List ℕ) {all : Totals} {y : Ty} {d x : Checked} → all ≡ totalsOf (layout false (linesOf false t n) .counts) (freeCount (sources false (linesOf false t n))) → y ≡ lookIn xs m
+      → d ≡ mayPeek (countsOf all) (all .inputs + all .free) y n k (length S) (length R) → d ≡ x
+      → mayPeek (layout false (linesOf false t n) .counts) (rowLength false (linesOf false t n)) (typeAt (layout false (linesOf false t n)) m) n k (length S) (length R) ≡ x
+  may-on k S R ea ey ed ex = sym (ed ∙ ap₂ (λ (v : Totals) (u : Ty). mayPeek (countsOf v) (v .inputs + v .free) u n k (length S) (length R)) ea (type-is ey)) ∙ ex
+
   pub peek-laid : {P : List (List ℕ)} {S R : List ℕ} (k : ℕ) → ShowsAll P (layout false (linesOf false t n))
-      → mayPeek (layout false (linesOf false t n) .counts) (typeAt (layout false (linesOf false t n)) m) n k (length S) (length R) ≡ Accepted → Laid t n P S R × HasCell t n m k
+      → mayPeek (layout false (linesOf false t n) .counts) (rowLength false (linesOf false t n)) (typeAt (layout false (linesOf false t n)) m) n k (length S) (length R) ≡ Accepted → Laid t n P S R × HasCell t n m k
   peek-laid {P} {S} {R} k sh e =
-      let f = may-facts (layout false (linesOf false t n) .counts) (typeAt (layout false (linesOf false t n)) m) n k (length S) (length R) e in (
-        record { accepted = z .accepted; few = f .few; shows = sh; starts = f .starts; row = f .row },
+      let f = may-facts (layout false (linesOf false t n) .counts) (rowLength false (linesOf false t n)) (typeAt (layout false (linesOf false t n)) m) n k (length S) (length R) e in (
+        record { accepted = z .accepted; few = f .few; shows = sh; starts = f .starts; row = omega (arith, f .full) },
         record { value = f .value; inside = f .inside },
       )
 
 module _ (t : List ℕ) (n m k : ℕ) (S R : List ℕ) where
-  pub lent-refused : (r : Refusal) → mayPeek (layout false (linesOf false t n) .counts) (typeAt (layout false (linesOf false t n)) m) n k (length S) (length R) ≡ Refused r → RefusedPeek r ≡ lentPeek t n m k S R
+  pub lent-refused : (r : Refusal) → mayPeek (layout false (linesOf false t n) .counts) (rowLength false (linesOf false t n)) (typeAt (layout false (linesOf false t n)) m) n k (length S) (length R) ≡ Refused r → RefusedPeek r ≡ lentPeek t n m k S R
   lent-refused r e = sym (ap (λ (d : Checked). seenAs d (peekAt (linesOf false t n) S R m k)) e)
 
-  pub lent-value : {v : ℕ} → mayPeek (layout false (linesOf false t n) .counts) (typeAt (layout false (linesOf false t n)) m) n k (length S) (length R) ≡ Accepted → v ≡ peekAt (linesOf false t n) S R m k
+  pub lent-value : {v : ℕ} → mayPeek (layout false (linesOf false t n) .counts) (rowLength false (linesOf false t n)) (typeAt (layout false (linesOf false t n)) m) n k (length S) (length R) ≡ Accepted → v ≡ peekAt (linesOf false t n) S R m k
       → Value v ≡ lentPeek t n m k S R
   lent-value e ev = ap Value ev ∙ sym (ap (λ (d : Checked). seenAs d (peekAt (linesOf false t n) S R m k)) e)
 

@@ -7,6 +7,7 @@ use records::notes::BYTES;
 use tables::Checked;
 use tables::Ty;
 ghost use mathlib.Core.Path.{_≡_};
+ghost use mathlib.Core.Bool.{false};
 ghost use mathlib.Core.List.{List, _++_};
 ghost use Prim.Native.Nat.{ℕ, _≤_, _+_, _<_};
 ghost use lib.ListN.{length, set, take};
@@ -14,7 +15,9 @@ ghost use Rattle.circuits.specs.Layout.{counting, size, countsAfter, layout};
 ghost use Rattle.tables.specs.Lines.{lineOf, kindIn};
 ghost use Rattle.circuits.specs.Model.Work.{laidAs};
 ghost use Rattle.circuits.specs.Model.Places.{ShowsAll};
-ghost use Rattle.circuits.specs.Model.Passes.{countsOf, totalsOf, Small, spotBy, Noted};
+ghost use Rattle.circuits.specs.Free.{sources, freeCount};
+ghost use Rattle.circuits.specs.Model.Passes.{countsOf, totalsOf, freeHere, Small, spotBy, Noted};
+ghost use Rattle.tables.specs.Model.Notes.{givenIn};
 ghost use Rattle.circuits.specs.Model.Signals.{badMark, marks};
 ghost use Rattle.tables.specs.Layout.{linesOf};
 ghost use Rattle.tables.specs.Tables.{checked};
@@ -30,7 +33,7 @@ fn cells_of(y: Ty) -> usize
 // The counts after a line of the kind k that has m cells.
 fn count_line(k: u64, m: usize, t: Totals) -> Totals
     requires { ⌜ Small (countsOf t) m ⌝ }
-    ensures { λ r. ⌜ ((rec : List ℕ) → k ≡ kindIn rec → r ≡ totalsOf (countsAfter (countsOf t) m (lineOf rec))) ⌝ }
+    ensures { λ r. ⌜ ((rec : List ℕ) → k ≡ kindIn rec → r ≡ totalsOf (countsAfter (countsOf t) m (lineOf rec)) (t .free)) ⌝ }
 {
     match k {
         4 => Totals {
@@ -38,18 +41,21 @@ fn count_line(k: u64, m: usize, t: Totals) -> Totals
             states: t.states,
             inputs: t.inputs + 1,
             signals: t.signals,
+            free: t.free,
         },
         5 => Totals {
             cells: t.cells + m,
             states: t.states + m,
             inputs: t.inputs,
             signals: t.signals,
+            free: t.free,
         },
         8..=9 => Totals {
             cells: t.cells,
             states: t.states,
             inputs: t.inputs,
             signals: t.signals + 1,
+            free: t.free,
         },
         3 => more_cells(m, t),
         11..=63 => more_cells(m, t),
@@ -60,13 +66,42 @@ fn count_line(k: u64, m: usize, t: Totals) -> Totals
 // The counts with m cells more.
 fn more_cells(m: usize, t: Totals) -> Totals
     requires { ⌜ t .cells + m < 4294967296 ⌝ }
-    ensures { λ r. ⌜ r ≡ totalsOf (counting (t .cells + m) (t .states) (t .inputs) (t .signals)) ⌝ }
+    ensures { λ r. ⌜ r ≡ totalsOf (counting (t .cells + m) (t .states) (t .inputs) (t .signals)) (t .free) ⌝ }
 {
     Totals {
         cells: t.cells + m,
         states: t.states,
         inputs: t.inputs,
         signals: t.signals,
+        free: t.free,
+    }
+}
+
+// A next line drives the state on the line n.
+pub fn driven(notes: &[[u8; BYTES]], n: usize) -> bool
+    ensures { λ r. ⌜ r ≡ givenIn (now (notes .entry)) false n ⌝ }
+{
+    let r = notes::at(notes, n as u64);
+    r[4] == 1
+}
+
+// The counts with the words of the line n, of the kind k and with m cells, if it is a state that nobody drives.
+fn count_free(k: u64, notes: &[[u8; BYTES]], n: usize, m: usize, t: Totals) -> Totals
+    requires { ⌜ t .free + m < 4294967296 ⌝ }
+    ensures { λ r. ⌜ ((rec : List ℕ) → k ≡ kindIn rec → r ≡ totalsOf (countsOf t) (t .free + freeHere (givenIn (now (notes .entry)) false n) m (lineOf rec))) ⌝ }
+{
+    if k != 5 {
+        return t;
+    }
+    if driven(notes, n) {
+        return t;
+    }
+    Totals {
+        cells: t.cells,
+        states: t.states,
+        inputs: t.inputs,
+        signals: t.signals,
+        free: t.free + m,
     }
 }
 
@@ -117,7 +152,7 @@ pub fn lay_out(
 ) -> Totals
     requires { ⌜ Noted program (now table) count (now notes) × (length (now laid) ≡ 16385) ⌝ }
     ensures { λ r. ⌜ ShowsAll (now (laid .exit)) (layout program (linesOf program (now (table .entry)) count))
-        × (r ≡ totalsOf (layout program (linesOf program (now (table .entry)) count) .counts)) ⌝ }
+        × (r ≡ totalsOf (layout program (linesOf program (now (table .entry)) count) .counts) (freeCount (sources program (linesOf program (now (table .entry)) count)))) ⌝ }
 {
     let none = Spot { off: 0, at: 0 };
     put_line(laid, 0, none, 1, 0);
@@ -126,6 +161,7 @@ pub fn lay_out(
         states: 0,
         inputs: 0,
         signals: 0,
+        free: 0,
     };
     let mut i: usize = 0;
     while i < count {
@@ -135,6 +171,7 @@ pub fn lay_out(
         let s = find_spot(k, t);
         put_line(laid, i + 1, s, m, y.w);
         t = count_line(k, m, t);
+        t = count_free(k, notes, i + 1, m, t);
         i += 1;
     }
     t

@@ -38,13 +38,13 @@ once-start = record { rising = λ i j h k l. absurd (none i h); doneY = λ m q h
 
 module _ {Y Z : Layout} {J : List Known} (v : Laid Y Z J) (o : Once Y Z J) (l : Line) (f : Known) where
   -- an earlier line, and the line itself
-  old-type : (i : ℕ) → i < lines Y → typeAt (lay false Y l) i ≡ typeAt Y i
+  pub old-type : (i : ℕ) → i < lines Y → typeAt (lay false Y l) i ≡ typeAt Y i
   old-type i h = grew-line false (v .evenY) l .types i h
 
-  old-number : (i : ℕ) → i < lines Y → operandNumber (J ++ (f ∷ [])) i ≡ operandNumber J i
+  pub old-number : (i : ℕ) → i < lines Y → operandNumber (J ++ (f ∷ [])) i ≡ operandNumber J i
   old-number i h = ap (λ (x : Known). x .num) (below-snoc J f noneKnown i (omega (arith, v .known)))
 
-  new-number : operandNumber (J ++ (f ∷ [])) (lines Y) ≡ f .num
+  pub new-number : operandNumber (J ++ (f ∷ [])) (lines Y) ≡ f .num
   new-number = ap (λ (x : Known). x .num) (getD-at J f [] noneKnown (lines Y) (v .known))
 
   -- a number of the new circuit is an earlier line's or the new one's

@@ -1,52 +1,33 @@
 -- A flat circuit and its program run alike: every step leaves the same signals and the same state words. Assumes nothing.
-use Prim.Native.Nat.{ℕ, zero, suc, _+_, _^_, _≤_, _<_}
-use mathlib.Core.Path.{_≡_, refl, sym, ap, _∙_}
+use Prim.Native.Nat.{ℕ, zero, suc, _+_, _*_, _^_, _≤_, _<_}
+use mathlib.Core.Path.{_≡_, refl, sym, ap, ap₂, _∙_, fun-ext}
 use mathlib.Core.Bool.{Bool, true, false}
-use mathlib.Core.List.{List, [], _∷_, _++_, append-assoc}
+use mathlib.Core.List.{List, [], _∷_, _++_, map, append-assoc}
 use native.Mathlib.Nat.{le-refl, le-trans}
 use native.Mathlib.Omega.{arith}
 use lib.ListN.{length, getD, take, drop, length-append}
 use lib.Seq.{getD-at}
 use lib.Pow.{pow-pos}
 use Rattle.tables.specs.Lines.{Line, bitvec, array, input, state, value, initOrNext, signal, output, unknown}
+use Rattle.tables.specs.Layout.{from}
 use Rattle.tables.specs.Types.{tyAt, noCtx}
 use Rattle.tables.proofs.Kept.{no-yes, neither}
 use Rattle.tables.proofs.Facts.{AllOk}
+use Rattle.circuits.specs.Cells.{part}
 use Rattle.circuits.specs.Layout.{Layout, typeAt, size, lay, layAll, noLayout, layout}
 use Rattle.circuits.specs.Meaning.{Signal, Frame, evalLine, evalAll, noFrame, step}
-use Rattle.circuits.specs.Run.{rowLength, start, steps, run, bytes, firstBad}
+use Rattle.circuits.specs.Free.{Source, sources, freeCount, fed}
+use Rattle.circuits.specs.Run.{inputCount, rowLength, inputsAt, freeAt, start, entered, stepFrom, wordsBefore, run, stepAt, bytes, firstBad}
+use Rattle.circuits.proofs.Sources.{sources-many, fed-many}
+use Rattle.circuits.proofs.Repeated.{run-steps}
 use Rattle.programs.specs.Uses.{hasNeedingUse}
 use Rattle.programs.specs.Translation.{Known, noneKnown, instructionsOf, arraySortLine, hasArray, translateFrom, translate}
 use Rattle.programs.proofs.Grew.{lines, Even, even-line, grew-line}
 use Rattle.programs.proofs.LaidLines.{laid-start, lines-more, same-counts}
+use Rattle.programs.proofs.FreeCells.{widthHere, widthsFrom, stateWidth, Tame, sources-program, fed-tame}
 use Rattle.programs.proofs.Held.{Alike}
 use Rattle.programs.proofs.Needs.{MetAll, met-needed}
 use Rattle.programs.proofs.StepLines.{eval-lay, Reads, alike-line}
-
--- ---- the widths of the state words
-
-abbrev widthHere : Layout → Line → List ℕ
-widthHere Y (bitvec w) = []
-widthHere Y (array i e) = []
-widthHere Y (input s) = []
-widthHere Y (state s) = typeAt Y s .w ∷ []
-widthHere Y (value s e) = []
-widthHere Y (initOrNext m s q v) = []
-widthHere Y (signal m a) = []
-widthHere Y (output a) = []
-widthHere Y unknown = []
-
-abbrev widthsFrom : Layout → List Line → List ℕ
-widthsFrom Y [] = []
-widthsFrom Y (l ∷ ls) = widthHere Y l ++ widthsFrom (lay false Y l) ls
-
--- the width of each state word of F
-abbrev pub stateWidth : List Line → ℕ → ℕ
-stateWidth F j = getD (widthsFrom noLayout F) j 0
-
--- the state words of F are below their widths
-abbrev pub Tame : List Line → List ℕ → Type 0
-Tame F σ = (j : ℕ) → getD σ j 0 < 2 ^ stateWidth F j
 
 -- ---- one step
 
@@ -141,9 +122,6 @@ module _ (F : List Line) (ok : AllOk false noCtx F) (flat : hasArray F ≡ false
   unfolding step layout
   step-counts g σ ι = ap (λ (Y : Layout). Y .counts .states) (eval-lay false g σ ι noFrame F)
 
-  row-same : rowLength true (translate F) ≡ rowLength false F
-  row-same = same-counts F ok flat .inputs
-
 -- ---- words of 64 bits
 
 abbrev pub Small : List ℕ → Type 0
@@ -172,42 +150,69 @@ small-drop (suc n) (x ∷ xs) h = small-drop n xs (h .1)
 
 -- ---- all steps
 
+-- the state words before a step of F, σ, and of its program, τ: the same, as many as F has, each below its width
+record Begun (F : List Line) (σ τ : List ℕ) : Type 0 where
+  same : τ ≡ σ
+  many : layout false F .counts .states ≤ length σ
+  tame : Tame F σ
+
 module _ (F : List Line) (ok : AllOk false noCtx F) (flat : hasArray F ≡ false) where
-  row-small : (I : List ℕ) → Small I → (j : ℕ) → getD (take (rowLength false F) I) j 0 < 2 ^ 64
-  row-small I h j = small-at (take (rowLength false F) I) (small-take (rowLength false F) I h) j
+  begun-after : {A B : Frame} → SameStep (stateWidth F) A B → A .lay .counts .states ≡ layout false F .counts .states → Begun F (A .sts) (B .sts)
+  begun-after s e = record { same = s .sts; many = omega (arith, s .count); tame = s .fit }
 
-  steps-alike : (k : ℕ) (σ I : List ℕ) → layout false F .counts .states ≤ length σ → Tame F σ → Small I → steps true (translate F) k σ I ≡ steps false F k σ I
-  unfolding steps
-  steps-alike zero σ I h t w = refl
-  steps-alike (suc k) σ I h t w =
-      let n = rowLength false F in
-      let s = step-alike F ok flat false σ (take n I) h (λ e. t) (row-small I w) in
-      let r = row-same F ok flat in
-      rw (r, s .sigs, s .sts)
-      (ap (λ (y : List (List Signal)). step false false F σ (take n I) .sigs ∷ y)
-      (steps-alike k (step false false F σ (take n I) .sts) (drop n I) (omega (arith, s .count, step-counts F ok flat false σ (take n I))) (s .fit) (small-drop n I w)))
+  -- what a step begins with: those, and the row's words for free states
+  entered-many : (t : ℕ) (before row : List ℕ) → layout false F .counts .states ≤ length before → layout false F .counts .states ≤ length (entered false F t before row)
+  entered-many zero before row h = h
+  entered-many (suc t) before row h = omega (arith, fed-many (sources false F) before row, sources-many false F)
 
-  -- the state words that step 0 starts from
-  start-step : (S I : List ℕ) → layout false F .counts .states ≤ length S → Small I
-      → SameStep (stateWidth F) (step false true F S (take (rowLength false F) I)) (step true true (translate F) S (take (rowLength false F) I))
-  start-step S I h w = step-alike F ok flat true S (take (rowLength false F) I) h (λ e. absurd (no-yes (sym e))) (row-small I w)
+  entered-tame : (t : ℕ) (before row : List ℕ) → Tame F before → Tame F (entered false F t before row)
+  entered-tame zero before row h = h
+  entered-tame (suc t) before row h = fed-tame F ok flat before row h
 
-  start-alike : (S I : List ℕ) → layout false F .counts .states ≤ length S → Small I → start true (translate F) S I ≡ start false F S I
-  unfolding start
-  start-alike S I h w = ap (λ (n : ℕ). step true true (translate F) S (take n I) .sts) (row-same F ok flat) ∙ start-step S I h w .sts
+  -- the rows of both have the same parts
+  inputs-alike : inputCount true (translate F) ≡ inputCount false F
+  inputs-alike = same-counts F ok flat .inputs
 
-  start-tame : (S I : List ℕ) → layout false F .counts .states ≤ length S → Small I → Tame F (start false F S I)
-  unfolding start
-  start-tame S I h w = start-step S I h w .fit
+  pub row-alike : rowLength true (translate F) ≡ rowLength false F
+  row-alike = ap₂ (λ (n : ℕ) (ss : List Source). n + freeCount ss) inputs-alike (sources-program F ok flat)
 
-  start-count : (S I : List ℕ) → layout false F .counts .states ≤ length S → Small I → layout false F .counts .states ≤ length (start false F S I)
-  unfolding start
-  start-count S I h w = omega (arith, start-step S I h w .count, step-counts F ok flat true S (take (rowLength false F) I))
+  module _ (I : List ℕ) (small : Small I) where
+    part-small : (a n j : ℕ) → getD (part I a n) j 0 < 2 ^ 64
+    part-small a n j = small-at (part I a n) (small-take n (drop a I) (small-drop a I small)) j
+
+    inputs-at : (t : ℕ) → inputsAt true (translate F) I t ≡ inputsAt false F I t
+    inputs-at t = ap₂ (λ (n : ℕ) (ss : List Source). part I (t * (n + freeCount ss)) n) inputs-alike (sources-program F ok flat)
+
+    entered-at : (t : ℕ) (before : List ℕ) → entered true (translate F) t before (freeAt true (translate F) I t) ≡ entered false F t before (freeAt false F I t)
+    entered-at zero before = refl
+    entered-at (suc t) before = ap₂ (λ (n : ℕ) (ss : List Source). fed ss before (part I (suc t * (n + freeCount ss) + n) (freeCount ss))) inputs-alike (sources-program F ok flat)
+
+    step-from : (t : ℕ) {σ τ : List ℕ} → Begun F σ τ → SameStep (stateWidth F) (stepFrom false F I t σ) (stepFrom true (translate F) I t τ)
+    unfolding stepFrom
+    step-from t {σ} b =
+        let row = freeAt false F I t in
+        rw (b .same, entered-at t σ, inputs-at t)
+        (step-alike F ok flat false (entered false F t σ row) (inputsAt false F I t) (entered-many t σ row (b .many)) (λ e. entered-tame t σ row (b .tame)) (part-small (t * rowLength false F) (inputCount false F)))
+
+    module _ (S : List ℕ) (h : layout false F .counts .states ≤ length S) where
+      begun : (t : ℕ) → Begun F (wordsBefore false F I (start false F S I) t) (wordsBefore true (translate F) I (start true (translate F) S I) t)
+      unfolding wordsBefore start stepFrom
+      begun zero =
+          let ι = take (inputCount false F) I in
+          rw (inputs-alike, start) (begun-after (step-alike F ok flat true S ι h (λ e. absurd (no-yes (sym e))) (part-small 0 (inputCount false F))) (step-counts F ok flat true S ι))
+      begun (suc t) = begun-after (step-from t (begun t)) (step-counts F ok flat false (entered false F t (wordsBefore false F I (start false F S I) t) (freeAt false F I t)) (inputsAt false F I t))
+
+      step-at : (t : ℕ) → SameStep (stateWidth F) (stepAt false F S I t) (stepAt true (translate F) S I t)
+      unfolding stepAt
+      step-at t = step-from t (begun t)
+
+  -- the state words before each step are the same
+  pub words-alike : (S I : List ℕ) → layout false F .counts .states ≤ length S → Small I → (t : ℕ) → wordsBefore true (translate F) I (start true (translate F) S I) t ≡ wordsBefore false F I (start false F S I) t
+  words-alike S I h w t = begun I w S h t .same
 
   -- F and its program run alike, for every number of steps, all start words and all inputs of 64 bits
   pub alike : (k : ℕ) (S I : List ℕ) → layout false F .counts .states ≤ length S → Small I → run true (translate F) k S I ≡ run false F k S I
-  unfolding run
-  alike k S I h w = ap (λ (σ : List ℕ). steps true (translate F) k σ I) (start-alike S I h w) ∙ steps-alike k (start false F S I) I (start-count S I h w) (start-tame S I h w) w
+  alike k S I h w = run-steps true (translate F) k S I ∙ ap (λ (f : ℕ → List Signal). map f (from 0 k)) (fun-ext (λ (t : ℕ). step-at I w S h t .sigs)) ∙ sym (run-steps false F k S I)
 
   -- so the bytes are the same, and the first counted bad
   pub bytes-alike : (k : ℕ) (S I : List ℕ) → layout false F .counts .states ≤ length S → Small I → bytes (run true (translate F) k S I) ≡ bytes (run false F k S I)

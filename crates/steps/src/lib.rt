@@ -8,6 +8,7 @@ ghost use Rattle.circuits.specs.Meaning.{step};
 ghost use Rattle.circuits.specs.Run.{bytesOf, bytes, steps as stepsOf, run};
 ghost use Rattle.tables.specs.Layout.{linesOf};
 ghost use Rattle.circuits.specs.Model.Places.{Ready};
+ghost use Rattle.circuits.specs.Model.Feeding.{Rows};
 
 // All lines, in order. A state line reads its state words and a next line stores there, while other lines read the cells: all next values are set together.
 fn walk(
@@ -34,7 +35,8 @@ fn walk(
     }
 }
 
-// k steps, each from the state words that the last one left.
+// k steps, each from the state words that the last one left, but for those of the free states, whose lines are given. A row has so many inputs, and behind them so many words for
+// free states.
 fn steps(
     program: bool,
     table: &[u64],
@@ -43,13 +45,15 @@ fn steps(
     all: usize,
     ins: usize,
     sigs: usize,
+    fed: usize,
+    free: &[u32],
     k: usize,
     inputs: &[u64],
     signals: &mut [u8],
     work: &mut [u64],
 )
     requires { ⌜ (all ≤ length (now work)) × (Ready program (now table) count (now laid) all (length (drop all (now work))) ins sigs
-        × ((k * ins ≤ length (now inputs)) × (length (now signals) ≡ k * sigs))) ⌝ }
+        × (Rows program (linesOf program (now table) count) (ins + fed) (now free) × ((k * (ins + fed) ≤ length (now inputs)) × (length (now signals) ≡ k * sigs)))) ⌝ }
     ensures { λ _. ⌜ now (signals .exit) ≡ bytes (stepsOf program (linesOf program (now (table .entry)) count) k (drop all (now (work .entry))) (now (inputs .entry))) ⌝ }
 {
     let mut i: usize = 0;
@@ -57,7 +61,9 @@ fn steps(
     let mut g: usize = 0;
     while i < k {
         let e = r + ins;
+        let n = e + fed;
         let h = g + sigs;
+        free_states::enter(i, free, laid, &inputs[e..n], all, work);
         walk(
             program,
             false,
@@ -69,7 +75,7 @@ fn steps(
             &mut signals[g..h],
             work,
         );
-        r = e;
+        r = n;
         g = h;
         i += 1;
     }
@@ -103,6 +109,8 @@ pub fn run_laid(
     all: usize,
     ins: usize,
     sigs: usize,
+    fed: usize,
+    free: &[u32],
     k: usize,
     starts: &[u64],
     inputs: &[u64],
@@ -110,7 +118,7 @@ pub fn run_laid(
     work: &mut [u64],
 )
     requires { ⌜ (length (now work) ≡ all + length (now starts)) × (Ready program (now table) count (now laid) all (length (now starts)) ins sigs
-        × ((k * ins ≤ length (now inputs)) × ((length (now signals) ≡ k * sigs) × (0 < k)))) ⌝ }
+        × (Rows program (linesOf program (now table) count) (ins + fed) (now free) × ((k * (ins + fed) ≤ length (now inputs)) × ((length (now signals) ≡ k * sigs) × (0 < k))))) ⌝ }
     ensures { λ _. ⌜ (now (signals .exit) ≡ bytes (run program (linesOf program (now (table .entry)) count) k (now (starts .entry)) (now (inputs .entry))))
         × (now (work .exit) ≡ replicate (length (now (work .entry))) 0) ⌝ }
 {
@@ -133,6 +141,8 @@ pub fn run_laid(
         all,
         ins,
         sigs,
+        fed,
+        free,
         k,
         inputs,
         signals,

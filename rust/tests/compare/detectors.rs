@@ -82,7 +82,7 @@ fn pairs(random: &mut Random, w: u64) -> Vec<u64> {
     found
 }
 
-fn running(program: bool) -> (Running, Running) {
+pub fn running(program: bool) -> (Running, Running) {
     if program {
         (independent::run_program, proved::run_program)
     } else {
@@ -90,28 +90,30 @@ fn running(program: bool) -> (Running, Running) {
     }
 }
 
-/// Runs some lines on rows of inputs by both implementations, as many steps in a run as there may be; the signals.
-fn both_run_rows(random: &mut Random, lines: &Lines, starts: &[u64], inputs: &[u64]) -> Vec<u8> {
+/// Runs some lines by both implementations; the signals.
+pub fn both_run_steps(random: &mut Random, lines: &Lines, steps: usize, starts: &[u64], rows: &[u64]) -> Vec<u8> {
     let (table, n) = (roomy(random, lines), lines.records.len());
-    let mut signals = Vec::new();
-    for rows in inputs.chunks(lines.inputs() * independent::MOST_STEPS) {
-        let steps = rows.len() / lines.inputs();
-        let run = Run {
-            steps,
-            starts: starts.to_vec(),
-            inputs: rows.to_vec(),
-            signals: steps * lines.signals(),
-            work: lines.work(),
-            answer: 3,
-        };
-        assert!(matches!(both_run(random, running(lines.program), (&table, n, lines.program), &run), 0 | 100));
-        signals.extend(lines.run(steps, starts, rows));
-    }
-    signals
+    let run = Run {
+        steps,
+        starts: starts.to_vec(),
+        inputs: rows.to_vec(),
+        signals: steps * lines.signals(),
+        work: lines.work(),
+        answer: 3,
+    };
+    assert!(matches!(both_run(random, running(lines.program), (&table, n, lines.program), &run), 0 | 100));
+    lines.run(steps, starts, rows)
+}
+
+/// Runs some lines on rows of words, of which there are some in a row, as many steps in a run as there may be; the signals.
+fn both_run_rows(random: &mut Random, lines: &Lines, starts: &[u64], inputs: &[u64]) -> Vec<u8> {
+    let row = lines.row_words();
+    let runs = inputs.chunks(row * independent::MOST_STEPS);
+    runs.flat_map(|rows| both_run_steps(random, lines, rows.len() / row, starts, rows)).collect()
 }
 
 /// Flattens and translates by both implementations; the flat circuit and its program.
-fn both_forms(random: &mut Random, lines: &Lines) -> (Lines, Lines) {
+pub fn both_forms(random: &mut Random, lines: &Lines) -> (Lines, Lines) {
     let flat = flat_of(lines).unwrap();
     let (table, n) = (roomy(random, lines), lines.records.len());
     let both: (Changing, Changing) = (independent::flatten, proved::flatten);
@@ -123,7 +125,7 @@ fn both_forms(random: &mut Random, lines: &Lines) -> (Lines, Lines) {
     (flat, program)
 }
 
-/// Circuit, flat circuit and program on rows of inputs: the signals, which are the same for all three.
+/// Circuit, flat circuit and program on rows of words: the signals, which are the same for all three.
 fn alike_on(random: &mut Random, lines: &Lines, starts: &[u64], inputs: &[u64]) -> Vec<u8> {
     let (flat, program) = both_forms(random, lines);
     let of_circuit = both_run_rows(random, lines, starts, inputs);
@@ -242,7 +244,8 @@ fn peeking_at_detectors() {
             let (table, n) = (lines.words(), lines.records.len());
             for case in 0..105 {
                 let (a, b) = near_limit(&mut random, 57 + case % 7, w);
-                let (row, starts) = (&[a, b], random.words(2));
+                // The words of the array state, which is free, stand behind the inputs.
+                let (row, starts) = (&[a, b, random.word(), random.word()], random.words(2));
                 for (line, cell) in (5..=18).map(|line| (line, 0)).chain([(21, 0), (21, 1), (21, 2), (5, 1)]) {
                     let told = both_peek(&mut random, (&table, n), (line, cell), (&starts, row), 3);
                     assert_eq!(told, if cell == 2 || line == 5 && cell == 1 { 18 } else { 0 });
@@ -357,7 +360,10 @@ fn detectors_on_complements() {
 fn given(lines: &Lines, steps: usize, starts: &[u64], inputs: &[u64]) -> u64 {
     let (mut states, mut results) = (lines.start(starts), 0);
     for k in 0..steps {
-        let row = &inputs[k * lines.inputs()..(k + 1) * lines.inputs()];
+        let row = &inputs[k * lines.row_words()..(k + 1) * lines.row_words()];
+        if k > 0 {
+            states = lines.later(&states, row);
+        }
         let values = lines.evaluate(&states, row);
         let detectors = lines.records.iter().zip(&values).filter(|(r, _)| DETECTORS.contains(&r[0]));
         results = detectors.fold(results, |results, (_, value)| results | 1 << value[0]);
@@ -373,9 +379,9 @@ fn detectors_among_all_lines() {
         let size = Size { lines: 10 + random.below(60), ..size(random) };
         let lines = circuit(random, size);
         let steps = 1 + random.below(6);
-        let (starts, inputs) = (random.words(lines.state_cells()), random.words(steps * lines.inputs()));
+        let (starts, inputs) = (random.words(lines.state_cells()), random.words(steps * lines.row_words()));
         let fits = flat_of(&lines).is_some_and(|flat| program_of(&flat).is_some());
-        if fits && lines.inputs() > 0 {
+        if fits && lines.row_words() > 0 {
             alike_on(random, &lines, &starts, &inputs);
         }
         given(&lines, steps, &starts, &inputs)

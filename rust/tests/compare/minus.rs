@@ -97,7 +97,7 @@ fn accepted_case(random: &mut Random) -> u64 {
     // One value, that of a not record most often.
     let nots: Vec<usize> = (1..=n).filter(|&line| lines.ids[line - 1] == 0).collect();
     let line = if nots.is_empty() || random.one_in(4) { random.below(n + 2) } else { random.pick(&nots) };
-    let (starts, row) = (random.words(lines.state_cells()), random.words(lines.inputs()));
+    let (starts, row) = (random.words(lines.state_cells()), random.words(lines.row_words()));
     both_peek(random, (&table, n), (line, 0), (&starts, &row), 3);
     assert_eq!(both_take(random, &lines, &table, n), 0);
     alike(random, &lines)
@@ -131,7 +131,7 @@ fn table_case(random: &mut Random) -> u64 {
     let lines = independent::rules::check_table(&table, n).unwrap_or(lines);
     if random.one_in(4) {
         let (line, starts, row) =
-            (1 + random.below(n), random.words(lines.state_cells()), random.words(lines.inputs()));
+            (1 + random.below(n), random.words(lines.state_cells()), random.words(lines.row_words()));
         return match both_peek(random, (&table, n), (line, 0), (&starts, &row), 3) {
             11 => 11,
             _ => 0,

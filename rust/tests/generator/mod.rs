@@ -4,6 +4,7 @@
 #![allow(dead_code)]
 
 pub mod detectors;
+pub mod free_states;
 pub mod minus;
 pub mod minus_edges;
 pub mod names;
@@ -402,7 +403,8 @@ impl Builder<'_> {
         let states = self.those(|_, l| l.kind == 5 && !l.next);
         if let Some(state) = self.choose(&states) {
             let sort = self.lines.sort(state);
-            let (value, own) = (self.value(sort), self.sort_line(sort));
+            let value = if self.random.one_in(6) { state } else { self.value(sort) };
+            let own = self.sort_line(sort);
             self.emit([7, own, state, value, 0]);
         }
     }
@@ -536,6 +538,7 @@ pub fn circuit(random: &mut Random, size: Size) -> Lines {
             _ => b.word_line(),
         }
     }
+    b.late_next_lines();
     let ids = rising_ids(b.random, b.lines.records.len());
     Lines { ids, ..b.lines }
 }
@@ -977,7 +980,7 @@ pub fn damage_records(random: &mut Random, rows: &mut Vec<u64>, program: bool) {
         let (record, other) = (random.below(n), size * random.below(n));
         let at = size * record;
         let word = at + 1 + random.below(4);
-        match random.below(if program { 15 } else { 17 }) {
+        match random.below(if program { 16 } else { 18 }) {
             0 => rows[at] = random.pick(&[0, 1, 2, 3, 53, 54, 55, 56, 57, 63, 64, 255, 256, 311, u64::MAX]),
             1 => rows[at] = 1 + random.next() % 64,
             2..=4 => rows[word] = 1 + random.next() % n as u64,
@@ -994,7 +997,8 @@ pub fn damage_records(random: &mut Random, rows: &mut Vec<u64>, program: bool) {
             }
             12 => late_init(random, rows, program),
             13 => detectors::damage(random, rows, program),
-            15 | 16 => damage_id(random, rows, record),
+            14 => free_states::damage(random, rows, program),
+            16 | 17 => damage_id(random, rows, record),
             _ => {
                 // Among inits and nexts only.
                 let held: Vec<usize> = (0..n).filter(|i| matches!(rows[size * i], 6 | 7)).collect();

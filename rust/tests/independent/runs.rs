@@ -1,11 +1,18 @@
 //! Runs of circuits and programs, the first counted bad, and peek.
 
 use super::kinds::{is_value, row, Place};
-use super::rules::{check_program, check_table, ones, Lines};
+use super::rules::{check_program, check_table, ones, Line, Lines};
 use super::{is_whole, meaning, words, MOST_STEPS};
 
 /// A step, from 0, and a bad line's place among the bad lines, from 1.
 pub type FirstBad = Option<(u64, u64)>;
+
+impl Line {
+    /// A state is free where no line, a later one neither, is a next line of it.
+    pub fn is_free(&self) -> bool {
+        self.kind == 5 && !self.next
+    }
+}
 
 impl Lines {
     pub fn state_cells(&self) -> usize {
@@ -14,6 +21,15 @@ impl Lines {
 
     pub fn inputs(&self) -> usize {
         self.lines.iter().filter(|l| l.kind == 4).count()
+    }
+
+    pub fn free_cells(&self) -> usize {
+        self.lines.iter().filter(|l| l.is_free()).map(|l| l.sort.unwrap().cells()).sum()
+    }
+
+    /// The words of a row: first all inputs, then the cells of the free states.
+    pub fn row_words(&self) -> usize {
+        self.inputs() + self.free_cells()
     }
 
     /// The bad and constraint lines.
@@ -40,7 +56,8 @@ impl Lines {
         places
     }
 
-    /// The cells of every line, from the state words and a row of inputs. Lines without a value have none.
+    /// The cells of every line, from the state words and a row, of which the inputs alone are read. Lines without a value have
+    /// none.
     pub fn evaluate(&self, states: &[u64], row_words: &[u64]) -> Vec<Vec<u64>> {
         let places = self.state_places();
         let mut inputs = row_words.iter();
@@ -109,7 +126,19 @@ impl Lines {
         states
     }
 
-    /// One step: the signal bytes and the next state words.
+    /// The state words of a later step: those that the last step left, but for the free states, whose words are those of the
+    /// row behind its inputs.
+    pub fn later(&self, left: &[u64], row_words: &[u64]) -> Vec<u64> {
+        let mut fresh = row_words[self.inputs()..].iter();
+        let mut states = left.to_vec();
+        for (line, at) in self.lines.iter().zip(self.state_places()).filter(|(l, _)| l.is_free()) {
+            let sort = line.sort.unwrap();
+            states[at..at + sort.cells()].fill_with(|| fresh.next().unwrap() & ones(sort.width()));
+        }
+        states
+    }
+
+    /// One step: the signal bytes, and the state words that the next lines leave.
     pub fn step(&self, states: &[u64], row_words: &[u64]) -> (Vec<u8>, Vec<u64>) {
         let places = self.state_places();
         let values = self.evaluate(states, row_words);
@@ -133,11 +162,15 @@ impl Lines {
     pub fn run(&self, steps: usize, starts: &[u64], inputs: &[u64]) -> Vec<u8> {
         let mut states = self.start(starts);
         let mut signals = Vec::new();
-        let n = self.inputs();
+        let n = self.row_words();
         for k in 0..steps {
-            let (bytes, next) = self.step(&states, &inputs[k * n..(k + 1) * n]);
+            let row = &inputs[k * n..(k + 1) * n];
+            if k > 0 {
+                states = self.later(&states, row);
+            }
+            let (bytes, left) = self.step(&states, row);
             signals.extend(bytes);
-            states = next;
+            states = left;
         }
         signals
     }
@@ -186,7 +219,7 @@ fn run(
     if starts.len() != lines.state_cells() {
         return 14;
     }
-    if inputs.len() != steps * lines.inputs() {
+    if inputs.len() != steps * lines.row_words() {
         return 15;
     }
     if signals.len() != steps * lines.signals() {
@@ -250,7 +283,7 @@ pub fn peek(
     if starts.len() != lines.state_cells() {
         return 14;
     }
-    if row_words.len() != lines.inputs() {
+    if row_words.len() != lines.row_words() {
         return 15;
     }
     if count > 64 {

@@ -222,7 +222,7 @@ fn generator_reaches_detectors() {
     for case in 0..3000 {
         let size = generator::size(&mut random);
         let lines = generator::circuit(&mut random, size);
-        let (starts, row) = (random.words(lines.state_cells()), random.words(lines.inputs()));
+        let (starts, row) = (random.words(lines.state_cells()), random.words(lines.row_words()));
         let values = lines.evaluate(&lines.start(&starts), &row);
         let is_detector = |line: u64| DETECTORS.contains(&lines.records[line as usize - 1][0]);
         for (r, value) in lines.records.iter().zip(&values) {

@@ -4,6 +4,7 @@ use mathlib.Core.Path.{_≡_}
 use mathlib.Core.Bool.{Bool}
 use mathlib.Core.List.{List}
 use Rattle.tables.specs.declared.Checked.the-variants.{Accepted}
+use Rattle.tables.specs.Pick.{pick}
 use Rattle.tables.specs.Lines.{Line}
 use Rattle.tables.specs.Layout.{linesOf}
 use Rattle.tables.specs.Types.{context}
@@ -12,6 +13,7 @@ use Rattle.tables.specs.Tables.{checked}
 use Rattle.circuits.specs.declared.Spot.{Spot}
 use Rattle.circuits.specs.declared.Totals.{Totals}
 use Rattle.circuits.specs.Layout.{Counts, counting}
+use Rattle.circuits.specs.Free.{ifState}
 
 -- the notes are those of an accepted table's check
 pub record Noted (p : Bool) (t : List ℕ) (n : ℕ) (xs : List (List ℕ)) : Type 0 where
@@ -22,8 +24,12 @@ pub record Noted (p : Bool) (t : List ℕ) (n : ℕ) (xs : List (List ℕ)) : Ty
 abbrev pub countsOf : Totals → Counts
 countsOf t = counting (t .cells) (t .states) (t .inputs) (t .signals)
 
-abbrev pub totalsOf : Counts → Totals
-totalsOf c = record { cells = c .cells; states = c .states; inputs = c .inputs; signals = c .signals }
+abbrev pub totalsOf : Counts → (free : ℕ) → Totals
+totalsOf c f = record { cells = c .cells; states = c .states; inputs = c .inputs; signals = c .signals; free = f }
+
+-- the free words of a line of m cells
+abbrev pub freeHere : (hasNext : Bool) → (m : ℕ) → Line → ℕ
+freeHere hasNext m l = ifState l (pick hasNext 0 m) 0
 
 abbrev pub spot : ℕ → ℕ → Spot
 spot o q = record { off = o; at = q }

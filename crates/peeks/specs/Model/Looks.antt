@@ -14,6 +14,7 @@ use Rattle.peeks.specs.declared.Peeked.{Peeked}
 use Rattle.circuits.specs.Layout.{typeAt, size, layout}
 use Rattle.circuits.specs.Cells.{ifNonzero, eqOrNeq}
 use Rattle.circuits.specs.Meaning.{Frame, opWord, cellsAt, wordAt}
+use Rattle.circuits.specs.Run.{rowLength}
 use Rattle.peeks.specs.Peek.{stepZero, seenAs, mayPeek, peekAt}
 use Rattle.circuits.specs.Model.Work.{posIn, widIn}
 use Rattle.circuits.specs.Model.Fits.{FitWord}
@@ -42,13 +43,13 @@ initAfter q d (l ∷ C) = initAfter q (noteInit q d l) C
 abbrev pub initOf : ℕ → List Line → ℕ
 initOf q C = initAfter q 0 C
 
--- an accepted table of at most 64 records, what is known of its lines, and start words and a row of the right length
+-- an accepted table of at most 64 records, what is known of its lines, start words of the right length, and a row, in which the inputs come first
 pub record Laid (t : List ℕ) (n : ℕ) (P : List (List ℕ)) (S R : List ℕ) : Type 0 where
   pub accepted : checked false t n ≡ Accepted
   pub few : n ≤ 64
   pub shows : ShowsAll P (layout false (linesOf false t n))
   pub starts : length S ≡ layout false (linesOf false t n) .counts .states
-  pub row : length R ≡ layout false (linesOf false t n) .counts .inputs
+  pub row : layout false (linesOf false t n) .counts .inputs ≤ length R
 
 -- the same with the states' inits
 pub record Looks (t : List ℕ) (n : ℕ) (P : List (List ℕ)) (ini S R : List ℕ) : Type 0 where
@@ -155,4 +156,5 @@ pub record ValueFound (P : List (List ℕ)) (S R r : List ℕ) (n a x y v : ℕ)
 
 abbrev pub lentPeek : (t : List ℕ) (n line cell : ℕ) (S R : List ℕ) → Peeked
 lentPeek t n line cell S R =
-    seenAs (mayPeek (layout false (linesOf false t n) .counts) (typeAt (layout false (linesOf false t n)) line) n cell (length S) (length R)) (peekAt (linesOf false t n) S R line cell)
+    seenAs (mayPeek (layout false (linesOf false t n) .counts) (rowLength false (linesOf false t n)) (typeAt (layout false (linesOf false t n)) line) n cell (length S) (length R))
+    (peekAt (linesOf false t n) S R line cell)

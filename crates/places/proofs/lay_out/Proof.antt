@@ -7,9 +7,10 @@ use Rattle.tables.specs.Lines.{lineOf}
 use Rattle.tables.specs.Layout.{recordAt}
 use Rattle.tables.proofs.Encoding.{fits-table}
 use Rattle.circuits.specs.declared.Spot.{Spot}
+use Rattle.circuits.specs.declared.Totals.{Totals}
 use Rattle.circuits.specs.Layout.{size}
 use Rattle.circuits.specs.Model.Passes.{countsOf}
-use Rattle.circuits.proofs.Placing.{Sofar, begun, deep-here, small-here, further, laid, place-small}
+use Rattle.circuits.proofs.Placing.{Sofar, begun, deep-here, small-here, free-small, further, laid, place-small}
 use Rattle.places.proofs.lay_out.Statement.{statement}
 use Rattle.places.proofs.lay_out.Tie as tie
 
@@ -83,24 +84,42 @@ count-line-requires c κs =
     small-here (a .program) (a .table .now) (a .count) (a .notes .now) (s .pre .0) (l .i) (c .before .before .before .before .before .before .before .loop-test .taken) (l .inv)
     (c .before .before .before .before .cells-of .ensures ∙ ap size (c .before .before .before .before .before .look .ensures)) .0
 
-add-i : tie.Need-add-i Inv-loop μ-loop
-add-i c =
+add-count-free : tie.Need-add-count-free Inv-loop μ-loop
+add-count-free c =
     let s = c .before .before .before .before .before .before .before .before .before .before .before .before .before .before in
     let a = s .args in
     omega (arith, fits-table (a .program) (a .table .now) (a .count) (s .pre .0 .accepted) .0, c .before .before .before .before .before .before .before .before .loop-test .taken)
 
-loop-less : tie.Need-loop-less Inv-loop μ-loop
-loop-less c = let m = c .before .before .before .before .before .before .before .before .loop-test .taken in omega arith
-
-loop-again : tie.Need-loop-again Inv-loop μ-loop
-loop-again c =
+count-free-requires : tie.Need-count-free-requires Inv-loop μ-loop
+count-free-requires c κs =
     let s = c .before .before .before .before .before .before .before .before .before .before .before .before .before .before in
     let a = s .args in
     let l = c .before .before .before .before .before .before .before .before .before .loop in
+    let h = c .before .before .before .before .before .before .before .before .loop-test .taken in
     let r = recordAt (a .program) (a .table .now) (l .i) in
-    let k = c .before .before .before .before .before .before .before .kind .ensures in
-    further (a .program) (a .table .now) (a .count) (a .notes .now) (s .pre .0) (l .i) (c .before .before .before .before .before .before .before .before .loop-test .taken) {r = r} (l .laid) (l .inv) refl
-    (c .before .before .before .before .before .before .look .ensures) (c .before .before .before .before .before .cells-of .ensures) (c .before .before .before .before .find-spot .ensures r k) (c .count-line .ensures r k) (c .before .before .put-line2 .ensures)
+    let e = ap (λ (x : Totals). x .free) (c .count-line .ensures r (c .before .before .before .before .before .before .before .kind .ensures)) in
+    let m = small-here (a .program) (a .table .now) (a .count) (a .notes .now) (s .pre .0) (l .i) h (l .inv) (c .before .before .before .before .before .cells-of .ensures ∙ ap size (c .before .before .before .before .before .before .look .ensures)) .1 in
+    omega (arith, e, m, free-small (a .program) (a .table .now) (a .count) (a .notes .now) (s .pre .0) (l .i) h (l .inv))
+
+add-i : tie.Need-add-i Inv-loop μ-loop
+add-i c =
+    let s = c .before .before .before .before .before .before .before .before .before .before .before .before .before .before .before in
+    let a = s .args in
+    omega (arith, fits-table (a .program) (a .table .now) (a .count) (s .pre .0 .accepted) .0, c .before .before .before .before .before .before .before .before .before .loop-test .taken)
+
+loop-less : tie.Need-loop-less Inv-loop μ-loop
+loop-less c = let m = c .before .before .before .before .before .before .before .before .before .loop-test .taken in omega arith
+
+loop-again : tie.Need-loop-again Inv-loop μ-loop
+loop-again c =
+    let s = c .before .before .before .before .before .before .before .before .before .before .before .before .before .before .before in
+    let a = s .args in
+    let l = c .before .before .before .before .before .before .before .before .before .before .loop in
+    let r = recordAt (a .program) (a .table .now) (l .i) in
+    let k = c .before .before .before .before .before .before .before .before .kind .ensures in
+    further (a .program) (a .table .now) (a .count) (a .notes .now) (s .pre .0) (l .i) (c .before .before .before .before .before .before .before .before .before .loop-test .taken) {r = r} (l .laid) (l .inv) refl
+    (c .before .before .before .before .before .before .before .look .ensures) (c .before .before .before .before .before .before .cells-of .ensures) (c .before .before .before .before .before .find-spot .ensures r k) (c .before .count-line .ensures r k) (c .before .before .before .put-line2 .ensures)
+    (c .count-free .ensures r k)
 
 same-length : tie.Need-same-length Inv-loop μ-loop
 same-length c = c .before .loop .inv .long ∙ sym (c .before .before .before .before .before .before .pre .1)
@@ -127,6 +146,8 @@ lay-out-spec =
     add-put-line
     put-line-requires-2
     count-line-requires
+    add-count-free
+    count-free-requires
     add-i
     loop-less
     loop-again

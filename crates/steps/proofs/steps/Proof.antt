@@ -1,90 +1,215 @@
--- `steps::steps` meets its contract: what was put so far, and what the steps left put, are the signal bytes of all steps. Assumes nothing.
-use Prim.Native.Nat.{ℕ, _+_, _-_, _*_, _≤_, _<_}
-use mathlib.Core.Path.{_≡_, refl, sym, _∙_, ap}
-use mathlib.Core.List.{List, _++_}
+-- `steps::steps` meets its contract: before each step the state words are those of the definition, and the signal bytes hold those of the steps done. Assumes nothing.
+use Prim.Native.Nat.{_+_, _-_}
+use mathlib.Core.Path.{refl, sym, _∙_}
 use native.Mathlib.Omega.{arith}
-use lib.ListN.{length, take, drop, length-drop}
+use lib.ListN.{length, drop, length-drop}
 use borrow.Author.Needs.{needs}
-use Rattle.circuits.specs.Run.{steps, bytes}
 use Rattle.tables.specs.Layout.{linesOf}
-use Rattle.circuits.proofs.Puts as laws
-use Rattle.circuits.proofs.Repeated.{fewer, row-fits, bytes-fit, ready-as, run-more, run-ends, run-begins}
+use Rattle.circuits.proofs.Stepping.{Stepped, Running, stepped-none, stepped-all, row-room, bytes-room, enter-fits, walk-ready, stepped-more}
 use Rattle.steps.proofs.steps.Statement.{statement}
 use Rattle.steps.proofs.steps.Tie as tie
 
 abbrev Inv-loop : tie.InvT-loop
-Inv-loop program table count laid all ins sigs k inputs signals₀ work₀ i₀ r₀ g₀ signals work i r g =
-    (i ≤ k) × ((r + (k - i) * ins ≤ length inputs) × ((length signals ≡ g + (k - i) * sigs) × ((length work ≡ length work₀) × ((length signals ≡ length signals₀) × (bytes (steps program (linesOf program table count) k (drop all work₀) inputs) ≡ take g signals ++ bytes (steps program (linesOf program table count) (k - i) (drop all work) (drop r inputs)))))))
+Inv-loop program table count laid all ins sigs fed free k inputs signals₀ work₀ i₀ r₀ g₀ signals work i r g =
+    Stepped program (linesOf program table count) (ins + fed) sigs k all (length work₀) (drop all work₀) inputs signals work i r g
 
 abbrev μ-loop : tie.MeasureT-loop
-μ-loop program table count laid all ins sigs k inputs signals₀ work₀ i₀ r₀ g₀ signals work i r g =
-    k - i
+μ-loop program table count laid all ins sigs fed free k inputs signals₀ work₀ i₀ r₀ g₀ signals work i r g = k - i
 
 loop-holds : tie.Need-loop-holds Inv-loop μ-loop
-loop-holds c = let s = c .before .before .before .before .args in let z : s .k - 0 ≡ s .k = omega arith in
-    (omega arith, (omega (arith, ap (λ (m : ℕ). m * s .ins) z), (omega (arith, ap (λ (m : ℕ). m * s .sigs) z), (refl, (refl, run-begins (s .program) (linesOf (s .program) (s .table .now) (s .count)) (s .k) (drop (s .all) (s .work .now)) (s .inputs .now) (s .signals .now))))))
+loop-holds c =
+    let s = c .before .before .before .before .before in
+    let a = s .args in
+    stepped-none (a .program) (linesOf (a .program) (a .table .now) (a .count)) (a .ins + a .fed) (a .sigs) (a .k) (a .all) (a .inputs .now) (a .signals .now) (a .work .now) (s .pre .1 .1 .1 .1)
 
 add-e : tie.Need-add-e Inv-loop μ-loop
-add-e c = let s = c .before .before .before .before .before .before .args in let l = c .before .loop in
-    let h₁ : l .r + s .ins ≤ length (s .inputs .now) = row-fits (s .k) (l .i) (s .ins) (l .r) (length (s .inputs .now)) (c .loop-test .taken) (l .inv .1 .0) in
-    let h₂ : l .g + s .sigs ≤ length (l .signals) = bytes-fit (s .k) (l .i) (s .sigs) (l .g) (length (l .signals)) (c .loop-test .taken) (l .inv .1 .1 .0) in
-    omega (arith, c .before .before .before .before .before .before .good .1 .1 .1 .1 .1 .1 .1 .1 .0 .0, c .before .before .before .before .before .before .good .1 .1 .1 .1 .1 .1 .1 .1 .0 .1, c .before .before .before .before .before .before .good .1 .1 .1 .1 .1 .1 .1 .1 .1 .0 .0, l .inv .1 .1 .1 .1 .0)
+add-e c =
+    let s = c .before .before .before .before .before .before .before in
+    let a = s .args in
+    let l = c .before .loop in
+    let u : Running (a .program) (a .table .now) (a .count) (a .laid .now) (a .all) (a .ins) (a .sigs) (a .fed) (a .k) (length (a .work .now)) (drop (a .all) (a .work .now)) (a .free .now) (a .inputs .now) =
+    record { ready = s .pre .1 .0; rows = s .pre .1 .1 .0; enough = s .pre .1 .1 .1 .0; words = length-drop (a .all) (a .work .now) } in
+    let h = c .loop-test .taken in
+    let x = row-room u (l .inv) h in
+    let y = bytes-room u (l .inv) h in
+    omega (arith, x, y, s .good .1 .1 .1 .1 .1 .1 .1 .1 .1 .1 .0 .0, s .good .1 .1 .1 .1 .1 .1 .1 .1 .1 .1 .0 .1, s .good .1 .1 .1 .1 .1 .1 .1 .1 .1 .1 .1 .0 .0, s .good .1 .1 .1 .1 .1 .1 .1 .1 .1 .1 .1 .0 .1, l .inv .long, s .pre .1 .1 .1 .1)
+
+add-n : tie.Need-add-n Inv-loop μ-loop
+add-n c =
+    let s = c .before .before .before .before .before .before .before in
+    let a = s .args in
+    let l = c .before .loop in
+    let u : Running (a .program) (a .table .now) (a .count) (a .laid .now) (a .all) (a .ins) (a .sigs) (a .fed) (a .k) (length (a .work .now)) (drop (a .all) (a .work .now)) (a .free .now) (a .inputs .now) =
+    record { ready = s .pre .1 .0; rows = s .pre .1 .1 .0; enough = s .pre .1 .1 .1 .0; words = length-drop (a .all) (a .work .now) } in
+    let h = c .loop-test .taken in
+    let x = row-room u (l .inv) h in
+    let y = bytes-room u (l .inv) h in
+    omega (arith, x, y, s .good .1 .1 .1 .1 .1 .1 .1 .1 .1 .1 .0 .0, s .good .1 .1 .1 .1 .1 .1 .1 .1 .1 .1 .0 .1, s .good .1 .1 .1 .1 .1 .1 .1 .1 .1 .1 .1 .0 .0, s .good .1 .1 .1 .1 .1 .1 .1 .1 .1 .1 .1 .0 .1, l .inv .long, s .pre .1 .1 .1 .1)
 
 add-h : tie.Need-add-h Inv-loop μ-loop
-add-h c = let s = c .before .before .before .before .before .before .args in let l = c .before .loop in
-    let h₁ : l .r + s .ins ≤ length (s .inputs .now) = row-fits (s .k) (l .i) (s .ins) (l .r) (length (s .inputs .now)) (c .loop-test .taken) (l .inv .1 .0) in
-    let h₂ : l .g + s .sigs ≤ length (l .signals) = bytes-fit (s .k) (l .i) (s .sigs) (l .g) (length (l .signals)) (c .loop-test .taken) (l .inv .1 .1 .0) in
-    omega (arith, c .before .before .before .before .before .before .good .1 .1 .1 .1 .1 .1 .1 .1 .0 .0, c .before .before .before .before .before .before .good .1 .1 .1 .1 .1 .1 .1 .1 .0 .1, c .before .before .before .before .before .before .good .1 .1 .1 .1 .1 .1 .1 .1 .1 .0 .0, l .inv .1 .1 .1 .1 .0)
+add-h c =
+    let s = c .before .before .before .before .before .before .before in
+    let a = s .args in
+    let l = c .before .loop in
+    let u : Running (a .program) (a .table .now) (a .count) (a .laid .now) (a .all) (a .ins) (a .sigs) (a .fed) (a .k) (length (a .work .now)) (drop (a .all) (a .work .now)) (a .free .now) (a .inputs .now) =
+    record { ready = s .pre .1 .0; rows = s .pre .1 .1 .0; enough = s .pre .1 .1 .1 .0; words = length-drop (a .all) (a .work .now) } in
+    let h = c .loop-test .taken in
+    let x = row-room u (l .inv) h in
+    let y = bytes-room u (l .inv) h in
+    omega (arith, x, y, s .good .1 .1 .1 .1 .1 .1 .1 .1 .1 .1 .0 .0, s .good .1 .1 .1 .1 .1 .1 .1 .1 .1 .1 .0 .1, s .good .1 .1 .1 .1 .1 .1 .1 .1 .1 .1 .1 .0 .0, s .good .1 .1 .1 .1 .1 .1 .1 .1 .1 .1 .1 .0 .1, l .inv .long, s .pre .1 .1 .1 .1)
+
+mul-enter : tie.Need-mul-enter Inv-loop μ-loop
+mul-enter c =
+    let s = c .before .before .before .before .before .before .before in
+    let a = s .args in
+    let l = c .before .loop in
+    let u : Running (a .program) (a .table .now) (a .count) (a .laid .now) (a .all) (a .ins) (a .sigs) (a .fed) (a .k) (length (a .work .now)) (drop (a .all) (a .work .now)) (a .free .now) (a .inputs .now) =
+    record { ready = s .pre .1 .0; rows = s .pre .1 .1 .0; enough = s .pre .1 .1 .1 .0; words = length-drop (a .all) (a .work .now) } in
+    let h = c .loop-test .taken in
+    let x = row-room u (l .inv) h in
+    let y = bytes-room u (l .inv) h in
+    omega (arith, x, y, s .good .1 .1 .1 .1 .1 .1 .1 .1 .1 .1 .0 .0, s .good .1 .1 .1 .1 .1 .1 .1 .1 .1 .1 .0 .1, s .good .1 .1 .1 .1 .1 .1 .1 .1 .1 .1 .1 .0 .0, s .good .1 .1 .1 .1 .1 .1 .1 .1 .1 .1 .1 .0 .1, l .inv .long, s .pre .1 .1 .1 .1)
+
+sub-enter : tie.Need-sub-enter Inv-loop μ-loop
+sub-enter c =
+    let s = c .before .before .before .before .before .before .before in
+    let a = s .args in
+    let l = c .before .loop in
+    let u : Running (a .program) (a .table .now) (a .count) (a .laid .now) (a .all) (a .ins) (a .sigs) (a .fed) (a .k) (length (a .work .now)) (drop (a .all) (a .work .now)) (a .free .now) (a .inputs .now) =
+    record { ready = s .pre .1 .0; rows = s .pre .1 .1 .0; enough = s .pre .1 .1 .1 .0; words = length-drop (a .all) (a .work .now) } in
+    let h = c .loop-test .taken in
+    let x = row-room u (l .inv) h in
+    let y = bytes-room u (l .inv) h in
+    omega (arith, x, y, s .good .1 .1 .1 .1 .1 .1 .1 .1 .1 .1 .0 .0, s .good .1 .1 .1 .1 .1 .1 .1 .1 .1 .1 .0 .1, s .good .1 .1 .1 .1 .1 .1 .1 .1 .1 .1 .1 .0 .0, s .good .1 .1 .1 .1 .1 .1 .1 .1 .1 .1 .1 .0 .1, l .inv .long, s .pre .1 .1 .1 .1)
+
+part-enter-start : tie.Need-part-enter-start Inv-loop μ-loop
+part-enter-start c =
+    let s = c .before .before .before .before .before .before .before in
+    let a = s .args in
+    let l = c .before .loop in
+    let u : Running (a .program) (a .table .now) (a .count) (a .laid .now) (a .all) (a .ins) (a .sigs) (a .fed) (a .k) (length (a .work .now)) (drop (a .all) (a .work .now)) (a .free .now) (a .inputs .now) =
+    record { ready = s .pre .1 .0; rows = s .pre .1 .1 .0; enough = s .pre .1 .1 .1 .0; words = length-drop (a .all) (a .work .now) } in
+    let h = c .loop-test .taken in
+    let x = row-room u (l .inv) h in
+    let y = bytes-room u (l .inv) h in
+    omega (arith, x, y, s .good .1 .1 .1 .1 .1 .1 .1 .1 .1 .1 .0 .0, s .good .1 .1 .1 .1 .1 .1 .1 .1 .1 .1 .0 .1, s .good .1 .1 .1 .1 .1 .1 .1 .1 .1 .1 .1 .0 .0, s .good .1 .1 .1 .1 .1 .1 .1 .1 .1 .1 .1 .0 .1, l .inv .long, s .pre .1 .1 .1 .1)
+
+part-enter-end : tie.Need-part-enter-end Inv-loop μ-loop
+part-enter-end c =
+    let s = c .before .before .before .before .before .before .before in
+    let a = s .args in
+    let l = c .before .loop in
+    let u : Running (a .program) (a .table .now) (a .count) (a .laid .now) (a .all) (a .ins) (a .sigs) (a .fed) (a .k) (length (a .work .now)) (drop (a .all) (a .work .now)) (a .free .now) (a .inputs .now) =
+    record { ready = s .pre .1 .0; rows = s .pre .1 .1 .0; enough = s .pre .1 .1 .1 .0; words = length-drop (a .all) (a .work .now) } in
+    let h = c .loop-test .taken in
+    let x = row-room u (l .inv) h in
+    let y = bytes-room u (l .inv) h in
+    omega (arith, x, y, s .good .1 .1 .1 .1 .1 .1 .1 .1 .1 .1 .0 .0, s .good .1 .1 .1 .1 .1 .1 .1 .1 .1 .1 .0 .1, s .good .1 .1 .1 .1 .1 .1 .1 .1 .1 .1 .1 .0 .0, s .good .1 .1 .1 .1 .1 .1 .1 .1 .1 .1 .1 .0 .1, l .inv .long, s .pre .1 .1 .1 .1)
+
+enter-requires : tie.Need-enter-requires Inv-loop μ-loop
+enter-requires c κs =
+    let s = c .before .before .before .before .before .before .before .before .before in
+    let a = s .args in
+    let l = c .before .before .before .loop in
+    let u : Running (a .program) (a .table .now) (a .count) (a .laid .now) (a .all) (a .ins) (a .sigs) (a .fed) (a .k) (length (a .work .now)) (drop (a .all) (a .work .now)) (a .free .now) (a .inputs .now) =
+    record { ready = s .pre .1 .0; rows = s .pre .1 .1 .0; enough = s .pre .1 .1 .1 .0; words = length-drop (a .all) (a .work .now) } in
+    let h = c .before .before .loop-test .taken in
+    (omega (arith, s .pre .0, l .inv .many), enter-fits u (l .inv) h)
 
 mul-walk : tie.Need-mul-walk Inv-loop μ-loop
-mul-walk c = let s = c .before .before .before .before .before .before .args in let l = c .before .loop in
-    let h₁ : l .r + s .ins ≤ length (s .inputs .now) = row-fits (s .k) (l .i) (s .ins) (l .r) (length (s .inputs .now)) (c .loop-test .taken) (l .inv .1 .0) in
-    let h₂ : l .g + s .sigs ≤ length (l .signals) = bytes-fit (s .k) (l .i) (s .sigs) (l .g) (length (l .signals)) (c .loop-test .taken) (l .inv .1 .1 .0) in
-    omega (arith, c .before .before .before .before .before .before .good .1 .1 .1 .1 .1 .1 .1 .1 .0 .0, c .before .before .before .before .before .before .good .1 .1 .1 .1 .1 .1 .1 .1 .0 .1, c .before .before .before .before .before .before .good .1 .1 .1 .1 .1 .1 .1 .1 .1 .0 .0, l .inv .1 .1 .1 .1 .0)
+mul-walk c =
+    let s = c .before .before .before .before .before .before .before .before .before .before .before .before in
+    let a = s .args in
+    let l = c .before .before .before .before .before .before .loop in
+    let u : Running (a .program) (a .table .now) (a .count) (a .laid .now) (a .all) (a .ins) (a .sigs) (a .fed) (a .k) (length (a .work .now)) (drop (a .all) (a .work .now)) (a .free .now) (a .inputs .now) =
+    record { ready = s .pre .1 .0; rows = s .pre .1 .1 .0; enough = s .pre .1 .1 .1 .0; words = length-drop (a .all) (a .work .now) } in
+    let h = c .before .before .before .before .before .loop-test .taken in
+    let x = row-room u (l .inv) h in
+    let y = bytes-room u (l .inv) h in
+    omega (arith, x, y, s .good .1 .1 .1 .1 .1 .1 .1 .1 .1 .1 .0 .0, s .good .1 .1 .1 .1 .1 .1 .1 .1 .1 .1 .0 .1, s .good .1 .1 .1 .1 .1 .1 .1 .1 .1 .1 .1 .0 .0, s .good .1 .1 .1 .1 .1 .1 .1 .1 .1 .1 .1 .0 .1, l .inv .long, s .pre .1 .1 .1 .1)
 
 sub-walk : tie.Need-sub-walk Inv-loop μ-loop
-sub-walk c = let s = c .before .before .before .before .before .before .args in let l = c .before .loop in
-    let h₁ : l .r + s .ins ≤ length (s .inputs .now) = row-fits (s .k) (l .i) (s .ins) (l .r) (length (s .inputs .now)) (c .loop-test .taken) (l .inv .1 .0) in
-    let h₂ : l .g + s .sigs ≤ length (l .signals) = bytes-fit (s .k) (l .i) (s .sigs) (l .g) (length (l .signals)) (c .loop-test .taken) (l .inv .1 .1 .0) in
-    search needs
+sub-walk c =
+    let s = c .before .before .before .before .before .before .before .before .before .before .before .before in
+    let a = s .args in
+    let l = c .before .before .before .before .before .before .loop in
+    let u : Running (a .program) (a .table .now) (a .count) (a .laid .now) (a .all) (a .ins) (a .sigs) (a .fed) (a .k) (length (a .work .now)) (drop (a .all) (a .work .now)) (a .free .now) (a .inputs .now) =
+    record { ready = s .pre .1 .0; rows = s .pre .1 .1 .0; enough = s .pre .1 .1 .1 .0; words = length-drop (a .all) (a .work .now) } in
+    let h = c .before .before .before .before .before .loop-test .taken in
+    let x = row-room u (l .inv) h in
+    let y = bytes-room u (l .inv) h in
+    omega (arith, x, y, s .good .1 .1 .1 .1 .1 .1 .1 .1 .1 .1 .0 .0, s .good .1 .1 .1 .1 .1 .1 .1 .1 .1 .1 .0 .1, s .good .1 .1 .1 .1 .1 .1 .1 .1 .1 .1 .1 .0 .0, s .good .1 .1 .1 .1 .1 .1 .1 .1 .1 .1 .1 .0 .1, l .inv .long, s .pre .1 .1 .1 .1)
 
 part-walk-start : tie.Need-part-walk-start Inv-loop μ-loop
-part-walk-start c = let s = c .before .before .before .before .before .before .args in let l = c .before .loop in
-    let h₁ : l .r + s .ins ≤ length (s .inputs .now) = row-fits (s .k) (l .i) (s .ins) (l .r) (length (s .inputs .now)) (c .loop-test .taken) (l .inv .1 .0) in
-    let h₂ : l .g + s .sigs ≤ length (l .signals) = bytes-fit (s .k) (l .i) (s .sigs) (l .g) (length (l .signals)) (c .loop-test .taken) (l .inv .1 .1 .0) in
-    search needs
+part-walk-start c =
+    let s = c .before .before .before .before .before .before .before .before .before .before .before .before in
+    let a = s .args in
+    let l = c .before .before .before .before .before .before .loop in
+    let u : Running (a .program) (a .table .now) (a .count) (a .laid .now) (a .all) (a .ins) (a .sigs) (a .fed) (a .k) (length (a .work .now)) (drop (a .all) (a .work .now)) (a .free .now) (a .inputs .now) =
+    record { ready = s .pre .1 .0; rows = s .pre .1 .1 .0; enough = s .pre .1 .1 .1 .0; words = length-drop (a .all) (a .work .now) } in
+    let h = c .before .before .before .before .before .loop-test .taken in
+    let x = row-room u (l .inv) h in
+    let y = bytes-room u (l .inv) h in
+    omega (arith, x, y, s .good .1 .1 .1 .1 .1 .1 .1 .1 .1 .1 .0 .0, s .good .1 .1 .1 .1 .1 .1 .1 .1 .1 .1 .0 .1, s .good .1 .1 .1 .1 .1 .1 .1 .1 .1 .1 .1 .0 .0, s .good .1 .1 .1 .1 .1 .1 .1 .1 .1 .1 .1 .0 .1, l .inv .long, s .pre .1 .1 .1 .1)
 
 part-walk-end : tie.Need-part-walk-end Inv-loop μ-loop
-part-walk-end c = let s = c .before .before .before .before .before .before .args in let l = c .before .loop in
-    let h₁ : l .r + s .ins ≤ length (s .inputs .now) = row-fits (s .k) (l .i) (s .ins) (l .r) (length (s .inputs .now)) (c .loop-test .taken) (l .inv .1 .0) in
-    let h₂ : l .g + s .sigs ≤ length (l .signals) = bytes-fit (s .k) (l .i) (s .sigs) (l .g) (length (l .signals)) (c .loop-test .taken) (l .inv .1 .1 .0) in
-    search needs
+part-walk-end c =
+    let s = c .before .before .before .before .before .before .before .before .before .before .before .before in
+    let a = s .args in
+    let l = c .before .before .before .before .before .before .loop in
+    let u : Running (a .program) (a .table .now) (a .count) (a .laid .now) (a .all) (a .ins) (a .sigs) (a .fed) (a .k) (length (a .work .now)) (drop (a .all) (a .work .now)) (a .free .now) (a .inputs .now) =
+    record { ready = s .pre .1 .0; rows = s .pre .1 .1 .0; enough = s .pre .1 .1 .1 .0; words = length-drop (a .all) (a .work .now) } in
+    let h = c .before .before .before .before .before .loop-test .taken in
+    let x = row-room u (l .inv) h in
+    let y = bytes-room u (l .inv) h in
+    omega (arith, x, y, s .good .1 .1 .1 .1 .1 .1 .1 .1 .1 .1 .0 .0, s .good .1 .1 .1 .1 .1 .1 .1 .1 .1 .1 .0 .1, s .good .1 .1 .1 .1 .1 .1 .1 .1 .1 .1 .1 .0 .0, s .good .1 .1 .1 .1 .1 .1 .1 .1 .1 .1 .1 .0 .1, l .inv .long, s .pre .1 .1 .1 .1)
 
 sub-walk-2 : tie.Need-sub-walk-2 Inv-loop μ-loop
-sub-walk-2 c = let s = c .before .before .before .before .before .before .before .args in let l = c .before .before .loop in
-    let h₁ : l .r + s .ins ≤ length (s .inputs .now) = row-fits (s .k) (l .i) (s .ins) (l .r) (length (s .inputs .now)) (c .before .loop-test .taken) (l .inv .1 .0) in
-    let h₂ : l .g + s .sigs ≤ length (l .signals) = bytes-fit (s .k) (l .i) (s .sigs) (l .g) (length (l .signals)) (c .before .loop-test .taken) (l .inv .1 .1 .0) in
-    search needs
+sub-walk-2 c =
+    let s = c .before .before .before .before .before .before .before .before .before .before .before .before .before in
+    let a = s .args in
+    let l = c .before .before .before .before .before .before .before .loop in
+    let u : Running (a .program) (a .table .now) (a .count) (a .laid .now) (a .all) (a .ins) (a .sigs) (a .fed) (a .k) (length (a .work .now)) (drop (a .all) (a .work .now)) (a .free .now) (a .inputs .now) =
+    record { ready = s .pre .1 .0; rows = s .pre .1 .1 .0; enough = s .pre .1 .1 .1 .0; words = length-drop (a .all) (a .work .now) } in
+    let h = c .before .before .before .before .before .before .loop-test .taken in
+    let x = row-room u (l .inv) h in
+    let y = bytes-room u (l .inv) h in
+    omega (arith, x, y, s .good .1 .1 .1 .1 .1 .1 .1 .1 .1 .1 .0 .0, s .good .1 .1 .1 .1 .1 .1 .1 .1 .1 .1 .0 .1, s .good .1 .1 .1 .1 .1 .1 .1 .1 .1 .1 .1 .0 .0, s .good .1 .1 .1 .1 .1 .1 .1 .1 .1 .1 .1 .0 .1, l .inv .long, s .pre .1 .1 .1 .1)
 
 part-walk-start-2 : tie.Need-part-walk-start-2 Inv-loop μ-loop
-part-walk-start-2 c = let s = c .before .before .before .before .before .before .before .args in let l = c .before .before .loop in
-    let h₁ : l .r + s .ins ≤ length (s .inputs .now) = row-fits (s .k) (l .i) (s .ins) (l .r) (length (s .inputs .now)) (c .before .loop-test .taken) (l .inv .1 .0) in
-    let h₂ : l .g + s .sigs ≤ length (l .signals) = bytes-fit (s .k) (l .i) (s .sigs) (l .g) (length (l .signals)) (c .before .loop-test .taken) (l .inv .1 .1 .0) in
-    search needs
+part-walk-start-2 c =
+    let s = c .before .before .before .before .before .before .before .before .before .before .before .before .before in
+    let a = s .args in
+    let l = c .before .before .before .before .before .before .before .loop in
+    let u : Running (a .program) (a .table .now) (a .count) (a .laid .now) (a .all) (a .ins) (a .sigs) (a .fed) (a .k) (length (a .work .now)) (drop (a .all) (a .work .now)) (a .free .now) (a .inputs .now) =
+    record { ready = s .pre .1 .0; rows = s .pre .1 .1 .0; enough = s .pre .1 .1 .1 .0; words = length-drop (a .all) (a .work .now) } in
+    let h = c .before .before .before .before .before .before .loop-test .taken in
+    let x = row-room u (l .inv) h in
+    let y = bytes-room u (l .inv) h in
+    omega (arith, x, y, s .good .1 .1 .1 .1 .1 .1 .1 .1 .1 .1 .0 .0, s .good .1 .1 .1 .1 .1 .1 .1 .1 .1 .1 .0 .1, s .good .1 .1 .1 .1 .1 .1 .1 .1 .1 .1 .1 .0 .0, s .good .1 .1 .1 .1 .1 .1 .1 .1 .1 .1 .1 .0 .1, l .inv .long, s .pre .1 .1 .1 .1)
 
 part-walk-end-2 : tie.Need-part-walk-end-2 Inv-loop μ-loop
-part-walk-end-2 c = let s = c .before .before .before .before .before .before .before .args in let l = c .before .before .loop in
-    let h₁ : l .r + s .ins ≤ length (s .inputs .now) = row-fits (s .k) (l .i) (s .ins) (l .r) (length (s .inputs .now)) (c .before .loop-test .taken) (l .inv .1 .0) in
-    let h₂ : l .g + s .sigs ≤ length (l .signals) = bytes-fit (s .k) (l .i) (s .sigs) (l .g) (length (l .signals)) (c .before .loop-test .taken) (l .inv .1 .1 .0) in
-    search needs
+part-walk-end-2 c =
+    let s = c .before .before .before .before .before .before .before .before .before .before .before .before .before in
+    let a = s .args in
+    let l = c .before .before .before .before .before .before .before .loop in
+    let u : Running (a .program) (a .table .now) (a .count) (a .laid .now) (a .all) (a .ins) (a .sigs) (a .fed) (a .k) (length (a .work .now)) (drop (a .all) (a .work .now)) (a .free .now) (a .inputs .now) =
+    record { ready = s .pre .1 .0; rows = s .pre .1 .1 .0; enough = s .pre .1 .1 .1 .0; words = length-drop (a .all) (a .work .now) } in
+    let h = c .before .before .before .before .before .before .loop-test .taken in
+    let x = row-room u (l .inv) h in
+    let y = bytes-room u (l .inv) h in
+    omega (arith, x, y, s .good .1 .1 .1 .1 .1 .1 .1 .1 .1 .1 .0 .0, s .good .1 .1 .1 .1 .1 .1 .1 .1 .1 .1 .0 .1, s .good .1 .1 .1 .1 .1 .1 .1 .1 .1 .1 .1 .0 .0, s .good .1 .1 .1 .1 .1 .1 .1 .1 .1 .1 .1 .0 .1, l .inv .long, s .pre .1 .1 .1 .1)
 
 walk-requires : tie.Need-walk-requires Inv-loop μ-loop
-walk-requires c κs = let s = c .before .before .before .before .before .before .before .before .before .args in let l = c .before .before .before .before .loop in
-    let h₁ : l .r + s .ins ≤ length (s .inputs .now) = row-fits (s .k) (l .i) (s .ins) (l .r) (length (s .inputs .now)) (c .before .before .before .loop-test .taken) (l .inv .1 .0) in
-    let h₂ : l .g + s .sigs ≤ length (l .signals) = bytes-fit (s .k) (l .i) (s .sigs) (l .g) (length (l .signals)) (c .before .before .before .loop-test .taken) (l .inv .1 .1 .0) in
-    let e₁ : l .r + s .ins - l .r ≡ s .ins = omega arith in
-    let e₂ : l .g + s .sigs - l .g ≡ s .sigs = omega arith in
-    (omega arith, ready-as (length-drop (s .all) (s .work .now) ∙ ap (λ (n : ℕ). n - s .all) (sym (l .inv .1 .1 .1 .0)) ∙ sym (length-drop (s .all) (l .work))) (sym (laws.length-part (s .inputs .now) (l .r) (l .r + s .ins - l .r) (omega arith) ∙ e₁)) (sym (laws.length-part (l .signals) (l .g) (l .g + s .sigs - l .g) (omega arith) ∙ e₂)) (c .before .before .before .before .before .before .before .before .before .pre .1 .0))
+walk-requires c κs =
+    let s = c .before .before .before .before .before .before .before .before .before .before .before .before .before .before .before in
+    let a = s .args in
+    let l = c .before .before .before .before .before .before .before .before .before .loop in
+    let u : Running (a .program) (a .table .now) (a .count) (a .laid .now) (a .all) (a .ins) (a .sigs) (a .fed) (a .k) (length (a .work .now)) (drop (a .all) (a .work .now)) (a .free .now) (a .inputs .now) =
+    record { ready = s .pre .1 .0; rows = s .pre .1 .1 .0; enough = s .pre .1 .1 .1 .0; words = length-drop (a .all) (a .work .now) } in
+    let h = c .before .before .before .before .before .before .before .before .loop-test .taken in
+    let e = c .before .before .before .before .before .enter in
+    walk-ready u (l .inv) h (e .last .1 .1 .1 .1 .1 .0) (e .kept .1 .1 .1 .1 .1 .0) (e .ensures) (omega (arith, s .pre .0, l .inv .many))
 
 add-i : tie.Need-add-i Inv-loop μ-loop
 add-i c = search needs
@@ -93,29 +218,28 @@ loop-less : tie.Need-loop-less Inv-loop μ-loop
 loop-less c = search needs
 
 loop-again : tie.Need-loop-again Inv-loop μ-loop
-loop-again c = let s = c .before .before .before .before .before .before .before .before .before .before .before .before .before .before .args in let l = c .before .before .before .before .before .before .before .before .before .loop in
-    let f₁ = fewer (s .k) (l .i) (s .ins) (c .before .before .before .before .before .before .before .before .loop-test .taken) in
-    let f₂ = fewer (s .k) (l .i) (s .sigs) (c .before .before .before .before .before .before .before .before .loop-test .taken) in
-    let h₁ : l .r + s .ins ≤ length (s .inputs .now) = row-fits (s .k) (l .i) (s .ins) (l .r) (length (s .inputs .now)) (c .before .before .before .before .before .before .before .before .loop-test .taken) (l .inv .1 .0) in
-    let h₂ : l .g + s .sigs ≤ length (l .signals) = bytes-fit (s .k) (l .i) (s .sigs) (l .g) (length (l .signals)) (c .before .before .before .before .before .before .before .before .loop-test .taken) (l .inv .1 .1 .0) in
+loop-again c =
+    let s = c .before .before .before .before .before .before .before .before .before .before .before .before .before .before .before .before .before .before .before .before in
+    let a = s .args in
+    let l = c .before .before .before .before .before .before .before .before .before .before .before .before .before .before .loop in
+    let u : Running (a .program) (a .table .now) (a .count) (a .laid .now) (a .all) (a .ins) (a .sigs) (a .fed) (a .k) (length (a .work .now)) (drop (a .all) (a .work .now)) (a .free .now) (a .inputs .now) =
+    record { ready = s .pre .1 .0; rows = s .pre .1 .1 .0; enough = s .pre .1 .1 .1 .0; words = length-drop (a .all) (a .work .now) } in
+    let h = c .before .before .before .before .before .before .before .before .before .before .before .before .before .loop-test .taken in
+    let e = c .before .before .before .before .before .before .before .before .before .before .enter in
     let w = c .before .before .before .before .walk in
-    let more : l .i < s .k = c .before .before .before .before .before .before .before .before .loop-test .taken in
-    let e₁ : l .r + s .ins - l .r ≡ s .ins = omega arith in
-    let e₂ : l .g + s .sigs - l .g ≡ s .sigs = omega arith in
-    let q : List ℕ = w .last .1 .1 .1 .1 .1 .1 .1 .0 in
-    let lq : length q ≡ l .g + s .sigs - l .g = w .kept .1 .1 .1 .1 .1 .1 .1 .0 ∙ laws.length-part (l .signals) (l .g) (l .g + s .sigs - l .g) (omega arith) in
-    let lp : length (take (l .g) (l .signals) ++ (q ++ drop (l .g + s .sigs - l .g) (drop (l .g) (l .signals)))) ≡ length (l .signals) = laws.mid-length (l .signals) q (l .g) (l .g + s .sigs - l .g) lq (omega arith) in
-    (omega (arith, more), (omega (arith, l .inv .1 .0), (lp ∙ omega (arith, l .inv .1 .1 .0), (w .kept .1 .1 .1 .1 .1 .1 .1 .1 .0 ∙ l .inv .1 .1 .1 .0, (lp ∙ l .inv .1 .1 .1 .1 .0, run-more (s .program) (linesOf (s .program) (s .table .now) (s .count)) (s .ins) (c .before .before .before .before .before .before .before .before .before .before .before .before .before .before .pre .1 .0 .inputs) (s .sigs) (s .k) (l .i) (drop (s .all) (l .work)) _ (s .inputs .now) _ (l .signals) q _ (l .r) (l .g) more h₂ (lq ∙ e₂) (l .inv .1 .1 .1 .1 .1) (ap (λ (n : ℕ). take n (drop (l .r) (s .inputs .now))) e₁) (w .ensures .1 refl) (w .ensures .0))))))
+    stepped-more u (l .inv) h (e .last .1 .1 .1 .1 .1 .0) (e .kept .1 .1 .1 .1 .1 .0) (e .ensures) (w .last .1 .1 .1 .1 .1 .1 .1 .0) (w .kept .1 .1 .1 .1 .1 .1 .1 .1 .0) (w .kept .1 .1 .1 .1 .1 .1 .1 .0) (w .ensures .0) (w .ensures .1 refl)
 
 same-length : tie.Need-same-length Inv-loop μ-loop
-same-length c = search needs
+same-length c = c .before .loop .inv .long ∙ sym (c .before .before .before .before .before .before .before .pre .1 .1 .1 .1)
 
 same-length-2 : tie.Need-same-length-2 Inv-loop μ-loop
-same-length-2 c = search needs
+same-length-2 c = c .before .loop .inv .many
 
 returns : tie.Need-returns Inv-loop μ-loop
-returns c = let s = c .before .before .before .before .before .before .args in let l = c .before .loop in let z : s .k - l .i ≡ 0 = omega arith in
-    run-ends (s .program) (linesOf (s .program) (s .table .now) (s .count)) (s .ins) (c .before .before .before .before .before .before .pre .1 .0 .inputs) (s .k) (l .i) (drop (s .all) (l .work)) (s .inputs .now) _ (l .signals) (l .r) (l .g) (omega arith) (omega (arith, ap (λ (m : ℕ). m * s .sigs) z)) (l .inv .1 .1 .1 .1 .1)
+returns c =
+    let a = c .before .before .before .before .before .before .before .args in
+    let l = c .before .loop in
+    stepped-all (a .program) (linesOf (a .program) (a .table .now) (a .count)) (a .ins + a .fed) (a .sigs) (a .k) (a .all) (length (a .work .now)) (drop (a .all) (a .work .now)) (a .inputs .now) (l .signals) (l .work) (l .i) (l .r) (l .g) (c .loop-test .left) (l .inv)
 
 pub steps-spec : {M : Type 1} → statement M
 steps-spec =
@@ -125,7 +249,13 @@ steps-spec =
     μ-loop
     loop-holds
     add-e
+    add-n
     add-h
+    mul-enter
+    sub-enter
+    part-enter-start
+    part-enter-end
+    enter-requires
     mul-walk
     sub-walk
     part-walk-start
