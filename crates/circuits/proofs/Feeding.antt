@@ -22,7 +22,7 @@ use Rattle.circuits.specs.Layout.{Layout, typeAt, placeAt, size, lineTyp
 use Rattle.circuits.specs.Free.{Source, driven, free, sourceOf, sourcesHere, sourcesFrom, sources, freeCount, fed}
 use Rattle.circuits.specs.Run.{entered}
 use Rattle.circuits.specs.Model.Work.{numIn, posIn, widIn}
-use Rattle.circuits.specs.Model.Places.{offAt, Shown, ShowsAll, Ready}
+use Rattle.circuits.specs.Model.Places.{ShowsAll, Ready}
 use Rattle.circuits.specs.Model.Passes.{Noted}
 use Rattle.circuits.specs.Model.Feeding.{freeLine, freeLinesFrom, freeLines, cellsIn, fedLines, enteredIn, FitFed, AllFed}
 use Rattle.circuits.proofs.Puts as laws

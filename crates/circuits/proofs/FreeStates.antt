@@ -1,12 +1,11 @@
 -- "It takes its start word or init value at step 0. From step 1 on it takes words from the row, modulo 2^w, and not the word the last step left": the states of an accepted circuit (p is
 -- false) or program (true) at each step of a run. C are the table's lines, Y is their layout. Assumes nothing.
 use Prim.Native.Nat.{ℕ, zero, suc, _+_, _*_, _%_, _^_, _≤_, _<_}
-use mathlib.Core.Path.{_≡_, refl, sym, ap, ap₂, _∙_, subst}
+use mathlib.Core.Path.{_≡_, refl, sym, ap, ap₂, _∙_}
 use mathlib.Core.Bool.{Bool, true, false, _||_}
 use mathlib.Core.List.{List, [], _∷_, _++_, append-nil}
 use native.Mathlib.Omega.{arith}
 use native.Mathlib.Nat.{zero-add, zero-mul}
-use native.Mathlib.Numerals.{add-one}
 use lib.ListN.{length, take, drop, getD, replicate, length-append, length-drop, length-replicate, take-append-drop}
 use lib.Seq.{take-at, drop-at, drop-cons}
 use Rattle.tables.specs.declared.Ty.{Ty}
@@ -29,6 +28,7 @@ use Rattle.circuits.proofs.Walked.{lines-many, sound-at, later-at, numb
 use Rattle.circuits.proofs.Sources.{sources-append, from-many, sources-many, free-append, free-cells, fed-many}
 use Rattle.circuits.proofs.Feeding.{fed-driven, fed-free}
 use Rattle.circuits.proofs.Repeated.{next-row, step-zero, step-later}
+use Rattle.circuits.proofs.SameRows.{entered-long}
 use Rattle.circuits.proofs.Simulation.{state-small}
 use Rattle.circuits.proofs.StateWords.{wordsOfState}
 use Rattle.circuits.proofs.States.{settled, words-many, state-value, next-value}
@@ -183,16 +183,12 @@ module _ (p : Bool) (t : List ℕ) (n : ℕ) (acc : checked p t n ≡ Accepted) 
         let first : (X : List ℕ) → inputsAt p C X 0 ≡ take (inputCount p C) X = λ X. ap (λ (a : ℕ). part X a (inputCount p C)) (zero-mul (rowLength p C)) in
         step-zero p C S I ∙ ap₂ (λ (x y : List ℕ). step p false C (step p true C S x .sts) y) e (first I ∙ e ∙ sym (first J)) ∙ sym (step-zero p C S J)
 
-    entered-long : (j : ℕ) (left row : List ℕ) → Y .counts .states ≤ length left → Y .counts .states ≤ length (entered p C j left row)
-    entered-long zero left row h = h
-    entered-long (suc j) left row h = omega (arith, fed-many (sources p C) left row, sources-many p C)
-
     -- there is a word for every state cell before each step
     pub words-long : (j : ℕ) → Y .counts .states ≤ length (wordsBefore p C I (start p C S I) j)
     unfolding wordsBefore start stepFrom
     words-long zero = omega (arith, words-many p t n acc S enough true (take (inputCount p C) I))
     words-long (suc j) =
-        omega (arith, words-many p t n acc (entered p C j (wordsBefore p C I (start p C S I) j) (freeAt p C I j)) (entered-long j _ _ (words-long j)) false (inputsAt p C I j))
+        omega (arith, words-many p t n acc (entered p C j (wordsBefore p C I (start p C S I) j) (freeAt p C I j)) (entered-long p C j _ _ (words-long j)) false (inputsAt p C I j))
 
     left-long : (j : ℕ) → Y .counts .states ≤ length (stepAt p C S I j .sts)
     unfolding wordsBefore stepAt
@@ -204,7 +200,7 @@ module _ (p : Bool) (t : List ℕ) (n : ℕ) (acc : checked p t n ≡ Accepted) 
           ≡ stateWords p false (typeAt Y (i + 1) .w) (wordsOfState Y (entered p C (suc j) (stepAt p C S I j .sts) (freeAt p C I (suc j))) (i + 1))
       later-value =
           ap (λ (A : Frame). cellsAt A (i + 1)) (step-later p C S I j)
-          ∙ state-value p t n acc (entered p C (suc j) (stepAt p C S I j .sts) (freeAt p C I (suc j))) (entered-long (suc j) _ _ (left-long j)) false (inputsAt p C I (suc j)) (i + 1) (is-state i s h e)
+          ∙ state-value p t n acc (entered p C (suc j) (stepAt p C S I j .sts) (freeAt p C I (suc j))) (entered-long p C (suc j) _ _ (left-long j)) false (inputsAt p C I (suc j)) (i + 1) (is-state i s h e)
 
       -- A free state's value at a later step: the row's words modulo 2 ^ w.
       pub free-value : given (Y .ctx) false (i + 1) ≡ false → (suc j + 1) * rowLength p C ≤ length I
@@ -225,6 +221,6 @@ module _ (p : Bool) (t : List ℕ) (n : ℕ) (acc : checked p t n ≡ Accepted) 
           let ι : List ℕ = inputsAt p C I j in
           let ι′ : List ℕ = inputsAt p C I (suc j) in
           let left : List ℕ = step p false C σ ι .sts in
-          let hσ = entered-long j _ (freeAt p C I j) (words-long j) in
+          let hσ = entered-long p C j _ (freeAt p C I j) (words-long j) in
           later-value ∙ ap (stateWords p false w) (entered-driven i s h e j left (freeAt p C I (suc j)) (is-driven k s′ (i + 1) v hk ek) (left-long j))
           ∙ sym (state-value p t n acc left (left-long j) false ι′ (i + 1) (is-state i s h e)) ∙ next-value p t n acc k s′ (i + 1) v hk ek σ ι ι′ hσ

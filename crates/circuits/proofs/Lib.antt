@@ -11,6 +11,7 @@ pub mod Repeated
 pub mod Feeding
 pub mod Placing
 pub mod Stepping
+pub mod SameRows
 pub mod Rows
 pub mod Answering
 pub mod Earlier

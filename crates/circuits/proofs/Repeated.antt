@@ -1,5 +1,5 @@
 -- The steps of a run, one after the other: what the first ones have put to the signal bytes, and the law that the signals of a run are those of its steps. Assumes nothing.
-use Prim.Native.Nat.{ℕ, zero, suc, _+_, _-_, _*_, _≤_, _<_}
+use Prim.Native.Nat.{ℕ, suc, _+_, _-_, _*_, _≤_, _<_}
 use mathlib.Core.Path.{_≡_, refl, sym, ap, ap₂, _∙_}
 use mathlib.Core.Bool.{Bool, true, false}
 use mathlib.Core.List.{List, [], _∷_, _++_, map, map-append, append-nil, append-assoc}
@@ -12,7 +12,7 @@ use Rattle.tables.specs.Lines.{Line}
 use Rattle.tables.specs.Layout.{from}
 use Rattle.tables.proofs.Ids.{from-append, from-at, length-from}
 use Rattle.circuits.specs.Meaning.{Signal, step}
-use Rattle.circuits.specs.Run.{inputCount, rowLength, inputsAt, freeAt, start, entered, stepFrom, wordsBefore, steps, run, stepAt, bytesOf, bytes}
+use Rattle.circuits.specs.Run.{inputCount, inputsAt, freeAt, start, entered, stepFrom, wordsBefore, steps, run, stepAt, bytesOf, bytes}
 use Rattle.circuits.specs.Model.Places.{Ready}
 
 -- ---- rows and bytes of a step, in lists of k of them

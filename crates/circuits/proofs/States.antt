@@ -19,7 +19,6 @@ use Rattle.circuits.specs.Cells.{maskWords}
 use Rattle.circuits.specs.Layout.{Layout, typeAt, size, lay, layAll, noLayout, layout}
 use Rattle.circuits.specs.Meaning.{stateWords, cellsAt, wordAt, givenWords, evalAll, noFrame, step}
 use Rattle.circuits.proofs.Laid.{type-old, more-types}
-use Rattle.circuits.proofs.Simulation.{state-small}
 use Rattle.circuits.proofs.Walked.{acc-lay, lines-many, lines-ok, ok-here, sound-at, later-at}
 use Rattle.circuits.proofs.Placing.{few-here}
 use Rattle.circuits.proofs.Sizes.{Walking, walk-none, walk-through, walk-done, states-many, cells-below}

@@ -1,5 +1,5 @@
 -- The loop over the steps of a run: what holds before the step i, and what a step does to it. Assumes nothing.
-use Prim.Native.Nat.{ℕ, suc, _+_, _-_, _*_, _≤_, _<_}
+use Prim.Native.Nat.{ℕ, _+_, _-_, _*_, _≤_, _<_}
 use mathlib.Core.Path.{_≡_, refl, sym, ap, ap₂, _∙_, subst}
 use mathlib.Core.Bool.{Bool, false}
 use mathlib.Core.List.{List, [], _++_}
@@ -12,7 +12,7 @@ use Rattle.circuits.specs.declared.Totals.{Totals}
 use Rattle.circuits.specs.Cells.{part}
 use Rattle.circuits.specs.Meaning.{step}
 use Rattle.circuits.specs.Free.{sources, freeCount}
-use Rattle.circuits.specs.Run.{inputCount, rowLength, inputsAt, freeAt, entered, wordsBefore, steps, bytesOf, bytes}
+use Rattle.circuits.specs.Run.{inputsAt, freeAt, entered, wordsBefore, steps, bytesOf, bytes}
 use Rattle.circuits.specs.Model.Places.{Ready}
 use Rattle.circuits.specs.Model.Answers.{RunAsked}
 use Rattle.circuits.specs.Model.Feeding.{freeLines, cellsIn, enteredIn, AllFed, Rows}
@@ -59,6 +59,10 @@ pub record Running (p : Bool) (t : List ℕ) (n : ℕ) (P : List (List ℕ)) (al
   pub enough : k * (ins + fed) ≤ length I
   pub words : length σ ≡ len - all
 
+pub running : {p : Bool} {t : List ℕ} {n : ℕ} {P : List (List ℕ)} {all ins sigs : ℕ} {free : List ℕ} (fed k : ℕ) (I work : List ℕ) → Ready p t n P all (length (drop all work)) ins sigs
+    → Rows p (linesOf p t n) (ins + fed) free → k * (ins + fed) ≤ length I → Running p t n P all ins sigs fed k (length work) (drop all work) free I
+running {all = all} fed k I work rd rs h = record { ready = rd; rows = rs; enough = h; words = length-drop all work }
+
 module _ {p : Bool} {t : List ℕ} {n : ℕ} {P : List (List ℕ)} {all ins sigs fed k len : ℕ} {σ free I : List ℕ} (u : Running p t n P all ins sigs fed k len σ free I) where
   abbrev C : List Line
   C = linesOf p t n
@@ -68,11 +72,14 @@ module _ {p : Bool} {t : List ℕ} {n : ℕ} {P : List (List ℕ)} {all ins sigs
   free-words = omega (arith, u .ready .inputs, u .rows .long)
 
   module _ {i r g : ℕ} {signals work : List ℕ} (s : Stepped p C (ins + fed) sigs k all len σ I signals work i r g) (h : i < k) where
-    pub row-room : r + ins + fed ≤ length I
+    row-room : r + ins + fed ≤ length I
     row-room = omega (arith, s .rows, within k i (ins + fed) h, u .enough)
 
-    pub bytes-room : g + sigs ≤ length signals
+    bytes-room : g + sigs ≤ length signals
     bytes-room = omega (arith, s .put, s .long, within k i sigs h)
+
+    pub rooms : (r + ins + fed ≤ length I) × (g + sigs ≤ length signals)
+    rooms = (row-room, bytes-room)
 
     -- the parts of the row, as they are lent
     inputs-are : part I r (r + ins - r) ≡ inputsAt p C I i

@@ -15,7 +15,7 @@ use Rattle.circuits.specs.declared.Ran.the-variants.{Bad}
 use Rattle.circuits.specs.Cells.{put}
 use Rattle.circuits.specs.Layout.{layout}
 use Rattle.circuits.specs.Meaning.{cellsAt, step}
-use Rattle.circuits.specs.Free.{driven, free, sources, fed}
+use Rattle.circuits.specs.Free.{driven, free, sources}
 use Rattle.circuits.specs.Run.{rowLength, start, stepFrom, wordsBefore, steps, run, stepAt}
 use Rattle.circuits.specs.Answers.{ready, ran, signalsLeft}
 

@@ -1,22 +1,20 @@
 -- The runs of an accepted circuit and of its flat circuit are alike, and the flat circuit keeps the rules. Assumes nothing.
-use Prim.Native.Nat.{ℕ, zero, suc, _+_, _*_, _≤_}
-use mathlib.Core.Path.{_≡_, refl, sym, ap, ap₂, fun-ext, _∙_, subst₂, subst⁻¹}
+use Prim.Native.Nat.{ℕ, zero, suc, _+_, _≤_}
+use mathlib.Core.Path.{_≡_, refl, sym, ap, ap₂, _∙_, subst₂, subst⁻¹}
 use mathlib.Core.Bool.{Bool, true, false}
-use mathlib.Core.List.{List, [], _∷_, _++_, map}
+use mathlib.Core.List.{List, [], _∷_, _++_}
 use native.Mathlib.Nat.{le-refl, le-trans}
 use native.Mathlib.Omega.{arith}
 use lib.ListN.{length, take, replicate, length-replicate}
 use Rattle.tables.specs.Lines.{Line, Expr, bitvec, array, input, state, value, initOrNext, signal, output, unknown, const, unary, binary, equality, ite, read, write}
 use Rattle.tables.specs.Types.{tyAt, given, noCtx}
-use Rattle.tables.specs.Layout.{from}
 use Rattle.tables.proofs.Facts.{Ok, AllOk}
-use Rattle.circuits.specs.Cells.{part}
 use Rattle.circuits.specs.Layout.{Layout, noLayout, layout}
-use Rattle.circuits.specs.Meaning.{Frame, Signal, noFrame, step}
-use Rattle.circuits.specs.Free.{Source, sourcesFrom, sources, freeCount, fed}
+use Rattle.circuits.specs.Meaning.{Frame, noFrame, step}
+use Rattle.circuits.specs.Free.{Source, sourcesFrom, sources}
 use Rattle.circuits.specs.Run.{inputCount, rowLength, inputsAt, freeAt, start, entered, stepFrom, wordsBefore, run, stepAt}
-use Rattle.circuits.proofs.Sources.{sources-append, sources-many, fed-many}
-use Rattle.circuits.proofs.Repeated.{run-steps}
+use Rattle.circuits.proofs.Sources.{sources-append}
+use Rattle.circuits.proofs.SameRows.{row-same, inputs-same, entered-same, entered-long, run-same}
 use Rattle.flattening.specs.Flat.{Info, noInfo, chunk, flattenFrom, flatten}
 use Rattle.flattening.proofs.Walk.{alike-refl, ev1, evs, evs-append, evs-lay, len-all, states-all, ok-append}
 use Rattle.flattening.proofs.Rel.{Inv, rel-none}
@@ -149,7 +147,7 @@ module _ (C : List Line) (a : AllOk false noCtx C) where
       ∙ ap (λ (Y : Layout). sourcesFrom false (given (Y .ctx) false) noLayout C) (laid C)
 
   pub rows-alike : rowLength false (flatten C) ≡ rowLength false C
-  rows-alike = ap₂ (λ (n : ℕ) (ss : List Source). n + freeCount ss) (counts-alike .inputs) sources-flat
+  rows-alike = row-same false false C (flatten C) (counts-alike .inputs) sources-flat
 
 -- ---- the steps of a run
 
@@ -167,22 +165,11 @@ module _ (C : List Line) (a : AllOk false noCtx C) (S I : List ℕ) (h : layout 
   abbrev Enough : List ℕ → Type 0
   Enough σ = layout false C .counts .states ≤ length σ
 
-  inputs-same : (t : ℕ) → inputsAt false (flatten C) I t ≡ inputsAt false C I t
-  inputs-same t = ap₂ (λ (n m : ℕ). part I (t * m) n) (counts-alike C a .inputs) (rows-alike C a)
-
-  entered-same : (t : ℕ) (σ : List ℕ) → entered false (flatten C) t σ (freeAt false (flatten C) I t) ≡ entered false C t σ (freeAt false C I t)
-  entered-same zero σ = refl
-  entered-same (suc t) σ = ap₂ (λ (n : ℕ) (ss : List Source). fed ss σ (part I (suc t * (n + freeCount ss) + n) (freeCount ss))) (counts-alike C a .inputs) (sources-flat C a)
-
-  entered-enough : (t : ℕ) (σ : List ℕ) → Enough σ → Enough (entered false C t σ (freeAt false C I t))
-  entered-enough zero σ g = g
-  entered-enough (suc t) σ g = omega (arith, fed-many (sources false C) σ (freeAt false C I (suc t)), sources-many false C)
-
   from-alike : (t : ℕ) (σ : List ℕ) → Enough σ → StepAlike C (stepFrom false C I t σ) (stepFrom false (flatten C) I t σ)
   unfolding stepFrom
   from-alike t σ g =
-      subst₂ (λ (x y : List ℕ). StepAlike C (stepFrom false C I t σ) (step false false (flatten C) x y)) (sym (entered-same t σ)) (sym (inputs-same t))
-      (step-alike C a false (entered false C t σ (freeAt false C I t)) (inputsAt false C I t) (entered-enough t σ g))
+      subst₂ (λ (x y : List ℕ). StepAlike C (stepFrom false C I t σ) (step false false (flatten C) x y)) (sym (entered-same false false C (flatten C) (counts-alike C a .inputs) (sources-flat C a) I t σ)) (sym (inputs-same false false C (flatten C) (counts-alike C a .inputs) (sources-flat C a) I t))
+      (step-alike C a false (entered false C t σ (freeAt false C I t)) (inputsAt false C I t) (entered-long false C t σ (freeAt false C I t) g))
 
   words-same : (t : ℕ) → (wordsBefore false (flatten C) I (start false (flatten C) S I) t ≡ wordsBefore false C I (start false C S I) t) × Enough (wordsBefore false C I (start false C S I) t)
   unfolding wordsBefore start
@@ -207,5 +194,4 @@ module _ (C : List Line) (a : AllOk false noCtx C) (S I : List ℕ) (h : layout 
 
 -- the signals of every step, with their marks, for all steps and inputs, and for start words of every state cell
 pub runs-alike : (C : List Line) → AllOk false noCtx C → (k : ℕ) (S I : List ℕ) → layout false C .counts .states ≤ length S → run false (flatten C) k S I ≡ run false C k S I
-runs-alike C a k S I h =
-    run-steps false (flatten C) k S I ∙ ap (λ (g : ℕ → List Signal). map g (from 0 k)) (fun-ext (λ t. at-alike C a S I h t .inv .alike .sigs)) ∙ sym (run-steps false C k S I)
+runs-alike C a k S I h = run-same false false C (flatten C) k S I (λ t. at-alike C a S I h t .inv .alike .sigs)

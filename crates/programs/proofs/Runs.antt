@@ -1,25 +1,22 @@
 -- A flat circuit and its program run alike: every step leaves the same signals and the same state words. Assumes nothing.
 use Prim.Native.Nat.{ℕ, zero, suc, _+_, _*_, _^_, _≤_, _<_}
-use mathlib.Core.Path.{_≡_, refl, sym, ap, ap₂, _∙_, fun-ext}
+use mathlib.Core.Path.{_≡_, refl, sym, ap, _∙_}
 use mathlib.Core.Bool.{Bool, true, false}
-use mathlib.Core.List.{List, [], _∷_, _++_, map, append-assoc}
+use mathlib.Core.List.{List, [], _∷_, _++_, append-assoc}
 use native.Mathlib.Nat.{le-refl, le-trans}
 use native.Mathlib.Omega.{arith}
 use lib.ListN.{length, getD, take, drop, length-append}
 use lib.Seq.{getD-at}
 use lib.Pow.{pow-pos}
 use Rattle.tables.specs.Lines.{Line, bitvec, array, input, state, value, initOrNext, signal, output, unknown}
-use Rattle.tables.specs.Layout.{from}
 use Rattle.tables.specs.Types.{tyAt, noCtx}
 use Rattle.tables.proofs.Kept.{no-yes, neither}
 use Rattle.tables.proofs.Facts.{AllOk}
 use Rattle.circuits.specs.Cells.{part}
 use Rattle.circuits.specs.Layout.{Layout, typeAt, size, lay, layAll, noLayout, layout}
-use Rattle.circuits.specs.Meaning.{Signal, Frame, evalLine, evalAll, noFrame, step}
-use Rattle.circuits.specs.Free.{Source, sources, freeCount, fed}
+use Rattle.circuits.specs.Meaning.{Frame, evalLine, evalAll, noFrame, step}
 use Rattle.circuits.specs.Run.{inputCount, rowLength, inputsAt, freeAt, start, entered, stepFrom, wordsBefore, run, stepAt, bytes, firstBad}
-use Rattle.circuits.proofs.Sources.{sources-many, fed-many}
-use Rattle.circuits.proofs.Repeated.{run-steps}
+use Rattle.circuits.proofs.SameRows.{row-same, inputs-same, entered-same, entered-long, run-same}
 use Rattle.programs.specs.Uses.{hasNeedingUse}
 use Rattle.programs.specs.Translation.{Known, noneKnown, instructionsOf, arraySortLine, hasArray, translateFrom, translate}
 use Rattle.programs.proofs.Grew.{lines, Even, even-line, grew-line}
@@ -161,10 +158,6 @@ module _ (F : List Line) (ok : AllOk false noCtx F) (flat : hasArray F ≡ false
   begun-after s e = record { same = s .sts; many = omega (arith, s .count); tame = s .fit }
 
   -- what a step begins with: those, and the row's words for free states
-  entered-many : (t : ℕ) (before row : List ℕ) → layout false F .counts .states ≤ length before → layout false F .counts .states ≤ length (entered false F t before row)
-  entered-many zero before row h = h
-  entered-many (suc t) before row h = omega (arith, fed-many (sources false F) before row, sources-many false F)
-
   entered-tame : (t : ℕ) (before row : List ℕ) → Tame F before → Tame F (entered false F t before row)
   entered-tame zero before row h = h
   entered-tame (suc t) before row h = fed-tame F ok flat before row h
@@ -174,25 +167,18 @@ module _ (F : List Line) (ok : AllOk false noCtx F) (flat : hasArray F ≡ false
   inputs-alike = same-counts F ok flat .inputs
 
   pub row-alike : rowLength true (translate F) ≡ rowLength false F
-  row-alike = ap₂ (λ (n : ℕ) (ss : List Source). n + freeCount ss) inputs-alike (sources-program F ok flat)
+  row-alike = row-same false true F (translate F) inputs-alike (sources-program F ok flat)
 
   module _ (I : List ℕ) (small : Small I) where
     part-small : (a n j : ℕ) → getD (part I a n) j 0 < 2 ^ 64
     part-small a n j = small-at (part I a n) (small-take n (drop a I) (small-drop a I small)) j
 
-    inputs-at : (t : ℕ) → inputsAt true (translate F) I t ≡ inputsAt false F I t
-    inputs-at t = ap₂ (λ (n : ℕ) (ss : List Source). part I (t * (n + freeCount ss)) n) inputs-alike (sources-program F ok flat)
-
-    entered-at : (t : ℕ) (before : List ℕ) → entered true (translate F) t before (freeAt true (translate F) I t) ≡ entered false F t before (freeAt false F I t)
-    entered-at zero before = refl
-    entered-at (suc t) before = ap₂ (λ (n : ℕ) (ss : List Source). fed ss before (part I (suc t * (n + freeCount ss) + n) (freeCount ss))) inputs-alike (sources-program F ok flat)
-
     step-from : (t : ℕ) {σ τ : List ℕ} → Begun F σ τ → SameStep (stateWidth F) (stepFrom false F I t σ) (stepFrom true (translate F) I t τ)
     unfolding stepFrom
     step-from t {σ} b =
         let row = freeAt false F I t in
-        rw (b .same, entered-at t σ, inputs-at t)
-        (step-alike F ok flat false (entered false F t σ row) (inputsAt false F I t) (entered-many t σ row (b .many)) (λ e. entered-tame t σ row (b .tame)) (part-small (t * rowLength false F) (inputCount false F)))
+        rw (b .same, entered-same false true F (translate F) inputs-alike (sources-program F ok flat) I t σ, inputs-same false true F (translate F) inputs-alike (sources-program F ok flat) I t)
+        (step-alike F ok flat false (entered false F t σ row) (inputsAt false F I t) (entered-long false F t σ row (b .many)) (λ e. entered-tame t σ row (b .tame)) (part-small (t * rowLength false F) (inputCount false F)))
 
     module _ (S : List ℕ) (h : layout false F .counts .states ≤ length S) where
       begun : (t : ℕ) → Begun F (wordsBefore false F I (start false F S I) t) (wordsBefore true (translate F) I (start true (translate F) S I) t)
@@ -212,7 +198,7 @@ module _ (F : List Line) (ok : AllOk false noCtx F) (flat : hasArray F ≡ false
 
   -- F and its program run alike, for every number of steps, all start words and all inputs of 64 bits
   pub alike : (k : ℕ) (S I : List ℕ) → layout false F .counts .states ≤ length S → Small I → run true (translate F) k S I ≡ run false F k S I
-  alike k S I h w = run-steps true (translate F) k S I ∙ ap (λ (f : ℕ → List Signal). map f (from 0 k)) (fun-ext (λ (t : ℕ). step-at I w S h t .sigs)) ∙ sym (run-steps false F k S I)
+  alike k S I h w = run-same false true F (translate F) k S I (λ t. step-at I w S h t .sigs)
 
   -- so the bytes are the same, and the first counted bad
   pub bytes-alike : (k : ℕ) (S I : List ℕ) → layout false F .counts .states ≤ length S → Small I → bytes (run true (translate F) k S I) ≡ bytes (run false F k S I)

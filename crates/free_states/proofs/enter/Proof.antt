@@ -1,7 +1,6 @@
 -- `free_states::enter` meets its contract. Assumes nothing.
 use Prim.Native.Nat.{ℕ}
 use mathlib.Core.Path.{sym, ap, subst}
-use mathlib.Core.List.{List}
 use lib.ListN.{length, drop}
 use Rattle.circuits.specs.Model.Feeding.{AllFed}
 use Rattle.circuits.proofs.Feeding.{entered-zero, behind, entered-behind}

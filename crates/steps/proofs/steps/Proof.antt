@@ -2,10 +2,10 @@
 use Prim.Native.Nat.{_+_, _-_}
 use mathlib.Core.Path.{refl, sym, _∙_}
 use native.Mathlib.Omega.{arith}
-use lib.ListN.{length, drop, length-drop}
+use lib.ListN.{length, drop}
 use borrow.Author.Needs.{needs}
 use Rattle.tables.specs.Layout.{linesOf}
-use Rattle.circuits.proofs.Stepping.{Stepped, Running, stepped-none, stepped-all, row-room, bytes-room, enter-fits, walk-ready, stepped-more}
+use Rattle.circuits.proofs.Stepping.{Stepped, stepped-none, stepped-all, running, rooms, enter-fits, walk-ready, stepped-more}
 use Rattle.steps.proofs.steps.Statement.{statement}
 use Rattle.steps.proofs.steps.Tie as tie
 
@@ -25,188 +25,114 @@ loop-holds c =
 add-e : tie.Need-add-e Inv-loop μ-loop
 add-e c =
     let s = c .before .before .before .before .before .before .before in
-    let a = s .args in
     let l = c .before .loop in
-    let u : Running (a .program) (a .table .now) (a .count) (a .laid .now) (a .all) (a .ins) (a .sigs) (a .fed) (a .k) (length (a .work .now)) (drop (a .all) (a .work .now)) (a .free .now) (a .inputs .now) =
-    record { ready = s .pre .1 .0; rows = s .pre .1 .1 .0; enough = s .pre .1 .1 .1 .0; words = length-drop (a .all) (a .work .now) } in
-    let h = c .loop-test .taken in
-    let x = row-room u (l .inv) h in
-    let y = bytes-room u (l .inv) h in
-    omega (arith, x, y, s .good .1 .1 .1 .1 .1 .1 .1 .1 .1 .1 .0 .0, s .good .1 .1 .1 .1 .1 .1 .1 .1 .1 .1 .0 .1, s .good .1 .1 .1 .1 .1 .1 .1 .1 .1 .1 .1 .0 .0, s .good .1 .1 .1 .1 .1 .1 .1 .1 .1 .1 .1 .0 .1, l .inv .long, s .pre .1 .1 .1 .1)
+    let x = rooms (running (s .args .fed) (s .args .k) (s .args .inputs .now) (s .args .work .now) (s .pre .1 .0) (s .pre .1 .1 .0) (s .pre .1 .1 .1 .0)) (l .inv) (c .loop-test .taken) in
+    omega (arith, x .0, x .1, s .good .1 .1 .1 .1 .1 .1 .1 .1 .1 .1 .0 .0, s .good .1 .1 .1 .1 .1 .1 .1 .1 .1 .1 .0 .1, s .good .1 .1 .1 .1 .1 .1 .1 .1 .1 .1 .1 .0 .0, s .good .1 .1 .1 .1 .1 .1 .1 .1 .1 .1 .1 .0 .1, l .inv .long, s .pre .1 .1 .1 .1)
 
 add-n : tie.Need-add-n Inv-loop μ-loop
 add-n c =
     let s = c .before .before .before .before .before .before .before in
-    let a = s .args in
     let l = c .before .loop in
-    let u : Running (a .program) (a .table .now) (a .count) (a .laid .now) (a .all) (a .ins) (a .sigs) (a .fed) (a .k) (length (a .work .now)) (drop (a .all) (a .work .now)) (a .free .now) (a .inputs .now) =
-    record { ready = s .pre .1 .0; rows = s .pre .1 .1 .0; enough = s .pre .1 .1 .1 .0; words = length-drop (a .all) (a .work .now) } in
-    let h = c .loop-test .taken in
-    let x = row-room u (l .inv) h in
-    let y = bytes-room u (l .inv) h in
-    omega (arith, x, y, s .good .1 .1 .1 .1 .1 .1 .1 .1 .1 .1 .0 .0, s .good .1 .1 .1 .1 .1 .1 .1 .1 .1 .1 .0 .1, s .good .1 .1 .1 .1 .1 .1 .1 .1 .1 .1 .1 .0 .0, s .good .1 .1 .1 .1 .1 .1 .1 .1 .1 .1 .1 .0 .1, l .inv .long, s .pre .1 .1 .1 .1)
+    let x = rooms (running (s .args .fed) (s .args .k) (s .args .inputs .now) (s .args .work .now) (s .pre .1 .0) (s .pre .1 .1 .0) (s .pre .1 .1 .1 .0)) (l .inv) (c .loop-test .taken) in
+    omega (arith, x .0, x .1, s .good .1 .1 .1 .1 .1 .1 .1 .1 .1 .1 .0 .0, s .good .1 .1 .1 .1 .1 .1 .1 .1 .1 .1 .0 .1, s .good .1 .1 .1 .1 .1 .1 .1 .1 .1 .1 .1 .0 .0, s .good .1 .1 .1 .1 .1 .1 .1 .1 .1 .1 .1 .0 .1, l .inv .long, s .pre .1 .1 .1 .1)
 
 add-h : tie.Need-add-h Inv-loop μ-loop
 add-h c =
     let s = c .before .before .before .before .before .before .before in
-    let a = s .args in
     let l = c .before .loop in
-    let u : Running (a .program) (a .table .now) (a .count) (a .laid .now) (a .all) (a .ins) (a .sigs) (a .fed) (a .k) (length (a .work .now)) (drop (a .all) (a .work .now)) (a .free .now) (a .inputs .now) =
-    record { ready = s .pre .1 .0; rows = s .pre .1 .1 .0; enough = s .pre .1 .1 .1 .0; words = length-drop (a .all) (a .work .now) } in
-    let h = c .loop-test .taken in
-    let x = row-room u (l .inv) h in
-    let y = bytes-room u (l .inv) h in
-    omega (arith, x, y, s .good .1 .1 .1 .1 .1 .1 .1 .1 .1 .1 .0 .0, s .good .1 .1 .1 .1 .1 .1 .1 .1 .1 .1 .0 .1, s .good .1 .1 .1 .1 .1 .1 .1 .1 .1 .1 .1 .0 .0, s .good .1 .1 .1 .1 .1 .1 .1 .1 .1 .1 .1 .0 .1, l .inv .long, s .pre .1 .1 .1 .1)
+    let x = rooms (running (s .args .fed) (s .args .k) (s .args .inputs .now) (s .args .work .now) (s .pre .1 .0) (s .pre .1 .1 .0) (s .pre .1 .1 .1 .0)) (l .inv) (c .loop-test .taken) in
+    omega (arith, x .0, x .1, s .good .1 .1 .1 .1 .1 .1 .1 .1 .1 .1 .0 .0, s .good .1 .1 .1 .1 .1 .1 .1 .1 .1 .1 .0 .1, s .good .1 .1 .1 .1 .1 .1 .1 .1 .1 .1 .1 .0 .0, s .good .1 .1 .1 .1 .1 .1 .1 .1 .1 .1 .1 .0 .1, l .inv .long, s .pre .1 .1 .1 .1)
 
 mul-enter : tie.Need-mul-enter Inv-loop μ-loop
 mul-enter c =
     let s = c .before .before .before .before .before .before .before in
-    let a = s .args in
     let l = c .before .loop in
-    let u : Running (a .program) (a .table .now) (a .count) (a .laid .now) (a .all) (a .ins) (a .sigs) (a .fed) (a .k) (length (a .work .now)) (drop (a .all) (a .work .now)) (a .free .now) (a .inputs .now) =
-    record { ready = s .pre .1 .0; rows = s .pre .1 .1 .0; enough = s .pre .1 .1 .1 .0; words = length-drop (a .all) (a .work .now) } in
-    let h = c .loop-test .taken in
-    let x = row-room u (l .inv) h in
-    let y = bytes-room u (l .inv) h in
-    omega (arith, x, y, s .good .1 .1 .1 .1 .1 .1 .1 .1 .1 .1 .0 .0, s .good .1 .1 .1 .1 .1 .1 .1 .1 .1 .1 .0 .1, s .good .1 .1 .1 .1 .1 .1 .1 .1 .1 .1 .1 .0 .0, s .good .1 .1 .1 .1 .1 .1 .1 .1 .1 .1 .1 .0 .1, l .inv .long, s .pre .1 .1 .1 .1)
+    let x = rooms (running (s .args .fed) (s .args .k) (s .args .inputs .now) (s .args .work .now) (s .pre .1 .0) (s .pre .1 .1 .0) (s .pre .1 .1 .1 .0)) (l .inv) (c .loop-test .taken) in
+    omega (arith, x .0, x .1, s .good .1 .1 .1 .1 .1 .1 .1 .1 .1 .1 .0 .0, s .good .1 .1 .1 .1 .1 .1 .1 .1 .1 .1 .0 .1, s .good .1 .1 .1 .1 .1 .1 .1 .1 .1 .1 .1 .0 .0, s .good .1 .1 .1 .1 .1 .1 .1 .1 .1 .1 .1 .0 .1, l .inv .long, s .pre .1 .1 .1 .1)
 
 sub-enter : tie.Need-sub-enter Inv-loop μ-loop
 sub-enter c =
     let s = c .before .before .before .before .before .before .before in
-    let a = s .args in
     let l = c .before .loop in
-    let u : Running (a .program) (a .table .now) (a .count) (a .laid .now) (a .all) (a .ins) (a .sigs) (a .fed) (a .k) (length (a .work .now)) (drop (a .all) (a .work .now)) (a .free .now) (a .inputs .now) =
-    record { ready = s .pre .1 .0; rows = s .pre .1 .1 .0; enough = s .pre .1 .1 .1 .0; words = length-drop (a .all) (a .work .now) } in
-    let h = c .loop-test .taken in
-    let x = row-room u (l .inv) h in
-    let y = bytes-room u (l .inv) h in
-    omega (arith, x, y, s .good .1 .1 .1 .1 .1 .1 .1 .1 .1 .1 .0 .0, s .good .1 .1 .1 .1 .1 .1 .1 .1 .1 .1 .0 .1, s .good .1 .1 .1 .1 .1 .1 .1 .1 .1 .1 .1 .0 .0, s .good .1 .1 .1 .1 .1 .1 .1 .1 .1 .1 .1 .0 .1, l .inv .long, s .pre .1 .1 .1 .1)
+    let x = rooms (running (s .args .fed) (s .args .k) (s .args .inputs .now) (s .args .work .now) (s .pre .1 .0) (s .pre .1 .1 .0) (s .pre .1 .1 .1 .0)) (l .inv) (c .loop-test .taken) in
+    omega (arith, x .0, x .1, s .good .1 .1 .1 .1 .1 .1 .1 .1 .1 .1 .0 .0, s .good .1 .1 .1 .1 .1 .1 .1 .1 .1 .1 .0 .1, s .good .1 .1 .1 .1 .1 .1 .1 .1 .1 .1 .1 .0 .0, s .good .1 .1 .1 .1 .1 .1 .1 .1 .1 .1 .1 .0 .1, l .inv .long, s .pre .1 .1 .1 .1)
 
 part-enter-start : tie.Need-part-enter-start Inv-loop μ-loop
 part-enter-start c =
     let s = c .before .before .before .before .before .before .before in
-    let a = s .args in
     let l = c .before .loop in
-    let u : Running (a .program) (a .table .now) (a .count) (a .laid .now) (a .all) (a .ins) (a .sigs) (a .fed) (a .k) (length (a .work .now)) (drop (a .all) (a .work .now)) (a .free .now) (a .inputs .now) =
-    record { ready = s .pre .1 .0; rows = s .pre .1 .1 .0; enough = s .pre .1 .1 .1 .0; words = length-drop (a .all) (a .work .now) } in
-    let h = c .loop-test .taken in
-    let x = row-room u (l .inv) h in
-    let y = bytes-room u (l .inv) h in
-    omega (arith, x, y, s .good .1 .1 .1 .1 .1 .1 .1 .1 .1 .1 .0 .0, s .good .1 .1 .1 .1 .1 .1 .1 .1 .1 .1 .0 .1, s .good .1 .1 .1 .1 .1 .1 .1 .1 .1 .1 .1 .0 .0, s .good .1 .1 .1 .1 .1 .1 .1 .1 .1 .1 .1 .0 .1, l .inv .long, s .pre .1 .1 .1 .1)
+    let x = rooms (running (s .args .fed) (s .args .k) (s .args .inputs .now) (s .args .work .now) (s .pre .1 .0) (s .pre .1 .1 .0) (s .pre .1 .1 .1 .0)) (l .inv) (c .loop-test .taken) in
+    omega (arith, x .0, x .1, s .good .1 .1 .1 .1 .1 .1 .1 .1 .1 .1 .0 .0, s .good .1 .1 .1 .1 .1 .1 .1 .1 .1 .1 .0 .1, s .good .1 .1 .1 .1 .1 .1 .1 .1 .1 .1 .1 .0 .0, s .good .1 .1 .1 .1 .1 .1 .1 .1 .1 .1 .1 .0 .1, l .inv .long, s .pre .1 .1 .1 .1)
 
 part-enter-end : tie.Need-part-enter-end Inv-loop μ-loop
 part-enter-end c =
     let s = c .before .before .before .before .before .before .before in
-    let a = s .args in
     let l = c .before .loop in
-    let u : Running (a .program) (a .table .now) (a .count) (a .laid .now) (a .all) (a .ins) (a .sigs) (a .fed) (a .k) (length (a .work .now)) (drop (a .all) (a .work .now)) (a .free .now) (a .inputs .now) =
-    record { ready = s .pre .1 .0; rows = s .pre .1 .1 .0; enough = s .pre .1 .1 .1 .0; words = length-drop (a .all) (a .work .now) } in
-    let h = c .loop-test .taken in
-    let x = row-room u (l .inv) h in
-    let y = bytes-room u (l .inv) h in
-    omega (arith, x, y, s .good .1 .1 .1 .1 .1 .1 .1 .1 .1 .1 .0 .0, s .good .1 .1 .1 .1 .1 .1 .1 .1 .1 .1 .0 .1, s .good .1 .1 .1 .1 .1 .1 .1 .1 .1 .1 .1 .0 .0, s .good .1 .1 .1 .1 .1 .1 .1 .1 .1 .1 .1 .0 .1, l .inv .long, s .pre .1 .1 .1 .1)
+    let x = rooms (running (s .args .fed) (s .args .k) (s .args .inputs .now) (s .args .work .now) (s .pre .1 .0) (s .pre .1 .1 .0) (s .pre .1 .1 .1 .0)) (l .inv) (c .loop-test .taken) in
+    omega (arith, x .0, x .1, s .good .1 .1 .1 .1 .1 .1 .1 .1 .1 .1 .0 .0, s .good .1 .1 .1 .1 .1 .1 .1 .1 .1 .1 .0 .1, s .good .1 .1 .1 .1 .1 .1 .1 .1 .1 .1 .1 .0 .0, s .good .1 .1 .1 .1 .1 .1 .1 .1 .1 .1 .1 .0 .1, l .inv .long, s .pre .1 .1 .1 .1)
 
 enter-requires : tie.Need-enter-requires Inv-loop μ-loop
 enter-requires c κs =
     let s = c .before .before .before .before .before .before .before .before .before in
-    let a = s .args in
     let l = c .before .before .before .loop in
-    let u : Running (a .program) (a .table .now) (a .count) (a .laid .now) (a .all) (a .ins) (a .sigs) (a .fed) (a .k) (length (a .work .now)) (drop (a .all) (a .work .now)) (a .free .now) (a .inputs .now) =
-    record { ready = s .pre .1 .0; rows = s .pre .1 .1 .0; enough = s .pre .1 .1 .1 .0; words = length-drop (a .all) (a .work .now) } in
+    let u = running (s .args .fed) (s .args .k) (s .args .inputs .now) (s .args .work .now) (s .pre .1 .0) (s .pre .1 .1 .0) (s .pre .1 .1 .1 .0) in
     let h = c .before .before .loop-test .taken in
     (omega (arith, s .pre .0, l .inv .many), enter-fits u (l .inv) h)
 
 mul-walk : tie.Need-mul-walk Inv-loop μ-loop
 mul-walk c =
     let s = c .before .before .before .before .before .before .before .before .before .before .before .before in
-    let a = s .args in
     let l = c .before .before .before .before .before .before .loop in
-    let u : Running (a .program) (a .table .now) (a .count) (a .laid .now) (a .all) (a .ins) (a .sigs) (a .fed) (a .k) (length (a .work .now)) (drop (a .all) (a .work .now)) (a .free .now) (a .inputs .now) =
-    record { ready = s .pre .1 .0; rows = s .pre .1 .1 .0; enough = s .pre .1 .1 .1 .0; words = length-drop (a .all) (a .work .now) } in
-    let h = c .before .before .before .before .before .loop-test .taken in
-    let x = row-room u (l .inv) h in
-    let y = bytes-room u (l .inv) h in
-    omega (arith, x, y, s .good .1 .1 .1 .1 .1 .1 .1 .1 .1 .1 .0 .0, s .good .1 .1 .1 .1 .1 .1 .1 .1 .1 .1 .0 .1, s .good .1 .1 .1 .1 .1 .1 .1 .1 .1 .1 .1 .0 .0, s .good .1 .1 .1 .1 .1 .1 .1 .1 .1 .1 .1 .0 .1, l .inv .long, s .pre .1 .1 .1 .1)
+    let x = rooms (running (s .args .fed) (s .args .k) (s .args .inputs .now) (s .args .work .now) (s .pre .1 .0) (s .pre .1 .1 .0) (s .pre .1 .1 .1 .0)) (l .inv) (c .before .before .before .before .before .loop-test .taken) in
+    omega (arith, x .0, x .1, s .good .1 .1 .1 .1 .1 .1 .1 .1 .1 .1 .0 .0, s .good .1 .1 .1 .1 .1 .1 .1 .1 .1 .1 .0 .1, s .good .1 .1 .1 .1 .1 .1 .1 .1 .1 .1 .1 .0 .0, s .good .1 .1 .1 .1 .1 .1 .1 .1 .1 .1 .1 .0 .1, l .inv .long, s .pre .1 .1 .1 .1)
 
 sub-walk : tie.Need-sub-walk Inv-loop μ-loop
 sub-walk c =
     let s = c .before .before .before .before .before .before .before .before .before .before .before .before in
-    let a = s .args in
     let l = c .before .before .before .before .before .before .loop in
-    let u : Running (a .program) (a .table .now) (a .count) (a .laid .now) (a .all) (a .ins) (a .sigs) (a .fed) (a .k) (length (a .work .now)) (drop (a .all) (a .work .now)) (a .free .now) (a .inputs .now) =
-    record { ready = s .pre .1 .0; rows = s .pre .1 .1 .0; enough = s .pre .1 .1 .1 .0; words = length-drop (a .all) (a .work .now) } in
-    let h = c .before .before .before .before .before .loop-test .taken in
-    let x = row-room u (l .inv) h in
-    let y = bytes-room u (l .inv) h in
-    omega (arith, x, y, s .good .1 .1 .1 .1 .1 .1 .1 .1 .1 .1 .0 .0, s .good .1 .1 .1 .1 .1 .1 .1 .1 .1 .1 .0 .1, s .good .1 .1 .1 .1 .1 .1 .1 .1 .1 .1 .1 .0 .0, s .good .1 .1 .1 .1 .1 .1 .1 .1 .1 .1 .1 .0 .1, l .inv .long, s .pre .1 .1 .1 .1)
+    let x = rooms (running (s .args .fed) (s .args .k) (s .args .inputs .now) (s .args .work .now) (s .pre .1 .0) (s .pre .1 .1 .0) (s .pre .1 .1 .1 .0)) (l .inv) (c .before .before .before .before .before .loop-test .taken) in
+    omega (arith, x .0, x .1, s .good .1 .1 .1 .1 .1 .1 .1 .1 .1 .1 .0 .0, s .good .1 .1 .1 .1 .1 .1 .1 .1 .1 .1 .0 .1, s .good .1 .1 .1 .1 .1 .1 .1 .1 .1 .1 .1 .0 .0, s .good .1 .1 .1 .1 .1 .1 .1 .1 .1 .1 .1 .0 .1, l .inv .long, s .pre .1 .1 .1 .1)
 
 part-walk-start : tie.Need-part-walk-start Inv-loop μ-loop
 part-walk-start c =
     let s = c .before .before .before .before .before .before .before .before .before .before .before .before in
-    let a = s .args in
     let l = c .before .before .before .before .before .before .loop in
-    let u : Running (a .program) (a .table .now) (a .count) (a .laid .now) (a .all) (a .ins) (a .sigs) (a .fed) (a .k) (length (a .work .now)) (drop (a .all) (a .work .now)) (a .free .now) (a .inputs .now) =
-    record { ready = s .pre .1 .0; rows = s .pre .1 .1 .0; enough = s .pre .1 .1 .1 .0; words = length-drop (a .all) (a .work .now) } in
-    let h = c .before .before .before .before .before .loop-test .taken in
-    let x = row-room u (l .inv) h in
-    let y = bytes-room u (l .inv) h in
-    omega (arith, x, y, s .good .1 .1 .1 .1 .1 .1 .1 .1 .1 .1 .0 .0, s .good .1 .1 .1 .1 .1 .1 .1 .1 .1 .1 .0 .1, s .good .1 .1 .1 .1 .1 .1 .1 .1 .1 .1 .1 .0 .0, s .good .1 .1 .1 .1 .1 .1 .1 .1 .1 .1 .1 .0 .1, l .inv .long, s .pre .1 .1 .1 .1)
+    let x = rooms (running (s .args .fed) (s .args .k) (s .args .inputs .now) (s .args .work .now) (s .pre .1 .0) (s .pre .1 .1 .0) (s .pre .1 .1 .1 .0)) (l .inv) (c .before .before .before .before .before .loop-test .taken) in
+    omega (arith, x .0, x .1, s .good .1 .1 .1 .1 .1 .1 .1 .1 .1 .1 .0 .0, s .good .1 .1 .1 .1 .1 .1 .1 .1 .1 .1 .0 .1, s .good .1 .1 .1 .1 .1 .1 .1 .1 .1 .1 .1 .0 .0, s .good .1 .1 .1 .1 .1 .1 .1 .1 .1 .1 .1 .0 .1, l .inv .long, s .pre .1 .1 .1 .1)
 
 part-walk-end : tie.Need-part-walk-end Inv-loop μ-loop
 part-walk-end c =
     let s = c .before .before .before .before .before .before .before .before .before .before .before .before in
-    let a = s .args in
     let l = c .before .before .before .before .before .before .loop in
-    let u : Running (a .program) (a .table .now) (a .count) (a .laid .now) (a .all) (a .ins) (a .sigs) (a .fed) (a .k) (length (a .work .now)) (drop (a .all) (a .work .now)) (a .free .now) (a .inputs .now) =
-    record { ready = s .pre .1 .0; rows = s .pre .1 .1 .0; enough = s .pre .1 .1 .1 .0; words = length-drop (a .all) (a .work .now) } in
-    let h = c .before .before .before .before .before .loop-test .taken in
-    let x = row-room u (l .inv) h in
-    let y = bytes-room u (l .inv) h in
-    omega (arith, x, y, s .good .1 .1 .1 .1 .1 .1 .1 .1 .1 .1 .0 .0, s .good .1 .1 .1 .1 .1 .1 .1 .1 .1 .1 .0 .1, s .good .1 .1 .1 .1 .1 .1 .1 .1 .1 .1 .1 .0 .0, s .good .1 .1 .1 .1 .1 .1 .1 .1 .1 .1 .1 .0 .1, l .inv .long, s .pre .1 .1 .1 .1)
+    let x = rooms (running (s .args .fed) (s .args .k) (s .args .inputs .now) (s .args .work .now) (s .pre .1 .0) (s .pre .1 .1 .0) (s .pre .1 .1 .1 .0)) (l .inv) (c .before .before .before .before .before .loop-test .taken) in
+    omega (arith, x .0, x .1, s .good .1 .1 .1 .1 .1 .1 .1 .1 .1 .1 .0 .0, s .good .1 .1 .1 .1 .1 .1 .1 .1 .1 .1 .0 .1, s .good .1 .1 .1 .1 .1 .1 .1 .1 .1 .1 .1 .0 .0, s .good .1 .1 .1 .1 .1 .1 .1 .1 .1 .1 .1 .0 .1, l .inv .long, s .pre .1 .1 .1 .1)
 
 sub-walk-2 : tie.Need-sub-walk-2 Inv-loop μ-loop
 sub-walk-2 c =
     let s = c .before .before .before .before .before .before .before .before .before .before .before .before .before in
-    let a = s .args in
     let l = c .before .before .before .before .before .before .before .loop in
-    let u : Running (a .program) (a .table .now) (a .count) (a .laid .now) (a .all) (a .ins) (a .sigs) (a .fed) (a .k) (length (a .work .now)) (drop (a .all) (a .work .now)) (a .free .now) (a .inputs .now) =
-    record { ready = s .pre .1 .0; rows = s .pre .1 .1 .0; enough = s .pre .1 .1 .1 .0; words = length-drop (a .all) (a .work .now) } in
-    let h = c .before .before .before .before .before .before .loop-test .taken in
-    let x = row-room u (l .inv) h in
-    let y = bytes-room u (l .inv) h in
-    omega (arith, x, y, s .good .1 .1 .1 .1 .1 .1 .1 .1 .1 .1 .0 .0, s .good .1 .1 .1 .1 .1 .1 .1 .1 .1 .1 .0 .1, s .good .1 .1 .1 .1 .1 .1 .1 .1 .1 .1 .1 .0 .0, s .good .1 .1 .1 .1 .1 .1 .1 .1 .1 .1 .1 .0 .1, l .inv .long, s .pre .1 .1 .1 .1)
+    let x = rooms (running (s .args .fed) (s .args .k) (s .args .inputs .now) (s .args .work .now) (s .pre .1 .0) (s .pre .1 .1 .0) (s .pre .1 .1 .1 .0)) (l .inv) (c .before .before .before .before .before .before .loop-test .taken) in
+    omega (arith, x .0, x .1, s .good .1 .1 .1 .1 .1 .1 .1 .1 .1 .1 .0 .0, s .good .1 .1 .1 .1 .1 .1 .1 .1 .1 .1 .0 .1, s .good .1 .1 .1 .1 .1 .1 .1 .1 .1 .1 .1 .0 .0, s .good .1 .1 .1 .1 .1 .1 .1 .1 .1 .1 .1 .0 .1, l .inv .long, s .pre .1 .1 .1 .1)
 
 part-walk-start-2 : tie.Need-part-walk-start-2 Inv-loop μ-loop
 part-walk-start-2 c =
     let s = c .before .before .before .before .before .before .before .before .before .before .before .before .before in
-    let a = s .args in
     let l = c .before .before .before .before .before .before .before .loop in
-    let u : Running (a .program) (a .table .now) (a .count) (a .laid .now) (a .all) (a .ins) (a .sigs) (a .fed) (a .k) (length (a .work .now)) (drop (a .all) (a .work .now)) (a .free .now) (a .inputs .now) =
-    record { ready = s .pre .1 .0; rows = s .pre .1 .1 .0; enough = s .pre .1 .1 .1 .0; words = length-drop (a .all) (a .work .now) } in
-    let h = c .before .before .before .before .before .before .loop-test .taken in
-    let x = row-room u (l .inv) h in
-    let y = bytes-room u (l .inv) h in
-    omega (arith, x, y, s .good .1 .1 .1 .1 .1 .1 .1 .1 .1 .1 .0 .0, s .good .1 .1 .1 .1 .1 .1 .1 .1 .1 .1 .0 .1, s .good .1 .1 .1 .1 .1 .1 .1 .1 .1 .1 .1 .0 .0, s .good .1 .1 .1 .1 .1 .1 .1 .1 .1 .1 .1 .0 .1, l .inv .long, s .pre .1 .1 .1 .1)
+    let x = rooms (running (s .args .fed) (s .args .k) (s .args .inputs .now) (s .args .work .now) (s .pre .1 .0) (s .pre .1 .1 .0) (s .pre .1 .1 .1 .0)) (l .inv) (c .before .before .before .before .before .before .loop-test .taken) in
+    omega (arith, x .0, x .1, s .good .1 .1 .1 .1 .1 .1 .1 .1 .1 .1 .0 .0, s .good .1 .1 .1 .1 .1 .1 .1 .1 .1 .1 .0 .1, s .good .1 .1 .1 .1 .1 .1 .1 .1 .1 .1 .1 .0 .0, s .good .1 .1 .1 .1 .1 .1 .1 .1 .1 .1 .1 .0 .1, l .inv .long, s .pre .1 .1 .1 .1)
 
 part-walk-end-2 : tie.Need-part-walk-end-2 Inv-loop μ-loop
 part-walk-end-2 c =
     let s = c .before .before .before .before .before .before .before .before .before .before .before .before .before in
-    let a = s .args in
     let l = c .before .before .before .before .before .before .before .loop in
-    let u : Running (a .program) (a .table .now) (a .count) (a .laid .now) (a .all) (a .ins) (a .sigs) (a .fed) (a .k) (length (a .work .now)) (drop (a .all) (a .work .now)) (a .free .now) (a .inputs .now) =
-    record { ready = s .pre .1 .0; rows = s .pre .1 .1 .0; enough = s .pre .1 .1 .1 .0; words = length-drop (a .all) (a .work .now) } in
-    let h = c .before .before .before .before .before .before .loop-test .taken in
-    let x = row-room u (l .inv) h in
-    let y = bytes-room u (l .inv) h in
-    omega (arith, x, y, s .good .1 .1 .1 .1 .1 .1 .1 .1 .1 .1 .0 .0, s .good .1 .1 .1 .1 .1 .1 .1 .1 .1 .1 .0 .1, s .good .1 .1 .1 .1 .1 .1 .1 .1 .1 .1 .1 .0 .0, s .good .1 .1 .1 .1 .1 .1 .1 .1 .1 .1 .1 .0 .1, l .inv .long, s .pre .1 .1 .1 .1)
+    let x = rooms (running (s .args .fed) (s .args .k) (s .args .inputs .now) (s .args .work .now) (s .pre .1 .0) (s .pre .1 .1 .0) (s .pre .1 .1 .1 .0)) (l .inv) (c .before .before .before .before .before .before .loop-test .taken) in
+    omega (arith, x .0, x .1, s .good .1 .1 .1 .1 .1 .1 .1 .1 .1 .1 .0 .0, s .good .1 .1 .1 .1 .1 .1 .1 .1 .1 .1 .0 .1, s .good .1 .1 .1 .1 .1 .1 .1 .1 .1 .1 .1 .0 .0, s .good .1 .1 .1 .1 .1 .1 .1 .1 .1 .1 .1 .0 .1, l .inv .long, s .pre .1 .1 .1 .1)
 
 walk-requires : tie.Need-walk-requires Inv-loop μ-loop
 walk-requires c κs =
     let s = c .before .before .before .before .before .before .before .before .before .before .before .before .before .before .before in
-    let a = s .args in
     let l = c .before .before .before .before .before .before .before .before .before .loop in
-    let u : Running (a .program) (a .table .now) (a .count) (a .laid .now) (a .all) (a .ins) (a .sigs) (a .fed) (a .k) (length (a .work .now)) (drop (a .all) (a .work .now)) (a .free .now) (a .inputs .now) =
-    record { ready = s .pre .1 .0; rows = s .pre .1 .1 .0; enough = s .pre .1 .1 .1 .0; words = length-drop (a .all) (a .work .now) } in
+    let u = running (s .args .fed) (s .args .k) (s .args .inputs .now) (s .args .work .now) (s .pre .1 .0) (s .pre .1 .1 .0) (s .pre .1 .1 .1 .0) in
     let h = c .before .before .before .before .before .before .before .before .loop-test .taken in
     let e = c .before .before .before .before .before .enter in
     walk-ready u (l .inv) h (e .last .1 .1 .1 .1 .1 .0) (e .kept .1 .1 .1 .1 .1 .0) (e .ensures) (omega (arith, s .pre .0, l .inv .many))
@@ -220,10 +146,8 @@ loop-less c = search needs
 loop-again : tie.Need-loop-again Inv-loop μ-loop
 loop-again c =
     let s = c .before .before .before .before .before .before .before .before .before .before .before .before .before .before .before .before .before .before .before .before in
-    let a = s .args in
     let l = c .before .before .before .before .before .before .before .before .before .before .before .before .before .before .loop in
-    let u : Running (a .program) (a .table .now) (a .count) (a .laid .now) (a .all) (a .ins) (a .sigs) (a .fed) (a .k) (length (a .work .now)) (drop (a .all) (a .work .now)) (a .free .now) (a .inputs .now) =
-    record { ready = s .pre .1 .0; rows = s .pre .1 .1 .0; enough = s .pre .1 .1 .1 .0; words = length-drop (a .all) (a .work .now) } in
+    let u = running (s .args .fed) (s .args .k) (s .args .inputs .now) (s .args .work .now) (s .pre .1 .0) (s .pre .1 .1 .0) (s .pre .1 .1 .1 .0) in
     let h = c .before .before .before .before .before .before .before .before .before .before .before .before .before .loop-test .taken in
     let e = c .before .before .before .before .before .before .before .before .before .before .enter in
     let w = c .before .before .before .before .walk in
