@@ -13,13 +13,12 @@ use Rattle.words.specs.Word.{Width}
 use Rattle.tables.specs.declared.Ty.{Ty}
 use Rattle.tables.specs.Pick.{pick}
 use Rattle.tables.specs.Lines.{Line, lineOf}
-use Rattle.tables.specs.Types.{given}
 use Rattle.tables.specs.Layout.{recordAt, linesOf}
 use Rattle.tables.specs.Model.Notes.{givenIn}
 use Rattle.tables.proofs.Encoding.{fits-table}
 use Rattle.circuits.specs.Cells.{maskWords, part, put}
 use Rattle.circuits.specs.Layout.{Layout, typeAt, placeAt, size, lineTypeIn, noLayout, lay, layAll, layout}
-use Rattle.circuits.specs.Free.{Source, driven, free, sourceOf, sourcesHere, sourcesFrom, sources, freeCount, fed}
+use Rattle.circuits.specs.Free.{Source, driven, free, sourceOf, hasNext, sourcesHere, sourcesFrom, sources, freeCount, fed}
 use Rattle.circuits.specs.Run.{entered}
 use Rattle.circuits.specs.Model.Work.{numIn, posIn, widIn}
 use Rattle.circuits.specs.Model.Places.{ShowsAll, Ready}
@@ -28,7 +27,7 @@ use Rattle.circuits.specs.Model.Feeding.{freeLine, freeLinesFrom, freeLi
 use Rattle.circuits.proofs.Puts as laws
 use Rattle.circuits.proofs.Laid.{Sound, type-new, place-new, more-types, more-places, later}
 use Rattle.circuits.proofs.Walked.{sound-at, lay-done, line-here, lines-many}
-use Rattle.circuits.proofs.Placing.{driven-noted}
+use Rattle.circuits.proofs.Placing.{next-noted}
 use Rattle.circuits.proofs.Sources.{free-append, free-cells}
 
 -- ---- the words of one state
@@ -190,13 +189,13 @@ module _ {p : Bool} {t : List ℕ} {n : ℕ} {P : List (List ℕ)} {all words in
   abbrev C : List Line
   C = linesOf p t n
 
-  of-all : Fed p P (given (layout p C .ctx) false) noLayout 1 C (layout p C .counts .states)
+  of-all : Fed p P (hasNext p C) noLayout 1 C (layout p C .counts .states)
   unfolding layout
-  of-all = fed-all p P (given (layAll p noLayout C .ctx) false) noLayout C refl (subst Sound (lay-done p t n (rd .accepted)) (sound-at p t n (rd .accepted) n)) (rd .shows)
+  of-all = fed-all p P (hasNext p C) noLayout C refl (subst Sound (lay-done p t n (rd .accepted)) (sound-at p t n (rd .accepted) n)) (rd .shows)
 
   pub lines-fit : AllFed P words (freeLines p C)
   unfolding freeLines
-  lines-fit = subst (λ (m : ℕ). AllFed P m (freeLinesFrom (given (layout p C .ctx) false) 1 C)) (rd .states) (of-all .fits)
+  lines-fit = subst (λ (m : ℕ). AllFed P m (freeLinesFrom (hasNext p C) 1 C)) (rd .states) (of-all .fits)
 
   pub lines-cells : cellsIn P (freeLines p C) ≡ freeCount (sources p C)
   unfolding freeLines sources
@@ -227,7 +226,7 @@ pub record Found (p : Bool) (t : List ℕ) (n i m : ℕ) (list : List ℕ) : Typ
   pub most : i ≤ n
   pub few : m ≤ i
   pub long : length list ≡ 16385
-  pub holds : take m list ++ freeLinesFrom (given (layout p (linesOf p t n) .ctx) false) (suc i) (drop i (linesOf p t n)) ≡ freeLines p (linesOf p t n)
+  pub holds : take m list ++ freeLinesFrom (hasNext p (linesOf p t n)) (suc i) (drop i (linesOf p t n)) ≡ freeLines p (linesOf p t n)
 
 module _ (p : Bool) (t : List ℕ) (n : ℕ) (xs : List (List ℕ)) (k : Noted p t n xs) where
   pub found-none : (list : List ℕ) → length list ≡ 16385 → Found p t n 0 0 list
@@ -238,12 +237,12 @@ module _ (p : Bool) (t : List ℕ) (n : ℕ) (xs : List (List ℕ)) (k : Noted p
       → take m′ list′ ≡ take m list ++ freeLine (givenIn xs false (i + 1)) (i + 1) (lineOf r) → m′ ≤ m + 1 → Found p t n (i + 1) m′ list′
   found-more {r} i m m′ list list′ h f er ll e l =
       let C = linesOf p t n in
-      let G = given (layout p C .ctx) false in
+      let G = hasNext p C in
       let x = getD C i Line.unknown in
       let rest = drop (i + 1) C in
       let el : lineOf r ≡ x = ap lineOf er ∙ sym (line-here p t n (k .accepted) i h) in
       let here : freeLine (givenIn xs false (i + 1)) (i + 1) (lineOf r) ≡ freeLine (G (suc i)) (suc i) x =
-      ap₂ (λ (b : Bool) (y : Line). freeLine b (i + 1) y) (driven-noted p t n xs k (i + 1)) el ∙ ap (λ (j : ℕ). freeLine (G j) j x) (add-one i) in
+      ap₂ (λ (b : Bool) (y : Line). freeLine b (i + 1) y) (next-noted p t n xs k (i + 1)) el ∙ ap (λ (j : ℕ). freeLine (G j) j x) (add-one i) in
       let cut : drop i C ≡ x ∷ rest = drop-cons C i Line.unknown (omega (arith, lines-many p t n (k .accepted))) ∙ ap (λ (j : ℕ). x ∷ drop j C) (sym (add-one i)) in
       record {
         most = omega arith;
@@ -258,7 +257,7 @@ module _ (p : Bool) (t : List ℕ) (n : ℕ) (xs : List (List ℕ)) (k : Noted p
   pub found-all : (i m : ℕ) (list : List ℕ) → n ≤ i → Found p t n i m list → (take m list ≡ freeLines p (linesOf p t n)) × (m ≤ 16384)
   found-all i m list h f =
       let C = linesOf p t n in
-      let G = given (layout p C .ctx) false in
+      let G = hasNext p C in
       let e : i ≡ length C = omega (arith, f .most, lines-many p t n (k .accepted)) in (
         sym (append-nil (take m list)) ∙ ap (λ (D : List Line). take m list ++ freeLinesFrom G (suc i) D) (sym (ap (λ (j : ℕ). drop j C) e ∙ drop-length C)) ∙ f .holds,
         omega (arith, f .few, f .most, fits-table p t n (k .accepted) .0),

@@ -20,7 +20,7 @@ use Rattle.tables.proofs.GivenStates.{givesTo, given-more, given-once}
 use Rattle.circuits.specs.Cells.{maskWords, part}
 use Rattle.circuits.specs.Layout.{Layout, typeAt, placeAt, size, lineTypeIn, placeOf, noLayout, lay, layAll, layout}
 use Rattle.circuits.specs.Meaning.{stateWords, Frame, cellsAt, step}
-use Rattle.circuits.specs.Free.{Source, driven, free, sourceOf, cellSources, sourcesFrom, sources, freeCount, fed}
+use Rattle.circuits.specs.Free.{Source, driven, free, sourceOf, cellSources, hasNext, sourcesFrom, sources, freeCount, fed}
 use Rattle.circuits.specs.Run.{inputCount, rowLength, inputsAt, freeAt, start, entered, stepFrom, wordsBefore, stepAt}
 use Rattle.circuits.proofs.Puts as laws
 use Rattle.circuits.proofs.Laid.{type-new, place-new, more-types, more-places}
@@ -82,9 +82,6 @@ module _ (p : Bool) (t : List ℕ) (n : ℕ) (acc : checked p t n ≡ Accepted) 
   abbrev Y : Layout
   Y = layout p (linesOf p t n)
 
-  abbrev hasNext : ℕ → Bool
-  hasNext q = given (layout p (linesOf p t n) .ctx) false q
-
   -- the line at the place i, counted from 0, is a state
   module _ (i s : ℕ) (h : i < n) (e : getD C i Line.unknown ≡ Line.state s) where
     abbrev Z : Layout
@@ -113,41 +110,41 @@ module _ (p : Bool) (t : List ℕ) (n : ℕ) (acc : checked p t n ≡ Accepted) 
 
     -- its sources stand between those of the lines before and after it
     before : List Source
-    before = sourcesFrom p hasNext noLayout (take i C)
+    before = sourcesFrom p (hasNext p C) noLayout (take i C)
 
     after : List Source
-    after = sourcesFrom p hasNext (lay p Z (Line.state s)) (drop (suc i) C)
+    after = sourcesFrom p (hasNext p C) (lay p Z (Line.state s)) (drop (suc i) C)
 
-    between : sources p C ≡ before ++ (cellSources (hasNext q) (typeAt Y q) ++ after)
+    between : sources p C ≡ before ++ (cellSources (hasNext p C q) (typeAt Y q) ++ after)
     unfolding sources before after
     between =
-        ap (sourcesFrom p hasNext noLayout) (sym (take-append-drop i C) ∙ ap (λ (D : List Line). take i C ++ D) (drop-cons C i Line.unknown (omega (arith, lines-many p t n acc)) ∙ ap (λ (l : Line). l ∷ drop (suc i) C) e))
-        ∙ sources-append p hasNext noLayout (take i C) (Line.state s ∷ drop (suc i) C)
-        ∙ ap₂ (λ (m : ℕ) (x : Ty). before ++ (cellSources (hasNext m) x ++ after)) number (sym type)
+        ap (sourcesFrom p (hasNext p C) noLayout) (sym (take-append-drop i C) ∙ ap (λ (D : List Line). take i C ++ D) (drop-cons C i Line.unknown (omega (arith, lines-many p t n acc)) ∙ ap (λ (l : Line). l ∷ drop (suc i) C) e))
+        ∙ sources-append p (hasNext p C) noLayout (take i C) (Line.state s ∷ drop (suc i) C)
+        ∙ ap₂ (λ (m : ℕ) (x : Ty). before ++ (cellSources (hasNext p C m) x ++ after)) number (sym type)
 
     before-many : length before ≡ placeAt Y q
     unfolding before
-    before-many = sym (zero-add (length (sourcesFrom p hasNext noLayout (take i C)))) ∙ from-many p hasNext noLayout (take i C) ∙ sym place
+    before-many = sym (zero-add (length (sourcesFrom p (hasNext p C) noLayout (take i C)))) ∙ from-many p (hasNext p C) noLayout (take i C) ∙ sym place
 
     free-before : freeCount before ≡ freePlace p C q
-    free-before = ap freeCount (sym (ap₂ take (sym before-many) between ∙ take-at before (cellSources (hasNext q) (typeAt Y q) ++ after) (length before) refl))
+    free-before = ap freeCount (sym (ap₂ take (sym before-many) between ∙ take-at before (cellSources (hasNext p C q) (typeAt Y q) ++ after) (length before) refl))
 
-    cells-many : length (cellSources (hasNext q) (typeAt Y q)) ≡ size (typeAt Y q)
-    cells-many = length-replicate (size (typeAt Y q)) (sourceOf (hasNext q) (typeAt Y q .w))
+    cells-many : length (cellSources (hasNext p C q) (typeAt Y q)) ≡ size (typeAt Y q)
+    cells-many = length-replicate (size (typeAt Y q)) (sourceOf (hasNext p C q) (typeAt Y q .w))
 
     -- so the words that a later step finds for it are those of its own sources
-    words-here : (j : ℕ) (left row : List ℕ) → wordsOfState Y (entered p C (suc j) left row) q ≡ fed (cellSources (hasNext q) (typeAt Y q)) (drop (placeAt Y q) left) (drop (freePlace p C q) row)
+    words-here : (j : ℕ) (left row : List ℕ) → wordsOfState Y (entered p C (suc j) left row) q ≡ fed (cellSources (hasNext p C q) (typeAt Y q)) (drop (placeAt Y q) left) (drop (freePlace p C q) row)
     words-here j left row =
         ap (λ (ss : List Source). part (fed ss left row) (placeAt Y q) (size (typeAt Y q))) between
-        ∙ ap₂ (part (fed (before ++ (cellSources (hasNext q) (typeAt Y q) ++ after)) left row)) (sym before-many) (sym cells-many)
-        ∙ fed-between before (cellSources (hasNext q) (typeAt Y q)) after left row
-        ∙ ap₂ (λ (a f : ℕ). fed (cellSources (hasNext q) (typeAt Y q)) (drop a left) (drop f row)) before-many free-before
+        ∙ ap₂ (part (fed (before ++ (cellSources (hasNext p C q) (typeAt Y q) ++ after)) left row)) (sym before-many) (sym cells-many)
+        ∙ fed-between before (cellSources (hasNext p C q) (typeAt Y q)) after left row
+        ∙ ap₂ (λ (a f : ℕ). fed (cellSources (hasNext p C q) (typeAt Y q)) (drop a left) (drop f row)) before-many free-before
 
     room : placeAt Y q + size (typeAt Y q) ≤ Y .counts .states
-    room = omega (arith, sources-many p C, ap length between, length-append before (cellSources (hasNext q) (typeAt Y q) ++ after), length-append (cellSources (hasNext q) (typeAt Y q)) after, before-many, cells-many)
+    room = omega (arith, sources-many p C, ap length between, length-append before (cellSources (hasNext p C q) (typeAt Y q) ++ after), length-append (cellSources (hasNext p C q) (typeAt Y q)) after, before-many, cells-many)
 
     -- A driven state: the words that the last step left.
-    pub entered-driven : (j : ℕ) (left row : List ℕ) → given (Y .ctx) false q ≡ true → Y .counts .states ≤ length left → wordsOfState Y (entered p C (suc j) left row) q ≡ wordsOfState Y left q
+    pub entered-driven : (j : ℕ) (left row : List ℕ) → hasNext p C q ≡ true → Y .counts .states ≤ length left → wordsOfState Y (entered p C (suc j) left row) q ≡ wordsOfState Y left q
     entered-driven j left row g enough =
         let m = size (typeAt Y q) in
         let l = drop (placeAt Y q) left in
@@ -156,7 +153,7 @@ module _ (p : Bool) (t : List ℕ) (n : ℕ) (acc : checked p t n ≡ Accepted) 
         ∙ fed-driven m [] l (drop (freePlace p C q) row) (omega (arith, room, length-drop (placeAt Y q) left)) ∙ append-nil (take m l)
 
     -- A free one: the row's words, each modulo 2 ^ w, and not those that the last step left.
-    pub entered-free : (j : ℕ) (left row : List ℕ) → given (Y .ctx) false q ≡ false → Y .counts .states ≤ length left → freeCount (sources p C) ≤ length row
+    pub entered-free : (j : ℕ) (left row : List ℕ) → hasNext p C q ≡ false → Y .counts .states ≤ length left → freeCount (sources p C) ≤ length row
         → wordsOfState Y (entered p C (suc j) left row) q ≡ maskWords (typeAt Y q .w) (part row (freePlace p C q) (size (typeAt Y q)))
     entered-free j left row g enough full =
         let m = size (typeAt Y q) in
@@ -164,12 +161,12 @@ module _ (p : Bool) (t : List ℕ) (n : ℕ) (acc : checked p t n ≡ Accepted) 
         let l = drop (placeAt Y q) left in
         let r = drop (freePlace p C q) row in
         let few : freePlace p C q + m ≤ length row =
-        omega (arith, full, ap freeCount between, free-append before (cellSources (hasNext q) (typeAt Y q) ++ after), free-append (cellSources (hasNext q) (typeAt Y q)) after, free-before, free-cells (hasNext q) w m, ap (λ (b : Bool). pick b 0 m) g) in
+        omega (arith, full, ap freeCount between, free-append before (cellSources (hasNext p C q) (typeAt Y q) ++ after), free-append (cellSources (hasNext p C q) (typeAt Y q)) after, free-before, free-cells (hasNext p C q) w m, ap (λ (b : Bool). pick b 0 m) g) in
         words-here j left row ∙ ap (λ (b : Bool). fed (cellSources b (typeAt Y q)) l r) g ∙ ap (λ (ss : List Source). fed ss l r) (sym (append-nil (replicate m (free w))))
         ∙ fed-free m w [] l r (omega (arith, room, length-drop (placeAt Y q) left)) (omega (arith, length-drop (freePlace p C q) row)) ∙ append-nil (maskWords w (take m r))
 
   -- a state that a next line sets, on whatever line it stands, is driven
-  pub is-driven : (k s q v : ℕ) → k < n → getD C k Line.unknown ≡ Line.initOrNext false s q v → given (Y .ctx) false q ≡ true
+  pub is-driven : (k s q v : ℕ) → k < n → getD C k Line.unknown ≡ Line.initOrNext false s q v → hasNext p C q ≡ true
   unfolding layout
   is-driven k s q v h e = given-at p false noLayout C k s q v (omega (arith, lines-many p t n acc)) e
 
@@ -203,7 +200,7 @@ module _ (p : Bool) (t : List ℕ) (n : ℕ) (acc : checked p t n ≡ Accepted) 
           ∙ state-value p t n acc (entered p C (suc j) (stepAt p C S I j .sts) (freeAt p C I (suc j))) (entered-long p C (suc j) _ _ (left-long j)) false (inputsAt p C I (suc j)) (i + 1) (is-state i s h e)
 
       -- A free state's value at a later step: the row's words modulo 2 ^ w.
-      pub free-value : given (Y .ctx) false (i + 1) ≡ false → (suc j + 1) * rowLength p C ≤ length I
+      pub free-value : hasNext p C (i + 1) ≡ false → (suc j + 1) * rowLength p C ≤ length I
           → cellsAt (stepAt p C S I (suc j)) (i + 1) ≡ maskWords (typeAt Y (i + 1) .w) (part (freeAt p C I (suc j)) (freePlace p C (i + 1)) (size (typeAt Y (i + 1))))
       free-value g full =
           let w = typeAt Y (i + 1) .w in

@@ -19,7 +19,7 @@ use Rattle.tables.proofs.Shapes.{binary-range, KindOf, kind-of, line-as, no-unk
 use Rattle.tables.proofs.Showing.{by-place}
 use Rattle.circuits.specs.declared.Spot.{Spot}
 use Rattle.circuits.specs.Layout.{Counts, Layout, counting, typeAt, placeAt, size, lineTypeIn, placeOf, countsAfter, noLayout, lay, layAll, layout}
-use Rattle.circuits.specs.Free.{ifState, sourcesHere, sourcesFrom, sources, freeCount}
+use Rattle.circuits.specs.Free.{ifState, hasNext, sourcesHere, sourcesFrom, sources, freeCount}
 use Rattle.circuits.specs.Run.{rowLength}
 use Rattle.circuits.specs.Model.Work.{laidAs, laidIn}
 use Rattle.circuits.specs.Model.Places.{offAt, ShowsAll, Ready}
@@ -197,17 +197,13 @@ shows-more p Y l P n m w s S en few h es em ew pl a q =
       isPos = ap (λ (r : List ℕ). getD r 2 0) er ∙ k .isPos ∙ sym eq;
     })
 
--- the state q has a next line, among all lines
-abbrev pub driven : (p : Bool) (C : List Line) (q : ℕ) → Bool
-driven p C q = given (layout p C .ctx) false q
-
 pub record Sofar (p : Bool) (t : List ℕ) (n i : ℕ) (tot : Totals) (P : List (List ℕ)) : Type 0 where
   pub most : i ≤ n
   pub long : length P ≡ 16385
   pub counts : tot ≡ totalsOf (layAll p noLayout (take i (linesOf p t n)) .counts) (tot .free)
   pub shows : ShowsAll P (layAll p noLayout (take i (linesOf p t n)))
   -- the free words so far, and those of the lines to come
-  pub free : tot .free + freeCount (sourcesFrom p (driven p (linesOf p t n)) (layAll p noLayout (take i (linesOf p t n))) (drop i (linesOf p t n))) ≡ freeCount (sources p (linesOf p t n))
+  pub free : tot .free + freeCount (sourcesFrom p (hasNext p (linesOf p t n)) (layAll p noLayout (take i (linesOf p t n))) (drop i (linesOf p t n))) ≡ freeCount (sources p (linesOf p t n))
 
 module _ (p : Bool) (t : List ℕ) (n : ℕ) (xs : List (List ℕ)) (k : Noted p t n xs) where
   pub begun : (P : List (List ℕ)) {P′ : List (List ℕ)} → length P ≡ 16385 → P′ ≡ set P 0 (laidAs 0 1 0 0) → Sofar p t n 0 (record { cells = 0; states = 0; inputs = 0; signals = 0; free = 0 }) P′
@@ -219,13 +215,13 @@ module _ (p : Bool) (t : List ℕ) (n : ℕ) (xs : List (List ℕ)) (k : Noted p
         long = length-set P 0 (laidAs 0 1 0 0) ∙ lp;
         counts = refl;
         shows = shows-none P (omega arith);
-        free = zero-add (freeCount (sourcesFrom p (driven p (linesOf p t n)) noLayout (linesOf p t n)));
+        free = zero-add (freeCount (sourcesFrom p (hasNext p (linesOf p t n)) noLayout (linesOf p t n)));
       })
 
-  -- the notes tell which states are driven
-  pub driven-noted : (q : ℕ) → givenIn xs false q ≡ driven p (linesOf p t n) q
+  -- the notes tell which states have a next
+  pub next-noted : (q : ℕ) → givenIn xs false q ≡ hasNext p (linesOf p t n) q
   unfolding context layout
-  driven-noted q = k .shows .flags false q ∙ ap (λ (c : Ctx). given c false q) (sym (lay-ctx p noLayout (linesOf p t n)))
+  next-noted q = k .shows .flags false q ∙ ap (λ (c : Ctx). given c false q) (sym (lay-ctx p noLayout (linesOf p t n)))
 
   module _ (i : ℕ) (h : i < n) where
     -- the note of the line at hand has its type
@@ -283,11 +279,11 @@ module _ (p : Bool) (t : List ℕ) (n : ℕ) (xs : List (List ℕ)) (k : Noted p
           shows = subst (λ (Z : Layout). ShowsAll P′ Z) (sym next)
               (rw e (shows-more p Y l P (i + 1) m (y .w) o S (number-at p t n (k .accepted) i (omega arith)) (omega arith) (omega arith) eq sm (ap (λ (x : Ty). x .w) ty) (s .shows)));
           free =
-              let G = driven p (linesOf p t n) in
+              let G = hasNext p (linesOf p t n) in
               let rest = drop (i + 1) (linesOf p t n) in
               let ln : length (Y .places) ≡ i + 1 = S .long ∙ number-at p t n (k .accepted) i (omega arith) in
               let here : freeHere (givenIn xs false (i + 1)) m (lineOf r) ≡ freeCount (sourcesHere p G Y l) =
-              ap₂ (λ (b : Bool) (x : Line). freeHere b m x) (driven-noted (i + 1) ∙ ap G (sym ln)) el ∙ ap (λ (x : ℕ). freeHere (G (length (Y .places))) x l) sm ∙ sym (here-free p G Y l) in
+              ap₂ (λ (b : Bool) (x : Line). freeHere b m x) (next-noted (i + 1) ∙ ap G (sym ln)) el ∙ ap (λ (x : ℕ). freeHere (G (length (Y .places))) x l) sm ∙ sym (here-free p G Y l) in
               let cut : freeCount (sourcesFrom p G Y (drop i (linesOf p t n))) ≡ freeCount (sourcesHere p G Y l) + freeCount (sourcesFrom p G (lay p Y l) rest) =
               ap (λ (x : List Line). freeCount (sourcesFrom p G Y x)) (drop-cons (linesOf p t n) i Line.unknown (omega (arith, lines-many p t n (k .accepted))) ∙ ap (λ (j : ℕ). l ∷ drop j (linesOf p t n)) (sym (add-one i)))
               ∙ free-append (sourcesHere p G Y l) (sourcesFrom p G (lay p Y l) rest) in
@@ -302,7 +298,7 @@ module _ (p : Bool) (t : List ℕ) (n : ℕ) (xs : List (List ℕ)) (k : Noted p
       let q : layAll p noLayout (take i (linesOf p t n)) ≡ layout p (linesOf p t n) = ap (λ (j : ℕ). layAll p noLayout (take j (linesOf p t n))) e ∙ lay-done p t n (k .accepted) in
       let none : drop i (linesOf p t n) ≡ [] = ap (λ (j : ℕ). drop j (linesOf p t n)) (e ∙ sym (lines-many p t n (k .accepted))) ∙ drop-length (linesOf p t n) in
       let all : tot .free ≡ freeCount (sources p (linesOf p t n)) =
-      sym (add-zero (tot .free)) ∙ ap (λ (x : List Line). tot .free + freeCount (sourcesFrom p (driven p (linesOf p t n)) (layAll p noLayout (take i (linesOf p t n))) x)) (sym none) ∙ s .free in
+      sym (add-zero (tot .free)) ∙ ap (λ (x : List Line). tot .free + freeCount (sourcesFrom p (hasNext p (linesOf p t n)) (layAll p noLayout (take i (linesOf p t n))) x)) (sym none) ∙ s .free in
       (subst (λ (Z : Layout). ShowsAll P Z) q (s .shows), s .counts ∙ ap₂ (λ (Z : Layout) (f : ℕ). totalsOf (Z .counts) f) q all)
 
 pub place-small : (c : Counts) (m : ℕ) (l : Line) → Small c m → (spotBy c l .off < 4294967296) × (spotBy c l .at < 4294967296)

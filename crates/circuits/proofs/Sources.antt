@@ -7,11 +7,10 @@ use native.Mathlib.Omega.{arith}
 use native.Mathlib.Nat.{add-zero, zero-add}
 use lib.ListN.{length, take, drop, getD, replicate, length-append, length-replicate}
 use Rattle.tables.specs.Lines.{Line}
-use Rattle.tables.specs.Types.{given}
 use Rattle.circuits.specs.Layout.{Layout, size, lineTypeIn, noLayout, lay, layAll, layout}
 use Rattle.tables.specs.Pick.{pick}
 use Rattle.circuits.specs.Model.Passes.{freeHere}
-use Rattle.circuits.specs.Free.{Source, driven, free, sourceOf, sourcesHere, sourcesFrom, sources, freeCount, fed}
+use Rattle.circuits.specs.Free.{Source, driven, free, sourceOf, hasNext, sourcesHere, sourcesFrom, sources, freeCount, fed}
 
 -- ---- the list, line by line
 
@@ -49,7 +48,7 @@ module _ (p : Bool) (h : ℕ → Bool) where
 -- one for each state word
 pub sources-many : (p : Bool) (C : List Line) → length (sources p C) ≡ layout p C .counts .states
 unfolding sources layout
-sources-many p C = sym (zero-add (length (sourcesFrom p (given (layAll p noLayout C .ctx) false) noLayout C))) ∙ from-many p (given (layAll p noLayout C .ctx) false) noLayout C
+sources-many p C = sym (zero-add (length (sourcesFrom p (hasNext p C) noLayout C))) ∙ from-many p (hasNext p C) noLayout C
 
 -- ---- how many are free
 

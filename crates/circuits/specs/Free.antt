@@ -14,13 +14,13 @@ pub data Source : Type 0 where
   driven : Source
   free : (w : ℕ) → Source
 
-abbrev pub sourceOf : (hasNext : Bool) → (w : ℕ) → Source
+abbrev pub sourceOf : (isDriven : Bool) → (w : ℕ) → Source
 sourceOf true w = driven
 sourceOf false w = free w
 
 -- one for each cell of a state of the type t
-abbrev pub cellSources : (hasNext : Bool) → (t : Ty) → List Source
-cellSources hasNext t = replicate (size t) (sourceOf hasNext (t .w))
+abbrev pub cellSources : (isDriven : Bool) → (t : Ty) → List Source
+cellSources isDriven t = replicate (size t) (sourceOf isDriven (t .w))
 
 -- the first for a state line, the second for any other
 abbrev pub ifState : {A : Type 0} → Line → A → A → A
@@ -34,17 +34,21 @@ ifState (Line.signal m a) x y = y
 ifState (Line.output a) x y = y
 ifState Line.unknown x y = y
 
--- those of the line l, which is the next after the lines laid out in Y; hasNext says of a line whether a next line sets it
-abbrev pub sourcesHere : (program : Bool) (hasNext : ℕ → Bool) → Layout → (l : Line) → List Source
-sourcesHere program hasNext Y l = ifState l (cellSources (hasNext (length (Y .places))) (lineTypeIn program Y l)) []
+-- those of the line l, which is the next after the lines laid out in Y; drives says of a line whether a next line sets it
+abbrev pub sourcesHere : (program : Bool) (drives : ℕ → Bool) → Layout → (l : Line) → List Source
+sourcesHere program drives Y l = ifState l (cellSources (drives (length (Y .places))) (lineTypeIn program Y l)) []
 
-abbrev pub sourcesFrom : (program : Bool) (hasNext : ℕ → Bool) → Layout → List Line → List Source
-sourcesFrom program hasNext Y [] = []
-sourcesFrom program hasNext Y (l ∷ ls) = sourcesHere program hasNext Y l ++ sourcesFrom program hasNext (lay program Y l) ls
+abbrev pub sourcesFrom : (program : Bool) (drives : ℕ → Bool) → Layout → List Line → List Source
+sourcesFrom program drives Y [] = []
+sourcesFrom program drives Y (l ∷ ls) = sourcesHere program drives Y l ++ sourcesFrom program drives (lay program Y l) ls
 
--- of all state words, in line order, cells rising: all lines are looked at before the first step
+-- a next line sets the state on the line q, on whatever line it stands: all lines are looked at before the first step
+abbrev pub hasNext : (program : Bool) → (C : List Line) → (q : ℕ) → Bool
+hasNext program C q = given (layout program C .ctx) false q
+
+-- of all state words, in line order, cells rising
 unfoldable pub sources : (program : Bool) → (C : List Line) → List Source
-sources program C = sourcesFrom program (given (layout program C .ctx) false) noLayout C
+sources program C = sourcesFrom program (hasNext program C) noLayout C
 
 -- how many words are free
 abbrev pub freeCount : List Source → ℕ

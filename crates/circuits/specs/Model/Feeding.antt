@@ -1,29 +1,27 @@
 -- How the code gives free states the words of a row: by a list of the lines of free states, in order, and what the list P holds of each. Assumes nothing.
 use Prim.Native.Nat.{ℕ, zero, suc, _+_, _≤_}
 use mathlib.Core.Path.{_≡_}
-use mathlib.Core.Bool.{Bool, false}
+use mathlib.Core.Bool.{Bool}
 use mathlib.Core.List.{List, [], _∷_, _++_}
 use lib.ListN.{take, drop}
 use Rattle.words.specs.Word.{Width}
 use Rattle.tables.specs.Pick.{pick}
 use Rattle.tables.specs.Lines.{Line}
-use Rattle.tables.specs.Types.{given}
 use Rattle.circuits.specs.Cells.{maskWords, put}
-use Rattle.circuits.specs.Layout.{layout}
-use Rattle.circuits.specs.Free.{ifState}
+use Rattle.circuits.specs.Free.{ifState, hasNext}
 use Rattle.circuits.specs.Run.{rowLength}
 use Rattle.circuits.specs.Model.Work.{numIn, posIn, widIn}
 
 -- the line n, where it is a state that has no next
-abbrev pub freeLine : (hasNext : Bool) (n : ℕ) → Line → List ℕ
-freeLine hasNext n l = ifState l (pick hasNext [] (n ∷ [])) []
+abbrev pub freeLine : (isDriven : Bool) (n : ℕ) → Line → List ℕ
+freeLine isDriven n l = ifState l (pick isDriven [] (n ∷ [])) []
 
-abbrev pub freeLinesFrom : (hasNext : ℕ → Bool) (n : ℕ) → List Line → List ℕ
-freeLinesFrom hasNext n [] = []
-freeLinesFrom hasNext n (l ∷ ls) = freeLine (hasNext n) n l ++ freeLinesFrom hasNext (suc n) ls
+abbrev pub freeLinesFrom : (drives : ℕ → Bool) (n : ℕ) → List Line → List ℕ
+freeLinesFrom drives n [] = []
+freeLinesFrom drives n (l ∷ ls) = freeLine (drives n) n l ++ freeLinesFrom drives (suc n) ls
 
 unfoldable pub freeLines : (program : Bool) → (C : List Line) → List ℕ
-freeLines program C = freeLinesFrom (given (layout program C .ctx) false) 1 C
+freeLines program C = freeLinesFrom (hasNext program C) 1 C
 
 -- the cells of the lines qs
 abbrev pub cellsIn : (P : List (List ℕ)) → (qs : List ℕ) → ℕ

@@ -28,8 +28,8 @@ abbrev pub totalsOf : Counts → (free : ℕ) → Totals
 totalsOf c f = record { cells = c .cells; states = c .states; inputs = c .inputs; signals = c .signals; free = f }
 
 -- the free words of a line of m cells
-abbrev pub freeHere : (hasNext : Bool) → (m : ℕ) → Line → ℕ
-freeHere hasNext m l = ifState l (pick hasNext 0 m) 0
+abbrev pub freeHere : (isDriven : Bool) → (m : ℕ) → Line → ℕ
+freeHere isDriven m l = ifState l (pick isDriven 0 m) 0
 
 abbrev pub spot : ℕ → ℕ → Spot
 spot o q = record { off = o; at = q }
