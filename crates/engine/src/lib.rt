@@ -115,7 +115,8 @@ fn run_lent(
     work: &mut [u64],
 ) -> Ran
     requires { ⌜ Noted program (now table) count (now notes) × (Ready program (now table) count (now laid) (t .cells) (t .states) (t .inputs) (t .signals)
-        × ((t .free ≡ freeCount (sources program (linesOf program (now table) count))) × ((lentOf (countsOf t) (t .inputs + t .free) k (length (now starts)) (length (now inputs)) (length (now signals)) (length (now work)) ≡ Checked.Accepted)
+        × ((t .free ≡ freeCount (sources program (linesOf program (now table) count)))
+        × ((lentOf (countsOf t) (t .inputs + t .free) k (length (now starts)) (length (now inputs)) (length (now signals)) (length (now work)) ≡ Checked.Accepted)
         × (now work ≡ replicate (length (now work)) 0)))) ⌝ }
     ensures { λ r. ⌜ toldRun r (now (signals .exit) ∷ now (work .exit) ∷ [])
         ≡ started program (linesOf program (now (table .entry)) count) k (now (starts .entry)) (now (inputs .entry)) (length (now (work .entry))) ⌝ }
