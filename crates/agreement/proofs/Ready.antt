@@ -7,15 +7,15 @@ use borrow.Author.Tests.{le-leb, eq-eqb}
 use Rattle.tables.specs.declared.Checked.TheVariants.{Accepted}
 use Rattle.tables.specs.Layout.{lines_of}
 use Rattle.tables.specs.Tables.{checked}
-use Rattle.circuits.specs.Run.{run, bytes, firstBad}
-use Rattle.circuits.specs.Answers.{ready, ran, signalsLeft}
+use Rattle.circuits.specs.Run.{run, bytes, first_bad}
+use Rattle.circuits.specs.Answers.{ready, ran, signals_left}
 use Rattle.agreement.specs.Comparison.{Table, Lent, starts, bad, signals, totals, row, Roomy}
 
 module _ (p : Bool) (T : Table) (L : Lent) (w : ℕ) where
-  pub is-ready : checked p T.words T.count ≡ Accepted → L.steps ≤ 4096 → length L.starts ≡ (totals p T).states → length L.inputs ≡ L.steps * row p T
+  pub is_ready : checked p T.words T.count ≡ Accepted → L.steps ≤ 4096 → length L.starts ≡ (totals p T).states → length L.inputs ≡ L.steps * row p T
       → L.signals ≡ L.steps * (totals p T).signals → Roomy p T w → starts p T L w ≡ Accepted
   unfolding ready
-  is-ready a b c d e f =
+  is_ready a b c d e f =
       rw (
         a,
         le-leb L.steps 4096 b,
@@ -25,10 +25,10 @@ module _ (p : Bool) (T : Table) (L : Lent) (w : ℕ) where
         le-leb _ w f,
       )
 
-  pub answers : starts p T L w ≡ Accepted → bad p T L w ≡ firstBad 0 (run p (lines_of p T.words T.count) L.steps L.starts L.inputs)
+  pub answers : starts p T L w ≡ Accepted → bad p T L w ≡ first_bad 0 (run p (lines_of p T.words T.count) L.steps L.starts L.inputs)
   unfolding ran
   answers e = rw e
 
   pub leaves : starts p T L w ≡ Accepted → signals p T L w ≡ bytes (run p (lines_of p T.words T.count) L.steps L.starts L.inputs)
-  unfolding signalsLeft
+  unfolding signals_left
   leaves e = rw e

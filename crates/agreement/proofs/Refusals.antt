@@ -13,32 +13,32 @@ use Rattle.tables.specs.declared.Refusal.{Refusal}
 use Rattle.tables.specs.declared.Refusal.TheVariants.{NotATable, TargetTooSmall}
 use Rattle.tables.specs.declared.Answer.TheVariants.{Done, Refused}
 use Rattle.tables.specs.Pick.{pick}
-use Rattle.tables.specs.Lines.{Line, bitvec, array, input, state, value, initOrNext, signal, output, unknown}
+use Rattle.tables.specs.Lines.{Line, bitvec, array, input, state, value, init_or_next, signal, output, unknown}
 use Rattle.tables.specs.Layout.{whole, room, lines_of}
 use Rattle.tables.specs.Answers.{fitting}
 use Rattle.flattening.specs.Flat.{flatten}
-use Rattle.flattening.specs.Answers.{flattened, flatLeft}
-use Rattle.flattening.proofs.Arrayless.{Plain, AllPlain, flat-plain}
-use Rattle.flattening.proofs.Leaves.{answered, target-length, flat-accepted, flat-lines}
-use Rattle.programs.specs.Translation.{arraySortLine, hasArray}
+use Rattle.flattening.specs.Answers.{flattened, flat_left}
+use Rattle.flattening.proofs.Arrayless.{Plain, AllPlain, flat_plain}
+use Rattle.flattening.proofs.Leaves.{answered, target_length, flat_accepted, flat_lines_lem}
+use Rattle.programs.specs.Translation.{array_sort_line, has_array}
 use Rattle.programs.specs.Answers.{program_of, translated}
 
 -- ---- no array sort is among the lines of a flat circuit
 
-plain-line : (l : Line) → Plain l → arraySortLine l ≡ false
-plain-line (bitvec w) h = refl
-plain-line (array i e) h = absurd h
-plain-line (input s) h = refl
-plain-line (state s) h = refl
-plain-line (value s e) h = refl
-plain-line (initOrNext m s q v) h = refl
-plain-line (signal m a) h = refl
-plain-line (output a) h = refl
-plain-line unknown h = refl
+plain_line : (l : Line) → Plain l → array_sort_line l ≡ false
+plain_line (bitvec w) h = refl
+plain_line (array i e) h = absurd h
+plain_line (input s) h = refl
+plain_line (state s) h = refl
+plain_line (value s e) h = refl
+plain_line (init_or_next m s q v) h = refl
+plain_line (signal m a) h = refl
+plain_line (output a) h = refl
+plain_line unknown h = refl
 
-plain_lines : (ls : List Line) → AllPlain ls → hasArray ls ≡ false
+plain_lines : (ls : List Line) → AllPlain ls → has_array ls ≡ false
 plain_lines [] h = refl
-plain_lines (l ∷ ls) h = rw (plain-line l h.0, plain_lines ls h.1) refl
+plain_lines (l ∷ ls) h = rw (plain_line l h.0, plain_lines ls h.1) refl
 
 -- ---- the answers
 
@@ -52,25 +52,25 @@ only false b k r l e = (inl cc, cc)
 -- F is what flattening leaves for the table t with its count n, in a target of len words, and m the count that it answers
 module _ (t : List ℕ) (n len m : ℕ) (e : flattened t n len ≡ Done m) where
   -- 1 does not hold of F, nor 19
-  even : whole false (length (flatLeft t n len)) ≡ true
-  even = ap (whole false) (target-length t n len m e) ∙ (answered t n len m e).even
+  even : whole false (length (flat_left t n len)) ≡ true
+  even = ap (whole false) (target_length t n len m e) ∙ (answered t n len m e).even
 
-  no-array : hasArray (lines_of false (flatLeft t n len) m) ≡ false
-  no-array = ap hasArray (flat-lines t n len m e) ∙ plain_lines (flatten (lines_of false t n)) (flat-plain (lines_of false t n))
+  no_array : has_array (lines_of false (flat_left t n len) m) ≡ false
+  no_array = ap has_array (flat_lines_lem t n len m e) ∙ plain_lines (flatten (lines_of false t n)) (flat_plain (lines_of false t n))
 
   -- F is translated into a target of so many words
   module _ (words : ℕ) where
     -- 1 where the target is no table; else 12 where it has no room for the program; else the number of the program's records
-    pub flat-translated : translated (flatLeft t n len) m words ≡ pick (whole true words) (fitting true (length (program_of (flatLeft t n len) m)) words) (Refused NotATable 0)
+    pub flat_translated : translated (flat_left t n len) m words ≡ pick (whole true words) (fitting true (length (program_of (flat_left t n len) m)) words) (Refused NotATable 0)
     unfolding translated
-    flat-translated = rw (even, flat-accepted t n len m e, no-array) refl
+    flat_translated = rw (even, flat_accepted t n len m e, no_array) refl
 
     -- no other refusal is given
-    pub flat-refused : (r : Refusal) (l : ℕ) → translated (flatLeft t n len) m words ≡ Refused r l → ((r ≡ NotATable) ⊎ (r ≡ TargetTooSmall)) × (l ≡ 0)
-    flat-refused r l q =
-        let k = length (program_of (flatLeft t n len) m) in
-        only (whole true words) (leb k (room true words)) k r l (sym flat-translated ∙ q)
+    pub flat_refused : (r : Refusal) (l : ℕ) → translated (flat_left t n len) m words ≡ Refused r l → ((r ≡ NotATable) ⊎ (r ≡ TargetTooSmall)) × (l ≡ 0)
+    flat_refused r l q =
+        let k = length (program_of (flat_left t n len) m) in
+        only (whole true words) (leb k (room true words)) k r l (sym flat_translated ∙ q)
 
     -- and none where the target is a table with room for the program
-    pub flat-done : whole true words ≡ true → length (program_of (flatLeft t n len) m) ≤ room true words → translated (flatLeft t n len) m words ≡ Done (length (program_of (flatLeft t n len) m))
-    flat-done w h = flat-translated ∙ rw (w, le-leb (length (program_of (flatLeft t n len) m)) (room true words) h) refl
+    pub flat_done : whole true words ≡ true → length (program_of (flat_left t n len) m) ≤ room true words → translated (flat_left t n len) m words ≡ Done (length (program_of (flat_left t n len) m))
+    flat_done w h = flat_translated ∙ rw (w, le-leb (length (program_of (flat_left t n len) m)) (room true words) h) refl

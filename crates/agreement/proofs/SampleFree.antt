@@ -5,7 +5,7 @@ use mathlib.Core.Bool.{true, false}
 use mathlib.Core.List.{[], ◌∷◌}
 use lib.Dec.{lit<, lit≤}
 use Rattle.tables.specs.Kinds.{row_of}
-use Rattle.tables.specs.Layout.{filledBy, wordsFor, lines_of}
+use Rattle.tables.specs.Layout.{filled_by, words_for, lines_of}
 use Rattle.tables.specs.Rules.{suits, fault}
 use Rattle.tables.specs.Tables.{checked}
 use Rattle.circuits.specs.declared.Ran.TheVariants.{Bad}
@@ -13,34 +13,34 @@ use Rattle.circuits.specs.Cells.{put}
 use Rattle.circuits.specs.Layout.{layout}
 use Rattle.circuits.specs.Meaning.{step}
 use Rattle.circuits.specs.Free.{driven, free, sources}
-use Rattle.circuits.specs.Run.{start, stepFrom, wordsBefore, steps, run}
-use Rattle.circuits.specs.Answers.{ready, ran, signalsLeft}
-use Rattle.circuits.specs.FreeExamples.{circuit, starts as startWords, inputs}
-use Rattle.flattening.specs.Flat.{flatten, flatRecords}
-use Rattle.flattening.specs.Placed.{flatFilled}
-use Rattle.flattening.specs.Answers.{flattened, flatLeft}
+use Rattle.circuits.specs.Run.{start, step_from, words_before, steps, run}
+use Rattle.circuits.specs.Answers.{ready, ran, signals_left}
+use Rattle.circuits.specs.FreeExamples.{circuit, starts as start_words, inputs}
+use Rattle.flattening.specs.Flat.{flatten, flat_records}
+use Rattle.flattening.specs.Placed.{flat_filled}
+use Rattle.flattening.specs.Answers.{flattened, flat_left}
 use Rattle.programs.specs.Translation.{translate}
-use Rattle.programs.specs.Answers.{translated, programLeft}
-use Rattle.agreement.specs.Comparison.{Runs, Given, Agree, flatTable, programTable, bad, signals}
-use Rattle.agreement.proofs.Demand3.{demand-3}
+use Rattle.programs.specs.Answers.{translated, program_left}
+use Rattle.agreement.specs.Comparison.{Runs, Given, Agree, flat_table, program_table, bad, signals}
+use Rattle.agreement.proofs.Demand3.{demand_3}
 
-abbrev sampleFree : Runs
-sampleFree =
+abbrev sample_free : Runs
+sample_free =
     record {
       circuit = record { words = circuit; count = 15 };
-      flatWords = wordsFor false 19;
-      flatCount = 19;
-      programWords = wordsFor true 17;
-      programCount = 17;
-      lent = record { steps = 3; starts = startWords; inputs = inputs; signals = 6 };
-      workC = 13;
-      workF = 16;
-      workP = 17;
+      flat_words = words_for false 19;
+      flat_count = 19;
+      program_words = words_for true 17;
+      program_count = 17;
+      lent = record { steps = 3; starts = start_words; inputs = inputs; signals = 6 };
+      work_c = 13;
+      work_f = 16;
+      work_p = 17;
     }
 
-free-given : Given sampleFree
-unfolding filledBy flattened flatLeft flatten flatRecords flatFilled translated programLeft translate checked fault suits row_of layout sources
-free-given =
+free_given : Given sample_free
+unfolding filled_by flattened flat_left flatten flat_records flat_filled translated program_left translate checked fault suits row_of layout sources
+free_given =
     record {
       flat = refl;
       program = refl;
@@ -49,28 +49,28 @@ free-given =
       inputs = refl;
       signals = refl;
       words = (lit< tt, (lit< tt, (lit< tt, (lit< tt, (lit< tt, (lit< tt, (lit< tt, (lit< tt, (lit< tt, (lit< tt, (lit< tt, (lit< tt, tt))))))))))));
-      workC = lit≤ tt;
-      workF = lit≤ tt;
-      workP = lit≤ tt;
+      work_c = lit≤ tt;
+      work_f = lit≤ tt;
+      work_p = lit≤ tt;
     }
 
-pub free-agree : Agree sampleFree
-free-agree = demand-3 sampleFree free-given
+pub free_agree : Agree sample_free
+free_agree = demand_3 sample_free free_given
 
 -- what they agree on
-pub free-signals : signals false sampleFree.circuit sampleFree.lent 13 ≡ 0 ∷ 1 ∷ 1 ∷ 0 ∷ 1 ∷ 0 ∷ []
-unfolding filledBy signalsLeft ready checked fault suits row_of layout sources run start stepFrom wordsBefore steps step put
-free-signals = refl
+pub free_signals : signals false sample_free.circuit sample_free.lent 13 ≡ 0 ∷ 1 ∷ 1 ∷ 0 ∷ 1 ∷ 0 ∷ []
+unfolding filled_by signals_left ready checked fault suits row_of layout sources run start step_from words_before steps step put
+free_signals = refl
 
-pub free-bad : bad false sampleFree.circuit sampleFree.lent 13 ≡ Bad 0 2
-unfolding filledBy ran ready checked fault suits row_of layout sources run start stepFrom wordsBefore steps step put
-free-bad = refl
+pub free_bad : bad false sample_free.circuit sample_free.lent 13 ≡ Bad 0 2
+unfolding filled_by ran ready checked fault suits row_of layout sources run start step_from words_before steps step put
+free_bad = refl
 
 -- the same cells are free in the flat circuit and in the program, in the same order
-free-in-flat : sources false (lines_of false (flatTable sampleFree).words 19) ≡ free 3 ∷ free 3 ∷ free 3 ∷ driven ∷ []
-unfolding filledBy flattened flatLeft flatten flatRecords flatFilled checked fault suits row_of layout sources
-free-in-flat = refl
+free_in_flat : sources false (lines_of false (flat_table sample_free).words 19) ≡ free 3 ∷ free 3 ∷ free 3 ∷ driven ∷ []
+unfolding filled_by flattened flat_left flatten flat_records flat_filled checked fault suits row_of layout sources
+free_in_flat = refl
 
-free-in-program : sources true (lines_of true (programTable sampleFree).words 17) ≡ free 3 ∷ free 3 ∷ free 3 ∷ driven ∷ []
-unfolding filledBy flattened flatLeft flatten flatRecords flatFilled translated programLeft translate checked fault suits row_of layout sources
-free-in-program = refl
+free_in_program : sources true (lines_of true (program_table sample_free).words 17) ≡ free 3 ∷ free 3 ∷ free 3 ∷ driven ∷ []
+unfolding filled_by flattened flat_left flatten flat_records flat_filled translated program_left translate checked fault suits row_of layout sources
+free_in_program = refl

@@ -1,5 +1,5 @@
 -- The comparison: what the three runs are given, and what is claimed of them. Every name here is one that a contract cites: `flattened` and what flattening leaves,
--- `translated` and what translating leaves, `ready`, `ran` and `signalsLeft` of the runs. Assumes nothing.
+-- `translated` and what translating leaves, `ready`, `ran` and `signals_left` of the runs. Assumes nothing.
 use Rattle.std.specs.Prelude.{ℕ, ◌+◌, ◌*◌, ◌^◌, ◌≤◌, ◌<◌, ◌≡◌, Bool, true, false, List, [], ◌∷◌, length}
 use Rattle.tables.specs.declared.Answer.TheVariants.{Done}
 use Rattle.tables.specs.declared.Checked.{Checked}
@@ -7,10 +7,10 @@ use Rattle.tables.specs.declared.Checked.TheVariants.{Accepted}
 use Rattle.tables.specs.Layout.{lines_of}
 use Rattle.circuits.specs.declared.Ran.{Ran}
 use Rattle.circuits.specs.Layout.{Counts, layout}
-use Rattle.circuits.specs.Run.{rowLength}
-use Rattle.circuits.specs.Answers.{ready, ran, signalsLeft}
-use Rattle.flattening.specs.Answers.{flattened, flatLeft}
-use Rattle.programs.specs.Answers.{translated, programLeft}
+use Rattle.circuits.specs.Run.{row_length}
+use Rattle.circuits.specs.Answers.{ready, ran, signals_left}
+use Rattle.flattening.specs.Answers.{flattened, flat_left}
+use Rattle.programs.specs.Answers.{translated, program_left}
 
 -- ---- what is given
 
@@ -30,20 +30,20 @@ pub record Lent : Type 0 where
 -- so many words, with the count that it answers. Each has a work area of its own.
 pub record Runs : Type 0 where
   pub circuit : Table
-  pub flatWords : ℕ
-  pub flatCount : ℕ
-  pub programWords : ℕ
-  pub programCount : ℕ
+  pub flat_words : ℕ
+  pub flat_count : ℕ
+  pub program_words : ℕ
+  pub program_count : ℕ
   pub lent : Lent
-  pub workC : ℕ
-  pub workF : ℕ
-  pub workP : ℕ
+  pub work_c : ℕ
+  pub work_f : ℕ
+  pub work_p : ℕ
 
-abbrev pub flatTable : Runs → Table
-flatTable R = record { words = flatLeft R.circuit.words R.circuit.count R.flatWords; count = R.flatCount }
+abbrev pub flat_table : Runs → Table
+flat_table R = record { words = flat_left R.circuit.words R.circuit.count R.flat_words; count = R.flat_count }
 
-abbrev pub programTable : Runs → Table
-programTable R = record { words = programLeft (flatTable R).words (flatTable R).count R.programWords; count = R.programCount }
+abbrev pub program_table : Runs → Table
+program_table R = record { words = program_left (flat_table R).words (flat_table R).count R.program_words; count = R.program_count }
 
 -- ---- one run
 
@@ -55,7 +55,7 @@ abbrev pub bad : Bool → Table → Lent → (w : ℕ) → Ran
 bad p T L w = ran p T.words T.count L.steps L.starts L.inputs L.signals w
 
 abbrev pub signals : Bool → Table → Lent → (w : ℕ) → List ℕ
-signals p T L w = signalsLeft p T.words T.count L.steps L.starts L.inputs L.signals w
+signals p T L w = signals_left p T.words T.count L.steps L.starts L.inputs L.signals w
 
 -- the counts of a table's lines: cells of value lines, state words, inputs of a row, signals of a step
 abbrev pub totals : Bool → Table → Counts
@@ -63,7 +63,7 @@ totals p T = (layout p (lines_of p T.words T.count)).counts
 
 -- the words of a row of a table's lines: the inputs, and one for each cell of each free state
 abbrev pub row : Bool → Table → ℕ
-row p T = rowLength p (lines_of p T.words T.count)
+row p T = row_length p (lines_of p T.words T.count)
 
 -- a work area of w words that 17 lets pass
 abbrev pub Roomy : Bool → Table → (w : ℕ) → Type 0
@@ -78,23 +78,23 @@ Words (x ∷ xs) = (x < 2 ^ 64) × Words xs
 
 -- what is assumed: flattening and translating answered these counts, and the runs are lent what C asks for
 pub record Given (R : Runs) : Type 0 where
-  pub flat : flattened R.circuit.words R.circuit.count R.flatWords ≡ Done R.flatCount
-  pub program : translated (flatTable R).words (flatTable R).count R.programWords ≡ Done R.programCount
+  pub flat : flattened R.circuit.words R.circuit.count R.flat_words ≡ Done R.flat_count
+  pub program : translated (flat_table R).words (flat_table R).count R.program_words ≡ Done R.program_count
   pub steps : R.lent.steps ≤ 4096
   pub starts : length R.lent.starts ≡ (totals false R.circuit).states
   pub inputs : length R.lent.inputs ≡ R.lent.steps * row false R.circuit
   pub signals : R.lent.signals ≡ R.lent.steps * (totals false R.circuit).signals
   pub words : Words R.lent.inputs
-  pub workC : Roomy false R.circuit R.workC
-  pub workF : Roomy false (flatTable R) R.workF
-  pub workP : Roomy true (programTable R) R.workP
+  pub work_c : Roomy false R.circuit R.work_c
+  pub work_f : Roomy false (flat_table R) R.work_f
+  pub work_p : Roomy true (program_table R) R.work_p
 
 -- None of the three runs is refused, the three signal lists are equal byte for byte, and the three answers for the first counted bad are the same.
 pub record Agree (R : Runs) : Type 0 where
-  pub run_c : starts false R.circuit R.lent R.workC ≡ Accepted
-  pub runF : starts false (flatTable R) R.lent R.workF ≡ Accepted
-  pub runP : starts true (programTable R) R.lent R.workP ≡ Accepted
-  pub signalsF : signals false (flatTable R) R.lent R.workF ≡ signals false R.circuit R.lent R.workC
-  pub signalsP : signals true (programTable R) R.lent R.workP ≡ signals false R.circuit R.lent R.workC
-  pub badF : bad false (flatTable R) R.lent R.workF ≡ bad false R.circuit R.lent R.workC
-  pub badP : bad true (programTable R) R.lent R.workP ≡ bad false R.circuit R.lent R.workC
+  pub run_c : starts false R.circuit R.lent R.work_c ≡ Accepted
+  pub run_f : starts false (flat_table R) R.lent R.work_f ≡ Accepted
+  pub run_p : starts true (program_table R) R.lent R.work_p ≡ Accepted
+  pub signals_f : signals false (flat_table R) R.lent R.work_f ≡ signals false R.circuit R.lent R.work_c
+  pub signals_p : signals true (program_table R) R.lent R.work_p ≡ signals false R.circuit R.lent R.work_c
+  pub bad_f : bad false (flat_table R) R.lent R.work_f ≡ bad false R.circuit R.lent R.work_c
+  pub bad_p : bad true (program_table R) R.lent R.work_p ≡ bad false R.circuit R.lent R.work_c

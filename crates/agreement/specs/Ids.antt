@@ -2,7 +2,7 @@
 -- the lists lent for writing. Assumes nothing.
 use Rattle.std.specs.Prelude.{ℕ, ◌≡◌, false, List}
 use Rattle.tables.specs.declared.Checked.TheVariants.{Accepted}
-use Rattle.tables.specs.Layout.{recordsOf}
+use Rattle.tables.specs.Layout.{records_of}
 use Rattle.tables.specs.Tables.{checked}
 use Rattle.texts.specs.Writing.{writes}
 use Rattle.circuits.specs.Answers.{runs}
@@ -12,7 +12,7 @@ use Rattle.programs.specs.Answers.{translates}
 
 -- two accepted lists with the count n that hold the same lines; their ids may differ, and what stands past the count, and their lengths
 pub record SameLines (t u : List ℕ) (n : ℕ) : Type 0 where
-  pub records : recordsOf false t n ≡ recordsOf false u n
+  pub records : records_of false t n ≡ records_of false u n
   pub first : checked false t n ≡ Accepted
   pub second : checked false u n ≡ Accepted
 

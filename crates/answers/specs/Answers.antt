@@ -2,7 +2,7 @@
 use Rattle.std.specs.Prelude.{ℕ, ◌+◌, ◌≤◌, ◌<◌, ◌≡◌, Bool, List, map, eqb, length, replicate, get_or, take, drop}
 use Rattle.tables.specs.Pick.{pick}
 use Rattle.tables.specs.Answers.{Outcome}
-use Rattle.texts.specs.Naming.{name_of, namePlace}
+use Rattle.texts.specs.Naming.{name_of, name_place}
 
 -- a list of three words is an answer list
 abbrev pub three : List ℕ → Bool
@@ -22,8 +22,8 @@ answered answer lent o = pick (three answer) o (tells 1 (zeros answer) (map zero
 
 -- name: where it starts in the text, and its length; where an empty part stands is free
 pub record Named (text : List ℕ) (id : ℕ) (answer : List ℕ) : Type 0 where
-  pub three-words : length answer ≡ 3
+  pub three_words : length answer ≡ 3
   pub inside : get_or answer 0 0 + get_or answer 1 0 ≤ length text
   pub name : take (get_or answer 1 0) (drop (get_or answer 0 0) text) ≡ name_of text id
-  pub place : 0 < length (name_of text id) → get_or answer 0 0 ≡ namePlace text id
+  pub place : 0 < length (name_of text id) → get_or answer 0 0 ≡ name_place text id
   pub unused : get_or answer 2 0 ≡ 0

@@ -1,8 +1,10 @@
 // What the C functions answer: a refusal's number, 0 when done, and three words.
+#![tactic(auto)]
+
 ghost use Rattle.std.specs.Prelude.{◌≡◌, List, [], ◌∷◌, ℕ, length};
 ghost use Rattle.tables.specs.Answers.{told};
-ghost use Rattle.circuits.specs.Answers.{toldRun};
-ghost use Rattle.peeks.specs.Peek.{toldPeek};
+ghost use Rattle.circuits.specs.Answers.{told_run};
+ghost use Rattle.peeks.specs.Peek.{told_peek};
 ghost use Rattle.answers.specs.Answers.{three, zeros, tells};
 
 use circuits::Ran;
@@ -47,7 +49,7 @@ pub fn tell_count(r: Answer, answer: &mut [u64]) -> u64
 // What a run tells.
 pub fn tell_run(r: Ran, answer: &mut [u64]) -> u64
     requires { length answer.old ≡ 3 }
-    ensures { (left : List (List ℕ)) → tells result answer.new left ≡ toldRun r left }
+    ensures { (left : List (List ℕ)) → tells result answer.new left ≡ told_run r left }
 {
     match r {
         Ran::Nothing => {
@@ -68,7 +70,7 @@ pub fn tell_run(r: Ran, answer: &mut [u64]) -> u64
 // What a peek tells.
 pub fn tell_peek(r: Peeked, answer: &mut [u64]) -> u64
     requires { length answer.old ≡ 3 }
-    ensures { tells result answer.new [] ≡ toldPeek r }
+    ensures { tells result answer.new [] ≡ told_peek r }
 {
     match r {
         Peeked::Value(v) => {

@@ -1,7 +1,9 @@
 // Runs of neighbouring words: the work area holds the cells of a line as one run, and `laid` says of each line where.
+#![tactic(auto)]
+
 ghost use Rattle.std.specs.Prelude.{◌≡◌, ◌≤◌, ◌+◌, ◌-◌, ◌<◌, length, replicate, set, drop};
-ghost use Rattle.circuits.specs.Model.Work.{offIn, numIn, posIn, widIn, Apart};
-ghost use Rattle.circuits.specs.Cells.{part, put, maskWords, sameCells};
+ghost use Rattle.circuits.specs.Model.Work.{off_in, num_in, pos_in, wid_in, Apart};
+ghost use Rattle.circuits.specs.Cells.{part, put, mask_words, same_cells};
 ghost use Rattle.words.specs.Word.{Width};
 ghost use Rattle.tables.specs.Pick.{pick};
 
@@ -23,7 +25,7 @@ pub const LAID: usize = 4;
 // The first word of the line i.
 pub fn off(laid: &[[u32; LAID]; 16385], i: usize) -> usize
     requires { i ≤ 16384 }
-    ensures { result ≡ offIn laid.now i }
+    ensures { result ≡ off_in laid.now i }
 {
     wide(laid[i][0])
 }
@@ -31,7 +33,7 @@ pub fn off(laid: &[[u32; LAID]; 16385], i: usize) -> usize
 // The cells of the line i.
 pub fn cells(laid: &[[u32; LAID]; 16385], i: usize) -> usize
     requires { i ≤ 16384 }
-    ensures { result ≡ numIn laid.now i }
+    ensures { result ≡ num_in laid.now i }
 {
     wide(laid[i][1])
 }
@@ -39,7 +41,7 @@ pub fn cells(laid: &[[u32; LAID]; 16385], i: usize) -> usize
 // The place of the line i.
 pub fn place(laid: &[[u32; LAID]; 16385], i: usize) -> usize
     requires { i ≤ 16384 }
-    ensures { result ≡ posIn laid.now i }
+    ensures { result ≡ pos_in laid.now i }
 {
     wide(laid[i][2])
 }
@@ -47,7 +49,7 @@ pub fn place(laid: &[[u32; LAID]; 16385], i: usize) -> usize
 // The width of the line i.
 pub fn width(laid: &[[u32; LAID]; 16385], i: usize) -> u64
     requires { i ≤ 16384 }
-    ensures { result ≡ widIn laid.now i }
+    ensures { result ≡ wid_in laid.now i }
 {
     wider(laid[i][3])
 }
@@ -55,7 +57,7 @@ pub fn width(laid: &[[u32; LAID]; 16385], i: usize) -> u64
 // Takes each word modulo 2^w.
 fn mask_all(cells: &mut [u64], w: u64)
     requires { Width w }
-    ensures { cells.new ≡ maskWords w cells.old }
+    ensures { cells.new ≡ mask_words w cells.old }
 {
     let mut i: usize = 0;
     while i < cells.len() {
@@ -79,7 +81,7 @@ pub fn fill(cells: &mut [u64], v: u64)
 // Two runs hold the same words.
 pub fn alike(words: &[u64], x: usize, y: usize, n: usize) -> bool
     requires { (x + n ≤ length words.now) × (y + n ≤ length words.now) }
-    ensures { result ≡ sameCells (part words.now x n) (part words.now y n) }
+    ensures { result ≡ same_cells (part words.now x n) (part words.now y n) }
 {
     let mut i: usize = 0;
     while i < n {
@@ -135,7 +137,7 @@ fn load(to: &mut [u64], from: &[u64])
 
 fn mask_run(work: &mut [u64], a: usize, m: usize, w: u64)
     requires { (a + m ≤ length work.old) × Width w }
-    ensures { work.new ≡ put work.old a (maskWords w (part work.old a m)) }
+    ensures { work.new ≡ put work.old a (mask_words w (part work.old a m)) }
 {
     let e = a + m;
     mask_all(&mut work[a..e], w);
@@ -144,7 +146,7 @@ fn mask_run(work: &mut [u64], a: usize, m: usize, w: u64)
 // The words from a on are taken modulo 2^w, or stay.
 pub fn settle(mask: bool, work: &mut [u64], a: usize, m: usize, w: u64)
     requires { (a + m ≤ length work.old) × Width w }
-    ensures { work.new ≡ put work.old a (pick mask (maskWords w (part work.old a m)) (part work.old a m)) }
+    ensures { work.new ≡ put work.old a (pick mask (mask_words w (part work.old a m)) (part work.old a m)) }
 {
     if !mask {
         return;

@@ -1,8 +1,10 @@
 // The first counted bad, from the signal bytes of all steps and a mark for each signal: 1 for a bad line, 0 for a constraint.
+#![tactic(auto)]
+
 ghost use Rattle.std.specs.Prelude.{◌≡◌, false, not, ◌&&◌, ◌+◌, ◌≤◌, ◌*◌, eqb, length};
 ghost use Rattle.tables.specs.Pick.{pick};
-ghost use Rattle.circuits.specs.Run.{met as metOf, firstBad};
-ghost use Rattle.circuits.specs.Model.Signals.{zipSig, sigRows};
+ghost use Rattle.circuits.specs.Run.{met as met_of, first_bad};
+ghost use Rattle.circuits.specs.Model.Signals.{zip_sig, sig_rows};
 
 use circuits::Ran;
 
@@ -40,7 +42,7 @@ fn next_place(b: u8, p: usize) -> usize
 // The constraints of a step are met; the step's bytes come first in row.
 fn met(row: &[u8], bad: &[u8]) -> bool
     requires { length bad.now ≤ length row.now }
-    ensures { result ≡ metOf (zipSig bad.now row.now) }
+    ensures { result ≡ met_of (zip_sig bad.now row.now) }
 {
     let mut j: usize = 0;
     while j < bad.len() {
@@ -55,7 +57,7 @@ fn met(row: &[u8], bad: &[u8]) -> bool
 // The first counted bad in k steps.
 pub fn first_bad(k: usize, signals: &[u8], bad: &[u8]) -> Ran
     requires { (k ≤ 4096) × ((length bad.now ≤ 16384) × (k * length bad.now ≤ length signals.now)) }
-    ensures { result ≡ firstBad 0 (sigRows bad.now k signals.now) }
+    ensures { result ≡ first_bad 0 (sig_rows bad.now k signals.now) }
 {
     let n = bad.len();
     let mut found = Ran::Nothing;

@@ -1,12 +1,14 @@
 // The check of a table with its count: a circuit's (1, 11) and a program's (1, 20).
+#![tactic(auto)]
+
 ghost use Rattle.std.specs.Prelude.{◌≡◌, true, false, ◌||◌, ◌≤◌, ◌<◌, length};
-ghost use Rattle.tables.specs.Tables.{known as known_of, unused as unusedOf, tidy as tidyOf, keeps, lawful, checked, broken};
+ghost use Rattle.tables.specs.Tables.{known as known_of, unused as unused_of, tidy as tidy_of, keeps, lawful, checked, broken};
 ghost use Rattle.tables.specs.Pick.{all, inside};
-ghost use Rattle.tables.specs.Lines.{line_of, kindIn, firstIn};
-ghost use Rattle.tables.specs.Layout.{held, recordsOf, lines_of};
-ghost use Rattle.tables.specs.Ids.{idsRight};
-ghost use Rattle.tables.specs.Types.{recordType, noCtx, context};
-ghost use Rattle.tables.specs.Model.Notes.{lookIn, noted, givenIn, Shows, Fresh};
+ghost use Rattle.tables.specs.Lines.{line_of, kind_in, first_in};
+ghost use Rattle.tables.specs.Layout.{held, records_of, lines_of};
+ghost use Rattle.tables.specs.Ids.{ids_right};
+ghost use Rattle.tables.specs.Types.{record_type, no_ctx, context};
+ghost use Rattle.tables.specs.Model.Notes.{look_in, noted, given_in, Shows, Fresh};
 ghost use Rattle.tables.specs.Kinds.{rows};
 ghost use Rattle.tables.specs.Refusals.{number_of};
 
@@ -42,7 +44,7 @@ fn known(program: bool, k: u64) -> bool
 
 // A place that the line does not have holds 0.
 fn unused(k: u8, x: u64) -> bool
-    ensures { result ≡ unusedOf k x }
+    ensures { result ≡ unused_of k x }
 {
     if k != 0 {
         return true;
@@ -52,7 +54,7 @@ fn unused(k: u8, x: u64) -> bool
 
 // The places that the row lacks hold 0.
 fn tidy(row: [u8; 16], rec: [u64; WORDS]) -> bool
-    ensures { result ≡ all (tidyOf row rec) }
+    ensures { result ≡ all (tidy_of row rec) }
 {
     if !unused(row[11], rec[1]) {
         return false;
@@ -68,8 +70,8 @@ fn tidy(row: [u8; 16], rec: [u64; WORDS]) -> bool
 
 // The type of a record that keeps the rules, after the lines noted.
 fn type_in(program: bool, rec: [u64; WORDS], notes: &[[u8; BYTES]]) -> Ty
-    requires { kindIn rec ≡ 1 → firstIn rec ≤ 64 }
-    ensures { result ≡ recordType program (lookIn notes.now) rec (line_of rec) }
+    requires { kind_in rec ≡ 1 → first_in rec ≤ 64 }
+    ensures { result ≡ record_type program (look_in notes.now) rec (line_of rec) }
 {
     let t = types::sort_at(program, notes, rec[1]);
     let a = notes::look(notes, rec[2]);
@@ -80,7 +82,7 @@ fn type_in(program: bool, rec: [u64; WORDS], notes: &[[u8; BYTES]]) -> Ty
 
 // The line n, whose record keeps the rules, is noted.
 pub fn note(program: bool, rec: [u64; WORDS], n: u64, notes: &mut [[u8; BYTES]])
-    requires { kindIn rec ≡ 1 → firstIn rec ≤ 64 }
+    requires { kind_in rec ≡ 1 → first_in rec ≤ 64 }
     ensures { notes.new ≡ noted program rec n notes.old }
 {
     let y = type_in(program, rec, notes);
@@ -97,7 +99,7 @@ fn keeps_rules(
     notes: &[[u8; BYTES]],
 ) -> bool
     requires { kinds.now ≡ rows }
-    ensures { result ≡ keeps program (lookIn notes.now) (givenIn notes.now) rec }
+    ensures { result ≡ keeps program (look_in notes.now) (given_in notes.now) rec }
 {
     let k = rec[0];
     if !known(program, k) {
@@ -119,7 +121,7 @@ fn take_record(
     notes: &mut [[u8; BYTES]],
 ) -> bool
     requires { kinds.now ≡ rows }
-    ensures { (result ≡ keeps program (lookIn notes.old) (givenIn notes.old) rec)
+    ensures { (result ≡ keeps program (look_in notes.old) (given_in notes.old) rec)
         × (result ≡ true → notes.new ≡ noted program rec n notes.old) }
 {
     if !keeps_rules(program, kinds, rec, notes) {
@@ -137,8 +139,8 @@ fn lines(
     count: usize,
     notes: &mut [[u8; BYTES]],
 ) -> bool
-    requires { (kinds.now ≡ rows) × ((count ≤ 16384) × ((count ≤ held program (length table.now)) × ((count < length notes.old) × Shows notes.old noCtx))) }
-    ensures { (result ≡ lawful program noCtx (recordsOf program table.now count))
+    requires { (kinds.now ≡ rows) × ((count ≤ 16384) × ((count ≤ held program (length table.now)) × ((count < length notes.old) × Shows notes.old no_ctx))) }
+    ensures { (result ≡ lawful program no_ctx (records_of program table.now count))
         × (result ≡ true → Shows notes.new (context program (lines_of program table.now count))) }
 {
     let h = records::step(program, table.len());
@@ -156,7 +158,7 @@ fn lines(
 // The ids of a circuit's records keep their rules; a program has none.
 fn ids_right(program: bool, table: &[u64], count: usize) -> bool
     requires { count ≤ held program (length table.now) }
-    ensures { result ≡ idsRight program table.now count }
+    ensures { result ≡ ids_right program table.now count }
 {
     if program {
         return true;
@@ -167,7 +169,7 @@ fn ids_right(program: bool, table: &[u64], count: usize) -> bool
 // Of so many records only not records hold id 0, and the other ids rise.
 fn ids_rise(table: &[u64], count: usize) -> bool
     requires { count ≤ held false (length table.now) }
-    ensures { result ≡ idsRight false table.now count }
+    ensures { result ≡ ids_right false table.now count }
 {
     let h = records::step(false, table.len());
     let mut last: u64 = 0;

@@ -11,25 +11,25 @@ use Rattle.tables.specs.declared.Ty.{Ty}
 use Rattle.tables.specs.declared.Checked.TheVariants.{Accepted}
 use Rattle.tables.specs.Lines.{Line}
 use Rattle.tables.specs.Layout.{lines_of}
-use Rattle.tables.specs.Types.{stateRole, ty_at, given}
+use Rattle.tables.specs.Types.{state_role, ty_at, given}
 use Rattle.tables.specs.Tables.{checked}
 use Rattle.tables.proofs.Facts.{Ok}
 use Rattle.tables.proofs.Showing.{earlier}
-use Rattle.circuits.specs.Cells.{maskWords}
-use Rattle.circuits.specs.Layout.{Layout, type_at, size, lay, layAll, no_layout, layout}
-use Rattle.circuits.specs.Meaning.{stateWords, cellsAt, word_at, givenWords, evalAll, noFrame, step}
-use Rattle.circuits.proofs.Laid.{type-old, more-types}
-use Rattle.circuits.proofs.Walked.{acc-lay, lines-many, lines_ok, ok-here, sound-at, later-at}
-use Rattle.circuits.proofs.Placing.{few-here}
-use Rattle.circuits.proofs.Sizes.{Walking, walk_none, walk_through, walk-done, states-many, cells-below}
-use Rattle.circuits.proofs.StateWords.{wordsOfState, States, states-none, states-line, gives-words}
+use Rattle.circuits.specs.Cells.{mask_words}
+use Rattle.circuits.specs.Layout.{Layout, type_at, size, lay, lay_all, no_layout, layout}
+use Rattle.circuits.specs.Meaning.{state_words, cells_at, word_at, given_words, eval_all, no_frame, step}
+use Rattle.circuits.proofs.Laid.{type_old, more_types}
+use Rattle.circuits.proofs.Walked.{acc_lay, lines_many, lines_ok, ok_here, sound_at, later_at}
+use Rattle.circuits.proofs.Placing.{few_here}
+use Rattle.circuits.proofs.Sizes.{Walking, walk_none, walk_through, walk_done, states_many, cells_below}
+use Rattle.circuits.proofs.StateWords.{words_of_state, States, states_none, states_line, gives_words}
 
 -- words of w bits are stored and read as they are
-masked_small : (w : ℕ) (xs : List ℕ) → ((j : ℕ) → get_or xs j 0 < 2 ^ w) → maskWords w xs ≡ xs
+masked_small : (w : ℕ) (xs : List ℕ) → ((j : ℕ) → get_or xs j 0 < 2 ^ w) → mask_words w xs ≡ xs
 masked_small w [] h = refl
 masked_small w (x ∷ xs) h = ap₂ (λ (y : ℕ) (ys : List ℕ). y ∷ ys) (mod-eq_of_lt (h 0)) (masked_small w xs (λ j. h (suc j)))
 
-pub settled : (p : Bool) (w : ℕ) (xs : List ℕ) → (p ≡ false → (j : ℕ) → get_or xs j 0 < 2 ^ w) → stateWords p false w xs ≡ xs
+pub settled : (p : Bool) (w : ℕ) (xs : List ℕ) → (p ≡ false → (j : ℕ) → get_or xs j 0 < 2 ^ w) → state_words p false w xs ≡ xs
 settled false w xs h = masked_small w xs (h refl)
 settled true w xs h = refl
 
@@ -40,94 +40,94 @@ module _ (p : Bool) (t : List ℕ) (n : ℕ) (acc : checked p t n ≡ Accepted) 
   abbrev Y : Layout
   Y = layout p (lines_of p t n)
 
-  step-lay : (f : Bool) (σ ι : List ℕ) → (step p f C σ ι).lay ≡ Y
+  step_lay : (f : Bool) (σ ι : List ℕ) → (step p f C σ ι).lay ≡ Y
   unfolding step layout
-  step-lay f σ ι = acc-lay p f σ ι noFrame C
+  step_lay f σ ι = acc_lay p f σ ι no_frame C
 
   module _ (σ : List ℕ) (enough : Y.counts.states ≤ length σ) (f : Bool) (ι : List ℕ) where
-    begun : Walking p Y.counts.cells σ noFrame C
-    begun = walk_none p f σ ι C (lines_ok p t n acc) (omega (arith, lines-many p t n acc, few-here p t n acc)) enough
+    begun : Walking p Y.counts.cells σ no_frame C
+    begun = walk_none p f σ ι C (lines_ok p t n acc) (omega (arith, lines_many p t n acc, few_here p t n acc)) enough
 
     ended : Walking p Y.counts.cells σ (step p f C σ ι) []
     unfolding step
-    ended = walk-done p f σ ι noFrame C begun
+    ended = walk_done p f σ ι no_frame C begun
 
     states : States p f σ (step p f C σ ι)
     unfolding step
-    states = walk_through p f σ ι (States p f σ) (states-line p f σ ι) noFrame C begun (states-none p f σ)
+    states = walk_through p f σ ι (States p f σ) (states_line p f σ ι) no_frame C begun (states_none p f σ)
 
     -- a step leaves as many state words as the states have
-    pub words-many : length (step p f C σ ι).sts ≡ Y.counts.states
-    words-many = states-many ended ∙ ap (λ (Z : Layout). Z.counts.states) (step-lay f σ ι)
+    pub words_many : length (step p f C σ ι).sts ≡ Y.counts.states
+    words_many = states_many ended ∙ ap (λ (Z : Layout). Z.counts.states) (step_lay f σ ι)
 
     -- The value of a state in a step: its words before the step, whatever its next line is and whatever other next lines store.
-    pub state-value : (q : ℕ) → (type_at Y q).role ≡ stateRole
-        → cellsAt (step p f C σ ι) q ≡ stateWords p f (type_at Y q).w (wordsOfState Y σ q)
-    state-value =
-        subst (λ (Z : Layout). (q : ℕ) → (type_at Z q).role ≡ stateRole → cellsAt (step p f C σ ι) q ≡ stateWords p f (type_at Z q).w (wordsOfState Z σ q)) (step-lay f σ ι)
+    pub state_value : (q : ℕ) → (type_at Y q).role ≡ state_role
+        → cells_at (step p f C σ ι) q ≡ state_words p f (type_at Y q).w (words_of_state Y σ q)
+    state_value =
+        subst (λ (Z : Layout). (q : ℕ) → (type_at Z q).role ≡ state_role → cells_at (step p f C σ ι) q ≡ state_words p f (type_at Z q).w (words_of_state Z σ q)) (step_lay f σ ι)
         states.own
 
     -- its words after the step where it has no next line (as a run starts: no init line): the value that it had
-    pub words-kept : (q : ℕ) → (type_at Y q).role ≡ stateRole → given Y.ctx f q ≡ false
-        → wordsOfState Y (step p f C σ ι).sts q ≡ cellsAt (step p f C σ ι) q
-    words-kept =
-        subst (λ (Z : Layout). (q : ℕ) → (type_at Z q).role ≡ stateRole → given Z.ctx f q ≡ false → wordsOfState Z (step p f C σ ι).sts q ≡ cellsAt (step p f C σ ι) q) (step-lay f σ ι)
+    pub words_kept : (q : ℕ) → (type_at Y q).role ≡ state_role → given Y.ctx f q ≡ false
+        → words_of_state Y (step p f C σ ι).sts q ≡ cells_at (step p f C σ ι) q
+    words_kept =
+        subst (λ (Z : Layout). (q : ℕ) → (type_at Z q).role ≡ state_role → given Z.ctx f q ≡ false → words_of_state Z (step p f C σ ι).sts q ≡ cells_at (step p f C σ ι) q) (step_lay f σ ι)
         states.kept
 
     -- its words after the step where the line at the place i is its next (as a run starts: its init)
-    pub words-given : (i s q v : ℕ) → i < n → get_or C i Line.unknown ≡ Line.initOrNext f s q v
-        → wordsOfState Y (step p f C σ ι).sts q ≡ givenWords (step p f C σ ι) f (size (type_at Y q)) v
+    pub words_given : (i s q v : ℕ) → i < n → get_or C i Line.unknown ≡ Line.init_or_next f s q v
+        → words_of_state Y (step p f C σ ι).sts q ≡ given_words (step p f C σ ι) f (size (type_at Y q)) v
     unfolding step
-    words-given i s q v h e =
-        subst (λ (Z : Layout). wordsOfState Z (evalAll p f σ ι noFrame C).sts q ≡ givenWords (evalAll p f σ ι noFrame C) f (size (type_at Z q)) v) (step-lay f σ ι)
-        (gives-words p f σ ι noFrame C begun (states-none p f σ) i s q v (omega (arith, lines-many p t n acc)) e)
+    words_given i s q v h e =
+        subst (λ (Z : Layout). words_of_state Z (eval_all p f σ ι no_frame C).sts q ≡ given_words (eval_all p f σ ι no_frame C) f (size (type_at Z q)) v) (step_lay f σ ι)
+        (gives_words p f σ ι no_frame C begun (states_none p f σ) i s q v (omega (arith, lines_many p t n acc)) e)
 
   -- ---- "then sets all next values together"
 
   -- The words of a state after a step are the cells that its next's value line has in this very step, all of whose lines were evaluated from the state words before it.
-  pub next-words : (σ ι : List ℕ) → Y.counts.states ≤ length σ → (i s q v : ℕ) → i < n → get_or C i Line.unknown ≡ Line.initOrNext false s q v
-      → wordsOfState Y (step p false C σ ι).sts q ≡ cellsAt (step p false C σ ι) v
-  next-words σ ι enough i s q v h e = words-given σ enough false ι i s q v h e
+  pub next_words : (σ ι : List ℕ) → Y.counts.states ≤ length σ → (i s q v : ℕ) → i < n → get_or C i Line.unknown ≡ Line.init_or_next false s q v
+      → words_of_state Y (step p false C σ ι).sts q ≡ cells_at (step p false C σ ι) v
+  next_words σ ι enough i s q v h e = words_given σ enough false ι i s q v h e
 
   -- a next's state is one, and its value has the state's width
-  module _ (i s q v : ℕ) (h : i < n) (e : get_or C i Line.unknown ≡ Line.initOrNext false s q v) where
+  module _ (i s q v : ℕ) (h : i < n) (e : get_or C i Line.unknown ≡ Line.init_or_next false s q v) where
     abbrev Z : Layout
-    Z = layAll p no_layout (take i C)
+    Z = lay_all p no_layout (take i C)
 
-    ok : Ok p (ty_at Z.ctx) (given Z.ctx) (Line.initOrNext false s q v)
-    ok = subst (Ok p (ty_at Z.ctx) (given Z.ctx)) e (ok-here p t n acc i h)
+    ok : Ok p (ty_at Z.ctx) (given Z.ctx) (Line.init_or_next false s q v)
+    ok = subst (Ok p (ty_at Z.ctx) (given Z.ctx)) e (ok_here p t n acc i h)
 
-    same-type : (a : ℕ) → 1 ≤ (type_at Z a).role → type_at Y a ≡ type_at Z a
-    same-type a r =
+    same_type : (a : ℕ) → 1 ≤ (type_at Z a).role → type_at Y a ≡ type_at Z a
+    same_type a r =
         let l = get_or C i Line.unknown in
         let k = earlier Z.ctx.tys a r in
-        (later-at p t n acc i h).type a (omega (arith, more-types p Z l)) ∙ type-old p Z l (sound-at p t n acc i).long a (λ z. omega arith)
+        (later_at p t n acc i h).type a (omega (arith, more_types p Z l)) ∙ type_old p Z l (sound_at p t n acc i).long a (λ z. omega arith)
 
-    is_state : (type_at Y q).role ≡ stateRole
-    is_state = ap (λ (x : Ty). x.role) (same-type q (omega (arith, ok.state))) ∙ ok.state
+    is_state_lem : (type_at Y q).role ≡ state_role
+    is_state_lem = ap (λ (x : Ty). x.role) (same_type q (omega (arith, ok.state))) ∙ ok.state
 
-    is-value : 2 ≤ (type_at Y v).role
-    is-value = subst (λ (x : Ty). 2 ≤ x.role) (sym (same-type v (omega (arith, ok.value.is)))) ok.value.is
+    is_value_lem : 2 ≤ (type_at Y v).role
+    is_value_lem = subst (λ (x : Ty). 2 ≤ x.role) (sym (same_type v (omega (arith, ok.value.is)))) ok.value.is
 
     same_width : (type_at Y v).w ≡ (type_at Y q).w
     same_width =
-        ap (λ (x : Ty). x.w) (same-type v (omega (arith, ok.value.is))) ∙ ok.w ∙ sym ok.same.w ∙ sym (ap (λ (x : Ty). x.w) (same-type q (omega (arith, ok.state))))
+        ap (λ (x : Ty). x.w) (same_type v (omega (arith, ok.value.is))) ∙ ok.w ∙ sym ok.same.w ∙ sym (ap (λ (x : Ty). x.w) (same_type q (omega (arith, ok.state))))
 
     -- So its value at the next step, whatever the row ι', is the one that the value line has now.
-    pub next-value : (σ ι ι' : List ℕ) → Y.counts.states ≤ length σ
-        → cellsAt (step p false C (step p false C σ ι).sts ι') q ≡ cellsAt (step p false C σ ι) v
-    next-value σ ι ι' enough =
+    pub next_value : (σ ι ι' : List ℕ) → Y.counts.states ≤ length σ
+        → cells_at (step p false C (step p false C σ ι).sts ι') q ≡ cells_at (step p false C σ ι) v
+    next_value σ ι ι' enough =
         let after : List ℕ = (step p false C σ ι).sts in
         let w = (type_at Y q).w in
-        let L = step-lay false σ ι in
-        let r : 2 ≤ (type_at (step p false C σ ι).lay v).role = subst (λ (X : Layout). 2 ≤ (type_at X v).role) (sym L) is-value in
+        let L = step_lay false σ ι in
+        let r : 2 ≤ (type_at (step p false C σ ι).lay v).role = subst (λ (X : Layout). 2 ≤ (type_at X v).role) (sym L) is_value_lem in
         let x : (type_at (step p false C σ ι).lay v).w ≡ w = ap (λ (X : Layout). (type_at X v).w) L ∙ same_width in
-        state-value after (omega (arith, words-many σ enough false ι)) false ι' q is_state
-        ∙ ap (stateWords p false w) (next-words σ ι enough i s q v h e)
-        ∙ settled p w (cellsAt (step p false C σ ι) v) (λ b j. subst (λ (m : ℕ). get_or (cellsAt (step p false C σ ι) v) j 0 < 2 ^ m) x (cells-below (ended σ enough false ι) v r b j))
+        state_value after (omega (arith, words_many σ enough false ι)) false ι' q is_state_lem
+        ∙ ap (state_words p false w) (next_words σ ι enough i s q v h e)
+        ∙ settled p w (cells_at (step p false C σ ι) v) (λ b j. subst (λ (m : ℕ). get_or (cells_at (step p false C σ ι) v) j 0 < 2 ^ m) x (cells_below (ended σ enough false ι) v r b j))
 
   -- ---- an init's word goes to every cell
 
-  pub init-words : (S ι : List ℕ) → Y.counts.states ≤ length S → (i s q v : ℕ) → i < n → get_or C i Line.unknown ≡ Line.initOrNext true s q v
-      → wordsOfState Y (step p true C S ι).sts q ≡ replicate (size (type_at Y q)) (word_at (step p true C S ι) v)
-  init-words S ι enough i s q v h e = words-given S enough true ι i s q v h e
+  pub init_words : (S ι : List ℕ) → Y.counts.states ≤ length S → (i s q v : ℕ) → i < n → get_or C i Line.unknown ≡ Line.init_or_next true s q v
+      → words_of_state Y (step p true C S ι).sts q ≡ replicate (size (type_at Y q)) (word_at (step p true C S ι) v)
+  init_words S ι enough i s q v h e = words_given S enough true ι i s q v h e

@@ -9,83 +9,83 @@ use lib.ListN.{length, take, drop, get_or, set, take-append-drop, get_or-map}
 use lib.Seq.{take-suc, take-suc-set, take-length, drop-length, length-take-le}
 use Rattle.tables.specs.declared.Checked.TheVariants.{Accepted}
 use Rattle.tables.specs.Lines.{Line, line_of}
-use Rattle.tables.specs.Layout.{recordAt, recordsOf, lines_of}
+use Rattle.tables.specs.Layout.{record_at, records_of, lines_of}
 use Rattle.tables.specs.Types.{ty_at, given}
 use Rattle.tables.specs.Tables.{checked}
-use Rattle.tables.proofs.Places.{record-at, length-lines}
-use Rattle.tables.proofs.Sound.{accepted-ok}
+use Rattle.tables.proofs.Places.{record_at_lem, length_lines}
+use Rattle.tables.proofs.Sound.{accepted_ok}
 use Rattle.tables.proofs.Facts.{Ok, AllOk}
-use Rattle.circuits.specs.Cells.{ifNonzero}
-use Rattle.circuits.specs.Layout.{Layout, type_at, no_layout, lay, layAll, layout}
-use Rattle.circuits.specs.Meaning.{Signal, signalByte, Frame, word_at, signalsAfter, evalLine, evalAll, noFrame, step}
+use Rattle.circuits.specs.Cells.{if_nonzero}
+use Rattle.circuits.specs.Layout.{Layout, type_at, no_layout, lay, lay_all, layout}
+use Rattle.circuits.specs.Meaning.{Signal, signal_byte, Frame, word_at, signals_after, eval_line, eval_all, no_frame, step}
 use Rattle.circuits.specs.Run.{bytes_of}
-use Rattle.circuits.specs.Model.Work.{workIn, sigsIn}
+use Rattle.circuits.specs.Model.Work.{work_in, sigs_in}
 use Rattle.circuits.specs.Model.Fits.{FitL}
 use Rattle.circuits.specs.Model.Places.{off_at, ShowsAll, Ready}
-use Rattle.circuits.proofs.Laid.{Sound, sound_none, first-laid, lay-append, ok_at, Later, later, length-laid}
+use Rattle.circuits.proofs.Laid.{Sound, sound_none, first_laid, lay_append, ok_at, Later, later, length_laid}
 use Rattle.circuits.proofs.Held.{Held, Holds, seen}
 use Rattle.circuits.proofs.Simulation.{mine, word_of, sim, fit}
 
 -- ---- the first lines
 
-pub eval-append : (p f : Bool) (σ ι : List ℕ) (A : Frame) (C D : List Line) → evalAll p f σ ι A (C ++ D) ≡ evalAll p f σ ι (evalAll p f σ ι A C) D
-eval-append p f σ ι A [] D = refl
-eval-append p f σ ι A (l ∷ C) D = eval-append p f σ ι (evalLine p f σ ι A l) C D
+pub eval_append : (p f : Bool) (σ ι : List ℕ) (A : Frame) (C D : List Line) → eval_all p f σ ι A (C ++ D) ≡ eval_all p f σ ι (eval_all p f σ ι A C) D
+eval_append p f σ ι A [] D = refl
+eval_append p f σ ι A (l ∷ C) D = eval_append p f σ ι (eval_line p f σ ι A l) C D
 
-pub acc-lay : (p f : Bool) (σ ι : List ℕ) (A : Frame) (C : List Line) → (evalAll p f σ ι A C).lay ≡ layAll p A.lay C
-acc-lay p f σ ι A [] = refl
-acc-lay p f σ ι A (l ∷ C) = acc-lay p f σ ι (evalLine p f σ ι A l) C
+pub acc_lay : (p f : Bool) (σ ι : List ℕ) (A : Frame) (C : List Line) → (eval_all p f σ ι A C).lay ≡ lay_all p A.lay C
+acc_lay p f σ ι A [] = refl
+acc_lay p f σ ι A (l ∷ C) = acc_lay p f σ ι (eval_line p f σ ι A l) C
 
-abbrev pub accAt : Bool → Bool → (σ ι : List ℕ) → List Line → ℕ → Frame
-accAt p f σ ι C i = evalAll p f σ ι noFrame (take i C)
+abbrev pub acc_at : Bool → Bool → (σ ι : List ℕ) → List Line → ℕ → Frame
+acc_at p f σ ι C i = eval_all p f σ ι no_frame (take i C)
 
-pub acc-suc : (p f : Bool) (σ ι : List ℕ) (C : List Line) (i : ℕ) → i < length C → accAt p f σ ι C (suc i) ≡ evalLine p f σ ι (accAt p f σ ι C i) (get_or C i Line.unknown)
-acc-suc p f σ ι C i h = ap (evalAll p f σ ι noFrame) (take-suc C i Line.unknown h) ∙ eval-append p f σ ι noFrame (take i C) (get_or C i Line.unknown ∷ [])
+pub acc_suc : (p f : Bool) (σ ι : List ℕ) (C : List Line) (i : ℕ) → i < length C → acc_at p f σ ι C (suc i) ≡ eval_line p f σ ι (acc_at p f σ ι C i) (get_or C i Line.unknown)
+acc_suc p f σ ι C i h = ap (eval_all p f σ ι no_frame) (take-suc C i Line.unknown h) ∙ eval_append p f σ ι no_frame (take i C) (get_or C i Line.unknown ∷ [])
 
-lay-suc : (p : Bool) (C : List Line) (i : ℕ) → i < length C → layAll p no_layout (take (suc i) C) ≡ lay p (layAll p no_layout (take i C)) (get_or C i Line.unknown)
-lay-suc p C i h = ap (layAll p no_layout) (take-suc C i Line.unknown h) ∙ lay-append p no_layout (take i C) (get_or C i Line.unknown ∷ [])
+lay_suc : (p : Bool) (C : List Line) (i : ℕ) → i < length C → lay_all p no_layout (take (suc i) C) ≡ lay p (lay_all p no_layout (take i C)) (get_or C i Line.unknown)
+lay_suc p C i h = ap (lay_all p no_layout) (take-suc C i Line.unknown h) ∙ lay_append p no_layout (take i C) (get_or C i Line.unknown ∷ [])
 
-pub lay-rest : (p : Bool) (C : List Line) (i : ℕ) → layout p C ≡ layAll p (layAll p no_layout (take i C)) (drop i C)
+pub lay_rest : (p : Bool) (C : List Line) (i : ℕ) → layout p C ≡ lay_all p (lay_all p no_layout (take i C)) (drop i C)
 unfolding layout
-lay-rest p C i = ap (layAll p no_layout) (sym (take-append-drop i C)) ∙ lay-append p no_layout (take i C) (drop i C)
+lay_rest p C i = ap (lay_all p no_layout) (sym (take-append-drop i C)) ∙ lay_append p no_layout (take i C) (drop i C)
 
 -- ---- the lines of an accepted table
 
 module _ (p : Bool) (t : List ℕ) (n : ℕ) (acc : checked p t n ≡ Accepted) where
-  pub lines-many : length (lines_of p t n) ≡ n
-  lines-many = length-lines p t n
+  pub lines_many : length (lines_of p t n) ≡ n
+  lines_many = length_lines p t n
 
-  pub line-here : (i : ℕ) → i < n → get_or (lines_of p t n) i Line.unknown ≡ line_of (recordAt p t i)
-  line-here i h = get_or-map line_of (recordsOf p t n) i [] ∙ ap line_of (record-at p t n i h)
+  pub line_here : (i : ℕ) → i < n → get_or (lines_of p t n) i Line.unknown ≡ line_of (record_at p t i)
+  line_here i h = get_or-map line_of (records_of p t n) i [] ∙ ap line_of (record_at_lem p t n i h)
 
   pub lines_ok : AllOk p no_layout.ctx (lines_of p t n)
-  lines_ok = accepted-ok p t n acc
+  lines_ok = accepted_ok p t n acc
 
   -- the layout of the first i lines, and one line more
-  pub sound-at : (i : ℕ) → Sound (layAll p no_layout (take i (lines_of p t n)))
-  sound-at i = first-laid p no_layout (lines_of p t n) i sound_none lines_ok
+  pub sound_at : (i : ℕ) → Sound (lay_all p no_layout (take i (lines_of p t n)))
+  sound_at i = first_laid p no_layout (lines_of p t n) i sound_none lines_ok
 
-  pub ok-here : (i : ℕ) → i < n → Ok p (ty_at (layAll p no_layout (take i (lines_of p t n))).ctx) (given (layAll p no_layout (take i (lines_of p t n))).ctx) (get_or (lines_of p t n) i Line.unknown)
-  ok-here i h = ok_at p no_layout (lines_of p t n) i lines_ok (omega (arith, lines-many))
+  pub ok_here : (i : ℕ) → i < n → Ok p (ty_at (lay_all p no_layout (take i (lines_of p t n))).ctx) (given (lay_all p no_layout (take i (lines_of p t n))).ctx) (get_or (lines_of p t n) i Line.unknown)
+  ok_here i h = ok_at p no_layout (lines_of p t n) i lines_ok (omega (arith, lines_many))
 
-  pub lay-next : (i : ℕ) → i < n → layAll p no_layout (take (suc i) (lines_of p t n)) ≡ lay p (layAll p no_layout (take i (lines_of p t n))) (get_or (lines_of p t n) i Line.unknown)
-  lay-next i h = lay-suc p (lines_of p t n) i (omega (arith, lines-many))
+  pub lay_next : (i : ℕ) → i < n → lay_all p no_layout (take (suc i) (lines_of p t n)) ≡ lay p (lay_all p no_layout (take i (lines_of p t n))) (get_or (lines_of p t n) i Line.unknown)
+  lay_next i h = lay_suc p (lines_of p t n) i (omega (arith, lines_many))
 
-  pub later-at : (i : ℕ) → i < n → Later (lay p (layAll p no_layout (take i (lines_of p t n))) (get_or (lines_of p t n) i Line.unknown)) (layout p (lines_of p t n))
-  later-at i h =
-      let Y = layAll p no_layout (take i (lines_of p t n)) in
+  pub later_at : (i : ℕ) → i < n → Later (lay p (lay_all p no_layout (take i (lines_of p t n))) (get_or (lines_of p t n) i Line.unknown)) (layout p (lines_of p t n))
+  later_at i h =
+      let Y = lay_all p no_layout (take i (lines_of p t n)) in
       let l = get_or (lines_of p t n) i Line.unknown in
-      let full : layout p (lines_of p t n) ≡ layAll p (lay p Y l) (drop (suc i) (lines_of p t n)) = lay-rest p (lines_of p t n) (suc i) ∙ ap (λ (Z : Layout). layAll p Z (drop (suc i) (lines_of p t n))) (lay-next i h) in
+      let full : layout p (lines_of p t n) ≡ lay_all p (lay p Y l) (drop (suc i) (lines_of p t n)) = lay_rest p (lines_of p t n) (suc i) ∙ ap (λ (Z : Layout). lay_all p Z (drop (suc i) (lines_of p t n))) (lay_next i h) in
       subst (λ (Z : Layout). Later (lay p Y l) Z) (sym full) (later p (lay p Y l) (drop (suc i) (lines_of p t n)))
 
   -- the number of the line
-  pub number_at : (i : ℕ) → i ≤ n → length (layAll p no_layout (take i (lines_of p t n))).ctx.tys ≡ i + 1
+  pub number_at : (i : ℕ) → i ≤ n → length (lay_all p no_layout (take i (lines_of p t n))).ctx.tys ≡ i + 1
   number_at i h =
-      sym (sound-at i).long ∙ length-laid p no_layout (take i (lines_of p t n)) ∙ omega (arith, length-take-le i (lines_of p t n) (omega (arith, lines-many)))
+      sym (sound_at i).long ∙ length_laid p no_layout (take i (lines_of p t n)) ∙ omega (arith, length-take-le i (lines_of p t n) (omega (arith, lines_many)))
 
-  pub lay_done : layAll p no_layout (take n (lines_of p t n)) ≡ layout p (lines_of p t n)
+  pub lay_done : lay_all p no_layout (take n (lines_of p t n)) ≡ layout p (lines_of p t n)
   unfolding layout
-  lay_done = ap (layAll p no_layout) (ap (λ (m : ℕ). take m (lines_of p t n)) (sym lines-many) ∙ take-length (lines_of p t n))
+  lay_done = ap (lay_all p no_layout) (ap (λ (m : ℕ). take m (lines_of p t n)) (sym lines_many) ∙ take-length (lines_of p t n))
 
 -- ---- what is known at the line i
 
@@ -104,12 +104,12 @@ shows_first {P} {Y} {Z} S r sh a h =
     rw (r.type a (omega (arith, S.long)), r.off a (omega (arith, S.long)), r.place a h) at s
 
 module _ {p : Bool} {t : List ℕ} {n : ℕ} {P : List (List ℕ)} {all words ins sigs : ℕ} (rd : Ready p t n P all words ins sigs) where
-  pub facts_at : (i : ℕ) → i < n → Facts p P (layAll p no_layout (take i (lines_of p t n))) (get_or (lines_of p t n) i Line.unknown) all words ins sigs
+  pub facts_at : (i : ℕ) → i < n → Facts p P (lay_all p no_layout (take i (lines_of p t n))) (get_or (lines_of p t n) i Line.unknown) all words ins sigs
   facts_at i h =
-      let S : Sound (lay p (layAll p no_layout (take i (lines_of p t n))) (get_or (lines_of p t n) i Line.unknown)) = subst Sound (lay-next p t n rd.accepted i h) (sound-at p t n rd.accepted (suc i)) in
-      let r = later-at p t n rd.accepted i h in
+      let S : Sound (lay p (lay_all p no_layout (take i (lines_of p t n))) (get_or (lines_of p t n) i Line.unknown)) = subst Sound (lay_next p t n rd.accepted i h) (sound_at p t n rd.accepted (suc i)) in
+      let r = later_at p t n rd.accepted i h in
       record {
-        ok = ok-here p t n rd.accepted i h;
+        ok = ok_here p t n rd.accepted i h;
         shows = shows_first S r rd.shows;
         cells = omega (arith, r.cells, rd.cells);
         states = omega (arith, r.states, rd.states);
@@ -119,50 +119,50 @@ module _ {p : Bool} {t : List ℕ} {n : ℕ} {P : List (List ℕ)} {all words in
 
 -- ---- the signals
 
-bytes-snoc : (g : List Signal) (m : Bool) (v : ℕ) → bytes_of (g ++ (signalByte m v ∷ [])) ≡ bytes_of g ++ (v ∷ [])
-bytes-snoc [] m v = refl
-bytes-snoc (signalByte b x ∷ g) m v = ap (λ (l : List ℕ). x ∷ l) (bytes-snoc g m v)
+bytes_snoc : (g : List Signal) (m : Bool) (v : ℕ) → bytes_of (g ++ (signal_byte m v ∷ [])) ≡ bytes_of g ++ (v ∷ [])
+bytes_snoc [] m v = refl
+bytes_snoc (signal_byte b x ∷ g) m v = ap (λ (l : List ℕ). x ∷ l) (bytes_snoc g m v)
 
-sig-step : (p : Bool) (P : List (List ℕ)) (all words ins sigs : ℕ) (σ w g : List ℕ) (A : Frame) (l : Line) → Held p all σ w A → Facts p P A.lay l all words ins sigs
+sig_step : (p : Bool) (P : List (List ℕ)) (all words ins sigs : ℕ) (σ w g : List ℕ) (A : Frame) (l : Line) → Held p all σ w A → Facts p P A.lay l all words ins sigs
     → length g ≡ sigs → take A.lay.counts.signals g ≡ bytes_of A.sigs
-    → take (lay p A.lay l).counts.signals (sigsIn false P g w (length A.lay.ctx.tys) l) ≡ bytes_of (signalsAfter A l)
-sig-step p P all words ins sigs σ w g A (Line.bitvec x) H F lg e = e
-sig-step p P all words ins sigs σ w g A (Line.array i x) H F lg e = e
-sig-step p P all words ins sigs σ w g A (Line.input s) H F lg e = e
-sig-step p P all words ins sigs σ w g A (Line.state s) H F lg e = e
-sig-step p P all words ins sigs σ w g A (Line.value s x) H F lg e = e
-sig-step p P all words ins sigs σ w g A (Line.initOrNext m s q v) H F lg e = e
-sig-step p P all words ins sigs σ w g A (Line.signal m a) H F lg e =
+    → take (lay p A.lay l).counts.signals (sigs_in false P g w (length A.lay.ctx.tys) l) ≡ bytes_of (signals_after A l)
+sig_step p P all words ins sigs σ w g A (Line.bitvec x) H F lg e = e
+sig_step p P all words ins sigs σ w g A (Line.array i x) H F lg e = e
+sig_step p P all words ins sigs σ w g A (Line.input s) H F lg e = e
+sig_step p P all words ins sigs σ w g A (Line.state s) H F lg e = e
+sig_step p P all words ins sigs σ w g A (Line.value s x) H F lg e = e
+sig_step p P all words ins sigs σ w g A (Line.init_or_next m s q v) H F lg e = e
+sig_step p P all words ins sigs σ w g A (Line.signal m a) H F lg e =
     let l = Line.signal m a in
     let me = mine H F.cells l P F.shows in
-    let v : ℕ = ifNonzero (word_at A a) 1 0 in
+    let v : ℕ = if_nonzero (word_at A a) 1 0 in
     let n = A.lay.counts.signals in
     let h : suc n ≤ sigs = F.signals in
-    ap₂ (λ (q x : ℕ). take (suc n) (set g q (ifNonzero {A = ℕ} x 1 0))) me.isPos (word_of H F.cells l P F.shows a F.ok.word)
-    ∙ take-suc-set g n v (omega arith) ∙ ap (λ (x : List ℕ). x ++ (v ∷ [])) e ∙ sym (bytes-snoc A.sigs m v)
-sig-step p P all words ins sigs σ w g A (Line.output a) H F lg e = e
-sig-step p P all words ins sigs σ w g A Line.unknown H F lg e = absurd F.ok
+    ap₂ (λ (q x : ℕ). take (suc n) (set g q (if_nonzero {A = ℕ} x 1 0))) me.is_pos (word_of H F.cells l P F.shows a F.ok.word)
+    ∙ take-suc-set g n v (omega arith) ∙ ap (λ (x : List ℕ). x ++ (v ∷ [])) e ∙ sym (bytes_snoc A.sigs m v)
+sig_step p P all words ins sigs σ w g A (Line.output a) H F lg e = e
+sig_step p P all words ins sigs σ w g A Line.unknown H F lg e = absurd F.ok
 
 -- ---- the walk
 
 -- the first i lines are done: the work area w, the signal bytes g
 pub record Walked (p f : Bool) (C : List Line) (all : ℕ) (ι σ : List ℕ) (sigs : ℕ) (w g : List ℕ) (i : ℕ) : Type 0 where
-  pub held : Held p all σ w (accAt p f σ ι C i)
-  pub sig : f ≡ false → take (accAt p f σ ι C i).lay.counts.signals g ≡ bytes_of (accAt p f σ ι C i).sigs
+  pub held : Held p all σ w (acc_at p f σ ι C i)
+  pub sig : f ≡ false → take (acc_at p f σ ι C i).lay.counts.signals g ≡ bytes_of (acc_at p f σ ι C i).sigs
   pub len : length g ≡ sigs
 
-no_cells : (w : List ℕ) (a : ℕ) → get_or noFrame.env a [] ≡ []
+no_cells : (w : List ℕ) (a : ℕ) → get_or no_frame.env a [] ≡ []
 no_cells w zero = refl
 no_cells w (suc a) = refl
 
-no-type : (a : ℕ) → (type_at no_layout a).role ≡ 0
-no-type zero = refl
-no-type (suc a) = refl
+no_type : (a : ℕ) → (type_at no_layout a).role ≡ 0
+no_type zero = refl
+no_type (suc a) = refl
 
-pub seen_nothing : (p : Bool) (w : List ℕ) → Holds p w no_layout noFrame.env
-seen_nothing p w = record { lines = refl; cells = cells; small = λ e a q. absurd (omega (arith, no-type a)) }
+pub seen_nothing : (p : Bool) (w : List ℕ) → Holds p w no_layout no_frame.env
+seen_nothing p w = record { lines = refl; cells = cells; small = λ e a q. absurd (omega (arith, no_type a)) }
   where
-    cells : (a : ℕ) → get_or noFrame.env a [] ≡ seen w (type_at no_layout a) (off_at no_layout a)
+    cells : (a : ℕ) → get_or no_frame.env a [] ≡ seen w (type_at no_layout a) (off_at no_layout a)
     cells zero = refl
     cells (suc a) = refl
 
@@ -171,43 +171,43 @@ module _ (p f : Bool) (t : List ℕ) (n : ℕ) (P : List (List ℕ)) (all : ℕ)
   walk_start w g e l lg =
       record { held = record { sound = sound_none; holds = seen_nothing p w; kept = record { words = sym e; many = refl; len = l } }; sig = λ q. refl; len = lg }
 
-  same-lay : (i : ℕ) → (accAt p f σ ι (lines_of p t n) i).lay ≡ layAll p no_layout (take i (lines_of p t n))
-  same-lay i = acc-lay p f σ ι noFrame (take i (lines_of p t n))
+  same_lay : (i : ℕ) → (acc_at p f σ ι (lines_of p t n) i).lay ≡ lay_all p no_layout (take i (lines_of p t n))
+  same_lay i = acc_lay p f σ ι no_frame (take i (lines_of p t n))
 
   module _ (i : ℕ) (h : i < n) where
-    here : length (accAt p f σ ι (lines_of p t n) i).lay.ctx.tys ≡ i + 1
-    here = ap (λ (Y : Layout). length Y.ctx.tys) (same-lay i) ∙ number_at p t n rd.accepted i (omega arith)
+    here : length (acc_at p f σ ι (lines_of p t n) i).lay.ctx.tys ≡ i + 1
+    here = ap (λ (Y : Layout). length Y.ctx.tys) (same_lay i) ∙ number_at p t n rd.accepted i (omega arith)
 
-    line-is : get_or (lines_of p t n) i Line.unknown ≡ line_of (recordAt p t i)
-    line-is = line-here p t n rd.accepted i h
+    line_is : get_or (lines_of p t n) i Line.unknown ≡ line_of (record_at p t i)
+    line_is = line_here p t n rd.accepted i h
 
-    known : Facts p P (accAt p f σ ι (lines_of p t n) i).lay (get_or (lines_of p t n) i Line.unknown) all (length σ) ins sigs
-    known = subst (λ (Y : Layout). Facts p P Y (get_or (lines_of p t n) i Line.unknown) all (length σ) ins sigs) (sym (same-lay i)) (facts_at rd i h)
+    known : Facts p P (acc_at p f σ ι (lines_of p t n) i).lay (get_or (lines_of p t n) i Line.unknown) all (length σ) ins sigs
+    known = subst (λ (Y : Layout). Facts p P Y (get_or (lines_of p t n) i Line.unknown) all (length σ) ins sigs) (sym (same_lay i)) (facts_at rd i h)
 
     -- r is the record at hand
-    pub walk-fit : {r : List ℕ} (w g : List ℕ) → r ≡ recordAt p t i → Walked p f (lines_of p t n) all ι σ sigs w g i → FitL p P all ins (length g) w (i + 1) (line_of r)
-    walk-fit {r} w g er k =
+    pub walk_fit : {r : List ℕ} (w g : List ℕ) → r ≡ record_at p t i → Walked p f (lines_of p t n) all ι σ sigs w g i → FitL p P all ins (length g) w (i + 1) (line_of r)
+    walk_fit {r} w g er k =
         subst (λ (x : List ℕ). FitL p P all ins (length g) w (i + 1) (line_of x)) (sym er)
-        (subst (λ (l : Line). FitL p P all ins (length g) w (i + 1) l) line-is
+        (subst (λ (l : Line). FitL p P all ins (length g) w (i + 1) l) line_is
         (subst (λ (m : ℕ). FitL p P all ins (length g) w m (get_or (lines_of p t n) i Line.unknown)) here
-        (subst (λ (m : ℕ). FitL p P all ins m w (length (accAt p f σ ι (lines_of p t n) i).lay.ctx.tys) (get_or (lines_of p t n) i Line.unknown)) (sym k.len)
-        (fit p f P all σ ι w (accAt p f σ ι (lines_of p t n) i) k.held ins sigs (get_or (lines_of p t n) i Line.unknown) known.ok known.shows known.cells known.states known.inputs known.signals))))
+        (subst (λ (m : ℕ). FitL p P all ins m w (length (acc_at p f σ ι (lines_of p t n) i).lay.ctx.tys) (get_or (lines_of p t n) i Line.unknown)) (sym k.len)
+        (fit p f P all σ ι w (acc_at p f σ ι (lines_of p t n) i) k.held ins sigs (get_or (lines_of p t n) i Line.unknown) known.ok known.shows known.cells known.states known.inputs known.signals))))
 
-    pub walk_step : {r : List ℕ} (w g w' g' : List ℕ) → r ≡ recordAt p t i → Walked p f (lines_of p t n) all ι σ sigs w g i → length g' ≡ length g
-        → w' ≡ workIn p f P all ι w (i + 1) (line_of r) → g' ≡ sigsIn f P g w (i + 1) (line_of r) → Walked p f (lines_of p t n) all ι σ sigs w' g' (i + 1)
+    pub walk_step : {r : List ℕ} (w g w' g' : List ℕ) → r ≡ record_at p t i → Walked p f (lines_of p t n) all ι σ sigs w g i → length g' ≡ length g
+        → w' ≡ work_in p f P all ι w (i + 1) (line_of r) → g' ≡ sigs_in f P g w (i + 1) (line_of r) → Walked p f (lines_of p t n) all ι σ sigs w' g' (i + 1)
     walk_step {r} w g w' g' er k lg ew eg =
-        let A = accAt p f σ ι (lines_of p t n) i in
+        let A = acc_at p f σ ι (lines_of p t n) i in
         let l = get_or (lines_of p t n) i Line.unknown in
         let m = length A.lay.ctx.tys in
-        let el : line_of r ≡ l = ap line_of er ∙ sym line-is in
-        let ew' : w' ≡ workIn p f P all ι w m l = ew ∙ ap₂ (workIn p f P all ι w) (sym here) el in
-        let eg' : g' ≡ sigsIn f P g w m l = eg ∙ ap₂ (sigsIn f P g w) (sym here) el in
-        let next : accAt p f σ ι (lines_of p t n) (i + 1) ≡ evalLine p f σ ι A l = ap (accAt p f σ ι (lines_of p t n)) (add-one i) ∙ acc-suc p f σ ι (lines_of p t n) i (omega (arith, lines-many p t n rd.accepted)) in
+        let el : line_of r ≡ l = ap line_of er ∙ sym line_is in
+        let ew' : w' ≡ work_in p f P all ι w m l = ew ∙ ap₂ (work_in p f P all ι w) (sym here) el in
+        let eg' : g' ≡ sigs_in f P g w m l = eg ∙ ap₂ (sigs_in f P g w) (sym here) el in
+        let next : acc_at p f σ ι (lines_of p t n) (i + 1) ≡ eval_line p f σ ι A l = ap (acc_at p f σ ι (lines_of p t n)) (add-one i) ∙ acc_suc p f σ ι (lines_of p t n) i (omega (arith, lines_many p t n rd.accepted)) in
         record {
-          held = subst (λ (B : Frame). Held p all σ w' B) (sym next) (subst (λ (x : List ℕ). Held p all σ x (evalLine p f σ ι A l)) (sym ew') (sim p f P all σ ι w A k.held l known.ok known.shows known.cells known.states));
+          held = subst (λ (B : Frame). Held p all σ w' B) (sym next) (subst (λ (x : List ℕ). Held p all σ x (eval_line p f σ ι A l)) (sym ew') (sim p f P all σ ι w A k.held l known.ok known.shows known.cells known.states));
           sig = λ q.
-              ap (λ (B : Frame). take B.lay.counts.signals g') next ∙ ap (take (lay p A.lay l).counts.signals) (eg' ∙ ap (λ (b : Bool). sigsIn b P g w m l) q)
-              ∙ sig-step p P all (length σ) ins sigs σ w g A l k.held known k.len (k.sig q) ∙ ap (λ (B : Frame). bytes_of B.sigs) (sym next);
+              ap (λ (B : Frame). take B.lay.counts.signals g') next ∙ ap (take (lay p A.lay l).counts.signals) (eg' ∙ ap (λ (b : Bool). sigs_in b P g w m l) q)
+              ∙ sig_step p P all (length σ) ins sigs σ w g A l k.held known k.len (k.sig q) ∙ ap (λ (B : Frame). bytes_of B.sigs) (sym next);
           len = lg ∙ k.len;
         }
 
@@ -215,9 +215,9 @@ module _ (p f : Bool) (t : List ℕ) (n : ℕ) (P : List (List ℕ)) (all : ℕ)
       → (drop all w ≡ (step p f (lines_of p t n) σ ι).sts) × (f ≡ false → g ≡ bytes_of (step p f (lines_of p t n) σ ι).sigs)
   unfolding step layout
   walk_ends w g k =
-      let e : accAt p f σ ι (lines_of p t n) n ≡ evalAll p f σ ι noFrame (lines_of p t n) = ap (evalAll p f σ ι noFrame) (ap (λ (m : ℕ). take m (lines_of p t n)) (sym (lines-many p t n rd.accepted)) ∙ take-length (lines_of p t n)) in
-      let y : (accAt p f σ ι (lines_of p t n) n).lay ≡ layAll p no_layout (lines_of p t n) = ap (λ (A : Frame). A.lay) e ∙ acc-lay p f σ ι noFrame (lines_of p t n) in
-      let A = accAt p f σ ι (lines_of p t n) n in (
+      let e : acc_at p f σ ι (lines_of p t n) n ≡ eval_all p f σ ι no_frame (lines_of p t n) = ap (eval_all p f σ ι no_frame) (ap (λ (m : ℕ). take m (lines_of p t n)) (sym (lines_many p t n rd.accepted)) ∙ take-length (lines_of p t n)) in
+      let y : (acc_at p f σ ι (lines_of p t n) n).lay ≡ lay_all p no_layout (lines_of p t n) = ap (λ (A : Frame). A.lay) e ∙ acc_lay p f σ ι no_frame (lines_of p t n) in
+      let A = acc_at p f σ ι (lines_of p t n) n in (
         k.held.kept.words ∙ ap (λ (m : ℕ). A.sts ++ drop m σ) (ap (λ (Y : Layout). Y.counts.states) y ∙ rd.states) ∙ ap (λ (x : List ℕ). A.sts ++ x) (drop-length σ) ∙ append-nil A.sts ∙ ap (λ (B : Frame). B.sts) e,
         λ q. sym (ap (λ (m : ℕ). take m g) (ap (λ (Y : Layout). Y.counts.signals) y ∙ rd.signals ∙ sym k.len) ∙ take-length g) ∙ k.sig q ∙ ap (λ (B : Frame). bytes_of B.sigs) e,
       )

@@ -13,7 +13,7 @@ use Rattle.tables.specs.Answers.{Outcome, outcome}
 use Rattle.circuits.specs.declared.Ran.{Ran}
 use Rattle.circuits.specs.declared.Ran.TheVariants.{Nothing, Bad, Refused as RefusedRun}
 use Rattle.circuits.specs.Layout.{Counts, layout}
-use Rattle.circuits.specs.Run.{rowLength, run, bytes, firstBad}
+use Rattle.circuits.specs.Run.{row_length, run, bytes, first_bad}
 
 -- the tests after the table's, where s start words, i input words, g signal bytes and w words of work area are lent for k steps, each with a row of so many words
 abbrev pub lent : Counts → (row k s i g w : ℕ) → Checked
@@ -31,7 +31,7 @@ and_then (Refused r) d = Refused r
 
 -- may a run start
 unfoldable pub ready : (program : Bool) (t : List ℕ) (n k : ℕ) (S I : List ℕ) (g w : ℕ) → Checked
-ready program t n k S I g w = and_then (checked program t n) (lent (layout program (lines_of program t n)).counts (rowLength program (lines_of program t n)) k (length S) (length I) g w)
+ready program t n k S I g w = and_then (checked program t n) (lent (layout program (lines_of program t n)).counts (row_length program (lines_of program t n)) k (length S) (length I) g w)
 
 abbrev pub answer_of : Checked → Ran → Ran
 answer_of Accepted r = r
@@ -43,17 +43,17 @@ left_of (Refused r) g x = replicate g 0
 
 -- what a run answers, and the signal bytes that it leaves; the work area is zero after any call
 unfoldable pub ran : (program : Bool) (t : List ℕ) (n k : ℕ) (S I : List ℕ) (g w : ℕ) → Ran
-ran program t n k S I g w = answer_of (ready program t n k S I g w) (firstBad 0 (run program (lines_of program t n) k S I))
+ran program t n k S I g w = answer_of (ready program t n k S I g w) (first_bad 0 (run program (lines_of program t n) k S I))
 
-unfoldable pub signalsLeft : (program : Bool) (t : List ℕ) (n k : ℕ) (S I : List ℕ) (g w : ℕ) → List ℕ
-signalsLeft program t n k S I g w = left_of (ready program t n k S I g w) g (bytes (run program (lines_of program t n) k S I))
+unfoldable pub signals_left : (program : Bool) (t : List ℕ) (n k : ℕ) (S I : List ℕ) (g w : ℕ) → List ℕ
+signals_left program t n k S I g w = left_of (ready program t n k S I g w) g (bytes (run program (lines_of program t n) k S I))
 
 -- the request's number and values for what a run answers: 1, the step and the place of the first counted bad, or zeros
-abbrev pub toldRun : Ran → (left : List (List ℕ)) → Outcome
-toldRun Nothing left = outcome 0 0 0 0 left
-toldRun (Bad k p) left = outcome 0 1 k p left
-toldRun (RefusedRun r) left = outcome (number_of r) 0 0 0 left
+abbrev pub told_run : Ran → (left : List (List ℕ)) → Outcome
+told_run Nothing left = outcome 0 0 0 0 left
+told_run (Bad k p) left = outcome 0 1 k p left
+told_run (RefusedRun r) left = outcome (number_of r) 0 0 0 left
 
 -- the outcome of a run
 unfoldable pub runs : (program : Bool) (t : List ℕ) (n k : ℕ) (S I : List ℕ) (g w : ℕ) → Outcome
-runs program t n k S I g w = toldRun (ran program t n k S I g w) (signalsLeft program t n k S I g w ∷ replicate w 0 ∷ [])
+runs program t n k S I g w = told_run (ran program t n k S I g w) (signals_left program t n k S I g w ∷ replicate w 0 ∷ [])

@@ -1,5 +1,7 @@
 // Circuits: what the lines of a circuit and of a program mean, a step, a run, the first counted bad.
 // The code is in `area`, `places`, `free_states`, `evaluation`, `state_lines`, `step_dispatch`, `steps`, `bad`, `engine` and `runs`.
+#![tactic(auto)]
+
 use tables::Refusal;
 
 // What a run answers: nothing counted, the step and the place of the first counted bad, or a refusal.

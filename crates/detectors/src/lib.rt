@@ -1,6 +1,8 @@
 // Overflow detectors on words of 1 to 64 bits: whether the result of an operation, as a whole number, lies outside the operands' width. No sum, difference or product is
 // worked out that could pass 64 bits. In each, x and y are words of the width w, m is the greatest word of it and h the greatest signed number; a word above h is negative,
 // -1 - (m - x).
+#![tactic(auto)]
+
 ghost use Rattle.std.specs.Prelude.{◌≡◌, ◌≤◌, ◌*◌, ltb};
 ghost use Rattle.words.specs.Word.{Width, bit as bit_of};
 ghost use Rattle.words.specs.Op.{op_of, uaddo, saddo, usubo, ssubo, umulo, smulo, sdivo};

@@ -1,12 +1,14 @@
 // A run of an accepted table: what has to be lent (13 to 17), the places, the steps, the first counted bad. One engine runs circuits and programs.
+#![tactic(auto)]
+
 ghost use Rattle.std.specs.Prelude.{◌≡◌, [], ◌∷◌, ◌+◌, ◌<◌, length, replicate};
 ghost use Rattle.tables.specs.Layout.{lines_of};
-ghost use Rattle.circuits.specs.Answers.{lent as lent_of, toldRun};
-ghost use Rattle.circuits.specs.Free.{sources, freeCount};
+ghost use Rattle.circuits.specs.Answers.{lent as lent_of, told_run};
+ghost use Rattle.circuits.specs.Free.{sources, free_count};
 ghost use Rattle.circuits.specs.Run.{run, bytes};
 ghost use Rattle.circuits.specs.Model.Places.{Ready};
-ghost use Rattle.circuits.specs.Model.Passes.{countsOf, Noted};
-ghost use Rattle.circuits.specs.Model.Answers.{RunAsked, started, lentRuns};
+ghost use Rattle.circuits.specs.Model.Passes.{counts_of, Noted};
+ghost use Rattle.circuits.specs.Model.Answers.{RunAsked, started, lent_runs};
 
 use area::LAID;
 use circuits::{Ran, Totals};
@@ -16,7 +18,7 @@ use tables::{Checked, Refusal};
 // 13 to 17: s start words, i input words, g signal bytes and w words of work area are lent for k steps.
 fn lent(t: Totals, k: usize, s: usize, i: usize, g: usize, w: usize) -> Checked
     requires { (t.cells + t.states < 4294967296) × ((t.inputs + t.free < 4294967296) × (t.signals < 4294967296)) }
-    ensures { result ≡ lent_of (countsOf t) (t.inputs + t.free) k s i g w }
+    ensures { result ≡ lent_of (counts_of t) (t.inputs + t.free) k s i g w }
 {
     if 4096 < k {
         return Checked::Refused(Refusal::TooManySteps);
@@ -111,10 +113,10 @@ fn run_lent(
     work: &mut [u64],
 ) -> Ran
     requires { Noted program table.now count notes.now × (Ready program table.now count laid.now t.cells t.states t.inputs t.signals
-        × ((t.free ≡ freeCount (sources program (lines_of program table.now count)))
-        × ((lent_of (countsOf t) (t.inputs + t.free) k (length starts.now) (length inputs.now) (length signals.old) (length work.old) ≡ Checked.Accepted)
+        × ((t.free ≡ free_count (sources program (lines_of program table.now count)))
+        × ((lent_of (counts_of t) (t.inputs + t.free) k (length starts.now) (length inputs.now) (length signals.old) (length work.old) ≡ Checked.Accepted)
         × (work.old ≡ replicate (length work.old) 0)))) }
-    ensures { toldRun result (signals.new ∷ work.new ∷ [])
+    ensures { told_run result (signals.new ∷ work.new ∷ [])
         ≡ started program (lines_of program table.now count) k starts.now inputs.now (length work.old) }
 {
     if k == 0 {
@@ -153,7 +155,7 @@ pub fn run_checked(
     work: &mut [u64],
 ) -> Ran
     requires { Noted program table.now count notes.now × ((signals.old ≡ replicate (length signals.old) 0) × (work.old ≡ replicate (length work.old) 0)) }
-    ensures { toldRun result (signals.new ∷ work.new ∷ []) ≡ lentRuns program table.now count k
+    ensures { told_run result (signals.new ∷ work.new ∷ []) ≡ lent_runs program table.now count k
         starts.now inputs.now (length signals.old) (length work.old) }
 {
     let mut laid = [[0u32; LAID]; 16385];

@@ -1,18 +1,20 @@
 // Lines of a step that have a value and are no states: their cells go to their runs of the work area.
+#![tactic(auto)]
+
 ghost use Rattle.std.specs.Prelude.{◌≡◌, false, [], ◌∷◌, length, get_or};
-ghost use Rattle.circuits.specs.Meaning.{opWord, inputWord};
+ghost use Rattle.circuits.specs.Meaning.{op_word, input_word};
 ghost use Rattle.tables.specs.Lines.{Expr};
-ghost use Rattle.circuits.specs.Model.Work.{offIn, posIn, widIn, wordKept, exprIn};
+ghost use Rattle.circuits.specs.Model.Work.{off_in, pos_in, wid_in, word_kept, expr_in};
 ghost use Rattle.circuits.specs.Model.Fits.{FitWord, WordBelow, FitInput, FitUnary, FitBinary, FitEquality, FitRead, RunBelow, FitIte, FitWrite};
 ghost use Rattle.words.specs.Word.{Width, bit};
-ghost use Rattle.circuits.specs.Cells.{ifNonzero, eqOrNeq, put};
+ghost use Rattle.circuits.specs.Cells.{if_nonzero, eq_or_neq, put};
 
 use area::LAID;
 
 // A word operator, of a program or of a circuit.
 pub fn word(program: bool, k: u64, w: u64, u: u64, v: u64, a: u64, b: u64, c: u64) -> u64
     requires { FitWord program k w u v a b c }
-    ensures { result ≡ opWord program k u v a b c }
+    ensures { result ≡ op_word program k u v a b c }
 {
     if program {
         return instructions::prog_word(k, u, v, a, b, c);
@@ -23,7 +25,7 @@ pub fn word(program: bool, k: u64, w: u64, u: u64, v: u64, a: u64, b: u64, c: u6
 // An input: modulo 2^w, in a program as it stands.
 fn input_word(program: bool, w: u64, x: u64) -> u64
     requires { Width w }
-    ensures { result ≡ inputWord program w x }
+    ensures { result ≡ input_word program w x }
 {
     if program {
         return x;
@@ -33,7 +35,7 @@ fn input_word(program: bool, w: u64, x: u64) -> u64
 
 // What eq (true) and neq say of values that are the same, or not.
 pub fn says(e: bool, r: bool) -> u64
-    ensures { result ≡ bit (eqOrNeq e r) }
+    ensures { result ≡ bit (eq_or_neq e r) }
 {
     if e {
         if r { 1 } else { 0 }
@@ -44,7 +46,7 @@ pub fn says(e: bool, r: bool) -> u64
 
 pub fn line_const(a: u64, n: usize, laid: &[[u32; LAID]; 16385], work: &mut [u64])
     requires { WordBelow laid.now (length work.old) n }
-    ensures { work.new ≡ put work.old (offIn laid.now n) (a ∷ []) }
+    ensures { work.new ≡ put work.old (off_in laid.now n) (a ∷ []) }
 {
     let o = area::off(laid, n);
     work[o] = a;
@@ -58,8 +60,8 @@ pub fn line_input(
     work: &mut [u64],
 )
     requires { FitInput laid.now (length work.old) (length row.now) n }
-    ensures { work.new ≡ put work.old (offIn laid.now n)
-        (inputWord program (widIn laid.now n) (get_or row.now (posIn laid.now n) 0) ∷ []) }
+    ensures { work.new ≡ put work.old (off_in laid.now n)
+        (input_word program (wid_in laid.now n) (get_or row.now (pos_in laid.now n) 0) ∷ []) }
 {
     let o = area::off(laid, n);
     let p = area::place(laid, n);
@@ -78,7 +80,7 @@ pub fn line_unary(
     work: &mut [u64],
 )
     requires { WordBelow laid.now (length work.old) n × FitUnary program laid.now work.old n k a x y }
-    ensures { work.new ≡ put work.old (offIn laid.now n) (exprIn program laid.now work.old (Expr.unary k a x y)) }
+    ensures { work.new ≡ put work.old (off_in laid.now n) (expr_in program laid.now work.old (Expr.unary k a x y)) }
 {
     let o = area::off(laid, n);
     let p = area::off(laid, a);
@@ -105,7 +107,7 @@ pub fn line_binary(
     work: &mut [u64],
 )
     requires { WordBelow laid.now (length work.old) n × FitBinary program laid.now work.old n k a b }
-    ensures { work.new ≡ put work.old (offIn laid.now n) (exprIn program laid.now work.old (Expr.binary k a b)) }
+    ensures { work.new ≡ put work.old (off_in laid.now n) (expr_in program laid.now work.old (Expr.binary k a b)) }
 {
     let o = area::off(laid, n);
     let p = area::off(laid, a);
@@ -133,7 +135,7 @@ pub fn line_equality(
     work: &mut [u64],
 )
     requires { WordBelow laid.now (length work.old) n × FitEquality laid.now n a b }
-    ensures { work.new ≡ put work.old (offIn laid.now n) (exprIn false laid.now work.old (Expr.equality e a b)) }
+    ensures { work.new ≡ put work.old (off_in laid.now n) (expr_in false laid.now work.old (Expr.equality e a b)) }
 {
     let o = area::off(laid, n);
     let x = area::off(laid, a);
@@ -145,7 +147,7 @@ pub fn line_equality(
 
 pub fn line_read(a: usize, i: usize, n: usize, laid: &[[u32; LAID]; 16385], work: &mut [u64])
     requires { WordBelow laid.now (length work.old) n × FitRead laid.now work.old n a i }
-    ensures { work.new ≡ put work.old (offIn laid.now n) (exprIn false laid.now work.old (Expr.read a i)) }
+    ensures { work.new ≡ put work.old (off_in laid.now n) (expr_in false laid.now work.old (Expr.read a i)) }
 {
     let o = area::off(laid, n);
     let p = area::off(laid, i);
@@ -158,7 +160,7 @@ pub fn line_read(a: usize, i: usize, n: usize, laid: &[[u32; LAID]; 16385], work
 // The operand that an ite takes.
 fn chosen(c: usize, a: usize, b: usize, laid: &[[u32; LAID]; 16385], work: &[u64]) -> usize
     requires { WordBelow laid.now (length work.now) c }
-    ensures { result ≡ ifNonzero (wordKept laid.now work.now c) a b }
+    ensures { result ≡ if_nonzero (word_kept laid.now work.now c) a b }
 {
     let p = area::off(laid, c);
     if work[p] != 0 { a } else { b }
@@ -173,7 +175,7 @@ pub fn line_ite(
     work: &mut [u64],
 )
     requires { RunBelow laid.now (length work.old) n × FitIte laid.now n c a b }
-    ensures { work.new ≡ put work.old (offIn laid.now n) (exprIn false laid.now work.old (Expr.ite c a b)) }
+    ensures { work.new ≡ put work.old (off_in laid.now n) (expr_in false laid.now work.old (Expr.ite c a b)) }
 {
     let o = area::off(laid, n);
     let m = area::cells(laid, n);
@@ -191,7 +193,7 @@ pub fn line_write(
     work: &mut [u64],
 )
     requires { RunBelow laid.now (length work.old) n × FitWrite laid.now work.old n a i v }
-    ensures { work.new ≡ put work.old (offIn laid.now n) (exprIn false laid.now work.old (Expr.write a i v)) }
+    ensures { work.new ≡ put work.old (off_in laid.now n) (expr_in false laid.now work.old (Expr.write a i v)) }
 {
     let o = area::off(laid, n);
     let m = area::cells(laid, n);

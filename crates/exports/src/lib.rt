@@ -1,4 +1,6 @@
 // The C interface: each function returns a refusal's number, 0 when done, and writes its further values to `answer`, a list of three words. A list of another length is refused by 1.
+#![tactic(auto)]
+
 ghost use Rattle.std.specs.Prelude.{◌≡◌, false, true, [], ◌∷◌, length};
 ghost use Rattle.tables.specs.Pick.{pick};
 ghost use Rattle.texts.specs.Reading.{reads};

@@ -1,4 +1,6 @@
 // The flat program: standard input to the flat text, or `refused N L`.
+#![tactic(auto)]
+
 use libc::{STDIN_FILENO, STDOUT_FILENO};
 
 // A text of 65,537 bytes is too long, so no more of the input is read. The two tables hold 1,300 records each, whose text has at most 52,000 bytes.

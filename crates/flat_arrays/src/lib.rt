@@ -1,9 +1,11 @@
 // Lines that leave a flat line for each cell: states, init and next, and the operators that take arrays. The flat lines go to the target, and what later lines need of the line is answered.
+#![tactic(auto)]
+
 ghost use Rattle.std.specs.Prelude.{◌≡◌, length};
-ghost use Rattle.flattening.specs.Model.Lines.{madeAs, notes};
+ghost use Rattle.flattening.specs.Model.Lines.{made_as, notes};
 ghost use Rattle.flattening.specs.Model.Fits.{Fit, MadeFlat};
-ghost use Rattle.tables.specs.Lines.{equalityKind, Line, Expr};
-ghost use Rattle.flattening.specs.Flat.{joinKind};
+ghost use Rattle.tables.specs.Lines.{equality_kind, Line, Expr};
+ghost use Rattle.flattening.specs.Flat.{join_kind};
 
 use flat_cells::cells::KEPT;
 use flat_cells::{cells, rows, sources};
@@ -11,8 +13,8 @@ use flattening::Made;
 use records::notes::BYTES;
 
 // Nothing is kept of a line that has no value.
-fn no_value(q: usize) -> Made
-    ensures { result ≡ madeAs q 0 0 0 0 0 }
+fn no_value_lem(q: usize) -> Made
+    ensures { result ≡ made_as q 0 0 0 0 0 }
 {
     Made {
         next: q,
@@ -26,7 +28,7 @@ fn no_value(q: usize) -> Made
 
 // The kinds of eq and neq, and of and and or.
 fn equality_kind(e: bool) -> u64
-    ensures { result ≡ equalityKind e }
+    ensures { result ≡ equality_kind e }
 {
     if e {
         return 21;
@@ -35,7 +37,7 @@ fn equality_kind(e: bool) -> u64
 }
 
 fn join_kind(e: bool) -> u64
-    ensures { result ≡ joinKind e }
+    ensures { result ≡ join_kind e }
 {
     if e {
         return 33;
@@ -248,8 +250,8 @@ pub fn line_init_or_next(
     p: usize,
     target: &mut [u64],
 ) -> Made
-    requires { Fit (notes kept.now types.now) p (Line.initOrNext m s q v) (length target.old) }
-    ensures { MadeFlat (notes kept.now types.now) p (Line.initOrNext m s q v) target.old target.new result }
+    requires { Fit (notes kept.now types.now) p (Line.init_or_next m s q v) (length target.old) }
+    ensures { MadeFlat (notes kept.now types.now) p (Line.init_or_next m s q v) target.old target.new result }
 {
     let n = sources::size(types, q);
     let t = cells::entry(kept, 0, s);
@@ -266,7 +268,7 @@ pub fn line_init_or_next(
             sources::run(x, 0),
             sources::run(0, 0),
         );
-        return no_value(p + n);
+        return no_value_lem(p + n);
     }
     rows::rows(
         kept,
@@ -279,5 +281,5 @@ pub fn line_init_or_next(
         sources::of(v),
         sources::run(0, 0),
     );
-    no_value(p + n)
+    no_value_lem(p + n)
 }

@@ -1,7 +1,7 @@
 // The flat line of a cell.
 ghost use Rattle.std.specs.Prelude.{◌≡◌, ◌<◌};
-ghost use Rattle.flattening.specs.Model.Cells.{keptOf, ownCell, cellIn, Sound};
-ghost use Rattle.flattening.specs.Model.Rows.{turnAt, sourceAt, Tame};
+ghost use Rattle.flattening.specs.Model.Cells.{kept_of, own_cell, cell_in, Sound};
+ghost use Rattle.flattening.specs.Model.Rows.{turn_at, source_at, Tame};
 
 use flattening::Source;
 
@@ -22,7 +22,7 @@ fn wide(x: u32) -> u64
 // The number k of what is kept of the line a; 0 past the end.
 pub fn entry(kept: &[[u32; KEPT]], k: usize, a: u64) -> u64
     requires { k < 6 }
-    ensures { result ≡ keptOf kept.now k a }
+    ensures { result ≡ kept_of kept.now k a }
 {
     if a < kept.len() as u64 {
         let i = a as usize;
@@ -34,7 +34,7 @@ pub fn entry(kept: &[[u32; KEPT]], k: usize, a: u64) -> u64
 // The flat line of the cell j of the line m, which writes over none.
 fn own(kept: &[[u32; KEPT]], m: u64, j: u64) -> u64
     requires { Sound kept.now × (j < 256) }
-    ensures { result ≡ ownCell kept.now m j }
+    ensures { result ≡ own_cell kept.now m j }
 {
     let at = entry(kept, 0, m);
     let key = entry(kept, 3, m);
@@ -47,7 +47,7 @@ fn own(kept: &[[u32; KEPT]], m: u64, j: u64) -> u64
 // The flat line of the cell j of the line a.
 pub fn cell(kept: &[[u32; KEPT]], a: u64, j: u64) -> u64
     requires { Sound kept.now × (j < 256) }
-    ensures { result ≡ cellIn kept.now a j }
+    ensures { result ≡ cell_in kept.now a j }
 {
     let mut m = a;
     while entry(kept, 2, m) != 0 {
@@ -61,7 +61,7 @@ pub fn cell(kept: &[[u32; KEPT]], a: u64, j: u64) -> u64
 
 // The place of the word j of a source.
 fn turn(s: Source, j: u64) -> u64
-    ensures { result ≡ turnAt s j }
+    ensures { result ≡ turn_at s j }
 {
     if !s.falling {
         return j;
@@ -75,7 +75,7 @@ fn turn(s: Source, j: u64) -> u64
 // The word j of a source.
 pub(crate) fn source(kept: &[[u32; KEPT]], s: Source, j: u64) -> u64
     requires { Sound kept.now × (Tame s × (j < 256)) }
-    ensures { result ≡ sourceAt kept.now s j }
+    ensures { result ≡ source_at kept.now s j }
 {
     let i = turn(s, j);
     if s.line == 0 {

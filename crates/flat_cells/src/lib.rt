@@ -1,4 +1,6 @@
 // Flat lines for the cells of one line.
+#![tactic(auto)]
+
 pub mod cells; // the flat line of a cell
 pub mod rows; // the lines for each cell
 pub mod sources; // where the words of a row come from

@@ -1,9 +1,9 @@
 // Rows of records: the lines for each cell.
 ghost use Rattle.std.specs.Prelude.{◌≡◌, false, [], ◌∷◌, ◌+◌, ◌≤◌, ◌<◌, ◌*◌, length};
 ghost use Rattle.tables.specs.Layout.{held};
-ghost use Rattle.flattening.specs.Placed.{putFlat};
+ghost use Rattle.flattening.specs.Placed.{put_flat};
 ghost use Rattle.flattening.specs.Model.Cells.{Sound};
-ghost use Rattle.flattening.specs.Model.Rows.{Tame, rowsFor, row_at, pair_at};
+ghost use Rattle.flattening.specs.Model.Rows.{Tame, rows_for, row_at, pair_at};
 
 use crate::cells;
 use crate::cells::KEPT;
@@ -13,7 +13,7 @@ use tables::WORDS;
 // The record of a flat line goes to the place i; its id is its number, from 1.
 pub fn put(target: &mut [u64], i: usize, rec: [u64; WORDS])
     requires { i < held false (length target.old) }
-    ensures { target.new ≡ putFlat target.old i (rec ∷ []) }
+    ensures { target.new ≡ put_flat target.old i (rec ∷ []) }
 {
     records::put_line(target, i, rec, (i + 1) as u64);
 }
@@ -31,7 +31,7 @@ pub fn rows(
     z: Source,
 )
     requires { Sound kept.now × (Tame x × (Tame y × (Tame z × ((n ≤ 256) × (p + n ≤ held false (length target.old)))))) }
-    ensures { target.new ≡ putFlat target.old p (rowsFor n (row_at kept.now k s x y z)) }
+    ensures { target.new ≡ put_flat target.old p (rows_for n (row_at kept.now k s x y z)) }
 {
     let mut j: usize = 0;
     while j < n {
@@ -63,7 +63,7 @@ pub fn pairs(
     y: Source,
 )
     requires { Sound kept.now × (Tame c × (Tame x × (Tame y × ((n ≤ 256) × ((p ≤ 65536) × (p + 2 * n ≤ held false (length target.old))))))) }
-    ensures { target.new ≡ putFlat target.old p (rowsFor n (pair_at kept.now p o i s c x y)) }
+    ensures { target.new ≡ put_flat target.old p (rows_for n (pair_at kept.now p o i s c x y)) }
 {
     let mut j: usize = 0;
     while j < n {

@@ -1,7 +1,7 @@
 // Where the words of a row come from, and how many cells a line has.
 ghost use Rattle.std.specs.Prelude.{◌≡◌, ◌^◌, ◌≤◌, ◌-◌};
-ghost use Rattle.tables.specs.Model.Notes.{lookIn};
-ghost use Rattle.flattening.specs.Model.Rows.{stepping, of, runDown, ofDown};
+ghost use Rattle.tables.specs.Model.Notes.{look_in};
+ghost use Rattle.flattening.specs.Model.Rows.{stepping, of, run_down, of_down};
 
 use flattening::Source;
 use records::notes;
@@ -27,8 +27,8 @@ fn power(w: u8) -> usize
 
 // The cells of the line a.
 pub fn size(types: &[[u8; BYTES]], a: u64) -> usize
-    requires { (lookIn types.now a).iw ≤ 8 }
-    ensures { result ≡ 2 ^ (lookIn types.now a).iw }
+    requires { (look_in types.now a).iw ≤ 8 }
+    ensures { result ≡ 2 ^ (look_in types.now a).iw }
 {
     let y = notes::look(types, a);
     power(y.iw)
@@ -36,8 +36,8 @@ pub fn size(types: &[[u8; BYTES]], a: u64) -> usize
 
 // The cells of an array whose index sort is the line a.
 pub fn index_size(types: &[[u8; BYTES]], a: u64) -> usize
-    requires { (lookIn types.now a).w ≤ 8 }
-    ensures { result ≡ 2 ^ (lookIn types.now a).w }
+    requires { (look_in types.now a).w ≤ 8 }
+    ensures { result ≡ 2 ^ (look_in types.now a).w }
 {
     let y = notes::look(types, a);
     power(y.w)
@@ -71,7 +71,7 @@ pub fn of(a: u64) -> Source
 
 // The same, falling from the place top.
 pub fn run_down(base: u64, top: u64) -> Source
-    ensures { result ≡ runDown base top }
+    ensures { result ≡ run_down base top }
 {
     Source {
         line: 0,
@@ -83,7 +83,7 @@ pub fn run_down(base: u64, top: u64) -> Source
 }
 
 pub fn of_down(a: u64, top: u64) -> Source
-    ensures { result ≡ ofDown a top }
+    ensures { result ≡ of_down a top }
 {
     Source {
         line: a,

@@ -1,6 +1,6 @@
 // Cells written out, so that a look-up goes along no more than 512 writes by constant indexes. No answer depends on when it is done.
 ghost use Rattle.std.specs.Prelude.{◌≡◌, ◌+◌, ◌*◌, ◌≤◌, ◌<◌, length};
-ghost use Rattle.flattening.specs.Model.Cells.{Sound, putWord, putRow, Written, Filled, Shortened};
+ghost use Rattle.flattening.specs.Model.Cells.{Sound, put_word, put_row, Written, Filled, Shortened};
 
 use crate::cells;
 use crate::cells::{KEPT, SPAN, WRITTEN};
@@ -15,7 +15,7 @@ const LONG: u64 = 512;
 // The sixth number of the line i.
 fn put_word(kept: &mut [[u32; KEPT]], i: usize, d: u64, w: u64)
     requires { (i < length kept.old) × ((d < 512) × (w < 131072)) }
-    ensures { kept.new ≡ putWord kept.old i (d * 131072 + w) }
+    ensures { kept.new ≡ put_word kept.old i (d * 131072 + w) }
 {
     let r = kept[i];
     kept[i] = [r[0], r[1], r[2], r[3], r[4], (d * SPAN + w) as u32];
@@ -54,7 +54,7 @@ fn fill(kept: &mut [[u32; KEPT]], m: u64, u: usize)
 // The cells of the line m are those written out from the place u on.
 fn put_row(kept: &mut [[u32; KEPT]], m: usize, u: usize)
     requires { (m < length kept.old) × (u ≤ 65536) }
-    ensures { kept.new ≡ putRow kept.old m u }
+    ensures { kept.new ≡ put_row kept.old m u }
 {
     let r = kept[m];
     kept[m] = [u as u32, r[1], 0, WRITTEN as u32, r[4], r[5]];

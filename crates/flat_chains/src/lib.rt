@@ -1,9 +1,11 @@
 // Flat lines of which there is one for each cell, or two: the constants of an array sort, the comparisons of an eq or a neq and their joins, the chain of a read.
+#![tactic(auto)]
+
 ghost use Rattle.std.specs.Prelude.{◌≡◌, false, ◌+◌, ◌≤◌, ◌-◌, ◌*◌, length};
 ghost use Rattle.tables.specs.Layout.{held};
-ghost use Rattle.flattening.specs.Placed.{putFlat};
+ghost use Rattle.flattening.specs.Placed.{put_flat};
 ghost use Rattle.flattening.specs.Model.Cells.{Sound};
-ghost use Rattle.flattening.specs.Model.Rows.{arrayRecords, joinRecords, equalityRecords, readRecords};
+ghost use Rattle.flattening.specs.Model.Rows.{array_records, join_records, equality_records, read_records};
 
 use flat_cells::cells::KEPT;
 use flat_cells::{cells, rows, sources};
@@ -11,7 +13,7 @@ use flat_cells::{cells, rows, sources};
 // An array sort of n cells, whose index sort has the flat line s: a width-1 sort, then the index constants.
 pub fn array_lines(kept: &[[u32; KEPT]], s: u64, n: usize, p: usize, target: &mut [u64])
     requires { Sound kept.now × ((n ≤ 256) × (p + (1 + n) ≤ held false (length target.old))) }
-    ensures { target.new ≡ putFlat target.old p (arrayRecords kept.now s n) }
+    ensures { target.new ≡ put_flat target.old p (array_records kept.now s n) }
 {
     rows::put(target, p, records::of(1, 0, 1, 0, 0));
     let z = sources::run(0, 0);
@@ -21,7 +23,7 @@ pub fn array_lines(kept: &[[u32; KEPT]], s: u64, n: usize, p: usize, target: &mu
 // The ands, or ors, of n tests that begin at the place p, from the left.
 fn join_lines(kept: &[[u32; KEPT]], j: u64, s: u64, n: usize, p: usize, target: &mut [u64])
     requires { Sound kept.now × ((n ≤ 256) × ((p ≤ 65536) × (p + (n + (n - 1)) ≤ held false (length target.old)))) }
-    ensures { target.new ≡ putFlat target.old (p + n) (joinRecords kept.now p j s n) }
+    ensures { target.new ≡ put_flat target.old (p + n) (join_records kept.now p j s n) }
 {
     if n < 2 {
         return;
@@ -57,7 +59,7 @@ pub fn equality_lines(
     target: &mut [u64],
 )
     requires { Sound kept.now × ((n ≤ 256) × ((p ≤ 65536) × (p + (n + (n - 1)) ≤ held false (length target.old)))) }
-    ensures { target.new ≡ putFlat target.old p (equalityRecords kept.now p k j s x y n) }
+    ensures { target.new ≡ put_flat target.old p (equality_records kept.now p k j s x y n) }
 {
     rows::rows(
         kept,
@@ -85,7 +87,7 @@ pub fn read_lines(
     target: &mut [u64],
 )
     requires { Sound kept.now × ((2 ≤ n) × ((n ≤ 256) × ((p ≤ 60000) × ((o ≤ 65536) × (p + 2 * (n - 1) ≤ held false (length target.old)))))) }
-    ensures { target.new ≡ putFlat target.old p (readRecords kept.now p o i s a n) }
+    ensures { target.new ≡ put_flat target.old p (read_records kept.now p o i s a n) }
 {
     let last = cells::cell(kept, a, (n - 1) as u64);
     let m = n - 2;

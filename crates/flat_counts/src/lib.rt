@@ -1,8 +1,10 @@
 // The number of flat lines that a line leaves.
+#![tactic(auto)]
+
 ghost use Rattle.std.specs.Prelude.{◌≡◌, true, false, ◌≤◌, ◌+◌, ◌-◌};
-ghost use Rattle.flattening.specs.Model.Lines.{readCount, writeCount, notes, flatCount};
+ghost use Rattle.flattening.specs.Model.Lines.{read_count, write_count, notes, flat_count};
 ghost use Rattle.flattening.specs.Model.Fits.{Deep, Shallow};
-ghost use Rattle.tables.specs.Lines.{line_of, kindIn};
+ghost use Rattle.tables.specs.Lines.{line_of, kind_in};
 ghost use Rattle.tables.specs.Tables.{known as known_of};
 
 use flat_cells::cells::KEPT;
@@ -13,7 +15,7 @@ use tables::WORDS;
 // A read of n cells, by an index of which c is kept: by a constant it leaves no line.
 fn count_read(c: u64, n: usize) -> usize
     requires { n ≤ 256 }
-    ensures { result ≡ readCount c n }
+    ensures { result ≡ read_count c n }
 {
     if c == 0 {
         return 2 * sources::less(n, 1);
@@ -24,7 +26,7 @@ fn count_read(c: u64, n: usize) -> usize
 // A write of n cells.
 fn count_write(c: u64, n: usize) -> usize
     requires { n ≤ 256 }
-    ensures { result ≡ writeCount c n }
+    ensures { result ≡ write_count c n }
 {
     if c == 0 {
         return 2 * n;
@@ -34,8 +36,8 @@ fn count_write(c: u64, n: usize) -> usize
 
 // The line of a record.
 pub fn count_line(rec: [u64; WORDS], kept: &[[u32; KEPT]], types: &[[u8; BYTES]]) -> usize
-    requires { (known_of false (kindIn rec) ≡ true) × (Shallow types.now × Deep (notes kept.now types.now) (line_of rec)) }
-    ensures { result ≡ flatCount (notes kept.now types.now) (line_of rec) }
+    requires { (known_of false (kind_in rec) ≡ true) × (Shallow types.now × Deep (notes kept.now types.now) (line_of rec)) }
+    ensures { result ≡ flat_count (notes kept.now types.now) (line_of rec) }
 {
     let k = rec[0];
     let s = rec[1];

@@ -1,6 +1,8 @@
 // The flat lines of a line, by its kind.
+#![tactic(auto)]
+
 ghost use Rattle.std.specs.Prelude.{◌≡◌, true, false, ◌<◌, length};
-ghost use Rattle.tables.specs.Lines.{line_of, kindIn};
+ghost use Rattle.tables.specs.Lines.{line_of, kind_in};
 ghost use Rattle.tables.specs.Tables.{known as known_of};
 ghost use Rattle.flattening.specs.Model.Lines.{notes};
 ghost use Rattle.flattening.specs.Model.Fits.{Fit, MadeFlat};
@@ -18,7 +20,7 @@ fn operator(
     p: usize,
     target: &mut [u64],
 ) -> Made
-    requires { (known_of false (kindIn rec) ≡ true) × ((10 < kindIn rec) × Fit (notes kept.now types.now) p (line_of rec) (length target.old)) }
+    requires { (known_of false (kind_in rec) ≡ true) × ((10 < kind_in rec) × Fit (notes kept.now types.now) p (line_of rec) (length target.old)) }
     ensures { MadeFlat (notes kept.now types.now) p (line_of rec) target.old target.new result }
 {
     let k = rec[0];
@@ -48,7 +50,7 @@ pub fn line(
     p: usize,
     target: &mut [u64],
 ) -> Made
-    requires { (known_of false (kindIn rec) ≡ true) × Fit (notes kept.now types.now) p (line_of rec) (length target.old) }
+    requires { (known_of false (kind_in rec) ≡ true) × Fit (notes kept.now types.now) p (line_of rec) (length target.old) }
     ensures { MadeFlat (notes kept.now types.now) p (line_of rec) target.old target.new result }
 {
     let k = rec[0];

@@ -1,9 +1,11 @@
 // Lines that leave one flat line, and array sorts: the flat lines go to the target, and what later lines need of the line is answered.
+#![tactic(auto)]
+
 ghost use Rattle.std.specs.Prelude.{◌≡◌, false, [], ◌∷◌, ◌+◌, ◌<◌, length};
 ghost use Rattle.tables.specs.Lines.{Line, Expr};
 ghost use Rattle.tables.specs.Layout.{held};
-ghost use Rattle.flattening.specs.Placed.{putFlat};
-ghost use Rattle.flattening.specs.Model.Lines.{madeAs, small as smallOf, notes};
+ghost use Rattle.flattening.specs.Placed.{put_flat};
+ghost use Rattle.flattening.specs.Model.Lines.{made_as, small as small_of, notes};
 ghost use Rattle.flattening.specs.Model.Fits.{Fit, MadeFlat};
 
 use flat_cells::cells::KEPT;
@@ -15,7 +17,7 @@ use tables::WORDS;
 // A line that leaves one flat line.
 fn single(rec: [u64; WORDS], p: usize, a: u64, b: u64, k: u64, c: u64, target: &mut [u64]) -> Made
     requires { p < held false (length target.old) }
-    ensures { (result ≡ madeAs (p + 1) a b 0 k c) × (target.new ≡ putFlat target.old p (rec ∷ [])) }
+    ensures { (result ≡ made_as (p + 1) a b 0 k c) × (target.new ≡ put_flat target.old p (rec ∷ [])) }
 {
     rows::put(target, p, rec);
     Made {
@@ -30,7 +32,7 @@ fn single(rec: [u64; WORDS], p: usize, a: u64, b: u64, k: u64, c: u64, target: &
 
 // A small constant is kept as its value plus one.
 fn small(v: u64) -> u64
-    ensures { result ≡ smallOf v }
+    ensures { result ≡ small_of v }
 {
     if v < 256 {
         return v + 1;

@@ -1,10 +1,12 @@
 // The flat program over lists that are lent: a text becomes the flat text, or `refused N L`.
+#![tactic(auto)]
+
 ghost use Rattle.std.specs.Prelude.{◌≡◌, [], ◌∷◌, length};
 ghost use Rattle.std.proofs.lemmas.List.Edits.{sets};
 ghost use Rattle.tables.specs.Refusals.{number_of};
 ghost use Rattle.tables.specs.Answers.{told};
-ghost use Rattle.texts.specs.Writing.{writeTable};
-ghost use Rattle.flat_text.specs.Printing.{refusalLine, refusalIn, afterWriting, afterFlattening, prints};
+ghost use Rattle.texts.specs.Writing.{write_table};
+ghost use Rattle.flat_text.specs.Printing.{refusal_line, refusal_in, after_writing, after_flattening, prints};
 ghost use Rattle.flat_text.specs.Model.Output.{Printout};
 
 use records::bytes;
@@ -16,7 +18,7 @@ const REFUSED: [u8; 16] = [7, R, E, F, U, S, E, D, 0, 0, 0, 0, 0, 0, 0, 0];
 
 // `refused N L` and LF from the start of the output list; a byte past its end is counted and dropped.
 fn put_refusal(out: &mut [u8], number: u64, line: u64) -> usize
-    ensures { (result ≡ length (refusalLine number line)) × (out.new ≡ sets out.old 0 (refusalLine number line)) }
+    ensures { (result ≡ length (refusal_line number line)) × (out.new ≡ sets out.old 0 (refusal_line number line)) }
 {
     let a = writing::put_word(out, 0, REFUSED);
     let b = writing::put_numbers(out, a, 2, 0, [number, line, 0, 0, 0]);
@@ -25,7 +27,7 @@ fn put_refusal(out: &mut [u8], number: u64, line: u64) -> usize
 
 // A refusal: its line, or nothing where that has no room.
 fn refuse(r: Refusal, line: usize, out: &mut [u8]) -> usize
-    ensures { Printout (length out.old) (refusalIn (length out.old) (number_of r) line) result out.new }
+    ensures { Printout (length out.old) (refusal_in (length out.old) (number_of r) line) result out.new }
 {
     bytes::clear(out);
     let n = put_refusal(out, checks::number(r), line as u64);
@@ -39,7 +41,7 @@ fn refuse(r: Refusal, line: usize, out: &mut [u8]) -> usize
 // The text of a flat table with its count, or why it is not written.
 fn print(flat: &[u64], count: usize, out: &mut [u8]) -> usize
     ensures { Printout (length out.old)
-        (afterWriting (length out.old) (writeTable flat.now count (length out.old))) result out.new }
+        (after_writing (length out.old) (write_table flat.now count (length out.old))) result out.new }
 {
     match writing::write(flat, count, out) {
         Answer::Done(n) => n,
@@ -49,7 +51,7 @@ fn print(flat: &[u64], count: usize, out: &mut [u8]) -> usize
 
 // What is printed after flattening, by its answer and the target that it left.
 fn print_flat(a: Answer, flat: &[u64], out: &mut [u8]) -> usize
-    ensures { Printout (length out.old) (afterFlattening (length out.old) a flat.now) result out.new }
+    ensures { Printout (length out.old) (after_flattening (length out.old) a flat.now) result out.new }
 {
     match a {
         Answer::Refused(r, line) => refuse(r, line, out),

@@ -1,4 +1,6 @@
 // Flattening: a circuit with arrays becomes a circuit of words alone.
+#![tactic(auto)]
+
 mod whole; // the pass over the lines
 
 ghost use Rattle.std.specs.Prelude.{◌≡◌, [], ◌∷◌, ◌<◌, length};

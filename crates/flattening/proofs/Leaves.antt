@@ -9,37 +9,37 @@ use native.Mathlib.Omega.{arith}
 use lib.Dec.{leb}
 use lib.ListN.{length, get_or}
 use borrow.Author.Tests.{leb-true}
-use Rattle.tables.specs.Answers.{ifAccepted, leftBy}
+use Rattle.tables.specs.Answers.{if_accepted, left_by}
 use Rattle.tables.specs.declared.Refusal.TheVariants.{NotATable, TargetTooSmall}
 use Rattle.tables.specs.declared.Checked.{Checked}
 use Rattle.tables.specs.declared.Checked.TheVariants.{Accepted, Refused as RefusedTable}
 use Rattle.tables.specs.declared.Answer.{Answer}
 use Rattle.tables.specs.declared.Answer.TheVariants.{Done, Refused}
 use Rattle.tables.specs.Pick.{pick}
-use Rattle.tables.specs.Lines.{Line, words_of, kindIn}
-use Rattle.tables.specs.Layout.{whole, held, room, recordAt, recordsOf, lines_of, ids_of, from}
-use Rattle.tables.specs.Types.{noCtx}
+use Rattle.tables.specs.Lines.{Line, words_of, kind_in}
+use Rattle.tables.specs.Layout.{whole, held, room, record_at, records_of, lines_of, ids_of, from}
+use Rattle.tables.specs.Types.{no_ctx}
 use Rattle.tables.specs.Tables.{checked}
-use Rattle.tables.proofs.Outcomes.{not_done, done-count}
+use Rattle.tables.proofs.Outcomes.{not_done, done_count}
 use Rattle.tables.proofs.Kept.{both}
 use Rattle.tables.proofs.Facts.{AllOk}
 use Rattle.tables.proofs.Checking.{roomy}
-use Rattle.tables.proofs.Places.{record-at}
-use Rattle.tables.proofs.Sound.{accepted-ok}
+use Rattle.tables.proofs.Places.{record_at_lem}
+use Rattle.tables.proofs.Sound.{accepted_ok}
 use Rattle.circuits.specs.Layout.{layout}
-use Rattle.circuits.specs.Run.{rowLength, run, bytes, firstBad}
-use Rattle.flattening.specs.Flat.{flatten, flatLines, flatRecords}
-use Rattle.flattening.specs.Placed.{flatFilled}
-use Rattle.flattening.specs.Answers.{flattened, flatLeft}
-use Rattle.flattening.proofs.Alike.{flat_ok, SameCounts, counts-alike, rows_alike, runs-alike}
-use Rattle.flattening.proofs.Arrayless.{flat-plain, no-kind-two}
-use Rattle.flattening.proofs.Placing.{length-flat-filled, records-flat, accepted-flat, lines-flat, ids-flat}
+use Rattle.circuits.specs.Run.{row_length, run, bytes, first_bad}
+use Rattle.flattening.specs.Flat.{flatten, flat_lines, flat_records}
+use Rattle.flattening.specs.Placed.{flat_filled}
+use Rattle.flattening.specs.Answers.{flattened, flat_left}
+use Rattle.flattening.proofs.Alike.{flat_ok, SameCounts, counts_alike, rows_alike, runs_alike}
+use Rattle.flattening.proofs.Arrayless.{flat_plain, no_kind_two}
+use Rattle.flattening.proofs.Placing.{length_flat_filled, records_flat, accepted_flat, lines_flat, ids_flat}
 
 -- what an answer other than a refusal says
 pub record Answered (t : List ℕ) (n len m : ℕ) : Type 0 where
   pub accepted : checked false t n ≡ Accepted
   pub even : whole false len ≡ true
-  pub count : length (flatLines t n) ≡ m
+  pub count : length (flat_lines t n) ≡ m
   pub fits : m ≤ room false len
 
 pub answered : (t : List ℕ) (n len m : ℕ) → flattened t n len ≡ Done m → Answered t n len m
@@ -47,12 +47,12 @@ unfolding flattened
 answered t n len m e = go (whole false (length t) && whole false len) (checked false t n) (leb M (room false len)) refl refl refl e
   where
     M : ℕ
-    M = length (flatLines t n)
+    M = length (flat_lines t n)
 
     go : (a : Bool) (c : Checked) (b : Bool) → (whole false (length t) && whole false len) ≡ a → checked false t n ≡ c → leb M (room false len) ≡ b
-        → pick a (ifAccepted c (pick b (Done M) (Refused TargetTooSmall 0))) (Refused NotATable 0) ≡ Done m → Answered t n len m
+        → pick a (if_accepted c (pick b (Done M) (Refused TargetTooSmall 0))) (Refused NotATable 0) ≡ Done m → Answered t n len m
     go true Accepted true p q r z =
-        let d = done-count M m z in
+        let d = done_count M m z in
         record { accepted = q; even = (both (whole false (length t)) (whole false len) p).1; count = d; fits = subst (λ (x : ℕ). x ≤ room false len) d (leb-true M (room false len) r) }
     go true Accepted false p q r z = absurd (not_done TargetTooSmall m z)
     go true (RefusedTable x) b p q r z = absurd (not_done x m z)
@@ -63,18 +63,18 @@ module _ (t : List ℕ) (n len m : ℕ) (e : flattened t n len ≡ Done m) where
   a = answered t n len m e
 
   abbrev F : List Line
-  F = flatLines t n
+  F = flat_lines t n
 
   -- the circuit and its flat circuit keep the rules
-  ok : AllOk false noCtx (lines_of false t n)
-  ok = accepted-ok false t n a.accepted
+  ok : AllOk false no_ctx (lines_of false t n)
+  ok = accepted_ok false t n a.accepted
 
-  okF : AllOk false noCtx F
-  okF = flat_ok (lines_of false t n) ok
+  ok_f : AllOk false no_ctx F
+  ok_f = flat_ok (lines_of false t n) ok
 
-  left : flatLeft t n len ≡ flatFilled len (map words_of F)
-  unfolding flatLeft flatRecords
-  left = ap (λ (r : Answer). leftBy r len (flatFilled len (map words_of (flatLines t n)))) e
+  left : flat_left t n len ≡ flat_filled len (map words_of F)
+  unfolding flat_left flat_records
+  left = ap (λ (r : Answer). left_by r len (flat_filled len (map words_of (flat_lines t n)))) e
 
   small : (m ≤ 16384) × (m ≤ held false len)
   small = roomy false len m a.fits
@@ -83,45 +83,45 @@ module _ (t : List ℕ) (n len m : ℕ) (e : flattened t n len ≡ Done m) where
   fits = omega (arith, a.count, small.1)
 
   -- the target keeps its length
-  pub target-length : length (flatLeft t n len) ≡ len
-  target-length = ap length left ∙ length-flat-filled len (map words_of F)
+  pub target_length : length (flat_left t n len) ≡ len
+  target_length = ap length left ∙ length_flat_filled len (map words_of F)
 
   -- the flat table with the count answered is accepted
-  pub flat-accepted : checked false (flatLeft t n len) m ≡ Accepted
-  flat-accepted =
-      ap₂ (λ (x : List ℕ) (k : ℕ). checked false x k) left (sym a.count) ∙ accepted-flat F len fits okF (omega (arith, a.count, small.0)) a.even
+  pub flat_accepted : checked false (flat_left t n len) m ≡ Accepted
+  flat_accepted =
+      ap₂ (λ (x : List ℕ) (k : ℕ). checked false x k) left (sym a.count) ∙ accepted_flat F len fits ok_f (omega (arith, a.count, small.0)) a.even
 
   -- and its lines are the flat circuit's
-  pub flat-lines : lines_of false (flatLeft t n len) m ≡ flatten (lines_of false t n)
-  flat-lines = ap₂ (λ (x : List ℕ) (k : ℕ). lines_of false x k) left (sym a.count) ∙ lines-flat F len fits okF
+  pub flat_lines_lem : lines_of false (flat_left t n len) m ≡ flatten (lines_of false t n)
+  flat_lines_lem = ap₂ (λ (x : List ℕ) (k : ℕ). lines_of false x k) left (sym a.count) ∙ lines_flat F len fits ok_f
 
   -- numbered 1, 2, 3
-  pub flat-ids : ids_of (flatLeft t n len) m ≡ from 1 m
-  flat-ids = ap₂ (λ (x : List ℕ) (k : ℕ). ids_of x k) left (sym a.count) ∙ (ids-flat F len fits ∙ ap (from 1) a.count)
+  pub flat_ids : ids_of (flat_left t n len) m ≡ from 1 m
+  flat_ids = ap₂ (λ (x : List ℕ) (k : ℕ). ids_of x k) left (sym a.count) ∙ (ids_flat F len fits ∙ ap (from 1) a.count)
 
   -- none of its records has kind 2
-  pub flat-kinds : (i : ℕ) → i < m → kindIn (recordAt false (flatLeft t n len) i) ≢ 2
-  flat-kinds i h z = no-kind-two noCtx F (flat-plain (lines_of false t n)) okF i (ap kindIn (sym same) ∙ z)
+  pub flat_kinds : (i : ℕ) → i < m → kind_in (record_at false (flat_left t n len) i) ≢ 2
+  flat_kinds i h z = no_kind_two no_ctx F (flat_plain (lines_of false t n)) ok_f i (ap kind_in (sym same) ∙ z)
     where
-      same : recordAt false (flatLeft t n len) i ≡ get_or (map words_of F) i []
+      same : record_at false (flat_left t n len) i ≡ get_or (map words_of F) i []
       same =
-          sym (record-at false (flatLeft t n len) m i h)
-          ∙ ap (λ (rs : List (List ℕ)). get_or rs i []) (ap₂ (λ (x : List ℕ) (k : ℕ). recordsOf false x k) left (sym a.count) ∙ records-flat F len fits)
+          sym (record_at_lem false (flat_left t n len) m i h)
+          ∙ ap (λ (rs : List (List ℕ)). get_or rs i []) (ap₂ (λ (x : List ℕ) (k : ℕ). records_of false x k) left (sym a.count) ∙ records_flat F len fits)
 
   -- it has as many state words, inputs and signals
-  pub flat-counts : SameCounts (lines_of false t n) (lines_of false (flatLeft t n len) m)
-  flat-counts = subst⁻¹ (λ (x : List Line). SameCounts (lines_of false t n) x) flat-lines (counts-alike (lines_of false t n) ok)
+  pub flat_counts : SameCounts (lines_of false t n) (lines_of false (flat_left t n len) m)
+  flat_counts = subst⁻¹ (λ (x : List Line). SameCounts (lines_of false t n) x) flat_lines_lem (counts_alike (lines_of false t n) ok)
 
   -- and rows as long: inputs, and words for free states
-  pub flat-row : rowLength false (lines_of false (flatLeft t n len) m) ≡ rowLength false (lines_of false t n)
-  flat-row = ap (rowLength false) flat-lines ∙ rows_alike (lines_of false t n) ok
+  pub flat_row : row_length false (lines_of false (flat_left t n len) m) ≡ row_length false (lines_of false t n)
+  flat_row = ap (row_length false) flat_lines_lem ∙ rows_alike (lines_of false t n) ok
 
   -- and the same run: signals with their marks, hence bytes and the first counted bad
-  pub flat-run : (k : ℕ) (S I : List ℕ) → (layout false (lines_of false t n)).counts.states ≤ length S → run false (lines_of false (flatLeft t n len) m) k S I ≡ run false (lines_of false t n) k S I
-  flat-run k S I h = ap (λ (C : List Line). run false C k S I) flat-lines ∙ runs-alike (lines_of false t n) ok k S I h
+  pub flat_run : (k : ℕ) (S I : List ℕ) → (layout false (lines_of false t n)).counts.states ≤ length S → run false (lines_of false (flat_left t n len) m) k S I ≡ run false (lines_of false t n) k S I
+  flat_run k S I h = ap (λ (C : List Line). run false C k S I) flat_lines_lem ∙ runs_alike (lines_of false t n) ok k S I h
 
-  pub flat-bytes : (k : ℕ) (S I : List ℕ) → (layout false (lines_of false t n)).counts.states ≤ length S → bytes (run false (lines_of false (flatLeft t n len) m) k S I) ≡ bytes (run false (lines_of false t n) k S I)
-  flat-bytes k S I h = ap bytes (flat-run k S I h)
+  pub flat_bytes : (k : ℕ) (S I : List ℕ) → (layout false (lines_of false t n)).counts.states ≤ length S → bytes (run false (lines_of false (flat_left t n len) m) k S I) ≡ bytes (run false (lines_of false t n) k S I)
+  flat_bytes k S I h = ap bytes (flat_run k S I h)
 
-  pub flat-bad : (k : ℕ) (S I : List ℕ) → (layout false (lines_of false t n)).counts.states ≤ length S → firstBad 0 (run false (lines_of false (flatLeft t n len) m) k S I) ≡ firstBad 0 (run false (lines_of false t n) k S I)
-  flat-bad k S I h = ap (firstBad 0) (flat-run k S I h)
+  pub flat_bad : (k : ℕ) (S I : List ℕ) → (layout false (lines_of false t n)).counts.states ≤ length S → first_bad 0 (run false (lines_of false (flat_left t n len) m) k S I) ≡ first_bad 0 (run false (lines_of false t n) k S I)
+  flat_bad k S I h = ap (first_bad 0) (flat_run k S I h)

@@ -5,18 +5,18 @@ use mathlib.Core.List.{List, [], ◌∷◌}
 use lib.ListN.{get_or}
 use Rattle.tables.specs.declared.Answer.{Answer}
 use Rattle.tables.specs.Answers.{told}
-use Rattle.tables.proofs.Outcomes.{told-as, told-answer, told-left}
-use Rattle.flattening.specs.Answers.{flattened, flatLeft, flattens}
+use Rattle.tables.proofs.Outcomes.{told_as, told_answer, told_left}
+use Rattle.flattening.specs.Answers.{flattened, flat_left, flattens}
 
 module _ (t : List ℕ) (n len : ℕ) where
-  pub flattens-as : {r : Answer} {x : List ℕ} → r ≡ flattened t n len → x ≡ flatLeft t n len → told r (x ∷ []) ≡ flattens t n len
+  pub flattens_as : {r : Answer} {x : List ℕ} → r ≡ flattened t n len → x ≡ flat_left t n len → told r (x ∷ []) ≡ flattens t n len
   unfolding flattens
-  flattens-as e f = told-as e (ap (λ (y : List ℕ). y ∷ []) f)
+  flattens_as e f = told_as e (ap (λ (y : List ℕ). y ∷ []) f)
 
-  pub flattens-answer : (r : Answer) (x : List ℕ) → told r (x ∷ []) ≡ flattens t n len → r ≡ flattened t n len
+  pub flattens_answer : (r : Answer) (x : List ℕ) → told r (x ∷ []) ≡ flattens t n len → r ≡ flattened t n len
   unfolding flattens
-  flattens-answer r x e = told-answer r (flattened t n len) (x ∷ []) (flatLeft t n len ∷ []) e
+  flattens_answer r x e = told_answer r (flattened t n len) (x ∷ []) (flat_left t n len ∷ []) e
 
-  pub flattens-left : (r : Answer) (x : List ℕ) → told r (x ∷ []) ≡ flattens t n len → x ≡ flatLeft t n len
+  pub flattens_left : (r : Answer) (x : List ℕ) → told r (x ∷ []) ≡ flattens t n len → x ≡ flat_left t n len
   unfolding flattens
-  flattens-left r x e = ap (λ (l : List (List ℕ)). get_or l 0 []) (told-left r (flattened t n len) (x ∷ []) (flatLeft t n len ∷ []) e)
+  flattens_left r x e = ap (λ (l : List (List ℕ)). get_or l 0 []) (told_left r (flattened t n len) (x ∷ []) (flat_left t n len ∷ []) e)

@@ -14,40 +14,40 @@ use Rattle.tables.specs.Layout.{whole, lines_of}
 use Rattle.tables.specs.Types.{context}
 use Rattle.tables.specs.Model.Notes.{blank, Shows}
 use Rattle.tables.specs.Tables.{checked}
-use Rattle.tables.specs.Answers.{told, leftBy}
+use Rattle.tables.specs.Answers.{told, left_by}
 use Rattle.tables.proofs.Checking.{fresh}
-use Rattle.tables.proofs.Encoding.{fits-table}
-use Rattle.flattening.specs.Flat.{flatRecords}
+use Rattle.tables.proofs.Encoding.{fits_table}
+use Rattle.flattening.specs.Flat.{flat_records}
 use Rattle.flattening.specs.Model.Cells.{nothing}
 use Rattle.flattening.specs.Model.Start.{Begun, Clear, Blank}
-use Rattle.flattening.specs.Placed.{flatFilled}
-use Rattle.flattening.specs.Answers.{flattened, flatLeft, flattens}
-use Rattle.flattening.proofs.Outcomes.{flattens-as}
+use Rattle.flattening.specs.Placed.{flat_filled}
+use Rattle.flattening.specs.Answers.{flattened, flat_left, flattens}
+use Rattle.flattening.proofs.Outcomes.{flattens_as}
 
 -- ---- refusals leave zeros
 
 module _ (t : List ℕ) (n len : ℕ) {left : List ℕ} (zeros : left ≡ replicate len 0) where
   refused_as : (r : Refusal) → Refused r 0 ≡ flattened t n len → told (Refused r 0) (left ∷ []) ≡ flattens t n len
-  unfolding flatLeft
-  refused_as r e = flattens-as t n len e (zeros ∙ ap (λ (x : Answer). leftBy x len (flatFilled len (flatRecords t n))) e)
+  unfolding flat_left
+  refused_as r e = flattens_as t n len e (zeros ∙ ap (λ (x : Answer). left_by x len (flat_filled len (flat_records t n))) e)
 
-  pub first-refused : whole false (length t) ≡ false → told (Refused NotATable 0) (left ∷ []) ≡ flattens t n len
+  pub first_refused : whole false (length t) ≡ false → told (Refused NotATable 0) (left ∷ []) ≡ flattens t n len
   unfolding flattened
-  first-refused e = refused_as NotATable (rw e)
+  first_refused e = refused_as NotATable (rw e)
 
-  pub second-refused : whole false (length t) ≡ true → whole false len ≡ false → told (Refused NotATable 0) (left ∷ []) ≡ flattens t n len
+  pub second_refused : whole false (length t) ≡ true → whole false len ≡ false → told (Refused NotATable 0) (left ∷ []) ≡ flattens t n len
   unfolding flattened
-  second-refused e f = refused_as NotATable (rw (e, f))
+  second_refused e f = refused_as NotATable (rw (e, f))
 
-  check-refused : whole false (length t) ≡ true → whole false len ≡ true → (r : Refusal) → checked false t n ≡ RefusedTable r → told (Refused r 0) (left ∷ []) ≡ flattens t n len
+  check_refused : whole false (length t) ≡ true → whole false len ≡ true → (r : Refusal) → checked false t n ≡ RefusedTable r → told (Refused r 0) (left ∷ []) ≡ flattens t n len
   unfolding flattened
-  check-refused e f r q = refused_as r (rw (e, f, q))
+  check_refused e f r q = refused_as r (rw (e, f, q))
 
 -- ---- two whole tables, and an empty target
 
 module _ (t : List ℕ) (n : ℕ) {target : List ℕ} where
   pub refused : Clear t target → (r : Refusal) → RefusedTable r ≡ checked false t n → told (Refused r 0) (target ∷ []) ≡ flattens t n (length target)
-  refused k r q = check-refused t n (length target) k.empty k.first k.even r (sym q)
+  refused k r q = check_refused t n (length target) k.empty k.first k.even r (sym q)
 
   pub begin : {types₀ types kept : List (List ℕ)} → Blank t n types₀ kept target → Accepted ≡ checked false t n → Shows types (context false (lines_of false t n)) → Begun t n types kept target
   begin k a s =
@@ -58,24 +58,24 @@ module _ (t : List ℕ) (n : ℕ) {target : List ℕ} where
         even = k.clear.even;
         empty = k.clear.empty;
         size = k.size;
-        wide = k.wide (fits-table false t n (sym a)).0;
+        wide = k.wide (fits_table false t n (sym a)).0;
         most = k.most;
-        no-kept = k.no-kept;
+        no_kept = k.no_kept;
       }
 
 -- lists of m entries
-pub blank-lists : (t : List ℕ) (n m : ℕ) {target : List ℕ} → Clear t target → (n ≤ 16384 → n < m) → m ≤ 65536 → Blank t n (replicate m blank) (replicate m nothing) target
-blank-lists t n m k h l = record { clear = k; fresh = fresh n m h; size = m; wide = h; most = l; no-kept = refl }
+pub blank_lists : (t : List ℕ) (n m : ℕ) {target : List ℕ} → Clear t target → (n ≤ 16384 → n < m) → m ≤ 65536 → Blank t n (replicate m blank) (replicate m nothing) target
+blank_lists t n m k h l = record { clear = k; fresh = fresh n m h; size = m; wide = h; most = l; no_kept = refl }
 
 -- ---- a target that has been cleared keeps its length and is empty
 
 module _ (t xs : List ℕ) {ys : List ℕ} (cleared : ys ≡ replicate (length xs) 0) where
-  pub cleared-length : length ys ≡ length xs
-  cleared-length = ap length cleared ∙ length-replicate {A = ℕ} (length xs) 0
+  pub cleared_length : length ys ≡ length xs
+  cleared_length = ap length cleared ∙ length-replicate {A = ℕ} (length xs) 0
 
-  pub is-clear : whole false (length t) ≡ true → whole false (length ys) ≡ true → Clear t ys
-  is-clear f e = record { first = f; even = e; empty = cleared ∙ ap (λ (m : ℕ). replicate {A = ℕ} m 0) (sym cleared-length) }
+  pub is_clear : whole false (length t) ≡ true → whole false (length ys) ≡ true → Clear t ys
+  is_clear f e = record { first = f; even = e; empty = cleared ∙ ap (λ (m : ℕ). replicate {A = ℕ} m 0) (sym cleared_length) }
 
   -- the outcome is that of the target before
-  pub as-cleared : (n : ℕ) → flattens t n (length ys) ≡ flattens t n (length xs)
-  as-cleared n = ap (flattens t n) cleared-length
+  pub as_cleared : (n : ℕ) → flattens t n (length ys) ≡ flattens t n (length xs)
+  as_cleared n = ap (flattens t n) cleared_length

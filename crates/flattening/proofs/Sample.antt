@@ -9,59 +9,59 @@ use lib.ListN.{length}
 use Rattle.tables.specs.declared.Checked.TheVariants.{Accepted}
 use Rattle.tables.specs.declared.Answer.TheVariants.{Done}
 use Rattle.tables.specs.Kinds.{row_of}
-use Rattle.tables.specs.Layout.{filledBy, lines_of, wordsFor}
-use Rattle.tables.specs.Types.{noCtx}
+use Rattle.tables.specs.Layout.{filled_by, lines_of, words_for}
+use Rattle.tables.specs.Types.{no_ctx}
 use Rattle.tables.specs.Rules.{suits, fault}
 use Rattle.tables.specs.Tables.{checked}
 use Rattle.tables.proofs.Facts.{AllOk}
-use Rattle.tables.proofs.Sound.{accepted-ok}
+use Rattle.tables.proofs.Sound.{accepted_ok}
 use Rattle.circuits.specs.Examples.{circuit}
-use Rattle.circuits.specs.FreeExamples.{circuit as freeCircuit, lines as freeLines}
+use Rattle.circuits.specs.FreeExamples.{circuit as free_circuit, lines as free_lines}
 use Rattle.circuits.specs.Layout.{layout}
 use Rattle.circuits.specs.Free.{driven, free, sources}
-use Rattle.circuits.specs.Run.{rowLength, run}
+use Rattle.circuits.specs.Run.{row_length, run}
 use Rattle.flattening.specs.Flat.{flatten}
-use Rattle.flattening.specs.Answers.{flattened, flatLeft}
-use Rattle.flattening.proofs.Leaves.{flat-accepted, flat-row, flat-run}
+use Rattle.flattening.specs.Answers.{flattened, flat_left}
+use Rattle.flattening.proofs.Leaves.{flat_accepted, flat_row, flat_run}
 
-circuit-accepted : checked false circuit 11 ≡ Accepted
-unfolding checked fault suits row_of filledBy
-circuit-accepted = refl
+circuit_accepted : checked false circuit 11 ≡ Accepted
+unfolding checked fault suits row_of filled_by
+circuit_accepted = refl
 
-circuit-ok : AllOk false noCtx (lines_of false circuit 11)
-circuit-ok = accepted-ok false circuit 11 circuit-accepted
+circuit_ok : AllOk false no_ctx (lines_of false circuit 11)
+circuit_ok = accepted_ok false circuit 11 circuit_accepted
 
-circuit-answer : flattened circuit 11 (wordsFor false 19) ≡ Done 19
-unfolding flattened checked fault suits row_of flatten filledBy
-circuit-answer = refl
+circuit_answer : flattened circuit 11 (words_for false 19) ≡ Done 19
+unfolding flattened checked fault suits row_of flatten filled_by
+circuit_answer = refl
 
-circuit-words : (layout false (lines_of false circuit 11)).counts.states ≡ 2
-unfolding layout filledBy
-circuit-words = refl
+circuit_words : (layout false (lines_of false circuit 11)).counts.states ≡ 2
+unfolding layout filled_by
+circuit_words = refl
 
-pub circuit-flat : checked false (flatLeft circuit 11 (wordsFor false 19)) 19 ≡ Accepted
-circuit-flat = flat-accepted circuit 11 (wordsFor false 19) 19 circuit-answer
+pub circuit_flat : checked false (flat_left circuit 11 (words_for false 19)) 19 ≡ Accepted
+circuit_flat = flat_accepted circuit 11 (words_for false 19) 19 circuit_answer
 
-pub circuit-run : (k : ℕ) (S I : List ℕ) → length S ≡ 2 → run false (lines_of false (flatLeft circuit 11 (wordsFor false 19)) 19) k S I ≡ run false (lines_of false circuit 11) k S I
-circuit-run k S I h = flat-run circuit 11 (wordsFor false 19) 19 circuit-answer k S I (omega (arith, circuit-words, h))
+pub circuit_run : (k : ℕ) (S I : List ℕ) → length S ≡ 2 → run false (lines_of false (flat_left circuit 11 (words_for false 19)) 19) k S I ≡ run false (lines_of false circuit 11) k S I
+circuit_run k S I h = flat_run circuit 11 (words_for false 19) 19 circuit_answer k S I (omega (arith, circuit_words, h))
 
 -- ---- an array state of two cells and a word state, both free, and a state that is driven by itself
 
-free-answer : flattened freeCircuit 15 (wordsFor false 19) ≡ Done 19
-unfolding flattened checked fault suits row_of flatten filledBy
-free-answer = refl
+free_answer : flattened free_circuit 15 (words_for false 19) ≡ Done 19
+unfolding flattened checked fault suits row_of flatten filled_by
+free_answer = refl
 
 -- the states of the cells stand where the array state stood
-free-cells : sources false (flatten freeLines) ≡ free 3 ∷ free 3 ∷ free 3 ∷ driven ∷ []
-unfolding sources layout flatten filledBy
-free-cells = refl
+free_cells : sources false (flatten free_lines) ≡ free 3 ∷ free 3 ∷ free 3 ∷ driven ∷ []
+unfolding sources layout flatten filled_by
+free_cells = refl
 
-free-words : ((layout false freeLines).counts.states ≡ 4) × (rowLength false freeLines ≡ 4)
-unfolding sources layout filledBy
-free-words = (refl, refl)
+free_words : ((layout false free_lines).counts.states ≡ 4) × (row_length false free_lines ≡ 4)
+unfolding sources layout filled_by
+free_words = (refl, refl)
 
-pub free-row : rowLength false (lines_of false (flatLeft freeCircuit 15 (wordsFor false 19)) 19) ≡ 4
-free-row = flat-row freeCircuit 15 (wordsFor false 19) 19 free-answer ∙ free-words.1
+pub free_row : row_length false (lines_of false (flat_left free_circuit 15 (words_for false 19)) 19) ≡ 4
+free_row = flat_row free_circuit 15 (words_for false 19) 19 free_answer ∙ free_words.1
 
-pub free-run : (k : ℕ) (S I : List ℕ) → length S ≡ 4 → run false (lines_of false (flatLeft freeCircuit 15 (wordsFor false 19)) 19) k S I ≡ run false freeLines k S I
-free-run k S I h = flat-run freeCircuit 15 (wordsFor false 19) 19 free-answer k S I (omega (arith, free-words.0, h))
+pub free_run : (k : ℕ) (S I : List ℕ) → length S ≡ 4 → run false (lines_of false (flat_left free_circuit 15 (words_for false 19)) 19) k S I ≡ run false free_lines k S I
+free_run k S I h = flat_run free_circuit 15 (words_for false 19) 19 free_answer k S I (omega (arith, free_words.0, h))

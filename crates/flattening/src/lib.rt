@@ -1,5 +1,6 @@
 // Flattening: the flat circuit, that it is accepted and that it runs as its circuit does. The code is in
 // `flat_cells`, `flat_chains`, `flat_lines`, `flat_arrays`, `flat_dispatch`, `flat_counts` and `flatten`.
+#![tactic(auto)]
 
 // Where the words of a row of records come from: the cells of a line, or base + step * j. A falling row counts j down from top.
 #[derive(Drop)]

@@ -1,10 +1,10 @@
 // The head of a line: its id and its word.
 ghost use Rattle.std.specs.Prelude.{◌≡◌, ◌≤◌, length, drop};
 ghost use Rattle.tables.specs.Kinds.{rows};
-ghost use Rattle.texts.specs.Split.{tokens as tokensIn};
+ghost use Rattle.texts.specs.Split.{tokens as tokens_in};
 ghost use Rattle.texts.specs.Reading.{word_in};
-ghost use Rattle.texts.specs.Naming.{isId};
-ghost use Rattle.texts.specs.Model.Structs.{asWord, NextId};
+ghost use Rattle.texts.specs.Naming.{is_id};
+ghost use Rattle.texts.specs.Model.Structs.{as_word, NextId};
 ghost use Rattle.texts.specs.Decimal.{decimal};
 
 use crate::{find, find_kind, is_sort};
@@ -15,7 +15,7 @@ use tokens::numbers;
 // The line's word, from the place i on; kinds are the rows of all kinds.
 pub fn word(kinds: &[[u8; 16]; 63], l: &[u8], i: usize) -> Form
     requires { (kinds.now ≡ rows) × (i ≤ length l.now) }
-    ensures { (result.at ≤ length l.now) × ((result.form ≤ 68) × (word_in (tokensIn (drop i l.now)) ≡ asWord l.now result)) }
+    ensures { (result.at ≤ length l.now) × ((result.form ≤ 68) × (word_in (tokens_in (drop i l.now)) ≡ as_word l.now result)) }
 {
     let a = tokens::skip(l, i);
     if a == l.len() {
@@ -37,7 +37,7 @@ pub fn word(kinds: &[[u8; 16]; 63], l: &[u8], i: usize) -> Form
 
 // The token is the number n.
 pub fn is_id(t: &[u8], n: u64) -> bool
-    ensures { result ≡ isId (decimal t.now) n }
+    ensures { result ≡ is_id (decimal t.now) n }
 {
     let r = numbers::decimal(t);
     match r {

@@ -1,12 +1,14 @@
 // The words of lines: the rows of the kinds, and of the five other words for a constant.
+#![tactic(auto)]
+
 pub mod heads; // the id and the word of a line
 pub mod operands; // the numbers of a line
 
 ghost use Rattle.std.specs.Prelude.{◌≡◌, false, ◌≤◌, ◌<◌, ◌+◌, get_or};
-ghost use Rattle.texts.specs.Forms.{extra, formRow, kind_of, sorted as sortedOf, sortWord};
+ghost use Rattle.texts.specs.Forms.{extra, form_row, kind_of, sorted as sorted_of, sort_word};
 ghost use Rattle.tables.specs.Kinds.{rows, word_of};
-ghost use Rattle.texts.specs.Split.{sameBytes};
-ghost use Rattle.texts.specs.Reading.{findIn, findWord};
+ghost use Rattle.texts.specs.Split.{same_bytes};
+ghost use Rattle.texts.specs.Reading.{find_in, find_word};
 
 use records::kinds;
 use records::kinds::letters::*;
@@ -31,7 +33,7 @@ fn others() -> [[u8; 16]; 5]
 // The row of the form f; kinds are the rows of all kinds.
 pub fn row(kinds: &[[u8; 16]; 63], f: usize) -> [u8; 16]
     requires { (kinds.now ≡ rows) × ((1 ≤ f) × (f ≤ 68)) }
-    ensures { result ≡ formRow f }
+    ensures { result ≡ form_row f }
 {
     if 63 < f {
         let t = others();
@@ -52,7 +54,7 @@ pub fn kind_of(f: usize) -> u64
 
 // 1 where a line has a sort, else 0.
 pub fn sorted(row: [u8; 16]) -> usize
-    ensures { result ≡ sortedOf row }
+    ensures { result ≡ sorted_of row }
 {
     if row[11] == NONE {
         return 0;
@@ -63,7 +65,7 @@ pub fn sorted(row: [u8; 16]) -> usize
 // A token is the word of a row.
 fn is_word(t: &[u8], r: [u8; 16]) -> bool
     requires { get_or r 0 0 ≤ 10 }
-    ensures { result ≡ sameBytes t.now (word_of r) }
+    ensures { result ≡ same_bytes t.now (word_of r) }
 {
     let n = r[0] as usize;
     if t.len() != n {
@@ -81,7 +83,7 @@ fn is_word(t: &[u8], r: [u8; 16]) -> bool
 
 // The token is `sort`.
 fn is_sort(t: &[u8]) -> bool
-    ensures { result ≡ sameBytes t.now sortWord }
+    ensures { result ≡ same_bytes t.now sort_word }
 {
     if t.len() != 4 {
         return false;
@@ -101,7 +103,7 @@ fn is_sort(t: &[u8]) -> bool
 // The word of the kind j has the first letter and the length of the token t: so most kinds are passed over by one byte of their rows. A mask, kind 56, has no word.
 fn begins(kinds: &[[u8; 16]; 63], j: usize, t: &[u8]) -> bool
     requires { (kinds.now ≡ rows) × ((1 ≤ j) × ((j ≤ 63) × (j ≡ 56 → ⊥))) }
-    ensures { result ≡ false → sameBytes t.now (word_of (formRow j)) ≡ false }
+    ensures { result ≡ false → same_bytes t.now (word_of (form_row j)) ≡ false }
 {
     if t.len() == 0 {
         return false;
@@ -116,7 +118,7 @@ fn begins(kinds: &[[u8; 16]; 63], j: usize, t: &[u8]) -> bool
 // The first of n kinds from k on that has the word t, or 0; a mask, which has no word, is none of them. kinds are the rows of all kinds.
 fn find_kind(kinds: &[[u8; 16]; 63], t: &[u8], k: usize, n: usize) -> usize
     requires { (kinds.now ≡ rows) × ((1 ≤ k) × ((k + n ≤ 64) × (56 < k + n → 56 < k))) }
-    ensures { result ≡ findIn k n t.now }
+    ensures { result ≡ find_in k n t.now }
 {
     let e = k + n;
     let mut j = k;
@@ -134,7 +136,7 @@ fn find_kind(kinds: &[[u8; 16]; 63], t: &[u8], k: usize, n: usize) -> usize
 
 // The first of the forms 64 to 68 that has the word t, or 0.
 fn find_other(t: &[u8]) -> usize
-    ensures { result ≡ findIn 64 5 t.now }
+    ensures { result ≡ find_in 64 5 t.now }
 {
     let rows = others();
     let mut j: usize = 0;
@@ -151,7 +153,7 @@ fn find_other(t: &[u8]) -> usize
 // The form other than a sort's that has the word t, or 0; kinds are the rows of all kinds. Overflow detectors come last, so that other words are found as fast as without them.
 fn find(kinds: &[[u8; 16]; 63], t: &[u8]) -> usize
     requires { kinds.now ≡ rows }
-    ensures { result ≡ findWord t.now }
+    ensures { result ≡ find_word t.now }
 {
     let f = find_kind(kinds, t, 3, 53);
     if f != 0 {

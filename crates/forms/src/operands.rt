@@ -1,13 +1,13 @@
 // The numbers of a line, and their signs.
 ghost use Rattle.std.specs.Prelude.{◌≡◌, false, ◌+◌, ◌≤◌, length, drop};
-ghost use Rattle.texts.specs.Minus.{noSigns};
-ghost use Rattle.texts.specs.Reading.{signAt, plainAt, number_at};
-ghost use Rattle.texts.specs.Model.Stages.{operands as operandsOf};
+ghost use Rattle.texts.specs.Minus.{no_signs};
+ghost use Rattle.texts.specs.Reading.{sign_at, plain_at, number_at};
+ghost use Rattle.texts.specs.Model.Stages.{operands as operands_of};
 ghost use Rattle.tables.specs.Kinds.{rows, class_at};
-ghost use Rattle.tables.specs.Lines.{kindIn};
-ghost use Rattle.tables.specs.Layout.{recordWords};
-ghost use Rattle.texts.specs.Split.{tokens as tokensIn};
-ghost use Rattle.texts.specs.Model.Structs.{asTook};
+ghost use Rattle.tables.specs.Lines.{kind_in};
+ghost use Rattle.tables.specs.Layout.{record_words};
+ghost use Rattle.texts.specs.Split.{tokens as tokens_in};
+ghost use Rattle.texts.specs.Model.Structs.{as_took};
 
 use crate::row;
 use records::kinds::{NONE, NUM};
@@ -17,7 +17,7 @@ use tokens::numbers;
 
 // The number that a token without a sign is, at the place j of a line of the form f.
 fn number(f: usize, j: usize, t: &[u8]) -> Num
-    ensures { result ≡ plainAt f j t.now }
+    ensures { result ≡ plain_at f j t.now }
 {
     if j == 2 {
         if f == 64 {
@@ -46,7 +46,7 @@ fn class_at(r: [u8; 16], j: usize) -> u8
 // a token that begins with a minus.
 fn has_minus(kinds: &[[u8; 16]; 63], f: usize, j: usize, t: &[u8]) -> bool
     requires { (kinds.now ≡ rows) × ((1 ≤ f) × ((f ≤ 68) × ((1 ≤ j) × (j ≤ 4)))) }
-    ensures { result ≡ signAt f j t.now }
+    ensures { result ≡ sign_at f j t.now }
 {
     if t.len() == 0 {
         return false;
@@ -64,7 +64,7 @@ fn has_minus(kinds: &[[u8; 16]; 63], f: usize, j: usize, t: &[u8]) -> bool
 // The number and the sign of a token, at the place j of a line of the form f; kinds are the rows of all kinds.
 fn token(kinds: &[[u8; 16]; 63], f: usize, j: usize, t: &[u8]) -> Signed
     requires { (kinds.now ≡ rows) × ((1 ≤ f) × ((f ≤ 68) × ((1 ≤ j) × (j ≤ 4)))) }
-    ensures { (result.num ≡ number_at f j t.now) × (result.minus ≡ signAt f j t.now) }
+    ensures { (result.num ≡ number_at f j t.now) × (result.minus ≡ sign_at f j t.now) }
 {
     if has_minus(kinds, f, j, t) {
         return Signed {
@@ -88,9 +88,9 @@ pub fn operands(
     j: usize,
     start: [u64; WORDS],
 ) -> Taken
-    requires { (kinds.now ≡ rows) × ((1 ≤ f) × ((f ≤ 68) × ((i ≤ length l.now) × ((1 ≤ j) × (j + m ≤ recordWords))))) }
-    ensures { (result.at ≤ length l.now) × ((kindIn result.rec ≡ kindIn start)
-        × (operandsOf f m j start noSigns false 0 (tokensIn (drop i l.now)) ≡ asTook l.now result)) }
+    requires { (kinds.now ≡ rows) × ((1 ≤ f) × ((f ≤ 68) × ((i ≤ length l.now) × ((1 ≤ j) × (j + m ≤ record_words))))) }
+    ensures { (result.at ≤ length l.now) × ((kind_in result.rec ≡ kind_in start)
+        × (operands_of f m j start no_signs false 0 (tokens_in (drop i l.now)) ≡ as_took l.now result)) }
 {
     let e = j + m;
     let mut rec = start;

@@ -1,13 +1,15 @@
 // States that nobody drives: their lines, found once for a run, and their words from the row of each step after the first.
+#![tactic(auto)]
+
 ghost use Rattle.std.specs.Prelude.{◌≡◌, false, List, ◌++◌, ℕ, ◌≤◌, ◌+◌, ◌<◌, length, take, drop};
 ghost use Rattle.words.specs.Word.{Width};
-ghost use Rattle.tables.specs.Lines.{line_of, kindIn};
+ghost use Rattle.tables.specs.Lines.{line_of, kind_in};
 ghost use Rattle.tables.specs.Layout.{lines_of};
-ghost use Rattle.tables.specs.Model.Notes.{givenIn};
-ghost use Rattle.circuits.specs.Cells.{part, put, maskWords};
-ghost use Rattle.circuits.specs.Model.Work.{numIn, posIn, widIn};
+ghost use Rattle.tables.specs.Model.Notes.{given_in};
+ghost use Rattle.circuits.specs.Cells.{part, put, mask_words};
+ghost use Rattle.circuits.specs.Model.Work.{num_in, pos_in, wid_in};
 ghost use Rattle.circuits.specs.Model.Passes.{Noted};
-ghost use Rattle.circuits.specs.Model.Feeding.{freeLine, freeLines, cells_in, fedLines, entered_in, FitFed, AllFed};
+ghost use Rattle.circuits.specs.Model.Feeding.{free_line, free_lines, cells_in, fed_lines, entered_in, FitFed, AllFed};
 
 use area::LAID;
 use records::notes::BYTES;
@@ -15,7 +17,7 @@ use records::notes::BYTES;
 // The line n, of the kind k, goes behind the m lines so far if it is a state that nobody drives. Answers how many there are now.
 fn note_line(k: u64, notes: &[[u8; BYTES]], n: usize, m: usize, lines: &mut [u32]) -> usize
     requires { (m < length lines.old) × (n < 4294967296) }
-    ensures { ((rec : List ℕ) → k ≡ kindIn rec → take result lines.new ≡ take m lines.old ++ freeLine (givenIn notes.now false n) n (line_of rec))
+    ensures { ((rec : List ℕ) → k ≡ kind_in rec → take result lines.new ≡ take m lines.old ++ free_line (given_in notes.now false n) n (line_of rec))
         × (result ≤ m + 1) }
 {
     if k != 5 {
@@ -37,7 +39,7 @@ pub fn find(
     lines: &mut [u32],
 ) -> usize
     requires { Noted program table.now count notes.now × (length lines.old ≡ 16385) }
-    ensures { (take result lines.new ≡ freeLines program (lines_of program table.now count)) × (result ≤ 16384) }
+    ensures { (take result lines.new ≡ free_lines program (lines_of program table.now count)) × (result ≤ 16384) }
 {
     let mut i: usize = 0;
     let mut m: usize = 0;
@@ -51,7 +53,7 @@ pub fn find(
 // The words of from, each modulo 2^w, go to to.
 fn load_masked(to: &mut [u64], from: &[u64], w: u64)
     requires { (length to.old ≡ length from.now) × Width w }
-    ensures { to.new ≡ maskWords w from.now }
+    ensures { to.new ≡ mask_words w from.now }
 {
     let mut i: usize = 0;
     while i < from.len() {
@@ -63,9 +65,9 @@ fn load_masked(to: &mut [u64], from: &[u64], w: u64)
 
 // The state on the line q takes the row's words from r on, each modulo 2^w.
 fn feed_line(q: usize, laid: &[[u32; LAID]; 16385], row: &[u64], r: usize, words: &mut [u64])
-    requires { FitFed laid.now (length words.old) q × (r + numIn laid.now q ≤ length row.now) }
-    ensures { words.new ≡ put words.old (posIn laid.now q)
-        (maskWords (widIn laid.now q) (part row.now r (numIn laid.now q))) }
+    requires { FitFed laid.now (length words.old) q × (r + num_in laid.now q ≤ length row.now) }
+    ensures { words.new ≡ put words.old (pos_in laid.now q)
+        (mask_words (wid_in laid.now q) (part row.now r (num_in laid.now q))) }
 {
     let m = area::cells(laid, q);
     let a = area::place(laid, q);
@@ -83,7 +85,7 @@ fn wide(x: u32) -> usize
 // The states on the given lines take the words of the row, one after the other.
 pub fn feed(lines: &[u32], laid: &[[u32; LAID]; 16385], row: &[u64], words: &mut [u64])
     requires { AllFed laid.now (length words.old) lines.now × (cells_in laid.now lines.now ≤ length row.now) }
-    ensures { words.new ≡ fedLines laid.now lines.now words.old row.now }
+    ensures { words.new ≡ fed_lines laid.now lines.now words.old row.now }
 {
     let mut j: usize = 0;
     let mut r: usize = 0;

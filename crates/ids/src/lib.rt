@@ -1,11 +1,13 @@
 // The ids of the lines read so far are the sixth words of their records, 0 for a not record that stands for a minus operand: an id in the text is looked up in the table itself.
 // Places count the records from 1.
+#![tactic(auto)]
+
 ghost use Rattle.std.specs.Prelude.{◌≡◌, true, false, ◌≤◌, ◌<◌, length};
 ghost use Rattle.tables.specs.Kinds.{row_of};
-ghost use Rattle.tables.specs.Lines.{kindIn};
+ghost use Rattle.tables.specs.Lines.{kind_in};
 ghost use Rattle.tables.specs.Layout.{held, step_of, ids_of};
 ghost use Rattle.tables.specs.Model.Risen.{Risen};
-ghost use Rattle.texts.specs.Operands.{placeById, meant as meantBy, resolved};
+ghost use Rattle.texts.specs.Operands.{place_by_id, meant as meant_by, resolved};
 ghost use Rattle.texts.specs.Reading.{last_of};
 ghost use Rattle.texts.specs.Model.Searching.{FirstNamed, GoesOn, Parted};
 
@@ -57,7 +59,7 @@ fn past(table: &[u64], h: usize, n: usize, d: u64, i: usize) -> usize
 // The place of the first record from i on, counted from 0, that has an id, where that id is d; else 0. The ids before i are below d; those from i on are not, but for zeros.
 fn found_past(table: &[u64], h: usize, n: usize, d: u64, i: usize) -> u64
     requires { (h ≡ step_of false (length table.now)) × ((1 ≤ d) × ((i ≤ n) × (Risen table.now n × Parted (ids_of table.now n) i d))) }
-    ensures { result ≡ placeById (ids_of table.now n) d }
+    ensures { result ≡ place_by_id (ids_of table.now n) d }
 {
     let o = named(table, h, n, i);
     if o == n {
@@ -72,7 +74,7 @@ fn found_past(table: &[u64], h: usize, n: usize, d: u64, i: usize) -> u64
 // The same, where the record is first looked for at i itself: there it stands, unless that is a not record without an id.
 fn found(table: &[u64], h: usize, n: usize, d: u64, i: usize) -> u64
     requires { (h ≡ step_of false (length table.now)) × ((1 ≤ d) × ((i ≤ n) × (Risen table.now n × Parted (ids_of table.now n) i d))) }
-    ensures { result ≡ placeById (ids_of table.now n) d }
+    ensures { result ≡ place_by_id (ids_of table.now n) d }
 {
     if i < n {
         if records::id(table, h, i) == d {
@@ -86,7 +88,7 @@ fn found(table: &[u64], h: usize, n: usize, d: u64, i: usize) -> u64
 // The place of the record among the first n that has the id d, 0 where none has it: by halves, past the not records whose id is 0.
 fn search(table: &[u64], h: usize, n: usize, d: u64) -> u64
     requires { (h ≡ step_of false (length table.now)) × ((1 ≤ d) × Risen table.now n) }
-    ensures { result ≡ placeById (ids_of table.now n) d }
+    ensures { result ≡ place_by_id (ids_of table.now n) d }
 {
     let mut lo: usize = 0;
     let mut hi = n;
@@ -114,7 +116,7 @@ fn search(table: &[u64], h: usize, n: usize, d: u64) -> u64
 // The same, where the record is first looked for at the place d: there it stands in a table without gaps.
 fn place_of(table: &[u64], h: usize, n: usize, d: u64) -> u64
     requires { (h ≡ step_of false (length table.now)) × Risen table.now n }
-    ensures { result ≡ placeById (ids_of table.now n) d }
+    ensures { result ≡ place_by_id (ids_of table.now n) d }
 {
     if d == 0 {
         return 0; // no token names 0
@@ -132,7 +134,7 @@ fn place_of(table: &[u64], h: usize, n: usize, d: u64) -> u64
 // What the number v is in a place of the given class.
 fn meant(class: u8, table: &[u64], h: usize, n: usize, v: u64) -> u64
     requires { (h ≡ step_of false (length table.now)) × Risen table.now n }
-    ensures { result ≡ meantBy class (ids_of table.now n) v }
+    ensures { result ≡ meant_by class (ids_of table.now n) v }
 {
     if class == NONE {
         return v;
@@ -146,7 +148,7 @@ fn meant(class: u8, table: &[u64], h: usize, n: usize, v: u64) -> u64
 // The number v is what it means in a place of the given class: it names no line, or the line at the place v, as all do in a table without gaps and without not records.
 fn stays(class: u8, table: &[u64], h: usize, n: usize, v: u64) -> bool
     requires { (h ≡ step_of false (length table.now)) × Risen table.now n }
-    ensures { result ≡ true → v ≡ meantBy class (ids_of table.now n) v }
+    ensures { result ≡ true → v ≡ meant_by class (ids_of table.now n) v }
 {
     if class == NONE {
         return true;
@@ -166,7 +168,7 @@ fn stays(class: u8, table: &[u64], h: usize, n: usize, v: u64) -> bool
 
 // A record as it is written has no number that means another; the row is that of its kind.
 fn all_stay(row: [u8; 16], rec: [u64; WORDS], table: &[u64], h: usize, n: usize) -> bool
-    requires { (row ≡ row_of (kindIn rec)) × ((h ≡ step_of false (length table.now)) × Risen table.now n) }
+    requires { (row ≡ row_of (kind_in rec)) × ((h ≡ step_of false (length table.now)) × Risen table.now n) }
     ensures { result ≡ true → rec ≡ resolved (ids_of table.now n) rec }
 {
     if !stays(row[11], table, h, n, rec[1]) {
@@ -183,7 +185,7 @@ fn all_stay(row: [u8; 16], rec: [u64; WORDS], table: &[u64], h: usize, n: usize)
 
 // A record as it is written, with the places of the lines that its numbers name, each looked up; the row is that of the record's kind.
 fn look_up(row: [u8; 16], rec: [u64; WORDS], table: &[u64], h: usize, n: usize) -> [u64; WORDS]
-    requires { (row ≡ row_of (kindIn rec)) × ((h ≡ step_of false (length table.now)) × Risen table.now n) }
+    requires { (row ≡ row_of (kind_in rec)) × ((h ≡ step_of false (length table.now)) × Risen table.now n) }
     ensures { result ≡ resolved (ids_of table.now n) rec }
 {
     let s = meant(row[11], table, h, n, rec[1]);
@@ -195,7 +197,7 @@ fn look_up(row: [u8; 16], rec: [u64; WORDS], table: &[u64], h: usize, n: usize) 
 
 // A record as it is written, with the places of the lines that its numbers name, among the first n of the table. The row is that of the record's kind.
 pub fn resolve(row: [u8; 16], rec: [u64; WORDS], table: &[u64], n: usize) -> [u64; WORDS]
-    requires { (row ≡ row_of (kindIn rec)) × Risen table.now n }
+    requires { (row ≡ row_of (kind_in rec)) × Risen table.now n }
     ensures { result ≡ resolved (ids_of table.now n) rec }
 {
     let h = records::step(false, table.len());

@@ -1,4 +1,6 @@
 // The word operators by kind: `prog_word` computes an instruction of a program and `circ_word` a line of a circuit, whose word is the low bits of a program's.
+#![tactic(auto)]
+
 ghost use Rattle.std.specs.Prelude.{◌≡◌, ◌^◌, ◌<◌, ◌≤◌};
 ghost use Rattle.words.specs.Word.{Width};
 ghost use Rattle.words.specs.Op.{op_of};

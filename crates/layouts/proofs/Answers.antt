@@ -9,13 +9,13 @@ use Rattle.tables.specs.declared.Answer.TheVariants.{Done, Refused}
 use Rattle.tables.specs.Pick.{pick}
 use Rattle.tables.specs.Layout.{whole, room}
 use Rattle.tables.specs.Tables.{broken}
-use Rattle.tables.proofs.Outcomes.{not_done, done-count}
+use Rattle.tables.proofs.Outcomes.{not_done, done_count}
 use Rattle.layouts.specs.Conversion.{converted}
 
 module _ (p : Bool) (words n len : ℕ) where
-  pub no-list : whole p words ≡ false → Refused NotATable 0 ≡ converted p words n len
+  pub no_list : whole p words ≡ false → Refused NotATable 0 ≡ converted p words n len
   unfolding converted
-  no-list a = rw a
+  no_list a = rw a
 
   pub no_target : whole p words ≡ true → whole p len ≡ false → Refused NotATable 0 ≡ converted p words n len
   unfolding converted
@@ -40,13 +40,13 @@ pub record Fits (p : Bool) (words n len : ℕ) : Type 0 where
   pub count : n ≤ room p words
   pub few : n ≤ room p len
 
-pub done-fits : (p : Bool) (words n len m : ℕ) → converted p words n len ≡ Done m → Fits p words n len × (n ≡ m)
+pub done_fits : (p : Bool) (words n len m : ℕ) → converted p words n len ≡ Done m → Fits p words n len × (n ≡ m)
 unfolding converted
-done-fits p words n len m e = go (whole p words) (whole p len) (leb n (room p words)) (leb n (room p len)) refl refl refl refl e
+done_fits p words n len m e = go (whole p words) (whole p len) (leb n (room p words)) (leb n (room p len)) refl refl refl refl e
   where
     go : (a b c d : Bool) → whole p words ≡ a → whole p len ≡ b → leb n (room p words) ≡ c → leb n (room p len) ≡ d
         → pick (a && b) (pick c (pick d (Done n) (Refused TargetTooSmall 0)) (Refused (broken p) 0)) (Refused NotATable 0) ≡ Done m → Fits p words n len × (n ≡ m)
-    go true true true true q r s t z = (record { list = q; target = r; count = leb-true n (room p words) s; few = leb-true n (room p len) t }, done-count n m z)
+    go true true true true q r s t z = (record { list = q; target = r; count = leb-true n (room p words) s; few = leb-true n (room p len) t }, done_count n m z)
     go true true true false q r s t z = absurd (not_done TargetTooSmall m z)
     go true true false d q r s t z = absurd (not_done (broken p) m z)
     go true false c d q r s t z = absurd (not_done NotATable m z)

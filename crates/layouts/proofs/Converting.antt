@@ -7,17 +7,17 @@ use lib.ListN.{length, replicate, length-replicate}
 use Rattle.tables.specs.declared.Refusal.{Refusal}
 use Rattle.tables.specs.declared.Answer.{Answer}
 use Rattle.tables.specs.declared.Answer.TheVariants.{Done, Refused}
-use Rattle.tables.specs.Layout.{held, placingIn, filledBy}
-use Rattle.tables.specs.Answers.{told, leftBy}
+use Rattle.tables.specs.Layout.{held, placing_in, filled_by}
+use Rattle.tables.specs.Answers.{told, left_by}
 use Rattle.tables.proofs.Checking.{roomy}
-use Rattle.layouts.specs.Conversion.{rowsIn, converted, convertedTo, converts}
-use Rattle.layouts.proofs.Answers.{done-fits}
+use Rattle.layouts.specs.Conversion.{rows_in, converted, converted_to, converts}
+use Rattle.layouts.proofs.Answers.{done_fits}
 
-converts-as : (columns p : Bool) (t : List ℕ) (n len : ℕ) (a : Answer) → a ≡ converted p (length t) n len
-    → (u : List ℕ) → u ≡ leftBy a len (filledBy (placingIn columns p) len (rowsIn (not columns) p t n)) → told a (u ∷ []) ≡ converts columns p t n len
-unfolding converts convertedTo
-converts-as columns p t n len a e u q =
-    ap (λ (l : List ℕ). told a (l ∷ [])) q ∙ ap (λ (b : Answer). told b (leftBy b len (filledBy (placingIn columns p) len (rowsIn (not columns) p t n)) ∷ [])) e
+converts_as : (columns p : Bool) (t : List ℕ) (n len : ℕ) (a : Answer) → a ≡ converted p (length t) n len
+    → (u : List ℕ) → u ≡ left_by a len (filled_by (placing_in columns p) len (rows_in (not columns) p t n)) → told a (u ∷ []) ≡ converts columns p t n len
+unfolding converts converted_to
+converts_as columns p t n len a e u q =
+    ap (λ (l : List ℕ). told a (l ∷ [])) q ∙ ap (λ (b : Answer). told b (left_by b len (filled_by (placing_in columns p) len (rows_in (not columns) p t n)) ∷ [])) e
 
 module _ (columns p : Bool) (t : List ℕ) (n len : ℕ) (u : List ℕ) (z : u ≡ replicate len 0) (a : Answer) (e : a ≡ converted p (length t) n (length u)) where
   lengths : length u ≡ len
@@ -26,13 +26,13 @@ module _ (columns p : Bool) (t : List ℕ) (n len : ℕ) (u : List ℕ) (z : u �
   answer : a ≡ converted p (length t) n len
   answer = e ∙ ap (converted p (length t) n) lengths
 
-  pub carry-ready : (m : ℕ) → a ≡ Done m → (n ≤ held p (length t)) × ((n ≤ held p (length u)) × (u ≡ replicate (length u) 0))
-  carry-ready m d =
-      let f = (done-fits p (length t) n (length u) m (sym e ∙ d)).0 in
+  pub carry_ready : (m : ℕ) → a ≡ Done m → (n ≤ held p (length t)) × ((n ≤ held p (length u)) × (u ≡ replicate (length u) 0))
+  carry_ready m d =
+      let f = (done_fits p (length t) n (length u) m (sym e ∙ d)).0 in
       ((roomy p (length t) n f.count).1, ((roomy p (length u) n f.few).1, z ∙ ap (λ (k : ℕ). replicate k 0) (sym lengths)))
 
-  pub convert-done : (m : ℕ) → a ≡ Done m → (v : List ℕ) → v ≡ filledBy (placingIn columns p) (length u) (rowsIn (not columns) p t n) → told (Done m) (v ∷ []) ≡ converts columns p t n len
-  convert-done m d v q = converts-as columns p t n len (Done m) (sym d ∙ answer) v (q ∙ ap (λ (k : ℕ). filledBy (placingIn columns p) k (rowsIn (not columns) p t n)) lengths)
+  pub convert_done : (m : ℕ) → a ≡ Done m → (v : List ℕ) → v ≡ filled_by (placing_in columns p) (length u) (rows_in (not columns) p t n) → told (Done m) (v ∷ []) ≡ converts columns p t n len
+  convert_done m d v q = converts_as columns p t n len (Done m) (sym d ∙ answer) v (q ∙ ap (λ (k : ℕ). filled_by (placing_in columns p) k (rows_in (not columns) p t n)) lengths)
 
-  pub convert-refused : (r : Refusal) (l : ℕ) → a ≡ Refused r l → told (Refused r l) (u ∷ []) ≡ converts columns p t n len
-  convert-refused r l d = converts-as columns p t n len (Refused r l) (sym d ∙ answer) u z
+  pub convert_refused : (r : Refusal) (l : ℕ) → a ≡ Refused r l → told (Refused r l) (u ∷ []) ≡ converts columns p t n len
+  convert_refused r l d = converts_as columns p t n len (Refused r l) (sym d ∙ answer) u z

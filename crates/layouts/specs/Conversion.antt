@@ -4,9 +4,9 @@ use Rattle.tables.specs.declared.Refusal.TheVariants.{NotATable}
 use Rattle.tables.specs.declared.Answer.{Answer}
 use Rattle.tables.specs.declared.Answer.TheVariants.{Refused}
 use Rattle.tables.specs.Pick.{pick}
-use Rattle.tables.specs.Layout.{recordSize, whole, room, placingIn, rows_from, filledBy}
+use Rattle.tables.specs.Layout.{record_size, whole, room, placing_in, rows_from, filled_by}
 use Rattle.tables.specs.Tables.{broken}
-use Rattle.tables.specs.Answers.{Outcome, told, fitting, leftBy}
+use Rattle.tables.specs.Answers.{Outcome, told, fitting, left_by}
 
 -- what a conversion answers for a list of so many words with its count n, and a target of len words: 1 for either list, 11 (20 for programs) for the count alone, then 12,
 -- the first that holds; else the count
@@ -17,13 +17,13 @@ converted p words n len =
     (Refused NotATable 0)
 
 -- all words of the first n records of a list, in columns or one record behind the other
-abbrev pub rowsIn : (columns p : Bool) → List ℕ → (n : ℕ) → List (List ℕ)
-rowsIn columns p t n = rows_from (placingIn columns p) (recordSize p) t 0 n
+abbrev pub rows_in : (columns p : Bool) → List ℕ → (n : ℕ) → List (List ℕ)
+rows_in columns p t n = rows_from (placing_in columns p) (record_size p) t 0 n
 
 -- what the target holds then: those of the list, by the other layout, and zeros past them; zeros after a refusal
-unfoldable pub convertedTo : (columns p : Bool) (t : List ℕ) (n len : ℕ) → List ℕ
-convertedTo columns p t n len = leftBy (converted p (length t) n len) len (filledBy (placingIn columns p) len (rowsIn (not columns) p t n))
+unfoldable pub converted_to : (columns p : Bool) (t : List ℕ) (n len : ℕ) → List ℕ
+converted_to columns p t n len = left_by (converted p (length t) n len) len (filled_by (placing_in columns p) len (rows_in (not columns) p t n))
 
 -- the outcome of a conversion
 unfoldable pub converts : (columns p : Bool) (t : List ℕ) (n len : ℕ) → Outcome
-converts columns p t n len = told (converted p (length t) n len) (convertedTo columns p t n len ∷ [])
+converts columns p t n len = told (converted p (length t) n len) (converted_to columns p t n len ∷ [])

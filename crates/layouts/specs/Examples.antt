@@ -2,8 +2,8 @@
 use Rattle.std.specs.Prelude.{ℕ, ◌≡◌, refl, true, false, List, [], ◌∷◌}
 use Rattle.tables.specs.declared.Answer.TheVariants.{Done, Refused}
 use Rattle.tables.specs.declared.Refusal.TheVariants.{NotATable, BadTable, BadProgram, TargetTooSmall}
-use Rattle.tables.specs.Layout.{filledBy}
-use Rattle.layouts.specs.Conversion.{converted, convertedTo}
+use Rattle.tables.specs.Layout.{filled_by}
+use Rattle.layouts.specs.Conversion.{converted, converted_to}
 
 -- three records of a circuit, one behind the other
 abbrev records : List ℕ
@@ -13,17 +13,17 @@ records = 1 ∷ 0 ∷ 1 ∷ 0 ∷ 0 ∷ 5 ∷ 4 ∷ 1 ∷ 0 ∷ 0 ∷ 0 ∷ 9 �
 abbrev fours : List ℕ
 fours = 1 ∷ 4 ∷ 0 ∷ 0 ∷ 0 ∷ 1 ∷ 0 ∷ 0 ∷ 1 ∷ 0 ∷ 0 ∷ 0 ∷ 0 ∷ 0 ∷ 0 ∷ 0 ∷ 0 ∷ 0 ∷ 0 ∷ 0 ∷ 5 ∷ 9 ∷ 0 ∷ 0 ∷ []
 
-to-fours : convertedTo true false records 2 24 ≡ fours
-unfolding convertedTo converted filledBy
-to-fours = refl
+to_fours : converted_to true false records 2 24 ≡ fours
+unfolding converted_to converted filled_by
+to_fours = refl
 
-to-twos : convertedTo true false records 2 12 ≡ 1 ∷ 4 ∷ 0 ∷ 1 ∷ 1 ∷ 0 ∷ 0 ∷ 0 ∷ 0 ∷ 0 ∷ 5 ∷ 9 ∷ []
-unfolding convertedTo converted filledBy
-to-twos = refl
+to_twos : converted_to true false records 2 12 ≡ 1 ∷ 4 ∷ 0 ∷ 1 ∷ 1 ∷ 0 ∷ 0 ∷ 0 ∷ 0 ∷ 0 ∷ 5 ∷ 9 ∷ []
+unfolding converted_to converted filled_by
+to_twos = refl
 
 -- and back: the two records, and zeros
-back : convertedTo false false fours 2 18 ≡ 1 ∷ 0 ∷ 1 ∷ 0 ∷ 0 ∷ 5 ∷ 4 ∷ 1 ∷ 0 ∷ 0 ∷ 0 ∷ 9 ∷ 0 ∷ 0 ∷ 0 ∷ 0 ∷ 0 ∷ 0 ∷ []
-unfolding convertedTo converted filledBy
+back : converted_to false false fours 2 18 ≡ 1 ∷ 0 ∷ 1 ∷ 0 ∷ 0 ∷ 5 ∷ 4 ∷ 1 ∷ 0 ∷ 0 ∷ 0 ∷ 9 ∷ 0 ∷ 0 ∷ 0 ∷ 0 ∷ 0 ∷ 0 ∷ []
+unfolding converted_to converted filled_by
 back = refl
 
 -- two records into 24 words and into 12; three into 12 (12); four, of a list of three (11); into 13 words (1); none of an empty list into none
@@ -39,16 +39,16 @@ unfolding converted
 many = refl
 
 -- a program, in columns of two
-program : convertedTo true true (4 ∷ 3 ∷ 0 ∷ 0 ∷ 0 ∷ 56 ∷ 3 ∷ 1 ∷ 0 ∷ 0 ∷ []) 2 10 ≡ 4 ∷ 56 ∷ 3 ∷ 3 ∷ 0 ∷ 1 ∷ 0 ∷ 0 ∷ 0 ∷ 0 ∷ []
-unfolding convertedTo converted filledBy
+program : converted_to true true (4 ∷ 3 ∷ 0 ∷ 0 ∷ 0 ∷ 56 ∷ 3 ∷ 1 ∷ 0 ∷ 0 ∷ []) 2 10 ≡ 4 ∷ 56 ∷ 3 ∷ 3 ∷ 0 ∷ 1 ∷ 0 ∷ 0 ∷ 0 ∷ 0 ∷ []
+unfolding converted_to converted filled_by
 program = refl
 
-program-answers : converted true 10 2 10 ∷ converted true 10 3 10 ∷ converted true 10 2 5 ∷ converted true 10 2 12 ∷ []
+program_answers : converted true 10 2 10 ∷ converted true 10 3 10 ∷ converted true 10 2 5 ∷ converted true 10 2 12 ∷ []
     ≡ Done 2 ∷ Refused BadProgram 0 ∷ Refused TargetTooSmall 0 ∷ Refused NotATable 0 ∷ []
 unfolding converted
-program-answers = refl
+program_answers = refl
 
 -- after a refusal the target is zero
-refused : convertedTo true false records 3 12 ≡ 0 ∷ 0 ∷ 0 ∷ 0 ∷ 0 ∷ 0 ∷ 0 ∷ 0 ∷ 0 ∷ 0 ∷ 0 ∷ 0 ∷ []
-unfolding convertedTo converted filledBy
+refused : converted_to true false records 3 12 ≡ 0 ∷ 0 ∷ 0 ∷ 0 ∷ 0 ∷ 0 ∷ 0 ∷ 0 ∷ 0 ∷ 0 ∷ 0 ∷ 0 ∷ []
+unfolding converted_to converted filled_by
 refused = refl

@@ -1,9 +1,11 @@
 // Conversions between the two layouts: records one behind the other, and columns.
+#![tactic(auto)]
+
 ghost use Rattle.std.specs.Prelude.{◌≡◌, not, [], ◌∷◌, ℕ, ◌+◌, ◌*◌, ◌<◌, ◌≤◌, length, replicate};
 ghost use Rattle.tables.specs.Answers.{told};
-ghost use Rattle.tables.specs.Tables.{broken as brokenBy};
-ghost use Rattle.tables.specs.Layout.{held, placingIn, wordsFrom, setWords, filledBy};
-ghost use Rattle.layouts.specs.Conversion.{rowsIn, converted, converts};
+ghost use Rattle.tables.specs.Tables.{broken as broken_by};
+ghost use Rattle.tables.specs.Layout.{held, placing_in, words_from, set_words, filled_by};
+ghost use Rattle.layouts.specs.Conversion.{rows_in, converted, converts};
 
 use tables::{Answer, Refusal};
 
@@ -29,7 +31,7 @@ pub fn convert(
 
 // What is answered where the count exceeds the list or 16,384.
 fn broken(program: bool) -> Refusal
-    ensures { result ≡ brokenBy program }
+    ensures { result ≡ broken_by program }
 {
     if program {
         return Refusal::BadProgram;
@@ -59,7 +61,7 @@ fn judge(program: bool, words: usize, count: usize, len: usize) -> Answer
 // All words of so many records go to the target, which is zero.
 fn carry(columns: bool, program: bool, list: &[u64], count: usize, target: &mut [u64])
     requires { (count ≤ held program (length list.now)) × ((count ≤ held program (length target.old)) × (target.old ≡ replicate (length target.old) 0)) }
-    ensures { target.new ≡ filledBy (placingIn columns program) (length target.old) (rowsIn (not columns) program list.now count) }
+    ensures { target.new ≡ filled_by (placing_in columns program) (length target.old) (rows_in (not columns) program list.now count) }
 {
     let size = records::size(program);
     let a = records::strides_of(!columns, program, list.len());
@@ -74,7 +76,7 @@ fn carry(columns: bool, program: bool, list: &[u64], count: usize, target: &mut 
 // m words of a list, the first at the place x and each s behind the one before, go to the target, to y and each z behind the one before.
 fn copy(list: &[u64], x: usize, s: usize, target: &mut [u64], y: usize, z: usize, m: usize)
     requires { ((j : ℕ) → j < m → s * j + x < length list.now) × ((j : ℕ) → j < m → z * j + y < length target.old) }
-    ensures { target.new ≡ setWords (λ (j : ℕ). z * j + y) target.old 0 (wordsFrom (λ (j : ℕ). s * j + x) list.now 0 m) }
+    ensures { target.new ≡ set_words (λ (j : ℕ). z * j + y) target.old 0 (words_from (λ (j : ℕ). s * j + x) list.now 0 m) }
 {
     let mut j: usize = 0;
     while j < m {

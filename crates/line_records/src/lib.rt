@@ -1,12 +1,14 @@
 // The records of a line: how many there are, whether there is room for them, and how they go into the table. A line has its own record and, before it, a not record for each
 // minus operand.
+#![tactic(auto)]
+
 ghost use Rattle.std.specs.Prelude.{◌≡◌, false, ◌+◌, ◌≤◌, ◌<◌, length, get_or};
 ghost use Rattle.tables.specs.Pick.{pick};
-ghost use Rattle.tables.specs.Lines.{kindIn, firstIn};
-ghost use Rattle.tables.specs.Layout.{room as roomOf};
+ghost use Rattle.tables.specs.Lines.{kind_in, first_in};
+ghost use Rattle.tables.specs.Layout.{room as room_of};
 ghost use Rattle.texts.specs.Minus.{minuses};
-ghost use Rattle.texts.specs.Model.Structs.{fittedRead};
-ghost use Rattle.texts.specs.Model.Filling.{filling, added, notIn, addedFrom, Ready};
+ghost use Rattle.texts.specs.Model.Structs.{fitted_read};
+ghost use Rattle.texts.specs.Model.Filling.{filling, added, not_in, added_from, Ready};
 
 use records::kinds::NOT;
 use records::notes::BYTES;
@@ -33,7 +35,7 @@ fn count(minus: [bool; WORDS]) -> usize
 // What a line gives after n records, with room for `room` of them: 4 where there is none left for all of its records.
 pub fn fit(r: Readout, n: usize, room: usize) -> Readout
     requires { n ≤ room }
-    ensures { result ≡ fittedRead n room r }
+    ensures { result ≡ fitted_read n room r }
 {
     if r.what != 0 {
         return r;
@@ -55,7 +57,7 @@ pub fn fit(r: Readout, n: usize, room: usize) -> Readout
 
 // A record goes to the table behind n others, and its line is noted.
 fn put(table: &mut [u64], n: usize, rec: [u64; WORDS], id: u64, notes: &mut [[u8; BYTES]])
-    requires { (n < roomOf false (length table.old)) × (kindIn rec ≡ 1 → firstIn rec ≤ 64) }
+    requires { (n < room_of false (length table.old)) × (kind_in rec ≡ 1 → first_in rec ≤ 64) }
     ensures { filling table.new notes.new (n + 1) ≡ added (filling table.old notes.old n) rec id }
 {
     records::put_line(table, n, rec, id);
@@ -65,9 +67,9 @@ fn put(table: &mut [u64], n: usize, rec: [u64; WORDS], id: u64, notes: &mut [[u8
 
 // The not record of the operand at the place j of a line's record goes behind n others. It is of the operand's own sort, and has no id.
 fn put_not(table: &mut [u64], n: usize, rec: [u64; WORDS], j: usize, notes: &mut [[u8; BYTES]])
-    requires { (j < 5) × ((n < roomOf false (length table.old)) × ((1 ≤ get_or rec j 0) × (get_or rec j 0 ≤ n))) }
+    requires { (j < 5) × ((n < room_of false (length table.old)) × ((1 ≤ get_or rec j 0) × (get_or rec j 0 ≤ n))) }
     ensures { filling table.new notes.new (n + 1)
-        ≡ added (filling table.old notes.old n) (notIn table.old (get_or rec j 0)) 0 }
+        ≡ added (filling table.old notes.old n) (not_in table.old (get_or rec j 0)) 0 }
 {
     let a = rec[j];
     let h = records::step(false, table.len());
@@ -85,9 +87,9 @@ pub fn put_line(
     id: u64,
     notes: &mut [[u8; BYTES]],
 ) -> usize
-    requires { Ready minus 3 2 n (roomOf false (length table.old)) rec }
+    requires { Ready minus 3 2 n (room_of false (length table.old)) rec }
     ensures { filling table.new notes.new result
-        ≡ addedFrom minus 3 2 (filling table.old notes.old n) rec id }
+        ≡ added_from minus 3 2 (filling table.old notes.old n) rec id }
 {
     let mut own = rec;
     let mut k = n;

@@ -1,8 +1,10 @@
 // What is kept of a line for later lines, and its instruction.
+#![tactic(auto)]
+
 ghost use Rattle.std.specs.Prelude.{◌≡◌, ◌&&◌, ◌≤◌, ◌<◌, get_or, set};
-ghost use Rattle.tables.specs.Lines.{kindIn};
-ghost use Rattle.programs.specs.Model.Kinds.{entry_at, flagAt};
-ghost use Rattle.programs.specs.Model.Records.{looseIn, instruction as instructionOf, width_in, number_in, emitted as emittedOf, Taken};
+ghost use Rattle.tables.specs.Lines.{kind_in};
+ghost use Rattle.programs.specs.Model.Kinds.{entry_at, flag_at};
+ghost use Rattle.programs.specs.Model.Records.{loose_in, instruction as instruction_of, width_in, number_in, emitted as emitted_of, Taken};
 ghost use Rattle.tables.specs.Pick.{pick};
 ghost use Rattle.words.specs.Word.{bit};
 
@@ -32,8 +34,8 @@ fn store(xs: &mut [u64], n: u64, v: u64)
 
 // The record's line is loose.
 fn loose(rec: [u64; WORDS], wd: &[u64], lo: &[u8]) -> bool
-    requires { kindIn rec ≤ 63 }
-    ensures { result ≡ looseIn (entry_at wd.now) (flagAt lo.now) rec }
+    requires { kind_in rec ≤ 63 }
+    ensures { result ≡ loose_in (entry_at wd.now) (flag_at lo.now) rec }
 {
     if entry(wd, rec[1]) == 64 {
         return false;
@@ -58,7 +60,7 @@ fn operand(line: bool, num: &[u64], a: u64) -> u64
 
 // The record's instruction.
 pub fn instruction(rec: [u64; WORDS], wd: &[u64], num: &[u64]) -> [u64; WORDS]
-    ensures { result ≡ instructionOf (entry_at wd.now) (entry_at num.now) rec }
+    ensures { result ≡ instruction_of (entry_at wd.now) (entry_at num.now) rec }
 {
     let k = rec[0];
     let w = entry(wd, rec[1]);
@@ -97,7 +99,7 @@ fn number(k: u64, b: u64, mask: bool) -> u64
 
 // How many instructions a line has.
 pub fn emitted(k: u64, mask: bool) -> usize
-    ensures { result ≡ emittedOf k mask }
+    ensures { result ≡ emitted_of k mask }
 {
     if k <= 2 {
         return 0;
@@ -138,7 +140,7 @@ pub fn take(
     num: &mut [u64],
     lo: &mut [u8],
 ) -> bool
-    requires { (kindIn rec ≤ 63) × (b < 65536) }
+    requires { (kind_in rec ≤ 63) × (b < 65536) }
     ensures { Taken rec n need b wd.old num.old lo.old wd.new num.new lo.new result }
 {
     let l = loose(rec, wd, lo);

@@ -1,8 +1,10 @@
 // Names: whether one is already there. They are kept in one list, chained by hash, as parts of the text.
+#![tactic(auto)]
+
 ghost use Rattle.std.specs.Prelude.{◌≡◌, true, not, ◌∷◌, ◌+◌, ◌-◌, ◌≤◌, ◌<◌, length, take, drop, get_or};
-ghost use Rattle.texts.specs.Split.{sameBytes};
+ghost use Rattle.texts.specs.Split.{same_bytes};
 ghost use Rattle.texts.specs.Names.{among};
-ghost use Rattle.texts.specs.Model.Chains.{hashes, hashFrom, hashOf, countIn, namesIn, Chained, HasRoom};
+ghost use Rattle.texts.specs.Model.Chains.{hashes, hash_from, hash_of, count_in, names_in, Chained, HasRoom};
 
 // The hashes of names are below this.
 const HASHES: usize = 1024;
@@ -24,7 +26,7 @@ fn byte(t: &[u8], i: usize) -> usize
 // The hash of a name by the bytes before the place `from`, each step-th one, where `start` is that of those behind.
 fn hash_rest(t: &[u8], step: usize, start: usize, from: usize) -> usize
     requires { (1 ≤ step) × (start < hashes) × (from ≤ length t.now) }
-    ensures { (result ≡ hashFrom from step t.now start from) × (result < hashes) }
+    ensures { (result ≡ hash_from from step t.now start from) × (result < hashes) }
 {
     let mut h = start;
     let mut p = from;
@@ -38,7 +40,7 @@ fn hash_rest(t: &[u8], step: usize, start: usize, from: usize) -> usize
 // The hash of a name.
 fn hash(t: &[u8]) -> usize
     requires { length t.now ≤ 65536 }
-    ensures { (result ≡ hashOf t.now) × (result < hashes) }
+    ensures { (result ≡ hash_of t.now) × (result < hashes) }
 {
     let step = t.len() / 32 + 1;
     let mut h = t.len() % HASHES;
@@ -56,7 +58,7 @@ fn hash(t: &[u8]) -> usize
 
 // Two names are the same.
 fn same(t: &[u8], u: &[u8]) -> bool
-    ensures { result ≡ sameBytes t.now u.now }
+    ensures { result ≡ same_bytes t.now u.now }
 {
     if t.len() != u.len() {
         return false;
@@ -73,8 +75,8 @@ fn same(t: &[u8], u: &[u8]) -> bool
 
 // Whether the bytes of the text from `from` to `to`, whose hash is h, are one of the names.
 fn seen(text: &[u8], from: usize, to: usize, h: usize, names: &[u16]) -> bool
-    requires { (from ≤ to) × (to ≤ length text.now) × (h ≡ hashOf (take (to - from) (drop from text.now))) × (h < hashes) × Chained text.now names.now }
-    ensures { result ≡ among (take (to - from) (drop from text.now)) (namesIn text.now names.now) }
+    requires { (from ≤ to) × (to ≤ length text.now) × (h ≡ hash_of (take (to - from) (drop from text.now))) × (h < hashes) × Chained text.now names.now }
+    ensures { result ≡ among (take (to - from) (drop from text.now)) (names_in text.now names.now) }
 {
     let mut i = wide(names[h]);
     while i != 0 {
@@ -91,11 +93,11 @@ fn seen(text: &[u8], from: usize, to: usize, h: usize, names: &[u16]) -> bool
 
 // The bytes of the text from `from` to `to`, whose hash is h, go behind the names.
 fn add(text: &[u8], from: usize, to: usize, h: usize, names: &mut [u16])
-    requires { (from < to) × (to ≤ length text.now) × (length text.now ≤ 65536) × (h ≡ hashOf (take (to - from) (drop from text.now))) × (h < hashes)
+    requires { (from < to) × (to ≤ length text.now) × (length text.now ≤ 65536) × (h ≡ hash_of (take (to - from) (drop from text.now))) × (h < hashes)
         × Chained text.now names.old × HasRoom names.old }
     ensures { Chained text.now names.new
-        × (namesIn text.now names.new ≡ take (to - from) (drop from text.now) ∷ namesIn text.now names.old)
-        × (countIn names.new ≡ countIn names.old + 1) }
+        × (names_in text.now names.new ≡ take (to - from) (drop from text.now) ∷ names_in text.now names.old)
+        × (count_in names.new ≡ count_in names.old + 1) }
 {
     let n = wide(names[HASHES]) + 1;
     let at = HASHES - 2 + 3 * n;
@@ -109,10 +111,10 @@ fn add(text: &[u8], from: usize, to: usize, h: usize, names: &mut [u16])
 // Puts the bytes of the text from `from` to `to` behind the names, unless they are one of them already; answers whether they were put.
 pub fn enter(text: &[u8], from: usize, to: usize, names: &mut [u16]) -> bool
     requires { (from < to) × (to ≤ length text.now) × (length text.now ≤ 65536) × Chained text.now names.old × HasRoom names.old }
-    ensures { (result ≡ not (among (take (to - from) (drop from text.now)) (namesIn text.now names.old)))
+    ensures { (result ≡ not (among (take (to - from) (drop from text.now)) (names_in text.now names.old)))
         × (result ≡ true → Chained text.now names.new
-        × (namesIn text.now names.new ≡ take (to - from) (drop from text.now) ∷ namesIn text.now names.old)
-        × (countIn names.new ≡ countIn names.old + 1)) }
+        × (names_in text.now names.new ≡ take (to - from) (drop from text.now) ∷ names_in text.now names.old)
+        × (count_in names.new ≡ count_in names.old + 1)) }
 {
     let h = hash(&text[from..to]);
     if seen(text, from, to, h, names) {

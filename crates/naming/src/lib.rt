@@ -1,10 +1,12 @@
 // Names: the extra token of a line, as a part of the text.
+#![tactic(auto)]
+
 ghost use Rattle.std.specs.Prelude.{◌≡◌, ◌≤◌, ◌<◌, ◌-◌, length, drop, take};
-ghost use Rattle.texts.specs.Split.{tokens as tokensIn};
-ghost use Rattle.texts.specs.Names.{only as onlyOf};
-ghost use Rattle.texts.specs.Reading.{lineName};
-ghost use Rattle.texts.specs.Naming.{leads as leadsBy, name_of, namePlace};
-ghost use Rattle.texts.specs.Model.Ends.{tokensEnd};
+ghost use Rattle.texts.specs.Split.{tokens as tokens_in};
+ghost use Rattle.texts.specs.Names.{only as only_of};
+ghost use Rattle.texts.specs.Reading.{line_name};
+ghost use Rattle.texts.specs.Naming.{leads as leads_by, name_of, name_place};
+ghost use Rattle.texts.specs.Model.Ends.{tokens_end};
 
 use forms::heads;
 use records::kinds;
@@ -13,7 +15,7 @@ use texts::Part;
 // The place behind m tokens from the place i on, or the line's end where there are fewer.
 fn pass(l: &[u8], i: usize, m: usize) -> usize
     requires { i ≤ length l.now }
-    ensures { (result ≤ length l.now) × (tokensIn (drop result l.now) ≡ drop m (tokensIn (drop i l.now))) }
+    ensures { (result ≤ length l.now) × (tokens_in (drop result l.now) ≡ drop m (tokens_in (drop i l.now))) }
 {
     let mut at = i;
     let mut p: usize = 0;
@@ -32,8 +34,8 @@ fn pass(l: &[u8], i: usize, m: usize) -> usize
 fn only(l: &[u8], i: usize) -> Part
     requires { i ≤ length l.now }
     ensures { (result.from ≤ result.to) × ((result.to ≤ length l.now)
-        × ((take (result.to - result.from) (drop result.from l.now) ≡ onlyOf (tokensIn (drop i l.now)))
-        × (result.from < result.to → result.to ≡ tokensEnd l.now))) }
+        × ((take (result.to - result.from) (drop result.from l.now) ≡ only_of (tokens_in (drop i l.now)))
+        × (result.from < result.to → result.to ≡ tokens_end l.now))) }
 {
     let a = tokens::skip(l, i);
     if a == l.len() {
@@ -50,8 +52,8 @@ fn only(l: &[u8], i: usize) -> Part
 // The name in a line, which is its last token.
 fn part(l: &[u8]) -> Part
     ensures { (result.from ≤ result.to) × ((result.to ≤ length l.now)
-        × ((take (result.to - result.from) (drop result.from l.now) ≡ lineName (tokensIn l.now))
-        × (result.from < result.to → result.to ≡ tokensEnd l.now))) }
+        × ((take (result.to - result.from) (drop result.from l.now) ≡ line_name (tokens_in l.now))
+        × (result.from < result.to → result.to ≡ tokens_end l.now))) }
 {
     let kinds = kinds::all();
     let i = pass(l, 0, 1);
@@ -68,7 +70,7 @@ fn part(l: &[u8]) -> Part
 
 // The id of a line is the number n.
 fn leads(l: &[u8], n: u64) -> bool
-    ensures { result ≡ leadsBy n (tokensIn l.now) }
+    ensures { result ≡ leads_by n (tokens_in l.now) }
 {
     let a = tokens::skip(l, 0);
     if a == l.len() {
@@ -82,7 +84,7 @@ fn leads(l: &[u8], n: u64) -> bool
 pub fn find(text: &[u8], n: u64) -> Part
     ensures { (result.from ≤ result.to) × ((result.to ≤ length text.now)
         × ((take (result.to - result.from) (drop result.from text.now) ≡ name_of text.now n)
-        × (0 < length (name_of text.now n) → result.from ≡ namePlace text.now n))) }
+        × (0 < length (name_of text.now n) → result.from ≡ name_place text.now n))) }
 {
     let mut i: usize = 0;
     while i < text.len() {

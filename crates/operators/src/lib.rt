@@ -1,6 +1,8 @@
 // Operators on words of 1 to 64 bits. All of them work on whole 64-bit words, as programs do.
+#![tactic(auto)]
+
 ghost use Rattle.std.specs.Prelude.{◌≡◌, ◌+◌, ◌-◌, ◌*◌, ◌%◌, ◌^◌, ◌<◌, ◌≤◌};
-ghost use Rattle.words.specs.Word.{Width, signedValue, twosComplement, towardDivisor};
+ghost use Rattle.words.specs.Word.{Width, signed_value, twos_complement, toward_divisor};
 ghost use Rattle.words.specs.Op.{udiv, urem, redxor, eq, neq, ult, ulte, sext, slt, slte, sdiv, srem, smod, sll, srl, sra, rol, ror};
 ghost use Rattle.words.specs.Program.{prog};
 
@@ -83,7 +85,7 @@ pub fn ulte(a: u64, b: u64) -> u64
 // 2^w - x may be 2^63, which is no i64, so one less of it is negated.
 fn to_signed(w: u64, a: u64) -> i64
     requires { Width w }
-    ensures { result ≡ signedValue w (a % 2 ^ w) }
+    ensures { result ≡ signed_value w (a % 2 ^ w) }
 {
     let x = low(w, a);
     if x >> (w - 1) == 0 {
@@ -96,7 +98,7 @@ fn to_signed(w: u64, a: u64) -> i64
 // The word of width w of a signed number. The least i64 has no opposite, so one more of a negative number is negated.
 fn from_signed(w: u64, z: i64) -> u64
     requires { Width w }
-    ensures { result ≡ twosComplement w z }
+    ensures { result ≡ twos_complement w z }
 {
     if z >= 0 {
         low(w, z as u64)
@@ -164,7 +166,7 @@ pub fn srem(w: u64, a: u64, b: u64) -> u64
 
 // A remainder moved to the divisor's sign.
 fn toward_divisor(r: i64, d: i64) -> i64
-    ensures { result ≡ towardDivisor r d }
+    ensures { result ≡ toward_divisor r d }
 {
     if r == 0 {
         r

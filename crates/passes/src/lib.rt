@@ -1,18 +1,20 @@
 // The passes over a table: array sorts, needing uses, the number of instructions, the instructions.
+#![tactic(auto)]
+
 ghost use Rattle.std.specs.Prelude.{◌≡◌, true, false, ◌+◌, ◌-◌, ◌≤◌, ◌<◌, replicate, length};
 ghost use Rattle.tables.specs.declared.Checked.TheVariants.{Accepted};
 ghost use Rattle.tables.specs.Tables.{checked};
 ghost use Rattle.tables.specs.Layout.{held, lines_of};
-ghost use Rattle.programs.specs.Translation.{hasArray};
+ghost use Rattle.programs.specs.Translation.{has_array};
 ghost use Rattle.programs.specs.Answers.{program_of};
-ghost use Rattle.programs.specs.Model.Passes.{Zeroed, emittedTo, Prepared, Fitted, programIn};
+ghost use Rattle.programs.specs.Model.Passes.{Zeroed, emitted_to, Prepared, Fitted, program_in};
 
 use tables::WORDS;
 
 // A counted record is an array sort. All kinds are looked at, so that the compiled code takes several of them at a time.
 pub fn has_array(table: &[u64], count: usize) -> bool
     requires { checked false table.now count ≡ Accepted }
-    ensures { result ≡ hasArray (lines_of false table.now count) }
+    ensures { result ≡ has_array (lines_of false table.now count) }
 {
     let mut found = false;
     let mut i: usize = 0;
@@ -68,7 +70,7 @@ pub fn count_all(
 // The e instructions of a line go to the target: the instruction, of width w, at the number b, and its mask.
 fn emit(e: usize, ins: [u64; WORDS], w: u64, b: usize, target: &mut [u64])
     requires { (1 ≤ b) × ((b < 65536) × ((e ≤ 2) × (b - 1 + e ≤ held true (length target.old)))) }
-    ensures { target.new ≡ emittedTo e ins w b target.old }
+    ensures { target.new ≡ emitted_to e ins w b target.old }
 {
     if e == 0 {
         return;
@@ -90,7 +92,7 @@ pub fn write_all(
     target: &mut [u64],
 )
     requires { Fitted table.now count marks.now target.old × Zeroed count wd.old num.old lo.old }
-    ensures { target.new ≡ programIn table.now count (length target.old) }
+    ensures { target.new ≡ program_in table.now count (length target.old) }
 {
     let h = records::step(false, table.len());
     let mut i: usize = 0;

@@ -1,4 +1,6 @@
 // The word of a line and a cell of an array, each found from words and cells of earlier lines; words that were found are kept.
+#![tactic(auto)]
+
 ghost use Rattle.peeks.specs.Model.Looks.{WordAsked, WordFound, CellAsked, CellFound};
 
 use area::LAID;

@@ -1,21 +1,23 @@
 // Words of single lines, and what is kept for a peek.
+#![tactic(auto)]
+
 ghost use Rattle.std.specs.Prelude.{◌≡◌, false, ℕ, ◌<◌, ◌%◌, ◌^◌, ◌≤◌, length, get_or, replicate, set};
-ghost use Rattle.tables.specs.Lines.{line_of, kindIn, firstIn, secondIn, thirdIn};
-ghost use Rattle.peeks.specs.Model.Looks.{noteInit, initOf, keptAs, FirstLine, SecondLine, StartAsked, start_in, ValueAsked, ValueFound};
+ghost use Rattle.tables.specs.Lines.{line_of, kind_in, first_in, second_in, third_in};
+ghost use Rattle.peeks.specs.Model.Looks.{note_init, init_of, kept_as, FirstLine, SecondLine, StartAsked, start_in, ValueAsked, ValueFound};
 ghost use Rattle.tables.specs.Tables.{checked};
-ghost use Rattle.tables.specs.Layout.{held, recordAt, lines_of};
+ghost use Rattle.tables.specs.Layout.{held, record_at, lines_of};
 ghost use Rattle.words.specs.Word.{Width};
-ghost use Rattle.circuits.specs.Model.Work.{posIn, widIn};
+ghost use Rattle.circuits.specs.Model.Work.{pos_in, wid_in};
 ghost use Rattle.circuits.specs.Model.Fits.{FitWord};
-ghost use Rattle.circuits.specs.Meaning.{opWord};
-ghost use Rattle.circuits.specs.Cells.{ifNonzero};
+ghost use Rattle.circuits.specs.Meaning.{op_word};
+ghost use Rattle.circuits.specs.Cells.{if_nonzero};
 
 use area::LAID;
 use tables::{Checked, WORDS};
 
 // An init's record notes the line of its value at its state.
 fn note_init(rec: [u64; WORDS], ini: &mut [u64])
-    ensures { (q : ℕ) → q < length ini.old → get_or ini.new q 0 ≡ noteInit q (get_or ini.old q 0) (line_of rec) }
+    ensures { (q : ℕ) → q < length ini.old → get_or ini.new q 0 ≡ note_init q (get_or ini.old q 0) (line_of rec) }
 {
     if rec[0] != 6 {
         return;
@@ -30,7 +32,7 @@ fn note_init(rec: [u64; WORDS], ini: &mut [u64])
 // The record at the place i of a circuit, from 0.
 pub fn record(table: &[u64], i: usize) -> [u64; WORDS]
     requires { i < held false (length table.now) }
-    ensures { result ≡ recordAt false table.now i }
+    ensures { result ≡ record_at false table.now i }
 {
     records::record(false, table, records::step(false, table.len()), i)
 }
@@ -38,7 +40,7 @@ pub fn record(table: &[u64], i: usize) -> [u64; WORDS]
 // The line of each state's init value, 0 where it has none.
 pub fn find_inits(table: &[u64], count: usize, ini: &mut [u64])
     requires { (checked false table.now count ≡ Checked.Accepted) × (ini.old ≡ replicate 65 0) }
-    ensures { (q : ℕ) → q < 65 → get_or ini.new q 0 ≡ initOf q (lines_of false table.now count) }
+    ensures { (q : ℕ) → q < 65 → get_or ini.new q 0 ≡ init_of q (lines_of false table.now count) }
 {
     let h = records::step(false, table.len());
     let mut i: usize = 0;
@@ -93,7 +95,7 @@ pub fn second(rec: [u64; WORDS], x: u64) -> usize
 // The word v of the line n is kept.
 pub fn keep(kept: &mut [[u64; 2]; 65], n: usize, v: u64) -> u64
     requires { n ≤ 64 }
-    ensures { (result ≡ v) × (kept.new ≡ set kept.old n (keptAs v)) }
+    ensures { (result ≡ v) × (kept.new ≡ set kept.old n (kept_as v)) }
 {
     kept[n] = [v, 1];
     v
@@ -101,8 +103,8 @@ pub fn keep(kept: &mut [[u64; 2]; 65], n: usize, v: u64) -> u64
 
 // The word of the input on the line n.
 fn input_word(n: usize, laid: &[[u32; LAID]; 16385], row: &[u64]) -> u64
-    requires { (n ≤ 16384) × ((posIn laid.now n < length row.now) × Width (widIn laid.now n)) }
-    ensures { result ≡ get_or row.now (posIn laid.now n) 0 % 2 ^ widIn laid.now n }
+    requires { (n ≤ 16384) × ((pos_in laid.now n < length row.now) × Width (wid_in laid.now n)) }
+    ensures { result ≡ get_or row.now (pos_in laid.now n) 0 % 2 ^ wid_in laid.now n }
 {
     let p = area::place(laid, n);
     let v = row[p];
@@ -132,8 +134,8 @@ fn state_word(n: usize, a: usize, laid: &[[u32; LAID]; 16385], starts: &[u64], x
 
 // An operator of one word, v, on the line n.
 fn unary(rec: [u64; WORDS], n: usize, laid: &[[u32; LAID]; 16385], v: u64) -> u64
-    requires { (n ≤ 16384) × ((firstIn rec ≤ 16384) × FitWord false (kindIn rec) (widIn laid.now n) (widIn laid.now (firstIn rec)) 64 v (secondIn rec) (thirdIn rec)) }
-    ensures { result ≡ opWord false (kindIn rec) (widIn laid.now (firstIn rec)) 64 v (secondIn rec) (thirdIn rec) }
+    requires { (n ≤ 16384) × ((first_in rec ≤ 16384) × FitWord false (kind_in rec) (wid_in laid.now n) (wid_in laid.now (first_in rec)) 64 v (second_in rec) (third_in rec)) }
+    ensures { result ≡ op_word false (kind_in rec) (wid_in laid.now (first_in rec)) 64 v (second_in rec) (third_in rec) }
 {
     let w = area::width(laid, n);
     let u = area::width(laid, rec[2] as usize);
@@ -142,9 +144,9 @@ fn unary(rec: [u64; WORDS], n: usize, laid: &[[u32; LAID]; 16385], v: u64) -> u6
 
 // An operator of two words, x and y, on the line n.
 fn binary(rec: [u64; WORDS], n: usize, laid: &[[u32; LAID]; 16385], x: u64, y: u64) -> u64
-    requires { (n ≤ 16384) × ((firstIn rec ≤ 16384) × ((secondIn rec ≤ 16384)
-        × FitWord false (kindIn rec) (widIn laid.now n) (widIn laid.now (firstIn rec)) (widIn laid.now (secondIn rec)) x y 0)) }
-    ensures { result ≡ opWord false (kindIn rec) (widIn laid.now (firstIn rec)) (widIn laid.now (secondIn rec)) x y 0 }
+    requires { (n ≤ 16384) × ((first_in rec ≤ 16384) × ((second_in rec ≤ 16384)
+        × FitWord false (kind_in rec) (wid_in laid.now n) (wid_in laid.now (first_in rec)) (wid_in laid.now (second_in rec)) x y 0)) }
+    ensures { result ≡ op_word false (kind_in rec) (wid_in laid.now (first_in rec)) (wid_in laid.now (second_in rec)) x y 0 }
 {
     let w = area::width(laid, n);
     let u = area::width(laid, rec[2] as usize);
@@ -154,9 +156,9 @@ fn binary(rec: [u64; WORDS], n: usize, laid: &[[u32; LAID]; 16385], x: u64, y: u
 
 // The word of the constant or of the input on the line n.
 fn given(rec: [u64; WORDS], n: usize, laid: &[[u32; LAID]; 16385], row: &[u64]) -> u64
-    requires { (kindIn rec ≡ 3 → ⊥) → (n ≤ 16384) × ((posIn laid.now n < length row.now) × Width (widIn laid.now n)) }
-    ensures { (kindIn rec ≡ 3 → result ≡ firstIn rec)
-        × ((kindIn rec ≡ 3 → ⊥) → result ≡ get_or row.now (posIn laid.now n) 0 % 2 ^ widIn laid.now n) }
+    requires { (kind_in rec ≡ 3 → ⊥) → (n ≤ 16384) × ((pos_in laid.now n < length row.now) × Width (wid_in laid.now n)) }
+    ensures { (kind_in rec ≡ 3 → result ≡ first_in rec)
+        × ((kind_in rec ≡ 3 → ⊥) → result ≡ get_or row.now (pos_in laid.now n) 0 % 2 ^ wid_in laid.now n) }
 {
     if rec[0] == 3 {
         return rec[2];
@@ -166,7 +168,7 @@ fn given(rec: [u64; WORDS], n: usize, laid: &[[u32; LAID]; 16385], row: &[u64]) 
 
 // The line that an ite takes where its condition is d.
 fn chosen(d: u64, b: u64, c: u64) -> usize
-    ensures { result ≡ ifNonzero d b c }
+    ensures { result ≡ if_nonzero d b c }
 {
     if d != 0 {
         return b as usize;

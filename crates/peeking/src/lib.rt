@@ -1,9 +1,11 @@
 // Peek: a line's word, or one cell of an array, at step 0.
+#![tactic(auto)]
+
 ghost use Rattle.std.specs.Prelude.{◌≡◌, false, ◌+◌, ◌≤◌, ◌<◌};
 ghost use Rattle.tables.specs.Layout.{lines_of};
-ghost use Rattle.peeks.specs.Peek.{peek_at, mayPeek, toldPeek, peeks};
-ghost use Rattle.peeks.specs.Model.Looks.{Laid, HasCell, lentPeek};
-ghost use Rattle.circuits.specs.Model.Passes.{countsOf, Noted};
+ghost use Rattle.peeks.specs.Peek.{peek_at, may_peek, told_peek, peeks};
+ghost use Rattle.peeks.specs.Model.Looks.{Laid, HasCell, lent_peek};
+ghost use Rattle.circuits.specs.Model.Passes.{counts_of, Noted};
 
 use area::LAID;
 use circuits::Totals;
@@ -39,7 +41,7 @@ fn find(
 // 14, 15 and 18: s start words and i words of a row are lent, for the cell k of a line of the type y.
 fn may_peek(t: Totals, y: Ty, count: usize, k: usize, s: usize, i: usize) -> Checked
     requires { (t.inputs + t.free < 4294967296) × (2 ≤ y.role → y.iw ≤ 8) }
-    ensures { result ≡ mayPeek (countsOf t) (t.inputs + t.free) y count k s i }
+    ensures { result ≡ may_peek (counts_of t) (t.inputs + t.free) y count k s i }
 {
     if s != t.states {
         return Checked::Refused(Refusal::StartWords);
@@ -72,7 +74,7 @@ fn peek_checked(
     row: &[u64],
 ) -> Peeked
     requires { Noted false table.now count notes.now }
-    ensures { result ≡ lentPeek table.now count line k starts.now row.now }
+    ensures { result ≡ lent_peek table.now count line k starts.now row.now }
 {
     let mut laid = [[0u32; LAID]; 16385];
     let t = places::lay_out(false, table, count, notes, &mut laid);
@@ -95,7 +97,7 @@ pub fn peek(
     starts: &[u64],
     row: &[u64],
 ) -> Peeked
-    ensures { toldPeek result ≡ peeks table.now count line cell starts.now row.now }
+    ensures { told_peek result ≡ peeks table.now count line cell starts.now row.now }
 {
     let mut notes = [[0u8; BYTES]; 16385];
     match checks::check(false, table, count, &mut notes) {

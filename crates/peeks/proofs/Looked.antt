@@ -13,30 +13,30 @@ use Rattle.words.specs.Word.{Width, bit}
 use Rattle.tables.specs.declared.Ty.{Ty}
 use Rattle.tables.specs.declared.Checked.TheVariants.{Accepted}
 use Rattle.tables.specs.Lines.{Line, Expr, line_of}
-use Rattle.tables.specs.Layout.{recordAt, lines_of}
-use Rattle.tables.specs.Types.{unmarkedRole, markedRole, ty_at, given, sortAt}
+use Rattle.tables.specs.Layout.{record_at, lines_of}
+use Rattle.tables.specs.Types.{unmarked_role, marked_role, ty_at, given, sort_at}
 use Rattle.tables.specs.Tables.{checked}
 use Rattle.tables.proofs.Facts.{IsWord, IsArray, Ok, OkExpr}
 use Rattle.tables.proofs.Showing.{earlier}
-use Rattle.tables.proofs.Values.{val-iw, val-w}
-use Rattle.tables.proofs.Wide.{sort-wide}
-use Rattle.circuits.specs.Cells.{ifNonzero, eqOrNeq, sameCells, maskWords, part}
-use Rattle.circuits.specs.Layout.{Layout, type_at, placeAt, size, lineTypeIn, place_of, no_layout, lay, layout}
-use Rattle.circuits.specs.Meaning.{opWord, cellsE, Frame, cellsAt, word_at, width_at, cells_of, step}
-use Rattle.circuits.specs.Run.{inputCount, start}
-use Rattle.peeks.specs.Peek.{stepZero}
-use Rattle.circuits.specs.Model.Work.{posIn, widIn}
+use Rattle.tables.proofs.Values.{val_iw, val_w}
+use Rattle.tables.proofs.Wide.{sort_wide}
+use Rattle.circuits.specs.Cells.{if_nonzero, eq_or_neq, same_cells, mask_words, part}
+use Rattle.circuits.specs.Layout.{Layout, type_at, place_at, size, line_type_in, place_of, no_layout, lay, layout}
+use Rattle.circuits.specs.Meaning.{op_word, cells_e, Frame, cells_at, word_at, width_at, cells_of, step}
+use Rattle.circuits.specs.Run.{input_count, start}
+use Rattle.peeks.specs.Peek.{step_zero}
+use Rattle.circuits.specs.Model.Work.{pos_in, wid_in}
 use Rattle.circuits.specs.Model.Fits.{FitWord}
 use Rattle.circuits.specs.Model.Places.{off_at, Shown}
-use Rattle.peeks.specs.Model.Looks.{initOf, Laid, Looks}
-use Rattle.circuits.proofs.Fitting.{fit-as}
-use Rattle.circuits.proofs.Laid.{Later, later, grew, type-new, place-new, type-old, more-types, more-places}
-use Rattle.circuits.proofs.Simulation.{word-one, word_two, is-sort}
-use Rattle.circuits.proofs.Walked.{accAt, lines-many, line-here, number_at, later-at, Facts}
-use Rattle.circuits.proofs.Placing.{all_sound, lines-here}
-use Rattle.circuits.proofs.Earlier.{cells-first, cells-here, unmarked-alike}
+use Rattle.peeks.specs.Model.Looks.{init_of, Laid, Looks}
+use Rattle.circuits.proofs.Fitting.{fit_as}
+use Rattle.circuits.proofs.Laid.{Later, later, grew, type_new, place_new, type_old, more_types, more_places}
+use Rattle.circuits.proofs.Simulation.{word_one, word_two, is_sort_lem}
+use Rattle.circuits.proofs.Walked.{acc_at, lines_many, line_here, number_at, later_at, Facts}
+use Rattle.circuits.proofs.Placing.{all_sound, lines_here}
+use Rattle.circuits.proofs.Earlier.{cells_first, cells_here, unmarked_alike}
 use Rattle.circuits.proofs.Sizes.{laid_of}
-use Rattle.peeks.proofs.Whole.{HeldBy, lay-is, facts-of, held_at, held_whole, lay-whole, cells-many, cells-small}
+use Rattle.peeks.proofs.Whole.{HeldBy, lay_is, facts_of, held_at, held_whole, lay_whole, cells_many, cells_small}
 use Rattle.peeks.proofs.Begun.{start_of, Begun, begun}
 use Rattle.circuits.proofs.Puts as laws
 
@@ -60,64 +60,64 @@ module _ (A : Frame) (Z : Layout) (P : List (List ℕ)) (ini S R : List ℕ) (n 
     pub most : k ≤ 20
     pub flat : (type_at Z n).iw ≡ 0
     pub arg : Arg Z n a
-    pub op : FitWord false k (widIn P n) (widIn P a) 64 (word_at A a) x y
-    pub is : opWord false k (widIn P a) 64 (word_at A a) x y ≡ word_at A n
+    pub op : FitWord false k (wid_in P n) (wid_in P a) 64 (word_at A a) x y
+    pub is : op_word false k (wid_in P a) 64 (word_at A a) x y ≡ word_at A n
 
   pub record FactBinary (k a b : ℕ) : Type 0 where
     pub flat : (type_at Z n).iw ≡ 0
     pub left : Arg Z n a
     pub right : Arg Z n b
-    pub op : FitWord false k (widIn P n) (widIn P a) (widIn P b) (word_at A a) (word_at A b) 0
-    pub is : opWord false k (widIn P a) (widIn P b) (word_at A a) (word_at A b) 0 ≡ word_at A n
+    pub op : FitWord false k (wid_in P n) (wid_in P a) (wid_in P b) (word_at A a) (word_at A b) 0
+    pub is : op_word false k (wid_in P a) (wid_in P b) (word_at A a) (word_at A b) 0 ≡ word_at A n
 
   pub record FactEquality (e : Bool) (a b : ℕ) : Type 0 where
     pub flat : (type_at Z n).iw ≡ 0
     pub left : Operand Z n a
     pub right : Operand Z n b
     pub sorts : (type_at Z b).iw ≡ (type_at Z a).iw
-    pub is : bit (eqOrNeq e (sameCells (cellsAt A a) (cellsAt A b))) ≡ word_at A n
+    pub is : bit (eq_or_neq e (same_cells (cells_at A a) (cells_at A b))) ≡ word_at A n
 
   pub record FactIte (d a b : ℕ) : Type 0 where
     pub cond : Arg Z n d
     pub left : Operand Z n a
     pub right : Operand Z n b
-    pub sortA : (type_at Z a).iw ≡ (type_at Z n).iw
-    pub sortB : (type_at Z b).iw ≡ (type_at Z n).iw
-    pub yes : (word_at A d ≡ 0 → ⊥) → get_or (cellsAt A a) c 0 ≡ get_or (cellsAt A n) c 0
-    pub no : word_at A d ≡ 0 → get_or (cellsAt A b) c 0 ≡ get_or (cellsAt A n) c 0
+    pub sort_a : (type_at Z a).iw ≡ (type_at Z n).iw
+    pub sort_b : (type_at Z b).iw ≡ (type_at Z n).iw
+    pub yes : (word_at A d ≡ 0 → ⊥) → get_or (cells_at A a) c 0 ≡ get_or (cells_at A n) c 0
+    pub no : word_at A d ≡ 0 → get_or (cells_at A b) c 0 ≡ get_or (cells_at A n) c 0
 
   pub record FactRead (a i : ℕ) : Type 0 where
     pub flat : (type_at Z n).iw ≡ 0
     pub arr : IsArray (type_at Z a)
-    pub belowA : a < n
+    pub below_a : a < n
     pub index : Arg Z n i
     pub inside : word_at A i < size (type_at Z a)
-    pub is : get_or (cellsAt A a) (word_at A i) 0 ≡ word_at A n
+    pub is : get_or (cells_at A a) (word_at A i) 0 ≡ word_at A n
 
   pub record FactWrite (a i v : ℕ) : Type 0 where
     pub arr : IsArray (type_at Z a)
-    pub belowA : a < n
-    pub sortA : (type_at Z a).iw ≡ (type_at Z n).iw
+    pub below_a : a < n
+    pub sort_a : (type_at Z a).iw ≡ (type_at Z n).iw
     pub index : Arg Z n i
     pub value : Arg Z n v
-    pub hit : word_at A i ≡ c → word_at A v ≡ get_or (cellsAt A n) c 0
-    pub miss : (word_at A i ≡ c → ⊥) → get_or (cellsAt A a) c 0 ≡ get_or (cellsAt A n) c 0
+    pub hit : word_at A i ≡ c → word_at A v ≡ get_or (cells_at A n) c 0
+    pub miss : (word_at A i ≡ c → ⊥) → get_or (cells_at A a) c 0 ≡ get_or (cells_at A n) c 0
 
   pub record FactInput : Type 0 where
     pub flat : (type_at Z n).iw ≡ 0
-    pub inside : posIn P n < length R
-    pub wide : Width (widIn P n)
-    pub is : get_or R (posIn P n) 0 % 2 ^ widIn P n ≡ word_at A n
+    pub inside : pos_in P n < length R
+    pub wide : Width (wid_in P n)
+    pub is : get_or R (pos_in P n) 0 % 2 ^ wid_in P n ≡ word_at A n
 
   -- a state whose init's value is on the line d, and one that has no init
   pub record FactInit (d : ℕ) : Type 0 where
     pub arg : Arg Z n d
-    pub is : word_at A d ≡ get_or (cellsAt A n) c 0
+    pub is : word_at A d ≡ get_or (cells_at A n) c 0
 
   pub record FactStart : Type 0 where
-    pub inside : posIn P n + c < length S
-    pub wide : Width (widIn P n)
-    pub is : get_or S (posIn P n + c) 0 % 2 ^ widIn P n ≡ get_or (cellsAt A n) c 0
+    pub inside : pos_in P n + c < length S
+    pub wide : Width (wid_in P n)
+    pub is : get_or S (pos_in P n + c) 0 % 2 ^ wid_in P n ≡ get_or (cells_at A n) c 0
 
   pub record FactState : Type 0 where
     pub init : (get_or ini n 0 ≡ 0 → ⊥) → FactInit (get_or ini n 0)
@@ -138,38 +138,38 @@ module _ (A : Frame) (Z : Layout) (P : List (List ℕ)) (ini S R : List ℕ) (n 
   Fact (Line.input s) = FactInput
   Fact (Line.state s) = FactState
   Fact (Line.value s e) = FactE e
-  Fact (Line.initOrNext m s q v) = ⊥
+  Fact (Line.init_or_next m s q v) = ⊥
   Fact (Line.signal m a) = ⊥
   Fact (Line.output a) = ⊥
   Fact Line.unknown = ⊥
 
 -- ---- small laws
 
-pub yes-choose : {X : Type 0} (d : ℕ) (x y : X) → (d ≡ 0 → ⊥) → ifNonzero d x y ≡ x
-yes-choose zero x y n = absurd (n refl)
-yes-choose (suc d) x y n = refl
+pub yes_choose : {X : Type 0} (d : ℕ) (x y : X) → (d ≡ 0 → ⊥) → if_nonzero d x y ≡ x
+yes_choose zero x y n = absurd (n refl)
+yes_choose (suc d) x y n = refl
 
-no-choose : {X : Type 0} (d : ℕ) (x y : X) → d ≡ 0 → ifNonzero d x y ≡ y
-no-choose d x y e = ap (λ (k : ℕ). ifNonzero k x y) e
+no_choose : {X : Type 0} (d : ℕ) (x y : X) → d ≡ 0 → if_nonzero d x y ≡ y
+no_choose d x y e = ap (λ (k : ℕ). if_nonzero k x y) e
 
-getD-lows : (w : ℕ) (xs : List ℕ) (c : ℕ) → get_or (maskWords w xs) c 0 ≡ get_or xs c 0 % 2 ^ w
-getD-lows w [] c = sym (mod-eq_of_lt (pow_pos w))
-getD-lows w (x ∷ xs) zero = refl
-getD-lows w (x ∷ xs) (suc c) = getD-lows w xs c
+get_or_lows : (w : ℕ) (xs : List ℕ) (c : ℕ) → get_or (mask_words w xs) c 0 ≡ get_or xs c 0 % 2 ^ w
+get_or_lows w [] c = sym (mod-eq_of_lt (pow_pos w))
+get_or_lows w (x ∷ xs) zero = refl
+get_or_lows w (x ∷ xs) (suc c) = get_or_lows w xs c
 
 -- one cell is a word, more are an array
 pub one_cell : (x : ℕ) → 2 ^ x ≡ 1 → x ≡ 0
 one_cell zero e = refl
 one_cell (suc x) e = absurd (omega (arith, pow_pos x, pow-suc 2 x))
 
-pub more-cells : (x : ℕ) → (2 ^ x ≡ 1 → ⊥) → 0 < x
-more-cells zero z = absurd (z refl)
-more-cells (suc x) z = omega arith
+pub more_cells : (x : ℕ) → (2 ^ x ≡ 1 → ⊥) → 0 < x
+more_cells zero z = absurd (z refl)
+more_cells (suc x) z = omega arith
 
 -- what is known of a line by its number
 pub shown : {t : List ℕ} {n : ℕ} {P : List (List ℕ)} {S R : List ℕ} → Laid t n P S R → (a : ℕ) → a ≤ n
-    → Shown P a (type_at (layout false (lines_of false t n)) a) (off_at (layout false (lines_of false t n)) a) (placeAt (layout false (lines_of false t n)) a)
-shown {t} {n} l a h = let long = (all_sound false t n l.accepted).long in let many = lines-here false t n l.accepted in l.shows a (omega arith)
+    → Shown P a (type_at (layout false (lines_of false t n)) a) (off_at (layout false (lines_of false t n)) a) (place_at (layout false (lines_of false t n)) a)
+shown {t} {n} l a h = let long = (all_sound false t n l.accepted).long in let many = lines_here false t n l.accepted in l.shows a (omega arith)
 
 -- ---- step 0 of an accepted circuit
 
@@ -181,10 +181,10 @@ module _ {t : List ℕ} {n : ℕ} {P : List (List ℕ)} {ini S R : List ℕ} (lk
   Z = layout false (lines_of false t n)
 
   abbrev ι : List ℕ
-  ι = take (inputCount false (lines_of false t n)) R
+  ι = take (input_count false (lines_of false t n)) R
 
   abbrev σ : List ℕ
-  σ = (step false true (lines_of false t n) S (take (inputCount false (lines_of false t n)) R)).sts
+  σ = (step false true (lines_of false t n) S (take (input_count false (lines_of false t n)) R)).sts
 
   abbrev A : Frame
   A = step false false (lines_of false t n) σ ι
@@ -192,39 +192,39 @@ module _ {t : List ℕ} {n : ℕ} {P : List (List ℕ)} {ini S R : List ℕ} (lk
   accepted : checked false t n ≡ Accepted
   accepted = lk.laid.accepted
 
-  zero_is : stepZero (lines_of false t n) S R ≡ A
-  unfolding stepZero start
+  zero_is : step_zero (lines_of false t n) S R ≡ A
+  unfolding step_zero start
   zero_is = refl
 
   many : length σ ≡ Z.counts.states
   many =
-      (held_whole t n accepted S lk.laid.starts true ι).held.kept.many ∙ ap (λ (Y : Layout). Y.counts.states) (lay-whole t n accepted S lk.laid.starts true ι)
+      (held_whole t n accepted S lk.laid.starts true ι).held.kept.many ∙ ap (λ (Y : Layout). Y.counts.states) (lay_whole t n accepted S lk.laid.starts true ι)
 
   H : HeldBy Z.counts.cells σ A
   H = held_whole t n accepted σ many false ι
 
-  lay-A : A.lay ≡ Z
-  lay-A = lay-whole t n accepted σ many false ι
+  lay_A : A.lay ≡ Z
+  lay_A = lay_whole t n accepted σ many false ι
 
   room : A.lay.counts.cells ≤ Z.counts.cells
-  room = omega (arith, ap (λ (Y : Layout). Y.counts.cells) lay-A)
+  room = omega (arith, ap (λ (Y : Layout). Y.counts.cells) lay_A)
 
-  type-A : (a : ℕ) → type_at A.lay a ≡ type_at Z a
-  type-A a = ap (λ (Y : Layout). type_at Y a) lay-A
+  type_A : (a : ℕ) → type_at A.lay a ≡ type_at Z a
+  type_A a = ap (λ (Y : Layout). type_at Y a) lay_A
 
-  length-of : (a : ℕ) → 2 ≤ (type_at Z a).role → length (cellsAt A a) ≡ size (type_at Z a)
-  length-of a q = cells-many H room a (subst (λ (y : Ty). 2 ≤ y.role) (sym (type-A a)) q) ∙ ap size (type-A a)
+  length_of : (a : ℕ) → 2 ≤ (type_at Z a).role → length (cells_at A a) ≡ size (type_at Z a)
+  length_of a q = cells_many H room a (subst (λ (y : Ty). 2 ≤ y.role) (sym (type_A a)) q) ∙ ap size (type_A a)
 
-  small : (a : ℕ) → 2 ≤ (type_at Z a).role → (j : ℕ) → get_or (cellsAt A a) j 0 < 2 ^ (type_at Z a).w
-  small a q j = subst (λ (y : Ty). get_or (cellsAt A a) j 0 < 2 ^ y.w) (type-A a) (cells-small H room a (subst (λ (y : Ty). 2 ≤ y.role) (sym (type-A a)) q) j)
+  small : (a : ℕ) → 2 ≤ (type_at Z a).role → (j : ℕ) → get_or (cells_at A a) j 0 < 2 ^ (type_at Z a).w
+  small a q j = subst (λ (y : Ty). get_or (cells_at A a) j 0 < 2 ^ y.w) (type_A a) (cells_small H room a (subst (λ (y : Ty). 2 ≤ y.role) (sym (type_A a)) q) j)
 
   no_line : (type_at (layout false (lines_of false t n)) 0).role ≡ 0
   unfolding layout
   no_line = ap (λ (y : Ty). y.role) ((later false no_layout (lines_of false t n)).type 0 (omega arith))
 
-  pub none-flat : (type_at (layout false (lines_of false t n)) 0).iw ≡ 0
+  pub none_flat : (type_at (layout false (lines_of false t n)) 0).iw ≡ 0
   unfolding layout
-  none-flat = ap (λ (y : Ty). y.iw) ((later false no_layout (lines_of false t n)).type 0 (omega arith))
+  none_flat = ap (λ (y : Ty). y.iw) ((later false no_layout (lines_of false t n)).type 0 (omega arith))
 
   from_one : (a : ℕ) → 1 ≤ (type_at (layout false (lines_of false t n)) a).role → 1 ≤ a
   from_one zero q = absurd (omega (arith, no_line))
@@ -232,264 +232,264 @@ module _ {t : List ℕ} {n : ℕ} {P : List (List ℕ)} {ini S R : List ℕ} (lk
 
   -- a line of some role has a number from 1 to the count
   pub number_of : (a : ℕ) → 1 ≤ (type_at Z a).role → (1 ≤ a) × (a ≤ n)
-  number_of a q = (from_one a q, omega (arith, earlier Z.ctx.tys a q, lines-here false t n accepted))
+  number_of a q = (from_one a q, omega (arith, earlier Z.ctx.tys a q, lines_here false t n accepted))
 
-  width_of : (a : ℕ) → 2 ≤ (type_at Z a).role → Width (widIn P a)
+  width_of : (a : ℕ) → 2 ≤ (type_at Z a).role → Width (wid_in P a)
   width_of a q =
       let k = (all_sound false t n accepted).wide a (omega arith) in
-      let e = (shown lk.laid a (number_of a (omega arith)).1).isWid in
+      let e = (shown lk.laid a (number_of a (omega arith)).1).is_wid in
       record { least = omega (arith, k.least); most = omega (arith, k.most) }
 
   -- ---- the line at the place i
 
   module _ (i : ℕ) (h : i < n) where
     abbrev B : Frame
-    B = accAt false false σ ι (lines_of false t n) i
+    B = acc_at false false σ ι (lines_of false t n) i
 
     abbrev l : Line
     l = get_or (lines_of false t n) i Line.unknown
 
     known : Facts false (laid_of Z) B.lay l Z.counts.cells (length σ) Z.counts.inputs Z.counts.signals
-    known = facts-of t n accepted σ many false ι i h
+    known = facts_of t n accepted σ many false ι i h
 
     held : HeldBy Z.counts.cells σ B
     held = held_at t n accepted σ many false ι i (omega arith)
 
     tall : length B.lay.ctx.tys ≡ i + 1
-    tall = ap (λ (Y : Layout). length Y.ctx.tys) (lay-is t n accepted σ many false ι i) ∙ number_at false t n accepted i (omega arith)
+    tall = ap (λ (Y : Layout). length Y.ctx.tys) (lay_is t n accepted σ many false ι i) ∙ number_at false t n accepted i (omega arith)
 
     next : Later (lay false B.lay l) Z
-    next = subst (λ (Y : Layout). Later (lay false Y l) Z) (sym (lay-is t n accepted σ many false ι i)) (later-at false t n accepted i h)
+    next = subst (λ (Y : Layout). Later (lay false Y l) Z) (sym (lay_is t n accepted σ many false ι i)) (later_at false t n accepted i h)
 
-    arg-below : (a : ℕ) → 1 ≤ (type_at B.lay a).role → a < suc i
-    arg-below a q = omega (arith, earlier B.lay.ctx.tys a q, tall)
+    arg_below : (a : ℕ) → 1 ≤ (type_at B.lay a).role → a < suc i
+    arg_below a q = omega (arith, earlier B.lay.ctx.tys a q, tall)
 
-    arg-type : (a : ℕ) → 1 ≤ (type_at B.lay a).role → type_at Z a ≡ type_at B.lay a
-    arg-type a q =
+    arg_type : (a : ℕ) → 1 ≤ (type_at B.lay a).role → type_at Z a ≡ type_at B.lay a
+    arg_type a q =
         let b = earlier B.lay.ctx.tys a q in
-        next.type a (omega (arith, more-types false B.lay l)) ∙ type-old false B.lay l held.held.sound.long a (λ e. omega arith)
+        next.type a (omega (arith, more_types false B.lay l)) ∙ type_old false B.lay l held.held.sound.long a (λ e. omega arith)
 
-    arg-cells : (a : ℕ) → 1 ≤ (type_at B.lay a).role → cellsAt A a ≡ cellsAt B a
-    arg-cells a q = cells-first false false (lines_of false t n) σ ι i a (omega (arith, lines-many false t n accepted)) (omega (arith, arg-below a q))
+    arg_cells : (a : ℕ) → 1 ≤ (type_at B.lay a).role → cells_at A a ≡ cells_at B a
+    arg_cells a q = cells_first false false (lines_of false t n) σ ι i a (omega (arith, lines_many false t n accepted)) (omega (arith, arg_below a q))
 
-    arg-word : (a : ℕ) → 1 ≤ (type_at B.lay a).role → word_at A a ≡ word_at B a
-    arg-word a q = ap (λ (x : List ℕ). get_or x 0 0) (arg-cells a q)
+    arg_word : (a : ℕ) → 1 ≤ (type_at B.lay a).role → word_at A a ≡ word_at B a
+    arg_word a q = ap (λ (x : List ℕ). get_or x 0 0) (arg_cells a q)
 
-    arg-width : (a : ℕ) → 1 ≤ (type_at B.lay a).role → widIn P a ≡ width_at B a
-    arg-width a q = (shown lk.laid a (omega (arith, arg-below a q))).isWid ∙ ap (λ (y : Ty). y.w) (arg-type a q)
+    arg_width : (a : ℕ) → 1 ≤ (type_at B.lay a).role → wid_in P a ≡ width_at B a
+    arg_width a q = (shown lk.laid a (omega (arith, arg_below a q))).is_wid ∙ ap (λ (y : Ty). y.w) (arg_type a q)
 
-    arg-of : (a : ℕ) → IsWord (type_at B.lay a) → Arg Z (suc i) a
-    arg-of a q = record { word = subst IsWord (sym (arg-type a (omega (arith, q.is)))) q; below = arg-below a (omega (arith, q.is)) }
+    arg_of : (a : ℕ) → IsWord (type_at B.lay a) → Arg Z (suc i) a
+    arg_of a q = record { word = subst IsWord (sym (arg_type a (omega (arith, q.is)))) q; below = arg_below a (omega (arith, q.is)) }
 
     array_of : (a : ℕ) → IsArray (type_at B.lay a) → IsArray (type_at Z a)
-    array_of a q = subst IsArray (sym (arg-type a (omega (arith, q.is)))) q
+    array_of a q = subst IsArray (sym (arg_type a (omega (arith, q.is)))) q
 
-    operand-of : (a : ℕ) → 2 ≤ (type_at B.lay a).role → Operand Z (suc i) a
-    operand-of a q = record { value = subst (λ (y : Ty). 2 ≤ y.role) (sym (arg-type a (omega arith))) q; below = arg-below a (omega arith) }
+    operand_of : (a : ℕ) → 2 ≤ (type_at B.lay a).role → Operand Z (suc i) a
+    operand_of a q = record { value = subst (λ (y : Ty). 2 ≤ y.role) (sym (arg_type a (omega arith))) q; below = arg_below a (omega arith) }
 
-    own-cells : cellsAt A (suc i) ≡ cells_of false false σ ι B l
-    own-cells = cells-here false false (lines_of false t n) σ ι i (omega (arith, lines-many false t n accepted))
+    own_cells : cells_at A (suc i) ≡ cells_of false false σ ι B l
+    own_cells = cells_here false false (lines_of false t n) σ ι i (omega (arith, lines_many false t n accepted))
 
-    own-type : type_at Z (suc i) ≡ lineTypeIn false B.lay l
-    own-type =
+    own_type : type_at Z (suc i) ≡ line_type_in false B.lay l
+    own_type =
         let e : suc i ≡ length B.lay.ctx.tys = omega (arith, tall) in
-        next.type (suc i) (omega (arith, more-types false B.lay l)) ∙ ap (type_at (lay false B.lay l)) e ∙ type-new false B.lay l held.held.sound.long
+        next.type (suc i) (omega (arith, more_types false B.lay l)) ∙ ap (type_at (lay false B.lay l)) e ∙ type_new false B.lay l held.held.sound.long
 
-    own-place : placeAt Z (suc i) ≡ place_of B.lay l
-    own-place =
+    own_place : place_at Z (suc i) ≡ place_of B.lay l
+    own_place =
         let e : suc i ≡ length B.lay.ctx.tys = omega (arith, tall) in
         let g = held.held.sound.long in
-        next.place (suc i) (omega (arith, more-places false B.lay l)) ∙ ap (placeAt (lay false B.lay l)) e ∙ place-new false B.lay l g
+        next.place (suc i) (omega (arith, more_places false B.lay l)) ∙ ap (place_at (lay false B.lay l)) e ∙ place_new false B.lay l g
 
-    cells-room : B.lay.counts.cells ≤ Z.counts.cells
-    cells-room = omega (arith, known.cells, (grew B.lay.counts (size (lineTypeIn false B.lay l)) l).cells)
+    cells_room : B.lay.counts.cells ≤ Z.counts.cells
+    cells_room = omega (arith, known.cells, (grew B.lay.counts (size (line_type_in false B.lay l)) l).cells)
 
     module _ (s : ℕ) (e : Expr) (el : l ≡ Line.value s e) where
       abbrev sort : Ty
-      sort = sortAt false (ty_at B.lay.ctx) s
+      sort = sort_at false (ty_at B.lay.ctx) s
 
-      expr-w : widIn P (suc i) ≡ sort.w
-      expr-w = (shown lk.laid (suc i) (omega arith)).isWid ∙ ap (λ (y : Ty). y.w) (own-type ∙ ap (lineTypeIn false B.lay) el) ∙ val-w false (ty_at B.lay.ctx) s e
+      expr_w : wid_in P (suc i) ≡ sort.w
+      expr_w = (shown lk.laid (suc i) (omega arith)).is_wid ∙ ap (λ (y : Ty). y.w) (own_type ∙ ap (line_type_in false B.lay) el) ∙ val_w false (ty_at B.lay.ctx) s e
 
-      expr-iw : (type_at Z (suc i)).iw ≡ sort.iw
-      expr-iw = ap (λ (y : Ty). y.iw) (own-type ∙ ap (lineTypeIn false B.lay) el) ∙ val-iw false (ty_at B.lay.ctx) s e
+      expr_iw : (type_at Z (suc i)).iw ≡ sort.iw
+      expr_iw = ap (λ (y : Ty). y.iw) (own_type ∙ ap (line_type_in false B.lay) el) ∙ val_iw false (ty_at B.lay.ctx) s e
 
-      expr-cells : cellsAt A (suc i) ≡ cellsE false (width_at B) (word_at B) (cellsAt B) e
-      expr-cells = own-cells ∙ ap (cells_of false false σ ι B) el
+      expr_cells : cells_at A (suc i) ≡ cells_e false (width_at B) (word_at B) (cells_at B) e
+      expr_cells = own_cells ∙ ap (cells_of false false σ ι B) el
 
-      expr-word : word_at A (suc i) ≡ get_or (cellsE false (width_at B) (word_at B) (cellsAt B) e) 0 0
-      expr-word = ap (λ (x : List ℕ). get_or x 0 0) expr-cells
+      expr_word : word_at A (suc i) ≡ get_or (cells_e false (width_at B) (word_at B) (cells_at B) e) 0 0
+      expr_word = ap (λ (x : List ℕ). get_or x 0 0) expr_cells
 
-      expr-wide : OkExpr false (ty_at B.lay.ctx) sort e → sort.w ≤ 64
-      expr-wide ok = (sort-wide false (ty_at B.lay.ctx) s held.held.sound.wide (is-sort false (ty_at B.lay.ctx) sort e ok)).most
+      expr_wide : OkExpr false (ty_at B.lay.ctx) sort e → sort.w ≤ 64
+      expr_wide ok = (sort_wide false (ty_at B.lay.ctx) s held.held.sound.wide (is_sort_lem false (ty_at B.lay.ctx) sort e ok)).most
 
-    fact-expr : (s : ℕ) (e : Expr) → l ≡ Line.value s e → OkExpr false (ty_at B.lay.ctx) (sortAt false (ty_at B.lay.ctx) s) e → (c : ℕ) → c < size (type_at Z (suc i)) → FactE A Z P ini S R (suc i) c e
-    fact-expr s (Expr.const v) el ok c hc = record { flat = expr-iw s (Expr.const v) el ∙ ok.sort.flat; is = sym (expr-word s (Expr.const v) el) }
-    fact-expr s (Expr.unary k a x y) el ok c hc =
+    fact_expr : (s : ℕ) (e : Expr) → l ≡ Line.value s e → OkExpr false (ty_at B.lay.ctx) (sort_at false (ty_at B.lay.ctx) s) e → (c : ℕ) → c < size (type_at Z (suc i)) → FactE A Z P ini S R (suc i) c e
+    fact_expr s (Expr.const v) el ok c hc = record { flat = expr_iw s (Expr.const v) el ∙ ok.sort.flat; is = sym (expr_word s (Expr.const v) el) }
+    fact_expr s (Expr.unary k a x y) el ok c hc =
         let e = Expr.unary k a x y in
         let q : 1 ≤ (type_at B.lay a).role = omega (arith, ok.arg.is) in
         record {
           most = ok.kind.1;
-          flat = expr-iw s e el ∙ ok.sort.flat;
-          arg = arg-of a ok.arg;
-          op = fit-as (expr-w s e el) (arg-width a q) refl (arg-word a q) refl
-              (word-one held.held cells-room l (laid_of Z) known.shows (sortAt false (ty_at B.lay.ctx) s) k a x y (expr-wide s e el ok) ok);
-          is = ap₂ (λ (u v : ℕ). opWord false k u 64 v x y) (arg-width a q) (arg-word a q) ∙ sym (expr-word s e el);
+          flat = expr_iw s e el ∙ ok.sort.flat;
+          arg = arg_of a ok.arg;
+          op = fit_as (expr_w s e el) (arg_width a q) refl (arg_word a q) refl
+              (word_one held.held cells_room l (laid_of Z) known.shows (sort_at false (ty_at B.lay.ctx) s) k a x y (expr_wide s e el ok) ok);
+          is = ap₂ (λ (u v : ℕ). op_word false k u 64 v x y) (arg_width a q) (arg_word a q) ∙ sym (expr_word s e el);
         }
-    fact-expr s (Expr.binary k a b) el ok c hc =
+    fact_expr s (Expr.binary k a b) el ok c hc =
         let e = Expr.binary k a b in
         let qa : 1 ≤ (type_at B.lay a).role = omega (arith, ok.left.is) in
         let qb : 1 ≤ (type_at B.lay b).role = omega (arith, ok.right.is) in
         record {
-          flat = expr-iw s e el ∙ ok.sort.flat;
-          left = arg-of a ok.left;
-          right = arg-of b ok.right;
-          op = fit-as (expr-w s e el) (arg-width a qa) (arg-width b qb) (arg-word a qa) (arg-word b qb)
-              (word_two held.held cells-room l (laid_of Z) known.shows (sortAt false (ty_at B.lay.ctx) s) k a b (expr-wide s e el ok) ok);
-          is = ap₂ (λ (u v : ℕ). opWord false k u v (word_at A a) (word_at A b) 0) (arg-width a qa) (arg-width b qb)
-              ∙ ap₂ (λ (u v : ℕ). opWord false k (width_at B a) (width_at B b) u v 0) (arg-word a qa) (arg-word b qb) ∙ sym (expr-word s e el);
+          flat = expr_iw s e el ∙ ok.sort.flat;
+          left = arg_of a ok.left;
+          right = arg_of b ok.right;
+          op = fit_as (expr_w s e el) (arg_width a qa) (arg_width b qb) (arg_word a qa) (arg_word b qb)
+              (word_two held.held cells_room l (laid_of Z) known.shows (sort_at false (ty_at B.lay.ctx) s) k a b (expr_wide s e el ok) ok);
+          is = ap₂ (λ (u v : ℕ). op_word false k u v (word_at A a) (word_at A b) 0) (arg_width a qa) (arg_width b qb)
+              ∙ ap₂ (λ (u v : ℕ). op_word false k (width_at B a) (width_at B b) u v 0) (arg_word a qa) (arg_word b qb) ∙ sym (expr_word s e el);
         }
-    fact-expr s (Expr.equality f a b) el ok c hc =
+    fact_expr s (Expr.equality f a b) el ok c hc =
         let e = Expr.equality f a b in
         let qa : 1 ≤ (type_at B.lay a).role = omega (arith, ok.left.is) in
         let qb : 1 ≤ (type_at B.lay b).role = omega (arith, ok.right.is) in
         record {
-          flat = expr-iw s e el ∙ ok.sort.flat;
-          left = operand-of a ok.left.is;
-          right = operand-of b ok.right.is;
-          sorts = ap (λ (y : Ty). y.iw) (arg-type b qb) ∙ ok.same.iw ∙ sym (ap (λ (y : Ty). y.iw) (arg-type a qa));
-          is = ap₂ (λ (x y : List ℕ). bit (eqOrNeq f (sameCells x y))) (arg-cells a qa) (arg-cells b qb) ∙ sym (expr-word s e el);
+          flat = expr_iw s e el ∙ ok.sort.flat;
+          left = operand_of a ok.left.is;
+          right = operand_of b ok.right.is;
+          sorts = ap (λ (y : Ty). y.iw) (arg_type b qb) ∙ ok.same.iw ∙ sym (ap (λ (y : Ty). y.iw) (arg_type a qa));
+          is = ap₂ (λ (x y : List ℕ). bit (eq_or_neq f (same_cells x y))) (arg_cells a qa) (arg_cells b qb) ∙ sym (expr_word s e el);
         }
-    fact-expr s (Expr.ite d a b) el ok c hc =
+    fact_expr s (Expr.ite d a b) el ok c hc =
         let e = Expr.ite d a b in
         let qd : 1 ≤ (type_at B.lay d).role = omega (arith, ok.cond.is) in
         let qa : 1 ≤ (type_at B.lay a).role = omega (arith, ok.left.is) in
         let qb : 1 ≤ (type_at B.lay b).role = omega (arith, ok.right.is) in
-        let own : get_or (cellsAt A (suc i)) c 0 ≡ get_or (ifNonzero (word_at B d) (cellsAt B a) (cellsAt B b)) c 0 = ap (λ (x : List ℕ). get_or x c 0) (expr-cells s e el) in
+        let own : get_or (cells_at A (suc i)) c 0 ≡ get_or (if_nonzero (word_at B d) (cells_at B a) (cells_at B b)) c 0 = ap (λ (x : List ℕ). get_or x c 0) (expr_cells s e el) in
         record {
-          cond = arg-of d ok.cond;
-          left = operand-of a ok.left.is;
-          right = operand-of b ok.right.is;
-          sortA = ap (λ (y : Ty). y.iw) (arg-type a qa) ∙ ok.sameA.iw ∙ sym (expr-iw s e el);
-          sortB = ap (λ (y : Ty). y.iw) (arg-type b qb) ∙ ok.sameB.iw ∙ sym (expr-iw s e el);
-          yes = λ z. ap (λ (x : List ℕ). get_or x c 0) (arg-cells a qa ∙ sym (yes-choose (word_at B d) (cellsAt B a) (cellsAt B b) (λ y. z (arg-word d qd ∙ y)))) ∙ sym own;
-          no = λ z. ap (λ (x : List ℕ). get_or x c 0) (arg-cells b qb ∙ sym (no-choose (word_at B d) (cellsAt B a) (cellsAt B b) (sym (arg-word d qd) ∙ z))) ∙ sym own;
+          cond = arg_of d ok.cond;
+          left = operand_of a ok.left.is;
+          right = operand_of b ok.right.is;
+          sort_a = ap (λ (y : Ty). y.iw) (arg_type a qa) ∙ ok.same_a.iw ∙ sym (expr_iw s e el);
+          sort_b = ap (λ (y : Ty). y.iw) (arg_type b qb) ∙ ok.same_b.iw ∙ sym (expr_iw s e el);
+          yes = λ z. ap (λ (x : List ℕ). get_or x c 0) (arg_cells a qa ∙ sym (yes_choose (word_at B d) (cells_at B a) (cells_at B b) (λ y. z (arg_word d qd ∙ y)))) ∙ sym own;
+          no = λ z. ap (λ (x : List ℕ). get_or x c 0) (arg_cells b qb ∙ sym (no_choose (word_at B d) (cells_at B a) (cells_at B b) (sym (arg_word d qd) ∙ z))) ∙ sym own;
         }
-    fact-expr s (Expr.read a x) el ok c hc =
+    fact_expr s (Expr.read a x) el ok c hc =
         let e = Expr.read a x in
         let qa : 1 ≤ (type_at B.lay a).role = omega (arith, ok.arr.is) in
         let qx : 1 ≤ (type_at B.lay x).role = omega (arith, ok.index.is) in
-        let index = arg-of x ok.index in
-        let wi : (type_at Z x).w ≡ (type_at Z a).iw = ap (λ (y : Ty). y.w) (arg-type x qx) ∙ ok.iw ∙ sym (ap (λ (y : Ty). y.iw) (arg-type a qa)) in
+        let index = arg_of x ok.index in
+        let wi : (type_at Z x).w ≡ (type_at Z a).iw = ap (λ (y : Ty). y.w) (arg_type x qx) ∙ ok.iw ∙ sym (ap (λ (y : Ty). y.iw) (arg_type a qa)) in
         record {
-          flat = expr-iw s e el ∙ ok.sort.flat;
+          flat = expr_iw s e el ∙ ok.sort.flat;
           arr = array_of a ok.arr;
-          belowA = arg-below a qa;
+          below_a = arg_below a qa;
           index = index;
           inside = subst (λ (m : ℕ). word_at A x < 2 ^ m) wi (small x index.word.is 0);
-          is = ap₂ (λ (y : List ℕ) (m : ℕ). get_or y m 0) (arg-cells a qa) (arg-word x qx) ∙ sym (expr-word s e el);
+          is = ap₂ (λ (y : List ℕ) (m : ℕ). get_or y m 0) (arg_cells a qa) (arg_word x qx) ∙ sym (expr_word s e el);
         }
-    fact-expr s (Expr.write a x v) el ok c hc =
+    fact_expr s (Expr.write a x v) el ok c hc =
         let e = Expr.write a x v in
         let qa : 1 ≤ (type_at B.lay a).role = omega (arith, ok.arr.is) in
         let qx : 1 ≤ (type_at B.lay x).role = omega (arith, ok.index.is) in
         let qv : 1 ≤ (type_at B.lay v).role = omega (arith, ok.value.is) in
-        let sa : (type_at Z a).iw ≡ (type_at Z (suc i)).iw = ap (λ (y : Ty). y.iw) (arg-type a qa) ∙ ok.same.iw ∙ sym (expr-iw s e el) in
-        let la : length (cellsAt A a) ≡ size (type_at Z (suc i)) = length-of a (array_of a ok.arr).is ∙ ap (λ (m : ℕ). 2 ^ m) sa in
-        let own : get_or (cellsAt A (suc i)) c 0 ≡ get_or (set (cellsAt A a) (word_at A x) (word_at A v)) c 0 =
-        ap (λ (y : List ℕ). get_or y c 0) (expr-cells s e el ∙ sym (ap₂ (λ (y : List ℕ) (m : ℕ). set y m (word_at A v)) (arg-cells a qa) (arg-word x qx) ∙ ap (set (cellsAt B a) (word_at B x)) (arg-word v qv))) in
+        let sa : (type_at Z a).iw ≡ (type_at Z (suc i)).iw = ap (λ (y : Ty). y.iw) (arg_type a qa) ∙ ok.same.iw ∙ sym (expr_iw s e el) in
+        let la : length (cells_at A a) ≡ size (type_at Z (suc i)) = length_of a (array_of a ok.arr).is ∙ ap (λ (m : ℕ). 2 ^ m) sa in
+        let own : get_or (cells_at A (suc i)) c 0 ≡ get_or (set (cells_at A a) (word_at A x) (word_at A v)) c 0 =
+        ap (λ (y : List ℕ). get_or y c 0) (expr_cells s e el ∙ sym (ap₂ (λ (y : List ℕ) (m : ℕ). set y m (word_at A v)) (arg_cells a qa) (arg_word x qx) ∙ ap (set (cells_at B a) (word_at B x)) (arg_word v qv))) in
         record {
           arr = array_of a ok.arr;
-          belowA = arg-below a qa;
-          sortA = sa;
-          index = arg-of x ok.index;
-          value = arg-of v ok.value;
-          hit = λ z. sym (own ∙ ap (λ (m : ℕ). get_or (set (cellsAt A a) m (word_at A v)) c 0) z ∙ get_or-set_same (cellsAt A a) c (word_at A v) 0 (omega arith));
-          miss = λ z. sym (own ∙ get_or-set_other (cellsAt A a) (word_at A x) c (word_at A v) 0 (λ y. z (sym y)));
+          below_a = arg_below a qa;
+          sort_a = sa;
+          index = arg_of x ok.index;
+          value = arg_of v ok.value;
+          hit = λ z. sym (own ∙ ap (λ (m : ℕ). get_or (set (cells_at A a) m (word_at A v)) c 0) z ∙ get_or-set_same (cells_at A a) c (word_at A v) 0 (omega arith));
+          miss = λ z. sym (own ∙ get_or-set_other (cells_at A a) (word_at A x) c (word_at A v) 0 (λ y. z (sym y)));
         }
 
     -- ---- inputs and states
 
-    fact-input : (s : ℕ) → l ≡ Line.input s → (type_at B.lay s).iw ≡ 0 → (c : ℕ) → FactInput A Z P ini S R (suc i) c
-    fact-input s el flat c =
-        let ty : type_at Z (suc i) ≡ lineTypeIn false B.lay (Line.input s) = own-type ∙ ap (lineTypeIn false B.lay) el in
-        let pl : placeAt Z (suc i) ≡ place_of B.lay (Line.input s) = own-place ∙ ap (place_of B.lay) el in
-        let ep : posIn P (suc i) ≡ B.lay.counts.inputs = (shown lk.laid (suc i) (omega arith)).isPos ∙ pl in
-        let ew : widIn P (suc i) ≡ (lineTypeIn false B.lay (Line.input s)).w = (shown lk.laid (suc i) (omega arith)).isWid ∙ ap (λ (y : Ty). y.w) ty in
+    fact_input : (s : ℕ) → l ≡ Line.input s → (type_at B.lay s).iw ≡ 0 → (c : ℕ) → FactInput A Z P ini S R (suc i) c
+    fact_input s el flat c =
+        let ty : type_at Z (suc i) ≡ line_type_in false B.lay (Line.input s) = own_type ∙ ap (line_type_in false B.lay) el in
+        let pl : place_at Z (suc i) ≡ place_of B.lay (Line.input s) = own_place ∙ ap (place_of B.lay) el in
+        let ep : pos_in P (suc i) ≡ B.lay.counts.inputs = (shown lk.laid (suc i) (omega arith)).is_pos ∙ pl in
+        let ew : wid_in P (suc i) ≡ (line_type_in false B.lay (Line.input s)).w = (shown lk.laid (suc i) (omega arith)).is_wid ∙ ap (λ (y : Ty). y.w) ty in
         let hi : suc B.lay.counts.inputs ≤ Z.counts.inputs = subst (λ (x : Line). (lay false B.lay x).counts.inputs ≤ Z.counts.inputs) el known.inputs in
         record {
           flat = ap (λ (y : Ty). y.iw) ty ∙ flat;
           inside = omega (arith, lk.laid.row);
           wide = width_of (suc i) (subst (λ (y : Ty). 2 ≤ y.role) (sym ty) (omega arith));
-          is = ap₂ (λ (v m : ℕ). v % 2 ^ m) (sym (get_or-take (inputCount false (lines_of false t n)) R (posIn P (suc i)) 0 (omega arith))) ew ∙ ap (λ (m : ℕ). get_or ι m 0 % 2 ^ (lineTypeIn false B.lay (Line.input s)).w) ep
-              ∙ sym (ap (λ (x : List ℕ). get_or x 0 0) (own-cells ∙ ap (cells_of false false σ ι B) el));
+          is = ap₂ (λ (v m : ℕ). v % 2 ^ m) (sym (get_or-take (input_count false (lines_of false t n)) R (pos_in P (suc i)) 0 (omega arith))) ew ∙ ap (λ (m : ℕ). get_or ι m 0 % 2 ^ (line_type_in false B.lay (Line.input s)).w) ep
+              ∙ sym (ap (λ (x : List ℕ). get_or x 0 0) (own_cells ∙ ap (cells_of false false σ ι B) el));
         }
 
     module _ (s : ℕ) (el : l ≡ Line.state s) (c : ℕ) (hc : c < size (type_at Z (suc i))) where
       abbrev E : Layout
-      E = (accAt false true S ι (lines_of false t n) i).lay
+      E = (acc_at false true S ι (lines_of false t n) i).lay
 
       abbrev own : Ty
-      own = lineTypeIn false (accAt false true S ι (lines_of false t n) i).lay (Line.state s)
+      own = line_type_in false (acc_at false true S ι (lines_of false t n) i).lay (Line.state s)
 
-      begins : Begun S (step false true (lines_of false t n) S ι) (suc i) E.counts.states (size own) own.w (initOf (suc i) (lines_of false t n))
+      begins : Begun S (step false true (lines_of false t n) S ι) (suc i) E.counts.states (size own) own.w (init_of (suc i) (lines_of false t n))
       begins = begun t n accepted S ι lk.laid.starts i h s el
 
-      same-lay : B.lay ≡ E
-      same-lay = lay-is t n accepted σ many false ι i ∙ sym (lay-is t n accepted S lk.laid.starts true ι i)
+      same_lay : B.lay ≡ E
+      same_lay = lay_is t n accepted σ many false ι i ∙ sym (lay_is t n accepted S lk.laid.starts true ι i)
 
-      state-type : type_at Z (suc i) ≡ own
-      state-type = own-type ∙ ap (lineTypeIn false B.lay) el ∙ ap (λ (Y : Layout). lineTypeIn false Y (Line.state s)) same-lay
+      state_type : type_at Z (suc i) ≡ own
+      state_type = own_type ∙ ap (line_type_in false B.lay) el ∙ ap (λ (Y : Layout). line_type_in false Y (Line.state s)) same_lay
 
-      state-place : posIn P (suc i) ≡ E.counts.states
-      state-place = (shown lk.laid (suc i) (omega arith)).isPos ∙ (own-place ∙ ap (place_of B.lay) el) ∙ ap (λ (Y : Layout). Y.counts.states) same-lay
+      state_place : pos_in P (suc i) ≡ E.counts.states
+      state_place = (shown lk.laid (suc i) (omega arith)).is_pos ∙ (own_place ∙ ap (place_of B.lay) el) ∙ ap (λ (Y : Layout). Y.counts.states) same_lay
 
-      state-wid : widIn P (suc i) ≡ own.w
-      state-wid = (shown lk.laid (suc i) (omega arith)).isWid ∙ ap (λ (y : Ty). y.w) state-type
+      state_wid : wid_in P (suc i) ≡ own.w
+      state_wid = (shown lk.laid (suc i) (omega arith)).is_wid ∙ ap (λ (y : Ty). y.w) state_type
 
       hm : c < size own
-      hm = subst (λ (y : Ty). c < size y) state-type hc
+      hm = subst (λ (y : Ty). c < size y) state_type hc
 
-      state-cells : cellsAt A (suc i) ≡ maskWords own.w (start_of S E.counts.states (size own) own.w (initOf (suc i) (lines_of false t n)) (word_at (step false true (lines_of false t n) S ι) (initOf (suc i) (lines_of false t n))))
-      state-cells =
-          own-cells ∙ ap (cells_of false false σ ι B) el
-          ∙ ap (λ (Y : Layout). maskWords (lineTypeIn false Y (Line.state s)).w (part σ Y.counts.states (size (lineTypeIn false Y (Line.state s))))) same-lay ∙ ap (maskWords own.w) begins.words
+      state_cells_lem : cells_at A (suc i) ≡ mask_words own.w (start_of S E.counts.states (size own) own.w (init_of (suc i) (lines_of false t n)) (word_at (step false true (lines_of false t n) S ι) (init_of (suc i) (lines_of false t n))))
+      state_cells_lem =
+          own_cells ∙ ap (cells_of false false σ ι B) el
+          ∙ ap (λ (Y : Layout). mask_words (line_type_in false Y (Line.state s)).w (part σ Y.counts.states (size (line_type_in false Y (Line.state s))))) same_lay ∙ ap (mask_words own.w) begins.words
 
-      state-at : get_or (cellsAt A (suc i)) c 0 ≡ get_or (start_of S E.counts.states (size own) own.w (initOf (suc i) (lines_of false t n)) (word_at (step false true (lines_of false t n) S ι) (initOf (suc i) (lines_of false t n)))) c 0 % 2 ^ own.w
-      state-at = ap (λ (y : List ℕ). get_or y c 0) state-cells ∙ getD-lows own.w (start_of S E.counts.states (size own) own.w (initOf (suc i) (lines_of false t n)) (word_at (step false true (lines_of false t n) S ι) (initOf (suc i) (lines_of false t n)))) c
+      state_at : get_or (cells_at A (suc i)) c 0 ≡ get_or (start_of S E.counts.states (size own) own.w (init_of (suc i) (lines_of false t n)) (word_at (step false true (lines_of false t n) S ι) (init_of (suc i) (lines_of false t n)))) c 0 % 2 ^ own.w
+      state_at = ap (λ (y : List ℕ). get_or y c 0) state_cells_lem ∙ get_or_lows own.w (start_of S E.counts.states (size own) own.w (init_of (suc i) (lines_of false t n)) (word_at (step false true (lines_of false t n) S ι) (init_of (suc i) (lines_of false t n)))) c
 
-      some : (initOf (suc i) (lines_of false t n) ≡ 0 → ⊥) → FactInit A Z P ini S R (suc i) c (initOf (suc i) (lines_of false t n))
+      some : (init_of (suc i) (lines_of false t n) ≡ 0 → ⊥) → FactInit A Z P ini S R (suc i) c (init_of (suc i) (lines_of false t n))
       some z =
           let k = begins.settled in
-          let lz = lay-whole t n accepted S lk.laid.starts true ι in
-          let d : ℕ = initOf (suc i) (lines_of false t n) in
+          let lz = lay_whole t n accepted S lk.laid.starts true ι in
+          let d : ℕ = init_of (suc i) (lines_of false t n) in
           let td : type_at (step false true (lines_of false t n) S ι).lay d ≡ type_at Z d = ap (λ (Y : Layout). type_at Y d) lz in
-          let role : (type_at Z d).role ≡ unmarkedRole = sym (ap (λ (y : Ty). y.role) td) ∙ k.unmarked z in
+          let role : (type_at Z d).role ≡ unmarked_role = sym (ap (λ (y : Ty). y.role) td) ∙ k.unmarked z in
           let wd : (type_at Z d).w ≡ own.w = sym (ap (λ (y : Ty). y.w) td) ∙ k.same z in
-          let xe : word_at (step false true (lines_of false t n) S ι) d ≡ word_at A d = ap (λ (y : List ℕ). get_or y 0 0) (unmarked-alike false true false S σ ι ι (lines_of false t n) d (ap (leb markedRole) role)) in
+          let xe : word_at (step false true (lines_of false t n) S ι) d ≡ word_at A d = ap (λ (y : List ℕ). get_or y 0 0) (unmarked_alike false true false S σ ι ι (lines_of false t n) d (ap (leb marked_role) role)) in
           record {
             arg = record { word = record { is = omega arith; flat = sym (ap (λ (y : Ty). y.iw) td) ∙ k.flat z }; below = k.below };
-            is = sym (state-at ∙ ap (λ (y : List ℕ). get_or y c 0 % 2 ^ own.w) (yes-choose d _ _ z) ∙ ap (λ (m : ℕ). m % 2 ^ own.w) (get_or-replicate (size own) c _ 0 hm ∙ xe)
+            is = sym (state_at ∙ ap (λ (y : List ℕ). get_or y c 0 % 2 ^ own.w) (yes_choose d _ _ z) ∙ ap (λ (m : ℕ). m % 2 ^ own.w) (get_or-replicate (size own) c _ 0 hm ∙ xe)
                 ∙ mod-eq_of_lt (subst (λ (m : ℕ). word_at A d < 2 ^ m) wd (small d (omega arith) 0)));
           }
 
-      none : initOf (suc i) (lines_of false t n) ≡ 0 → FactStart A Z P ini S R (suc i) c
+      none : init_of (suc i) (lines_of false t n) ≡ 0 → FactStart A Z P ini S R (suc i) c
       none z =
           let k = begins.settled in
-          let lz = lay-whole t n accepted S lk.laid.starts true ι in
+          let lz = lay_whole t n accepted S lk.laid.starts true ι in
           let rm : E.counts.states + size own ≤ Z.counts.states = subst (λ (Y : Layout). E.counts.states + size own ≤ Y.counts.states) lz k.room in
           let w : ℕ = own.w in
           record {
-            inside = omega (arith, state-place, hm, lk.laid.starts);
-            wide = width_of (suc i) (subst (λ (y : Ty). 2 ≤ y.role) (sym state-type) (omega arith));
-            is = ap₂ (λ (m v : ℕ). get_or S (m + c) 0 % 2 ^ v) state-place state-wid
-                ∙ sym (state-at ∙ ap (λ (y : List ℕ). get_or y c 0 % 2 ^ w) (no-choose (initOf (suc i) (lines_of false t n)) _ _ z) ∙ ap (λ (m : ℕ). m % 2 ^ w) (getD-lows w (part S E.counts.states (size own)) c)
-                ∙ mod-mod (get_or (part S E.counts.states (size own)) c 0) (2 ^ w) ∙ ap (λ (m : ℕ). m % 2 ^ w) (laws.part-getD S E.counts.states (size own) c hm));
+            inside = omega (arith, state_place, hm, lk.laid.starts);
+            wide = width_of (suc i) (subst (λ (y : Ty). 2 ≤ y.role) (sym state_type) (omega arith));
+            is = ap₂ (λ (m v : ℕ). get_or S (m + c) 0 % 2 ^ v) state_place state_wid
+                ∙ sym (state_at ∙ ap (λ (y : List ℕ). get_or y c 0 % 2 ^ w) (no_choose (init_of (suc i) (lines_of false t n)) _ _ z) ∙ ap (λ (m : ℕ). m % 2 ^ w) (get_or_lows w (part S E.counts.states (size own)) c)
+                ∙ mod-mod (get_or (part S E.counts.states (size own)) c 0) (2 ^ w) ∙ ap (λ (m : ℕ). m % 2 ^ w) (laws.part_get_or S E.counts.states (size own) c hm));
           }
 
-      fact-state : FactState A Z P ini S R (suc i) c
-      fact-state =
-          let e : get_or ini (suc i) 0 ≡ initOf (suc i) (lines_of false t n) = lk.inits (suc i) (omega arith) in
+      fact_state : FactState A Z P ini S R (suc i) c
+      fact_state =
+          let e : get_or ini (suc i) 0 ≡ init_of (suc i) (lines_of false t n) = lk.inits (suc i) (omega arith) in
           record {
             init = λ z. subst (FactInit A Z P ini S R (suc i) c) (sym e) (some (λ y. z (e ∙ y)));
             none = λ z. none (sym e ∙ z);
@@ -497,32 +497,32 @@ module _ {t : List ℕ} {n : ℕ} {P : List (List ℕ)} {ini S R : List ℕ} (lk
 
     -- ---- the line
 
-    fact-line : (x : Line) → l ≡ x → Ok false (ty_at B.lay.ctx) (given B.lay.ctx) x → 2 ≤ (lineTypeIn false B.lay x).role → (c : ℕ) → c < size (type_at Z (suc i)) → Fact A Z P ini S R (suc i) c x
-    fact-line (Line.bitvec w) el ok q c hc = omega arith
-    fact-line (Line.array a b) el ok q c hc = omega arith
-    fact-line (Line.input s) el ok q c hc = fact-input s el ok.flat c
-    fact-line (Line.state s) el ok q c hc = fact-state s el c hc
-    fact-line (Line.value s e) el ok q c hc = fact-expr s e el ok c hc
-    fact-line (Line.initOrNext m s a v) el ok q c hc = omega arith
-    fact-line (Line.signal m a) el ok q c hc = omega arith
-    fact-line (Line.output a) el ok q c hc = omega arith
-    fact-line Line.unknown el ok q c hc = omega arith
+    fact_line : (x : Line) → l ≡ x → Ok false (ty_at B.lay.ctx) (given B.lay.ctx) x → 2 ≤ (line_type_in false B.lay x).role → (c : ℕ) → c < size (type_at Z (suc i)) → Fact A Z P ini S R (suc i) c x
+    fact_line (Line.bitvec w) el ok q c hc = omega arith
+    fact_line (Line.array a b) el ok q c hc = omega arith
+    fact_line (Line.input s) el ok q c hc = fact_input s el ok.flat c
+    fact_line (Line.state s) el ok q c hc = fact_state s el c hc
+    fact_line (Line.value s e) el ok q c hc = fact_expr s e el ok c hc
+    fact_line (Line.init_or_next m s a v) el ok q c hc = omega arith
+    fact_line (Line.signal m a) el ok q c hc = omega arith
+    fact_line (Line.output a) el ok q c hc = omega arith
+    fact_line Line.unknown el ok q c hc = omega arith
 
-    fact-here : (c : ℕ) → 2 ≤ (type_at Z (suc i)).role → c < size (type_at Z (suc i)) → Fact A Z P ini S R (suc i) c (line_of (recordAt false t i))
-    fact-here c q hc =
-        subst (Fact A Z P ini S R (suc i) c) (line-here false t n accepted i h)
-        (fact-line l refl known.ok (subst (λ (y : Ty). 2 ≤ y.role) own-type q) c hc)
+    fact_here : (c : ℕ) → 2 ≤ (type_at Z (suc i)).role → c < size (type_at Z (suc i)) → Fact A Z P ini S R (suc i) c (line_of (record_at false t i))
+    fact_here c q hc =
+        subst (Fact A Z P ini S R (suc i) c) (line_here false t n accepted i h)
+        (fact_line l refl known.ok (subst (λ (y : Ty). 2 ≤ y.role) own_type q) c hc)
 
   -- what the record of the line m says of its cell c
-  pub facts : (m c : ℕ) → 2 ≤ (type_at Z m).role → c < size (type_at Z m) → Fact (stepZero (lines_of false t n) S R) Z P ini S R m c (line_of (recordAt false t (m - 1)))
+  pub facts : (m c : ℕ) → 2 ≤ (type_at Z m).role → c < size (type_at Z m) → Fact (step_zero (lines_of false t n) S R) Z P ini S R m c (line_of (record_at false t (m - 1)))
   facts m c q hc =
       let b = number_of m (omega arith) in
       let i : ℕ = m - 1 in
       let e : suc i ≡ m = omega arith in
-      subst (λ (X : Frame). Fact X Z P ini S R m c (line_of (recordAt false t (m - 1)))) (sym zero_is)
-      (subst (λ (k : ℕ). Fact A Z P ini S R k c (line_of (recordAt false t (m - 1)))) e
-      (fact-here (m - 1) (omega arith) c (subst (λ (k : ℕ). 2 ≤ (type_at Z k).role) (sym e) q) (subst (λ (k : ℕ). c < size (type_at Z k)) (sym e) hc)))
+      subst (λ (X : Frame). Fact X Z P ini S R m c (line_of (record_at false t (m - 1)))) (sym zero_is)
+      (subst (λ (k : ℕ). Fact A Z P ini S R k c (line_of (record_at false t (m - 1)))) e
+      (fact_here (m - 1) (omega arith) c (subst (λ (k : ℕ). 2 ≤ (type_at Z k).role) (sym e) q) (subst (λ (k : ℕ). c < size (type_at Z k)) (sym e) hc)))
 
   -- the number of cells of a value
-  pub cells-of : (a : ℕ) → 2 ≤ (type_at Z a).role → length (cellsAt (stepZero (lines_of false t n) S R) a) ≡ size (type_at Z a)
-  cells-of a q = ap (λ (X : Frame). length (cellsAt X a)) zero_is ∙ length-of a q
+  pub cells_of_lem : (a : ℕ) → 2 ≤ (type_at Z a).role → length (cells_at (step_zero (lines_of false t n) S R) a) ≡ size (type_at Z a)
+  cells_of_lem a q = ap (λ (X : Frame). length (cells_at X a)) zero_is ∙ length_of a q

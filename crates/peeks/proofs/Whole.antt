@@ -9,16 +9,16 @@ use lib.Seq.{drop_at, take-length}
 use Rattle.tables.specs.declared.Checked.TheVariants.{Accepted}
 use Rattle.tables.specs.Lines.{Line}
 use Rattle.tables.specs.Tables.{checked}
-use Rattle.circuits.specs.Layout.{Layout, type_at, size, layAll, no_layout, layout}
-use Rattle.circuits.specs.Meaning.{Frame, cellsAt, evalAll, noFrame, step}
+use Rattle.circuits.specs.Layout.{Layout, type_at, size, lay_all, no_layout, layout}
+use Rattle.circuits.specs.Meaning.{Frame, cells_at, eval_all, no_frame, step}
 use Rattle.tables.specs.Layout.{lines_of}
-use Rattle.circuits.specs.Model.Work.{workIn}
+use Rattle.circuits.specs.Model.Work.{work_in}
 use Rattle.circuits.specs.Model.Places.{Ready}
 use Rattle.circuits.proofs.Held.{Held}
 use Rattle.circuits.proofs.Simulation.{sim}
-use Rattle.circuits.proofs.Walked.{accAt, acc-suc, acc-lay, lines-many, facts_at, Facts, walk_start}
-use Rattle.circuits.proofs.Placing.{all_sound, lines-here, few-here}
-use Rattle.circuits.proofs.Sizes.{laid_of, laid_shows, held-size, held_below}
+use Rattle.circuits.proofs.Walked.{acc_at, acc_suc, acc_lay, lines_many, facts_at, Facts, walk_start}
+use Rattle.circuits.proofs.Placing.{all_sound, lines_here, few_here}
+use Rattle.circuits.proofs.Sizes.{laid_of, laid_shows, held_size, held_below}
 
 -- some work area holds the lines so far
 pub record HeldBy (all : ℕ) (σ : List ℕ) (A : Frame) : Type 0 where
@@ -30,11 +30,11 @@ module _ (t : List ℕ) (n : ℕ) (acc : checked false t n ≡ Accepted) where
   whole = layout false (lines_of false t n)
 
   module _ (σ : List ℕ) (many : length σ ≡ (layout false (lines_of false t n)).counts.states) where
-    pub ready-whole : Ready false t n (laid_of whole) whole.counts.cells (length σ) whole.counts.inputs whole.counts.signals
-    ready-whole =
+    pub ready_whole : Ready false t n (laid_of whole) whole.counts.cells (length σ) whole.counts.inputs whole.counts.signals
+    ready_whole =
         let long = (all_sound false t n acc).long in
-        let count = lines-here false t n acc in
-        let few = few-here false t n acc in
+        let count = lines_here false t n acc in
+        let few = few_here false t n acc in
         record {
           accepted = acc;
           shows = laid_shows whole (omega arith);
@@ -45,54 +45,54 @@ module _ (t : List ℕ) (n : ℕ) (acc : checked false t n ≡ Accepted) where
         }
 
     module _ (f : Bool) (ι : List ℕ) where
-      pub lay-is : (i : ℕ) → (accAt false f σ ι (lines_of false t n) i).lay ≡ layAll false no_layout (take i (lines_of false t n))
-      lay-is i = acc-lay false f σ ι noFrame (take i (lines_of false t n))
+      pub lay_is : (i : ℕ) → (acc_at false f σ ι (lines_of false t n) i).lay ≡ lay_all false no_layout (take i (lines_of false t n))
+      lay_is i = acc_lay false f σ ι no_frame (take i (lines_of false t n))
 
-      pub facts-of : (i : ℕ) → i < n
-          → Facts false (laid_of whole) (accAt false f σ ι (lines_of false t n) i).lay (get_or (lines_of false t n) i Line.unknown) whole.counts.cells (length σ) whole.counts.inputs whole.counts.signals
-      facts-of i h =
+      pub facts_of : (i : ℕ) → i < n
+          → Facts false (laid_of whole) (acc_at false f σ ι (lines_of false t n) i).lay (get_or (lines_of false t n) i Line.unknown) whole.counts.cells (length σ) whole.counts.inputs whole.counts.signals
+      facts_of i h =
           subst (λ (Y : Layout). Facts false (laid_of whole) Y (get_or (lines_of false t n) i Line.unknown) whole.counts.cells (length σ) whole.counts.inputs whole.counts.signals)
-          (sym (lay-is i)) (facts_at ready-whole i h)
+          (sym (lay_is i)) (facts_at ready_whole i h)
 
-      pub held_at : (i : ℕ) → i ≤ n → HeldBy whole.counts.cells σ (accAt false f σ ι (lines_of false t n) i)
+      pub held_at : (i : ℕ) → i ≤ n → HeldBy whole.counts.cells σ (acc_at false f σ ι (lines_of false t n) i)
       held_at zero h =
           let zeros : List ℕ = replicate whole.counts.cells 0 in
           let lz : length zeros ≡ whole.counts.cells = length-replicate whole.counts.cells 0 in
           record {
             work = zeros ++ σ;
-            held = (walk_start false f t n (laid_of whole) whole.counts.cells ι σ whole.counts.inputs whole.counts.signals ready-whole (zeros ++ σ)
+            held = (walk_start false f t n (laid_of whole) whole.counts.cells ι σ whole.counts.inputs whole.counts.signals ready_whole (zeros ++ σ)
                 (replicate whole.counts.signals 0) (sym (drop_at zeros σ whole.counts.cells lz)) (length-append zeros σ ∙ ap (λ (m : ℕ). m + length σ) lz) (length-replicate whole.counts.signals 0)).held;
           }
       held_at (suc i) h =
-          let A = accAt false f σ ι (lines_of false t n) i in
+          let A = acc_at false f σ ι (lines_of false t n) i in
           let l = get_or (lines_of false t n) i Line.unknown in
           let H = held_at i (omega arith) in
-          let k = facts-of i h in
-          let w : List ℕ = workIn false f (laid_of whole) whole.counts.cells ι H.work (length A.lay.ctx.tys) l in
+          let k = facts_of i h in
+          let w : List ℕ = work_in false f (laid_of whole) whole.counts.cells ι H.work (length A.lay.ctx.tys) l in
           record {
             work = w;
-            held = subst (λ (B : Frame). Held false whole.counts.cells σ w B) (sym (acc-suc false f σ ι (lines_of false t n) i (omega (arith, lines-many false t n acc))))
+            held = subst (λ (B : Frame). Held false whole.counts.cells σ w B) (sym (acc_suc false f σ ι (lines_of false t n) i (omega (arith, lines_many false t n acc))))
                 (sim false f (laid_of whole) whole.counts.cells σ ι H.work A H.held l k.ok k.shows k.cells k.states);
           }
 
       -- ---- all lines
 
-      pub all_lines : accAt false f σ ι (lines_of false t n) n ≡ step false f (lines_of false t n) σ ι
+      pub all_lines : acc_at false f σ ι (lines_of false t n) n ≡ step false f (lines_of false t n) σ ι
       unfolding step
-      all_lines = ap (evalAll false f σ ι noFrame) (ap (λ (m : ℕ). take m (lines_of false t n)) (sym (lines-many false t n acc)) ∙ take-length (lines_of false t n))
+      all_lines = ap (eval_all false f σ ι no_frame) (ap (λ (m : ℕ). take m (lines_of false t n)) (sym (lines_many false t n acc)) ∙ take-length (lines_of false t n))
 
       pub held_whole : HeldBy whole.counts.cells σ (step false f (lines_of false t n) σ ι)
       held_whole = subst (HeldBy whole.counts.cells σ) all_lines (held_at n (omega arith))
 
-      pub lay-whole : (step false f (lines_of false t n) σ ι).lay ≡ whole
+      pub lay_whole : (step false f (lines_of false t n) σ ι).lay ≡ whole
       unfolding step layout
-      lay-whole = acc-lay false f σ ι noFrame (lines_of false t n)
+      lay_whole = acc_lay false f σ ι no_frame (lines_of false t n)
 
 -- ---- the cells of a value
 
 module _ {all : ℕ} {σ : List ℕ} {A : Frame} (H : HeldBy all σ A) (room : A.lay.counts.cells ≤ all) (a : ℕ) (q : 2 ≤ (type_at A.lay a).role) where
-  pub cells-many : length (cellsAt A a) ≡ size (type_at A.lay a)
-  cells-many = held-size H.held room a q
+  pub cells_many : length (cells_at A a) ≡ size (type_at A.lay a)
+  cells_many = held_size H.held room a q
 
-  pub cells-small : (j : ℕ) → get_or (cellsAt A a) j 0 < 2 ^ (type_at A.lay a).w
-  cells-small = held_below H.held room a q refl
+  pub cells_small : (j : ℕ) → get_or (cells_at A a) j 0 < 2 ^ (type_at A.lay a).w
+  cells_small = held_below H.held room a q refl

@@ -15,63 +15,63 @@ use Rattle.peeks.specs.declared.Peeked.{Peeked}
 use Rattle.peeks.specs.declared.Peeked.TheVariants.{Value, Refused as RefusedPeek}
 use Rattle.circuits.specs.Cells.{part}
 use Rattle.circuits.specs.Layout.{Counts, type_at, size, layout}
-use Rattle.circuits.specs.Meaning.{Frame, cellsAt, step}
-use Rattle.circuits.specs.Run.{inputCount, rowLength, start, stepFrom, wordsBefore, stepAt}
+use Rattle.circuits.specs.Meaning.{Frame, cells_at, step}
+use Rattle.circuits.specs.Run.{input_count, row_length, start, step_from, words_before, step_at}
 use Rattle.tables.specs.Layout.{lines_of}
 use Rattle.circuits.specs.Answers.{and_then}
 
 -- all lines at step 0 of a run: from the start words S and the init values, on the inputs of the first row of I
-unfoldable pub stepZero : List Line → (S I : List ℕ) → Frame
-stepZero C S I = step false false C (start false C S I) (take (inputCount false C) I)
+unfoldable pub step_zero : List Line → (S I : List ℕ) → Frame
+step_zero C S I = step false false C (start false C S I) (take (input_count false C) I)
 
 -- it is the step that a run begins with
-pub run-begins : (C : List Line) (S I : List ℕ) → stepAt false C S I 0 ≡ stepZero C S I
-unfolding stepAt stepFrom wordsBefore stepZero
-run-begins C S I = ap (λ (m : ℕ). step false false C (start false C S I) (part I m (inputCount false C))) (zero-mul (rowLength false C))
+pub run_begins : (C : List Line) (S I : List ℕ) → step_at false C S I 0 ≡ step_zero C S I
+unfolding step_at step_from words_before step_zero
+run_begins C S I = ap (λ (m : ℕ). step false false C (start false C S I) (part I m (input_count false C))) (zero-mul (row_length false C))
 
 -- and it depends on the inputs of the first row alone: what stands behind them, the words for free states too, is of no matter
-pub first-row : (C : List Line) (S I : List ℕ) (n : ℕ) → inputCount false C ≤ n → stepZero C S (take n I) ≡ stepZero C S I
-unfolding stepZero start
-first-row C S I n h = ap (λ (ι : List ℕ). step false false C (step false true C S ι).sts ι) (take-take (inputCount false C) n I h)
+pub first_row : (C : List Line) (S I : List ℕ) (n : ℕ) → input_count false C ≤ n → step_zero C S (take n I) ≡ step_zero C S I
+unfolding step_zero start
+first_row C S I n h = ap (λ (ι : List ℕ). step false false C (step false true C S ι).sts ι) (take-take (input_count false C) n I h)
 
 -- the value of a line's cell, from the start words and one row; a word is its cell 0
 unfoldable pub peek_at : List Line → (S R : List ℕ) (line cell : ℕ) → ℕ
-peek_at C S R line cell = get_or (cellsAt (stepZero C S R) line) cell 0
+peek_at C S R line cell = get_or (cells_at (step_zero C S R) line) cell 0
 
 -- the kinds of value lines
-abbrev pub valueKind : ℕ → Bool
-valueKind k = inside 3 5 k || (inside 11 55 k || inside 57 63 k)
+abbrev pub value_kind : ℕ → Bool
+value_kind k = inside 3 5 k || (inside 11 55 k || inside 57 63 k)
 
 -- A line of the type y is a value and has the cell, among at most 64 records. Line 0 and lines past the count have no type; of the others
 -- those of the kinds above have a value's (proofs/ValueLines).
-abbrev pub hasCell : Ty → (n cell : ℕ) → Bool
-hasCell y n cell = leb n 64 && (is_value y && ltb cell (size y))
+abbrev pub has_cell : Ty → (n cell : ℕ) → Bool
+has_cell y n cell = leb n 64 && (is_value y && ltb cell (size y))
 
 -- The tests after the table's, for s start words and i words of a row. A row has the inputs, and the words for free states, which step 0 leaves unread.
-abbrev pub mayPeek : Counts → (row : ℕ) → Ty → (n cell s i : ℕ) → Checked
-mayPeek c row y n cell s i =
+abbrev pub may_peek : Counts → (row : ℕ) → Ty → (n cell s i : ℕ) → Checked
+may_peek c row y n cell s i =
     pick (eqb s c.states) (
     pick (eqb i row) (
-    pick (hasCell y n cell) Accepted
+    pick (has_cell y n cell) Accepted
     (Refused NoSuchCell)) (Refused InputWords)) (Refused StartWords)
 
-abbrev pub seenAs : Checked → ℕ → Peeked
-seenAs Accepted v = Value v
-seenAs (Refused r) v = RefusedPeek r
+abbrev pub seen_as : Checked → ℕ → Peeked
+seen_as Accepted v = Value v
+seen_as (Refused r) v = RefusedPeek r
 
 -- what peek answers for the table t with its count n
 unfoldable pub peeked : (t : List ℕ) (n line cell : ℕ) (S R : List ℕ) → Peeked
 peeked t n line cell S R =
-    seenAs
+    seen_as
     (and_then (checked false t n)
-    (mayPeek (layout false (lines_of false t n)).counts (rowLength false (lines_of false t n)) (type_at (layout false (lines_of false t n)) line) n cell (length S) (length R)))
+    (may_peek (layout false (lines_of false t n)).counts (row_length false (lines_of false t n)) (type_at (layout false (lines_of false t n)) line) n cell (length S) (length R)))
     (peek_at (lines_of false t n) S R line cell)
 
 -- the request's number and values for what peek answers: the value
-abbrev pub toldPeek : Peeked → Outcome
-toldPeek (Value v) = outcome 0 v 0 0 []
-toldPeek (RefusedPeek r) = outcome (number_of r) 0 0 0 []
+abbrev pub told_peek : Peeked → Outcome
+told_peek (Value v) = outcome 0 v 0 0 []
+told_peek (RefusedPeek r) = outcome (number_of r) 0 0 0 []
 
 -- the outcome of a peek
 unfoldable pub peeks : (t : List ℕ) (n line cell : ℕ) (S R : List ℕ) → Outcome
-peeks t n line cell S R = toldPeek (peeked t n line cell S R)
+peeks t n line cell S R = told_peek (peeked t n line cell S R)

@@ -1,4 +1,6 @@
 // Peeks: one value of a circuit at step 0. The code is in `peek_values`, `peek_cells` and `peeking`.
+#![tactic(auto)]
+
 use tables::Refusal;
 
 // What a peek answers: a value, or a refusal.

@@ -1,13 +1,15 @@
 // The pass over the lines before a run: where each line has its cells and its place, and which signals are bad lines.
+#![tactic(auto)]
+
 ghost use Rattle.std.specs.Prelude.{◌≡◌, false, List, ◌++◌, ℕ, ◌≤◌, ◌+◌, ◌<◌, length, set, take};
-ghost use Rattle.circuits.specs.Layout.{counting, size, countsAfter, layout};
-ghost use Rattle.tables.specs.Lines.{line_of, kindIn};
-ghost use Rattle.circuits.specs.Model.Work.{laidAs};
+ghost use Rattle.circuits.specs.Layout.{counting, size, counts_after, layout};
+ghost use Rattle.tables.specs.Lines.{line_of, kind_in};
+ghost use Rattle.circuits.specs.Model.Work.{laid_as};
 ghost use Rattle.circuits.specs.Model.Places.{ShowsAll};
-ghost use Rattle.circuits.specs.Free.{sources, freeCount};
-ghost use Rattle.circuits.specs.Model.Passes.{countsOf, totalsOf, freeHere, Small, spotBy, Noted};
-ghost use Rattle.tables.specs.Model.Notes.{givenIn};
-ghost use Rattle.circuits.specs.Model.Signals.{badMark, marks};
+ghost use Rattle.circuits.specs.Free.{sources, free_count};
+ghost use Rattle.circuits.specs.Model.Passes.{counts_of, totals_of, free_here, Small, spot_by, Noted};
+ghost use Rattle.tables.specs.Model.Notes.{given_in};
+ghost use Rattle.circuits.specs.Model.Signals.{bad_mark, marks};
 ghost use Rattle.tables.specs.Layout.{lines_of};
 ghost use Rattle.tables.specs.Tables.{checked};
 
@@ -27,8 +29,8 @@ fn cells_of(y: Ty) -> usize
 
 // The counts after a line of the kind k that has m cells.
 fn count_line(k: u64, m: usize, t: Totals) -> Totals
-    requires { Small (countsOf t) m }
-    ensures { (rec : List ℕ) → k ≡ kindIn rec → result ≡ totalsOf (countsAfter (countsOf t) m (line_of rec)) t.free }
+    requires { Small (counts_of t) m }
+    ensures { (rec : List ℕ) → k ≡ kind_in rec → result ≡ totals_of (counts_after (counts_of t) m (line_of rec)) t.free }
 {
     match k {
         4 => Totals {
@@ -61,7 +63,7 @@ fn count_line(k: u64, m: usize, t: Totals) -> Totals
 // The counts with m cells more.
 fn more_cells(m: usize, t: Totals) -> Totals
     requires { t.cells + m < 4294967296 }
-    ensures { result ≡ totalsOf (counting (t.cells + m) t.states t.inputs t.signals) t.free }
+    ensures { result ≡ totals_of (counting (t.cells + m) t.states t.inputs t.signals) t.free }
 {
     Totals {
         cells: t.cells + m,
@@ -74,7 +76,7 @@ fn more_cells(m: usize, t: Totals) -> Totals
 
 // A next line drives the state on the line n.
 pub fn driven(notes: &[[u8; BYTES]], n: usize) -> bool
-    ensures { result ≡ givenIn notes.now false n }
+    ensures { result ≡ given_in notes.now false n }
 {
     let r = notes::at(notes, n as u64);
     r[4] == 1
@@ -83,7 +85,7 @@ pub fn driven(notes: &[[u8; BYTES]], n: usize) -> bool
 // The counts with the words of the line n, of the kind k and with m cells, if it is a state that nobody drives.
 fn count_free(k: u64, notes: &[[u8; BYTES]], n: usize, m: usize, t: Totals) -> Totals
     requires { t.free + m < 4294967296 }
-    ensures { (rec : List ℕ) → k ≡ kindIn rec → result ≡ totalsOf (countsOf t) (t.free + freeHere (givenIn notes.now false n) m (line_of rec)) }
+    ensures { (rec : List ℕ) → k ≡ kind_in rec → result ≡ totals_of (counts_of t) (t.free + free_here (given_in notes.now false n) m (line_of rec)) }
 {
     if k != 5 {
         return t;
@@ -102,7 +104,7 @@ fn count_free(k: u64, notes: &[[u8; BYTES]], n: usize, m: usize, t: Totals) -> T
 
 // The place of a line of the kind k after those counted.
 fn find_spot(k: u64, t: Totals) -> Spot
-    ensures { (rec : List ℕ) → k ≡ kindIn rec → result ≡ spotBy (countsOf t) (line_of rec) }
+    ensures { (rec : List ℕ) → k ≡ kind_in rec → result ≡ spot_by (counts_of t) (line_of rec) }
 {
     match k {
         4 => Spot {
@@ -132,7 +134,7 @@ fn find_spot(k: u64, t: Totals) -> Spot
 // What is known of the line n goes to the list: its spot, its m cells and its width.
 fn put_line(laid: &mut [[u32; LAID]], n: usize, s: Spot, m: usize, w: u8)
     requires { (n < length laid.old) × ((s.off < 4294967296) × ((s.at < 4294967296) × (m < 4294967296))) }
-    ensures { laid.new ≡ set laid.old n (laidAs s.off m s.at w) }
+    ensures { laid.new ≡ set laid.old n (laid_as s.off m s.at w) }
 {
     laid[n] = [s.off as u32, m as u32, s.at as u32, w as u32];
 }
@@ -147,7 +149,7 @@ pub fn lay_out(
 ) -> Totals
     requires { Noted program table.now count notes.now × (length laid.old ≡ 16385) }
     ensures { ShowsAll laid.new (layout program (lines_of program table.now count))
-        × (result ≡ totalsOf (layout program (lines_of program table.now count)).counts (freeCount (sources program (lines_of program table.now count)))) }
+        × (result ≡ totals_of (layout program (lines_of program table.now count)).counts (free_count (sources program (lines_of program table.now count)))) }
 {
     let none = Spot { off: 0, at: 0 };
     put_line(laid, 0, none, 1, 0);
@@ -175,7 +177,7 @@ pub fn lay_out(
 // A record's signal, if it has one, goes behind the g marks so far: 1 for a bad line, 0 for a constraint. Answers how many there are now.
 fn note_mark(k: u64, g: usize, bad: &mut [u8]) -> usize
     requires { g < length bad.old }
-    ensures { (rec : List ℕ) → k ≡ kindIn rec → (take result bad.new ≡ take g bad.old ++ badMark (line_of rec)) × (result ≡ g + length (badMark (line_of rec))) }
+    ensures { (rec : List ℕ) → k ≡ kind_in rec → (take result bad.new ≡ take g bad.old ++ bad_mark (line_of rec)) × (result ≡ g + length (bad_mark (line_of rec))) }
 {
     if k == 8 {
         bad[g] = 1;

@@ -14,33 +14,33 @@ use Rattle.tables.specs.declared.Answer.TheVariants.{Done, Refused}
 use Rattle.tables.specs.Pick.{pick}
 use Rattle.tables.specs.Layout.{whole, room, lines_of}
 use Rattle.tables.specs.Tables.{checked}
-use Rattle.tables.specs.Answers.{Outcome, told, fitting, ifAccepted}
-use Rattle.tables.proofs.Outcomes.{told-as}
-use Rattle.programs.specs.Translation.{hasArray}
-use Rattle.programs.specs.Answers.{program_of, flatOnly, translated, programLeft, translates}
-use Rattle.programs.specs.Model.Passes.{programIn, outcomeFor, makes}
-use Rattle.programs.proofs.Keeping.{zeros-count}
+use Rattle.tables.specs.Answers.{Outcome, told, fitting, if_accepted}
+use Rattle.tables.proofs.Outcomes.{told_as}
+use Rattle.programs.specs.Translation.{has_array}
+use Rattle.programs.specs.Answers.{program_of, flat_only, translated, program_left, translates}
+use Rattle.programs.specs.Model.Passes.{program_in, outcome_for, makes}
+use Rattle.programs.proofs.Keeping.{zeros_count}
 
 -- zeros, by their own number
-pub zeros-self : {target : List ℕ} (len : ℕ) → target ≡ replicate len 0 → target ≡ replicate (length target) 0
-zeros-self len e = e ∙ ap (λ (k : ℕ). replicate k 0) (sym (zeros-count len e))
+pub zeros_self : {target : List ℕ} (len : ℕ) → target ≡ replicate len 0 → target ≡ replicate (length target) 0
+zeros_self len e = e ∙ ap (λ (k : ℕ). replicate k 0) (sym (zeros_count len e))
 
 -- a refusal leaves zeros
-zeros-left : (r : Refusal) (t : List ℕ) (n len : ℕ) {target : List ℕ} → target ≡ replicate len 0 → told (Refused r 0) (target ∷ []) ≡ outcomeFor (Refused r 0) t n len
-zeros-left r t n len z = ap (λ (x : List ℕ). told (Refused r 0) (x ∷ [])) z
+zeros_left : (r : Refusal) (t : List ℕ) (n len : ℕ) {target : List ℕ} → target ≡ replicate len 0 → told (Refused r 0) (target ∷ []) ≡ outcome_for (Refused r 0) t n len
+zeros_left r t n len z = ap (λ (x : List ℕ). told (Refused r 0) (x ∷ [])) z
 
 -- ---- the tests in their order, where the target is zero
 
 module _ (t : List ℕ) (n len : ℕ) {target : List ℕ} (z : target ≡ replicate len 0) where
-  outcome-is : (a : Answer) → translated t n len ≡ a → outcomeFor a t n len ≡ translates t n len
-  unfolding translates programLeft
-  outcome-is a e = ap (λ (y : Answer). outcomeFor y t n len) (sym e)
+  outcome_is : (a : Answer) → translated t n len ≡ a → outcome_for a t n len ≡ translates t n len
+  unfolding translates program_left
+  outcome_is a e = ap (λ (y : Answer). outcome_for y t n len) (sym e)
 
   refused : (r : Refusal) → translated t n len ≡ Refused r 0 → told (Refused r 0) (target ∷ []) ≡ translates t n len
-  refused r e = zeros-left r t n len z ∙ outcome-is (Refused r 0) e
+  refused r e = zeros_left r t n len z ∙ outcome_is (Refused r 0) e
 
   abbrev rest : Checked → Answer
-  rest c = ifAccepted c (flatOnly (hasArray (lines_of false t n)) (fitting true (length (program_of t n)) len))
+  rest c = if_accepted c (flat_only (has_array (lines_of false t n)) (fitting true (length (program_of t n)) len))
 
   abbrev both : Bool → Bool → Answer
   both b d = pick (b && d) (rest (checked false t n)) (Refused NotATable 0)
@@ -49,40 +49,40 @@ module _ (t : List ℕ) (n len : ℕ) {target : List ℕ} (z : target ≡ replic
   unfolding translated
   no_table e = refused NotATable (ap (λ (b : Bool). both b (whole true len)) e)
 
-  target-whole : {d : Bool} → whole true (length target) ≡ d → whole true len ≡ d
-  target-whole f = ap (whole true) (sym (zeros-count len z)) ∙ f
+  target_whole : {d : Bool} → whole true (length target) ≡ d → whole true len ≡ d
+  target_whole f = ap (whole true) (sym (zeros_count len z)) ∙ f
 
   pub no_target : whole false (length t) ≡ true → whole true (length target) ≡ false → told (Refused NotATable 0) (target ∷ []) ≡ translates t n len
   unfolding translated
-  no_target e f = refused NotATable (ap₂ both e (target-whole f))
+  no_target e f = refused NotATable (ap₂ both e (target_whole f))
 
   module _ (e : whole false (length t) ≡ true) (f : whole true (length target) ≡ true) where
-    checked-is : (c : Checked) → checked false t n ≡ c → translated t n len ≡ rest c
+    checked_is : (c : Checked) → checked false t n ≡ c → translated t n len ≡ rest c
     unfolding translated
-    checked-is c q = ap₂ both e (target-whole f) ∙ ap rest q
+    checked_is c q = ap₂ both e (target_whole f) ∙ ap rest q
 
-    pub not-accepted : (r : Refusal) → checked false t n ≡ NotAccepted r → told (Refused r 0) (target ∷ []) ≡ translates t n len
-    not-accepted r q = refused r (checked-is (NotAccepted r) q)
+    pub not_accepted : (r : Refusal) → checked false t n ≡ NotAccepted r → told (Refused r 0) (target ∷ []) ≡ translates t n len
+    not_accepted r q = refused r (checked_is (NotAccepted r) q)
 
     module _ (q : checked false t n ≡ Accepted) where
-      array-is : (b : Bool) → hasArray (lines_of false t n) ≡ b → translated t n len ≡ flatOnly b (fitting true (length (program_of t n)) len)
-      array-is b a = checked-is Accepted q ∙ ap (λ (b : Bool). flatOnly b (fitting true (length (program_of t n)) len)) a
+      array_is : (b : Bool) → has_array (lines_of false t n) ≡ b → translated t n len ≡ flat_only b (fitting true (length (program_of t n)) len)
+      array_is b a = checked_is Accepted q ∙ ap (λ (b : Bool). flat_only b (fitting true (length (program_of t n)) len)) a
 
-      pub array-there : hasArray (lines_of false t n) ≡ true → told (Refused ArrayPresent 0) (target ∷ []) ≡ translates t n len
-      array-there a = refused ArrayPresent (array-is true a)
+      pub array_there : has_array (lines_of false t n) ≡ true → told (Refused ArrayPresent 0) (target ∷ []) ≡ translates t n len
+      array_there a = refused ArrayPresent (array_is true a)
 
-      pub made-is : hasArray (lines_of false t n) ≡ false → {o : Outcome} → o ≡ makes t n (length target) → o ≡ translates t n len
-      made-is a eo = eo ∙ ap (makes t n) (zeros-count len z) ∙ outcome-is (fitting true (length (program_of t n)) len) (array-is false a)
+      pub made_is : has_array (lines_of false t n) ≡ false → {o : Outcome} → o ≡ makes t n (length target) → o ≡ translates t n len
+      made_is a eo = eo ∙ ap (makes t n) (zeros_count len z) ∙ outcome_is (fitting true (length (program_of t n)) len) (array_is false a)
 
 -- ---- the room of the target
 
 module _ (t : List ℕ) (n len : ℕ) where
   abbrev room_for : Bool → Outcome
-  room_for b = outcomeFor (pick b (Done (length (program_of t n))) (Refused TargetTooSmall 0)) t n len
+  room_for b = outcome_for (pick b (Done (length (program_of t n))) (Refused TargetTooSmall 0)) t n len
 
   pub too_small : {target : List ℕ} → target ≡ replicate len 0 → room true len < length (program_of t n) → told (Refused TargetTooSmall 0) (target ∷ []) ≡ makes t n len
-  too_small z h = zeros-left TargetTooSmall t n len z ∙ sym (ap room_for (lt-leb (length (program_of t n)) (room true len) h))
+  too_small z h = zeros_left TargetTooSmall t n len z ∙ sym (ap room_for (lt-leb (length (program_of t n)) (room true len) h))
 
-  pub fits-target : {m : ℕ} {target : List ℕ} → m ≡ length (program_of t n) → length (program_of t n) ≤ room true len → target ≡ programIn t n len → told (Done m) (target ∷ []) ≡ makes t n len
-  fits-target em h et =
-      told-as (ap Done em) (ap (λ (x : List ℕ). x ∷ []) et) ∙ sym (ap room_for (le-leb (length (program_of t n)) (room true len) h))
+  pub fits_target : {m : ℕ} {target : List ℕ} → m ≡ length (program_of t n) → length (program_of t n) ≤ room true len → target ≡ program_in t n len → told (Done m) (target ∷ []) ≡ makes t n len
+  fits_target em h et =
+      told_as (ap Done em) (ap (λ (x : List ℕ). x ∷ []) et) ∙ sym (ap room_for (le-leb (length (program_of t n)) (room true len) h))

@@ -6,15 +6,15 @@ use native.Mathlib.Omega.{arith}
 use lib.ListN.{length, get_or}
 
 module _ {A : Type 0} where
-  pub length-snoc : (xs : List A) (x : A) → length (xs ++ (x ∷ [])) ≡ suc (length xs)
-  length-snoc [] x = refl
-  length-snoc (y ∷ xs) x = ap suc (length-snoc xs x)
+  pub length_snoc : (xs : List A) (x : A) → length (xs ++ (x ∷ [])) ≡ suc (length xs)
+  length_snoc [] x = refl
+  length_snoc (y ∷ xs) x = ap suc (length_snoc xs x)
 
   -- what is below the end stays
-  pub below-snoc : (xs : List A) (x d : A) (i : ℕ) → i < length xs → get_or (xs ++ (x ∷ [])) i d ≡ get_or xs i d
-  below-snoc [] x d i h = absurd (omega arith)
-  below-snoc (y ∷ xs) x d zero h = refl
-  below-snoc (y ∷ xs) x d (suc i) h = below-snoc xs x d i (omega arith)
+  pub below_snoc : (xs : List A) (x d : A) (i : ℕ) → i < length xs → get_or (xs ++ (x ∷ [])) i d ≡ get_or xs i d
+  below_snoc [] x d i h = absurd (omega arith)
+  below_snoc (y ∷ xs) x d zero h = refl
+  below_snoc (y ∷ xs) x d (suc i) h = below_snoc xs x d i (omega arith)
 
 -- what holds at each place of three lists, and of the default entries, holds with one entry more if it holds of the new ones
 module _ {A B C : Type 0} (a₀ : A) (b₀ : B) (c₀ : C) {a : A} {b : B} {c : C} where

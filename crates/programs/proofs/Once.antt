@@ -10,92 +10,92 @@ use lib.Seq.{get_or_at}
 use borrow.Author.Tests.{eq-eqb, ne_eqb, eqb-true, eqb-false}
 use Rattle.tables.specs.declared.Ty.{Ty}
 use Rattle.tables.specs.Pick.{pick, among, alike}
-use Rattle.tables.specs.Lines.{Line, initOrNext}
-use Rattle.tables.specs.Types.{ty_at, given, givenBy, noCtx}
-use Rattle.tables.proofs.Showing.{by_place, among-snoc, earlier}
-use Rattle.circuits.specs.Layout.{Layout, type_at, lineTypeIn, lay, no_layout}
-use Rattle.programs.specs.Translation.{Known, noneKnown, operandNumber}
-use Rattle.programs.proofs.Lists.{below-snoc}
-use Rattle.programs.proofs.Grew.{lines, line-more, grew-line, new-type}
+use Rattle.tables.specs.Lines.{Line, init_or_next}
+use Rattle.tables.specs.Types.{ty_at, given, given_by, no_ctx}
+use Rattle.tables.proofs.Showing.{by_place, among_snoc, earlier}
+use Rattle.circuits.specs.Layout.{Layout, type_at, line_type_in, lay, no_layout}
+use Rattle.programs.specs.Translation.{Known, none_known, operand_number}
+use Rattle.programs.proofs.Lists.{below_snoc}
+use Rattle.programs.proofs.Grew.{lines, line_more, grew_line, new_type}
 use Rattle.programs.proofs.Laid.{Laid}
 
 pub record Once (Y Z : Layout) (J : List Known) : Type 0 where
-  pub rising : (i j : ℕ) → 2 ≤ (type_at Y i).role → 2 ≤ (type_at Y j).role → i < j → operandNumber J i < operandNumber J j
-  pub doneY : (m : Bool) (q : ℕ) → lines Y ≤ q → given Y.ctx m q ≡ false
-  pub doneZ : (m : Bool) (n : ℕ) → lines Z ≤ n → given Z.ctx m n ≡ false
-  pub same : (m : Bool) (q : ℕ) → (type_at Y q).role ≡ 4 → given Z.ctx m (operandNumber J q) ≡ given Y.ctx m q
+  pub rising : (i j : ℕ) → 2 ≤ (type_at Y i).role → 2 ≤ (type_at Y j).role → i < j → operand_number J i < operand_number J j
+  pub done_y : (m : Bool) (q : ℕ) → lines Y ≤ q → given Y.ctx m q ≡ false
+  pub done_z : (m : Bool) (n : ℕ) → lines Z ≤ n → given Z.ctx m n ≡ false
+  pub same : (m : Bool) (q : ℕ) → (type_at Y q).role ≡ 4 → given Z.ctx m (operand_number J q) ≡ given Y.ctx m q
 
-pub once-start : Once no_layout no_layout (noneKnown ∷ [])
-once-start = record { rising = λ i j h k l. absurd (none i h); doneY = λ m q h. empty m q; doneZ = λ m q h. empty m q; same = λ m q e. absurd (none q (omega arith)) }
+pub once_start : Once no_layout no_layout (none_known ∷ [])
+once_start = record { rising = λ i j h k l. absurd (none i h); done_y = λ m q h. empty m q; done_z = λ m q h. empty m q; same = λ m q e. absurd (none q (omega arith)) }
   where
-    none : (a : ℕ) → 2 ≤ (ty_at noCtx a).role → ⊥
+    none : (a : ℕ) → 2 ≤ (ty_at no_ctx a).role → ⊥
     none zero h = omega arith
     none (suc a) h = omega arith
 
-    empty : (m : Bool) (q : ℕ) → given noCtx m q ≡ false
+    empty : (m : Bool) (q : ℕ) → given no_ctx m q ≡ false
     empty true q = refl
     empty false q = refl
 
 module _ {Y Z : Layout} {J : List Known} (v : Laid Y Z J) (o : Once Y Z J) (l : Line) (f : Known) where
   -- an earlier line, and the line itself
-  pub old-type : (i : ℕ) → i < lines Y → type_at (lay false Y l) i ≡ type_at Y i
-  old-type i h = (grew-line false v.evenY l).types i h
+  pub old_type : (i : ℕ) → i < lines Y → type_at (lay false Y l) i ≡ type_at Y i
+  old_type i h = (grew_line false v.even_y l).types i h
 
-  pub old-number : (i : ℕ) → i < lines Y → operandNumber (J ++ (f ∷ [])) i ≡ operandNumber J i
-  old-number i h = ap (λ (x : Known). x.num) (below-snoc J f noneKnown i (omega (arith, v.known)))
+  pub old_number : (i : ℕ) → i < lines Y → operand_number (J ++ (f ∷ [])) i ≡ operand_number J i
+  old_number i h = ap (λ (x : Known). x.num) (below_snoc J f none_known i (omega (arith, v.known)))
 
-  pub new-number : operandNumber (J ++ (f ∷ [])) (lines Y) ≡ f.num
-  new-number = ap (λ (x : Known). x.num) (get_or_at J f [] noneKnown (lines Y) v.known)
+  pub new_number : operand_number (J ++ (f ∷ [])) (lines Y) ≡ f.num
+  new_number = ap (λ (x : Known). x.num) (get_or_at J f [] none_known (lines Y) v.known)
 
   -- a number of the new circuit is an earlier line's or the new one's
   cases : {P : Type 0} (i : ℕ) → 1 ≤ (type_at (lay false Y l) i).role → (i < lines Y → P) → (i ≡ lines Y → P) → P
   cases i h a b =
       let k : i < lines (lay false Y l) = earlier (lay false Y l).ctx.tys i h in
-      by_place i (lines Y) b (λ n. a (omega (arith, line-more false v.evenY l)))
+      by_place i (lines Y) b (λ n. a (omega (arith, line_more false v.even_y l)))
 
-  module _ (num : 2 ≤ (lineTypeIn false Y l).role → lines Z ≤ f.num) where
-    new-value : (i : ℕ) → i ≡ lines Y → 2 ≤ (type_at (lay false Y l) i).role → lines Z ≤ operandNumber (J ++ (f ∷ [])) i
-    new-value i e h = subst⁻¹ (λ (x : ℕ). lines Z ≤ operandNumber (J ++ (f ∷ [])) x) e (subst⁻¹ (λ (x : ℕ). lines Z ≤ x) new-number (num (subst (λ (t : Ty). 2 ≤ t.role) (new-type false v.evenY l i e) h)))
+  module _ (num : 2 ≤ (line_type_in false Y l).role → lines Z ≤ f.num) where
+    new_value : (i : ℕ) → i ≡ lines Y → 2 ≤ (type_at (lay false Y l) i).role → lines Z ≤ operand_number (J ++ (f ∷ [])) i
+    new_value i e h = subst⁻¹ (λ (x : ℕ). lines Z ≤ operand_number (J ++ (f ∷ [])) x) e (subst⁻¹ (λ (x : ℕ). lines Z ≤ x) new_number (num (subst (λ (t : Ty). 2 ≤ t.role) (new_type false v.even_y l i e) h)))
 
-    rises : (i j : ℕ) → 2 ≤ (type_at (lay false Y l) i).role → 2 ≤ (type_at (lay false Y l) j).role → i < j → operandNumber (J ++ (f ∷ [])) i < operandNumber (J ++ (f ∷ [])) j
+    rises : (i j : ℕ) → 2 ≤ (type_at (lay false Y l) i).role → 2 ≤ (type_at (lay false Y l) j).role → i < j → operand_number (J ++ (f ∷ [])) i < operand_number (J ++ (f ∷ [])) j
     rises i j hi hj h =
         cases i (omega arith)
         (λ li.
-        let ti : 2 ≤ (type_at Y i).role = subst (λ (t : Ty). 2 ≤ t.role) (old-type i li) hi in
-        let ni = old-number i li in
+        let ti : 2 ≤ (type_at Y i).role = subst (λ (t : Ty). 2 ≤ t.role) (old_type i li) hi in
+        let ni = old_number i li in
         cases j (omega arith)
-        (λ lj. omega (arith, ni, old-number j lj, o.rising i j ti (subst (λ (t : Ty). 2 ≤ t.role) (old-type j lj) hj) h))
-        (λ ej. omega (arith, ni, ((v.rel i).value ti).inb, new-value j ej hj)))
+        (λ lj. omega (arith, ni, old_number j lj, o.rising i j ti (subst (λ (t : Ty). 2 ≤ t.role) (old_type j lj) hj) h))
+        (λ ej. omega (arith, ni, ((v.rel i).value ti).inb, new_value j ej hj)))
         (λ ei. cases j (omega arith) (λ lj. absurd (omega arith)) (λ ej. absurd (omega arith)))
 
     -- a line that is no init and no next
-    pub once-quiet : {Z' : Layout} → ((m : Bool) → givenBy m (lay false Y l).ctx ≡ givenBy m Y.ctx) → ((m : Bool) → givenBy m Z'.ctx ≡ givenBy m Z.ctx) → lines Z ≤ lines Z'
+    pub once_quiet : {Z' : Layout} → ((m : Bool) → given_by m (lay false Y l).ctx ≡ given_by m Y.ctx) → ((m : Bool) → given_by m Z'.ctx ≡ given_by m Z.ctx) → lines Z ≤ lines Z'
         → Once (lay false Y l) Z' (J ++ (f ∷ []))
-    once-quiet gy gz longer =
+    once_quiet gy gz longer =
         record {
           rising = rises;
-          doneY = λ m q h. ap (among q) (gy m) ∙ o.doneY m q (omega (arith, line-more false v.evenY l));
-          doneZ = λ m n h. ap (among n) (gz m) ∙ o.doneZ m n (le_trans longer h);
-          same = λ m q e. ap (among (operandNumber (J ++ (f ∷ [])) q)) (gz m) ∙ cases q (omega arith) (kept m q e) (fresh m q e) ∙ sym (ap (among q) (gy m));
+          done_y = λ m q h. ap (among q) (gy m) ∙ o.done_y m q (omega (arith, line_more false v.even_y l));
+          done_z = λ m n h. ap (among n) (gz m) ∙ o.done_z m n (le_trans longer h);
+          same = λ m q e. ap (among (operand_number (J ++ (f ∷ [])) q)) (gz m) ∙ cases q (omega arith) (kept m q e) (fresh m q e) ∙ sym (ap (among q) (gy m));
         }
       where
-        kept : (m : Bool) (q : ℕ) → (type_at (lay false Y l) q).role ≡ 4 → q < lines Y → given Z.ctx m (operandNumber (J ++ (f ∷ [])) q) ≡ given Y.ctx m q
-        kept m q e h = ap (given Z.ctx m) (old-number q h) ∙ o.same m q (ap (λ (t : Ty). t.role) (sym (old-type q h)) ∙ e)
+        kept : (m : Bool) (q : ℕ) → (type_at (lay false Y l) q).role ≡ 4 → q < lines Y → given Z.ctx m (operand_number (J ++ (f ∷ [])) q) ≡ given Y.ctx m q
+        kept m q e h = ap (given Z.ctx m) (old_number q h) ∙ o.same m q (ap (λ (t : Ty). t.role) (sym (old_type q h)) ∙ e)
 
-        fresh : (m : Bool) (q : ℕ) → (type_at (lay false Y l) q).role ≡ 4 → q ≡ lines Y → given Z.ctx m (operandNumber (J ++ (f ∷ [])) q) ≡ given Y.ctx m q
-        fresh m q e h = o.doneZ m _ (new-value q h (omega arith)) ∙ sym (o.doneY m q (omega arith))
+        fresh : (m : Bool) (q : ℕ) → (type_at (lay false Y l) q).role ≡ 4 → q ≡ lines Y → given Z.ctx m (operand_number (J ++ (f ∷ [])) q) ≡ given Y.ctx m q
+        fresh m q e h = o.done_z m _ (new_value q h (omega arith)) ∙ sym (o.done_y m q (omega arith))
 
 -- an init or a next of the state q adds it
-gave : (p : Bool) (Y : Layout) (k m : Bool) (s q a : ℕ) → givenBy k (lay p Y (initOrNext m s q a)).ctx ≡ pick (alike k m) (givenBy k Y.ctx ++ (q ∷ [])) (givenBy k Y.ctx)
+gave : (p : Bool) (Y : Layout) (k m : Bool) (s q a : ℕ) → given_by k (lay p Y (init_or_next m s q a)).ctx ≡ pick (alike k m) (given_by k Y.ctx ++ (q ∷ [])) (given_by k Y.ctx)
 gave p Y true m s q a = refl
 gave p Y false m s q a = refl
 
 module _ {Y Z : Layout} {J : List Known} (v : Laid Y Z J) (o : Once Y Z J) (m : Bool) (s q a : ℕ) (w x : ℕ) (is : (type_at Y q).role ≡ 4) where
   abbrev here : Line
-  here = initOrNext m s q a
+  here = init_or_next m s q a
 
   abbrev there : Line
-  there = initOrNext m w (operandNumber J q) x
+  there = init_or_next m w (operand_number J q) x
 
   value : 2 ≤ (type_at Y q).role
   value = omega arith
@@ -104,45 +104,45 @@ module _ {Y Z : Layout} {J : List Known} (v : Laid Y Z J) (o : Once Y Z J) (m : 
   early = earlier Y.ctx.tys q (omega arith)
 
   -- numbers tell states apart
-  apart : (i : ℕ) → 2 ≤ (type_at Y i).role → eqb (operandNumber J i) (operandNumber J q) ≡ eqb i q
+  apart : (i : ℕ) → 2 ≤ (type_at Y i).role → eqb (operand_number J i) (operand_number J q) ≡ eqb i q
   apart i h = go (eqb i q) refl
     where
-      go : (t : Bool) → eqb i q ≡ t → eqb (operandNumber J i) (operandNumber J q) ≡ t
-      go true e = eq-eqb (operandNumber J i) (operandNumber J q) (ap (operandNumber J) (eqb-true i q e))
+      go : (t : Bool) → eqb i q ≡ t → eqb (operand_number J i) (operand_number J q) ≡ t
+      go true e = eq-eqb (operand_number J i) (operand_number J q) (ap (operand_number J) (eqb-true i q e))
       go false e =
           let n : (i ≡ q → ⊥) = eqb-false i q e in
-          ne_eqb (operandNumber J i) (operandNumber J q) (λ z. by_order i q n (λ l. omega (arith, o.rising i q h value l)) (λ l. omega (arith, o.rising q i value h l)))
+          ne_eqb (operand_number J i) (operand_number J q) (λ z. by_order i q n (λ l. omega (arith, o.rising i q h value l)) (λ l. omega (arith, o.rising q i value h l)))
         where
           by_order : (i q : ℕ) → (i ≡ q → ⊥) → (i < q → ⊥) → (q < i → ⊥) → ⊥
           by_order i q n a b = omega arith
 
   -- what has been given, after a line that gives n the flag k: for lists of either side
   after : (k : Bool) (xs : List ℕ) (n i : ℕ) → among i (pick k (xs ++ (n ∷ [])) xs) ≡ pick k (among i xs || eqb i n) (among i xs)
-  after true xs n i = among-snoc i xs n
+  after true xs n i = among_snoc i xs n
   after false xs n i = refl
 
   none : (k : Bool) → pick k (false || false) false ≡ false
   none true = refl
   none false = refl
 
-  pub once-init-next : Once (lay false Y here) (lay true Z there) (J ++ (noneKnown ∷ []))
-  once-init-next =
+  pub once_init_next : Once (lay false Y here) (lay true Z there) (J ++ (none_known ∷ []))
+  once_init_next =
       record {
-        rising = λ i j hi hj h. rises v o here noneKnown (λ z. absurd (omega arith)) i j hi hj h;
-        doneY = λ k n h. ap (among n) (gave false Y k m s q a) ∙ done k n (givenBy k Y.ctx) q (o.doneY k n (omega (arith, line-more false v.evenY here))) (omega (arith, line-more false v.evenY here, early));
-        doneZ = λ k n h. ap (among n) (gave true Z k m w (operandNumber J q) x) ∙ done k n (givenBy k Z.ctx) (operandNumber J q) (o.doneZ k n (omega (arith, line-more true v.evenZ there))) (omega (arith, line-more true v.evenZ there, ((v.rel q).value value).inb));
-        same = λ k i e. ap (among (operandNumber (J ++ (noneKnown ∷ [])) i)) (gave true Z k m w (operandNumber J q) x) ∙ same-given k i (cases v o here noneKnown i (omega arith) (λ h. h) (λ z. absurd (omega (arith, ap (λ (t : Ty). t.role) (new-type false v.evenY here i z))))) e ∙ sym (ap (among i) (gave false Y k m s q a));
+        rising = λ i j hi hj h. rises v o here none_known (λ z. absurd (omega arith)) i j hi hj h;
+        done_y = λ k n h. ap (among n) (gave false Y k m s q a) ∙ done k n (given_by k Y.ctx) q (o.done_y k n (omega (arith, line_more false v.even_y here))) (omega (arith, line_more false v.even_y here, early));
+        done_z = λ k n h. ap (among n) (gave true Z k m w (operand_number J q) x) ∙ done k n (given_by k Z.ctx) (operand_number J q) (o.done_z k n (omega (arith, line_more true v.even_z there))) (omega (arith, line_more true v.even_z there, ((v.rel q).value value).inb));
+        same = λ k i e. ap (among (operand_number (J ++ (none_known ∷ [])) i)) (gave true Z k m w (operand_number J q) x) ∙ same_given k i (cases v o here none_known i (omega arith) (λ h. h) (λ z. absurd (omega (arith, ap (λ (t : Ty). t.role) (new_type false v.even_y here i z))))) e ∙ sym (ap (among i) (gave false Y k m s q a));
       }
     where
       done : (k : Bool) (n : ℕ) (xs : List ℕ) (i : ℕ) → among n xs ≡ false → i < n → among n (pick (alike k m) (xs ++ (i ∷ [])) xs) ≡ false
       done k n xs i e h = after (alike k m) xs i n ∙ ap₂ (λ (b c : Bool). pick (alike k m) (b || c) b) e (ne_eqb n i (λ z. omega arith)) ∙ none (alike k m)
 
-      same-given : (k : Bool) (i : ℕ) → i < lines Y → (type_at (lay false Y here) i).role ≡ 4
-          → among (operandNumber (J ++ (noneKnown ∷ [])) i) (pick (alike k m) (givenBy k Z.ctx ++ (operandNumber J q ∷ [])) (givenBy k Z.ctx))
-          ≡ among i (pick (alike k m) (givenBy k Y.ctx ++ (q ∷ [])) (givenBy k Y.ctx))
-      same-given k i h e =
-          let c : (type_at Y i).role ≡ 4 = ap (λ (t : Ty). t.role) (sym (old-type v o here noneKnown i h)) ∙ e in
-          ap (λ (n : ℕ). among n (pick (alike k m) (givenBy k Z.ctx ++ (operandNumber J q ∷ [])) (givenBy k Z.ctx))) (old-number v o here noneKnown i h)
-          ∙ after (alike k m) (givenBy k Z.ctx) (operandNumber J q) (operandNumber J i)
+      same_given : (k : Bool) (i : ℕ) → i < lines Y → (type_at (lay false Y here) i).role ≡ 4
+          → among (operand_number (J ++ (none_known ∷ [])) i) (pick (alike k m) (given_by k Z.ctx ++ (operand_number J q ∷ [])) (given_by k Z.ctx))
+          ≡ among i (pick (alike k m) (given_by k Y.ctx ++ (q ∷ [])) (given_by k Y.ctx))
+      same_given k i h e =
+          let c : (type_at Y i).role ≡ 4 = ap (λ (t : Ty). t.role) (sym (old_type v o here none_known i h)) ∙ e in
+          ap (λ (n : ℕ). among n (pick (alike k m) (given_by k Z.ctx ++ (operand_number J q ∷ [])) (given_by k Z.ctx))) (old_number v o here none_known i h)
+          ∙ after (alike k m) (given_by k Z.ctx) (operand_number J q) (operand_number J i)
           ∙ ap₂ (λ (b d : Bool). pick (alike k m) (b || d) b) (o.same k i c) (apart i (omega arith))
-          ∙ sym (after (alike k m) (givenBy k Y.ctx) q i)
+          ∙ sym (after (alike k m) (given_by k Y.ctx) q i)

@@ -4,7 +4,7 @@ use mathlib.Core.Path.{◌≡◌, refl, sym, ap, ◌∙◌}
 use mathlib.Core.List.{List, [], ◌∷◌}
 use native.Mathlib.Omega.{arith}
 use lib.ListN.{get_or}
-use Rattle.programs.specs.Model.Kinds.{useRows, usesOf}
+use Rattle.programs.specs.Model.Kinds.{use_rows, uses_of}
 
 -- f at the n numbers from i on
 abbrev listed : (ℕ → List ℕ) → (i n : ℕ) → List (List ℕ)
@@ -24,16 +24,16 @@ row_by k =
     member 18315994551128131520 k ∷ member 18311631688987312320 k
     ∷ (member 4648724425111568 k + 2 * member 60129542144 k + 4 * member 13510798882111488 k) ∷ []
 
-all-rows : listed row_by 0 64 ≡ useRows
-all-rows = refl
+all_rows : listed row_by 0 64 ≡ use_rows
+all_rows = refl
 
-pub row-by : (k : ℕ) → k ≤ 63 → row_by k ≡ usesOf k
-unfolding usesOf
-row-by k h =
+pub row_by_lem : (k : ℕ) → k ≤ 63 → row_by k ≡ uses_of k
+unfolding uses_of
+row_by_lem k h =
     let e : k + 0 ≡ k = omega arith in
-    sym (listed_at row_by 0 64 k (omega arith) ∙ ap row_by e) ∙ ap (λ (l : List (List ℕ)). get_or l k []) all-rows
+    sym (listed_at row_by 0 64 k (omega arith) ∙ ap row_by e) ∙ ap (λ (l : List (List ℕ)). get_or l k []) all_rows
 
 -- the row of five members
-pub row-of : (k : ℕ) {a b x y z : ℕ} → k ≤ 63 → a ≡ member 18315994551128131520 k → b ≡ member 18311631688987312320 k → x ≡ member 4648724425111568 k → y ≡ member 60129542144 k
-    → z ≡ member 13510798882111488 k → ◌≡◌ {A = List ℕ} (a ∷ b ∷ (x + 2 * y + 4 * z) ∷ []) (usesOf k)
-row-of k h ea eb ex ey ez = rw (ea, eb, ex, ey, ez) (row-by k h)
+pub row_of_lem : (k : ℕ) {a b x y z : ℕ} → k ≤ 63 → a ≡ member 18315994551128131520 k → b ≡ member 18311631688987312320 k → x ≡ member 4648724425111568 k → y ≡ member 60129542144 k
+    → z ≡ member 13510798882111488 k → ◌≡◌ {A = List ℕ} (a ∷ b ∷ (x + 2 * y + 4 * z) ∷ []) (uses_of k)
+row_of_lem k h ea eb ex ey ez = rw (ea, eb, ex, ey, ez) (row_by_lem k h)

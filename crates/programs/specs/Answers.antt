@@ -8,29 +8,29 @@ use Rattle.tables.specs.Pick.{pick}
 use Rattle.tables.specs.Lines.{Line, words_of}
 use Rattle.tables.specs.Layout.{whole, lines_of, filled}
 use Rattle.tables.specs.Tables.{checked}
-use Rattle.tables.specs.Answers.{Outcome, told, ifAccepted, fitting, leftBy}
-use Rattle.programs.specs.Translation.{hasArray, translate}
+use Rattle.tables.specs.Answers.{Outcome, told, if_accepted, fitting, left_by}
+use Rattle.programs.specs.Translation.{has_array, translate}
 
 -- the program of a table with its count
 abbrev pub program_of : List ℕ → ℕ → List Line
 program_of t n = translate (lines_of false t n)
 
 -- 19: a counted record of kind 2 is present
-abbrev pub flatOnly : Bool → Answer → Answer
-flatOnly true r = Refused ArrayPresent 0
-flatOnly false r = r
+abbrev pub flat_only : Bool → Answer → Answer
+flat_only true r = Refused ArrayPresent 0
+flat_only false r = r
 
 -- what translating answers for the table t with its count n, and a target of len words
 unfoldable pub translated : (t : List ℕ) (n len : ℕ) → Answer
 translated t n len =
     pick (whole false (length t) && whole true len)
-    (ifAccepted (checked false t n) (flatOnly (hasArray (lines_of false t n)) (fitting true (length (program_of t n)) len)))
+    (if_accepted (checked false t n) (flat_only (has_array (lines_of false t n)) (fitting true (length (program_of t n)) len)))
     (Refused NotATable 0)
 
 -- what the target holds then: the program's records and zeros past their end; zeros after a refusal
-unfoldable pub programLeft : (t : List ℕ) (n len : ℕ) → List ℕ
-programLeft t n len = leftBy (translated t n len) len (filled true len (map words_of (program_of t n)))
+unfoldable pub program_left : (t : List ℕ) (n len : ℕ) → List ℕ
+program_left t n len = left_by (translated t n len) len (filled true len (map words_of (program_of t n)))
 
 -- the outcome of translating
 unfoldable pub translates : (t : List ℕ) (n len : ℕ) → Outcome
-translates t n len = told (translated t n len) (programLeft t n len ∷ [])
+translates t n len = told (translated t n len) (program_left t n len ∷ [])

@@ -1,25 +1,25 @@
 -- The program of a flat circuit, by the request's section Program; what its instructions mean stands in `words` and `circuits`. A program's lines are those of `tables`: the sort
 -- word is the width, operands are instruction numbers, and kind 56 is the mask. Assumes nothing.
 use Rattle.std.specs.Prelude.{ℕ, suc, ◌+◌, Bool, true, false, ◌||◌, List, [], ◌∷◌, ◌++◌, length, get_or}
-use Rattle.tables.specs.Lines.{Line, Expr, bitvec, array, input, state, value, initOrNext, signal, output, unknown, const, unary, binary, equality, ite, read, write}
-use Rattle.programs.specs.Uses.{looseLine, looseExpr, hasNeedingUse}
+use Rattle.tables.specs.Lines.{Line, Expr, bitvec, array, input, state, value, init_or_next, signal, output, unknown, const, unary, binary, equality, ite, read, write}
+use Rattle.programs.specs.Uses.{loose_line, loose_expr, has_needing_use}
 
 -- ---- a flat circuit has no array sort: no record of kind 2
 
-abbrev pub arraySortLine : Line → Bool
-arraySortLine (bitvec w) = false
-arraySortLine (array i e) = true
-arraySortLine (input s) = false
-arraySortLine (state s) = false
-arraySortLine (value s e) = false
-arraySortLine (initOrNext m s q v) = false
-arraySortLine (signal m a) = false
-arraySortLine (output a) = false
-arraySortLine unknown = false
+abbrev pub array_sort_line : Line → Bool
+array_sort_line (bitvec w) = false
+array_sort_line (array i e) = true
+array_sort_line (input s) = false
+array_sort_line (state s) = false
+array_sort_line (value s e) = false
+array_sort_line (init_or_next m s q v) = false
+array_sort_line (signal m a) = false
+array_sort_line (output a) = false
+array_sort_line unknown = false
 
-abbrev pub hasArray : List Line → Bool
-hasArray [] = false
-hasArray (l ∷ ls) = arraySortLine l || hasArray ls
+abbrev pub has_array : List Line → Bool
+has_array [] = false
+has_array (l ∷ ls) = array_sort_line l || has_array ls
 
 -- ---- what is known of an earlier line
 
@@ -32,21 +32,21 @@ pub record Known : Type 0 where
 abbrev pub info : (w num : ℕ) → Bool → Known
 info w n l = record { w = w; num = n; loose = l }
 
-abbrev pub noneKnown : Known
-noneKnown = info 0 0 false
+abbrev pub none_known : Known
+none_known = info 0 0 false
 
 -- of the line a; entry 0 stands for no line
 abbrev pub known_at : List Known → ℕ → Known
-known_at J a = get_or J a noneKnown
+known_at J a = get_or J a none_known
 
-abbrev pub operandWidth : List Known → ℕ → ℕ
-operandWidth J a = (known_at J a).w
+abbrev pub operand_width : List Known → ℕ → ℕ
+operand_width J a = (known_at J a).w
 
-abbrev pub operandNumber : List Known → ℕ → ℕ
-operandNumber J a = (known_at J a).num
+abbrev pub operand_number : List Known → ℕ → ℕ
+operand_number J a = (known_at J a).num
 
-abbrev pub looseOf : List Known → ℕ → Bool
-looseOf J a = (known_at J a).loose
+abbrev pub loose_of : List Known → ℕ → Bool
+loose_of J a = (known_at J a).loose
 
 -- ---- instructions
 
@@ -73,33 +73,33 @@ pub record Made : Type 0 where
 
 -- The value instruction l, of width w, gets the number b. "A loose line with a needing use gets one mask right after it, and all uses take the mask. Such a line
 -- still counts as loose for the lines that use it."
-abbrev pub withMask : (b w : ℕ) → Line → (loose need : Bool) → Made
-withMask b w l false n = record { code = l ∷ []; info = info w b false }
-withMask b w l true false = record { code = l ∷ []; info = info w b true }
-withMask b w l true true = record { code = l ∷ mask_of w b ∷ []; info = info w (suc b) true }
+abbrev pub with_mask : (b w : ℕ) → Line → (loose need : Bool) → Made
+with_mask b w l false n = record { code = l ∷ []; info = info w b false }
+with_mask b w l true false = record { code = l ∷ []; info = info w b true }
+with_mask b w l true true = record { code = l ∷ mask_of w b ∷ []; info = info w (suc b) true }
 
 -- an instruction that has no value: init and next, and bad, constraint and output ("width (0 for kinds 8 to 10)")
-abbrev pub noValue : Line → Made
-noValue l = record { code = l ∷ []; info = noneKnown }
+abbrev pub no_value : Line → Made
+no_value l = record { code = l ∷ []; info = none_known }
 
 -- The line l after lines known as J; N says which lines have a needing use, and b is the next instruction's number: "no sort records". An input is kind 4, a state
 -- kind 5.
-abbrev pub instructionsOf : (ℕ → Bool) → List Known → (b : ℕ) → Line → Made
-instructionsOf N J b (bitvec w) = record { code = []; info = info w 0 false }
-instructionsOf N J b (array i e) = record { code = []; info = noneKnown }
-instructionsOf N J b (input s) = withMask b (operandWidth J s) (input (operandWidth J s)) (looseLine (operandWidth J s) 4 false false false) (N (length J))
-instructionsOf N J b (state s) = withMask b (operandWidth J s) (state (operandWidth J s)) (looseLine (operandWidth J s) 5 false false false) (N (length J))
-instructionsOf N J b (value s e) = withMask b (operandWidth J s) (value (operandWidth J s) (renumbered (operandNumber J) e)) (looseExpr (looseOf J) (operandWidth J s) e) (N (length J))
-instructionsOf N J b (initOrNext m s q v) = noValue (initOrNext m (operandWidth J s) (operandNumber J q) (operandNumber J v))
-instructionsOf N J b (signal m a) = noValue (signal m (operandNumber J a))
-instructionsOf N J b (output a) = noValue (output (operandNumber J a))
-instructionsOf N J b unknown = record { code = []; info = noneKnown }
+abbrev pub instructions_of : (ℕ → Bool) → List Known → (b : ℕ) → Line → Made
+instructions_of N J b (bitvec w) = record { code = []; info = info w 0 false }
+instructions_of N J b (array i e) = record { code = []; info = none_known }
+instructions_of N J b (input s) = with_mask b (operand_width J s) (input (operand_width J s)) (loose_line (operand_width J s) 4 false false false) (N (length J))
+instructions_of N J b (state s) = with_mask b (operand_width J s) (state (operand_width J s)) (loose_line (operand_width J s) 5 false false false) (N (length J))
+instructions_of N J b (value s e) = with_mask b (operand_width J s) (value (operand_width J s) (renumbered (operand_number J) e)) (loose_expr (loose_of J) (operand_width J s) e) (N (length J))
+instructions_of N J b (init_or_next m s q v) = no_value (init_or_next m (operand_width J s) (operand_number J q) (operand_number J v))
+instructions_of N J b (signal m a) = no_value (signal m (operand_number J a))
+instructions_of N J b (output a) = no_value (output (operand_number J a))
+instructions_of N J b unknown = record { code = []; info = none_known }
 
 -- ---- all lines
 
-abbrev pub translateFrom : (ℕ → Bool) → List Known → (b : ℕ) → List Line → List Line
-translateFrom N J b [] = []
-translateFrom N J b (l ∷ ls) = (instructionsOf N J b l).code ++ translateFrom N (J ++ ((instructionsOf N J b l).info ∷ [])) (b + length (instructionsOf N J b l).code) ls
+abbrev pub translate_from : (ℕ → Bool) → List Known → (b : ℕ) → List Line → List Line
+translate_from N J b [] = []
+translate_from N J b (l ∷ ls) = (instructions_of N J b l).code ++ translate_from N (J ++ ((instructions_of N J b l).info ∷ [])) (b + length (instructions_of N J b l).code) ls
 
 unfoldable pub translate : List Line → List Line
-translate F = translateFrom (hasNeedingUse F) (noneKnown ∷ []) 1 F
+translate F = translate_from (has_needing_use F) (none_known ∷ []) 1 F

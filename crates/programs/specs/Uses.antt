@@ -1,25 +1,25 @@
--- Loose lines, and needing uses: the two lists of the request's section Program, worked out on the circuit alone. The kinds' numbers stand in `looseKind`, `needKind₁` and
--- `needKind₂` of `words`. Assumes nothing.
+-- Loose lines, and needing uses: the two lists of the request's section Program, worked out on the circuit alone. The kinds' numbers stand in `loose_kind`, `need_kind₁` and
+-- `need_kind₂` of `words`. Assumes nothing.
 use Rattle.std.specs.Prelude.{ℕ, Bool, true, false, not, ◌&&◌, ◌||◌, List, [], ◌∷◌, ◌++◌, eqb}
-use Rattle.words.specs.Kinds.{looseKind, needKind₁, needKind₂}
+use Rattle.words.specs.Kinds.{loose_kind, need_kind₁, need_kind₂}
 use Rattle.tables.specs.Pick.{among}
-use Rattle.tables.specs.Lines.{Line, Expr, bitvec, array, input, state, value, initOrNext, signal, output, unknown, const, unary, binary, equality, ite, read, write, initOrNextKind, signalKind, equalityKind}
+use Rattle.tables.specs.Lines.{Line, Expr, bitvec, array, input, state, value, init_or_next, signal, output, unknown, const, unary, binary, equality, ite, read, write, init_or_next_kind, signal_kind, equality_kind}
 
 -- ---- "Loose: input, 11 to 14, 18, 31, 32, 36 to 41, 47. and is loose if both operands are; or, xor and ite if a data operand is; concat if its high operand is."
 
 -- "Width 64 and the rest are never loose": a line of width w and of the kind k, where l₁, l₂ and l₃ say which of its operands are loose
-abbrev pub looseLine : (w k : ℕ) → (l₁ l₂ l₃ : Bool) → Bool
-looseLine w k l₁ l₂ l₃ = not (eqb w 64) && looseKind k l₁ l₂ l₃
+abbrev pub loose_line : (w k : ℕ) → (l₁ l₂ l₃ : Bool) → Bool
+loose_line w k l₁ l₂ l₃ = not (eqb w 64) && loose_kind k l₁ l₂ l₃
 
 -- a value line of width w, where L says which earlier lines are loose. A number is no line, and an array operator is in no flat circuit
-abbrev pub looseExpr : (ℕ → Bool) → ℕ → Expr → Bool
-looseExpr L w (const v) = looseLine w 3 false false false
-looseExpr L w (unary k a x y) = looseLine w k (L a) false false
-looseExpr L w (binary k a b) = looseLine w k (L a) (L b) false
-looseExpr L w (equality e a b) = looseLine w (equalityKind e) (L a) (L b) false
-looseExpr L w (ite c a b) = looseLine w 53 (L c) (L a) (L b)
-looseExpr L w (read a i) = false
-looseExpr L w (write a i v) = false
+abbrev pub loose_expr : (ℕ → Bool) → ℕ → Expr → Bool
+loose_expr L w (const v) = loose_line w 3 false false false
+loose_expr L w (unary k a x y) = loose_line w k (L a) false false
+loose_expr L w (binary k a b) = loose_line w k (L a) (L b) false
+loose_expr L w (equality e a b) = loose_line w (equality_kind e) (L a) (L b) false
+loose_expr L w (ite c a b) = loose_line w 53 (L c) (L a) (L b)
+loose_expr L w (read a i) = false
+loose_expr L w (write a i v) = false
 
 -- ---- "Needing a clean operand: 6 to 10, 15 to 17, 19 to 30, 42 to 46, 48 to 51, the amount of sll, the low operand of concat, the condition of ite." And both operands of an
 -- overflow detector: "They need clean operands and are never loose"
@@ -29,21 +29,21 @@ when true a = a ∷ []
 when false a = []
 
 -- the operands that a line of the kind k needs clean: of one operand that is a line, a, and of two, a and b
-abbrev pub needsUnary : (k a : ℕ) → List ℕ
-needsUnary k a = when (needKind₁ k) a
+abbrev pub needs_unary : (k a : ℕ) → List ℕ
+needs_unary k a = when (need_kind₁ k) a
 
-abbrev pub needsBinary : (k a b : ℕ) → List ℕ
-needsBinary k a b = when (needKind₁ k) a ++ when (needKind₂ k) b
+abbrev pub needs_binary : (k a b : ℕ) → List ℕ
+needs_binary k a b = when (need_kind₁ k) a ++ when (need_kind₂ k) b
 
 -- of a value line: slice bounds and extra bits are numbers, and no third operand has to be clean
-abbrev pub needsExpr : Expr → List ℕ
-needsExpr (const v) = []
-needsExpr (unary k a x y) = needsUnary k a
-needsExpr (binary k a b) = needsBinary k a b
-needsExpr (equality e a b) = needsBinary (equalityKind e) a b
-needsExpr (ite c a b) = needsBinary 53 c a
-needsExpr (read a i) = []
-needsExpr (write a i v) = []
+abbrev pub needs_expr : Expr → List ℕ
+needs_expr (const v) = []
+needs_expr (unary k a x y) = needs_unary k a
+needs_expr (binary k a b) = needs_binary k a b
+needs_expr (equality e a b) = needs_binary (equality_kind e) a b
+needs_expr (ite c a b) = needs_binary 53 c a
+needs_expr (read a i) = []
+needs_expr (write a i v) = []
 
 -- of every line
 abbrev pub needs : Line → List ℕ
@@ -51,13 +51,13 @@ needs (bitvec w) = []
 needs (array i e) = []
 needs (input s) = []
 needs (state s) = []
-needs (value s e) = needsExpr e
-needs (initOrNext m s q v) = needsBinary (initOrNextKind m) q v
-needs (signal m a) = needsUnary (signalKind m) a
-needs (output a) = needsUnary 10 a
+needs (value s e) = needs_expr e
+needs (init_or_next m s q v) = needs_binary (init_or_next_kind m) q v
+needs (signal m a) = needs_unary (signal_kind m) a
+needs (output a) = needs_unary 10 a
 needs unknown = []
 
 -- the line i has a needing use: some line needs it clean
-abbrev pub hasNeedingUse : List Line → ℕ → Bool
-hasNeedingUse [] i = false
-hasNeedingUse (l ∷ ls) i = among i (needs l) || hasNeedingUse ls i
+abbrev pub has_needing_use : List Line → ℕ → Bool
+has_needing_use [] i = false
+has_needing_use (l ∷ ls) i = among i (needs l) || has_needing_use ls i

@@ -1,4 +1,6 @@
 // Reading a text into a table.
+#![tactic(auto)]
+
 mod line; // a line of a text
 mod lines; // the lines of a text
 
@@ -6,8 +8,8 @@ ghost use Rattle.std.specs.Prelude.{◌≡◌, [], ◌∷◌, ◌≤◌, length,
 ghost use Rattle.tables.specs.Answers.{told};
 ghost use Rattle.tables.specs.Kinds.{rows};
 ghost use Rattle.tables.specs.Model.Notes.{Shows};
-ghost use Rattle.tables.specs.Types.{noCtx};
-ghost use Rattle.texts.specs.Reading.{lines_read, outcomeOf, reads};
+ghost use Rattle.tables.specs.Types.{no_ctx};
+ghost use Rattle.texts.specs.Reading.{lines_read, outcome_of, reads};
 
 use records::kinds;
 use records::notes::BYTES;
@@ -22,8 +24,8 @@ fn with_room(
     notes: &mut [[u8; BYTES]],
 ) -> Answer
     requires { (length text.now ≤ 65536) × ((table.old ≡ replicate (length table.old) 0) × ((length notes.old ≡ 16385)
-        × (Shows notes.old noCtx × (kinds.now ≡ rows)))) }
-    ensures { told result (table.new ∷ []) ≡ outcomeOf (length table.old) (lines_read (length table.old) text.now) }
+        × (Shows notes.old no_ctx × (kinds.now ≡ rows)))) }
+    ensures { told result (table.new ∷ []) ≡ outcome_of (length table.old) (lines_read (length table.old) text.now) }
 {
     if text.len() < 1024 {
         let mut few = [0u16; 1409];

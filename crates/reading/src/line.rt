@@ -2,12 +2,12 @@
 ghost use Rattle.std.specs.Prelude.{◌≡◌, ℕ, ◌+◌, ◌-◌, ◌≤◌, ◌<◌, length, take, drop};
 ghost use Rattle.tables.specs.Kinds.{rows};
 ghost use Rattle.tables.specs.Layout.{ids_of};
-ghost use Rattle.tables.specs.Model.Notes.{lookIn, givenIn};
+ghost use Rattle.tables.specs.Model.Notes.{look_in, given_in};
 ghost use Rattle.tables.specs.Model.Risen.{Risen};
-ghost use Rattle.texts.specs.Split.{tokens as tokensIn};
-ghost use Rattle.texts.specs.Reading.{nameIn};
-ghost use Rattle.texts.specs.Model.Stages.{ended, takenIn, judgedLine};
-ghost use Rattle.texts.specs.Model.Structs.{Tells, withLabels, Labelled, Admits};
+ghost use Rattle.texts.specs.Split.{tokens as tokens_in};
+ghost use Rattle.texts.specs.Reading.{name_in};
+ghost use Rattle.texts.specs.Model.Stages.{ended, taken_in, judged_line};
+ghost use Rattle.texts.specs.Model.Structs.{Tells, with_labels, Labelled, Admits};
 ghost use Rattle.texts.specs.Model.Chains.{Chained, HasRoom};
 
 use forms::heads;
@@ -17,7 +17,7 @@ use texts::Readout;
 
 // What a line gives, with its id and its name.
 fn labelled(r: Readout, id: u64, from: usize, to: usize) -> Readout
-    ensures { result ≡ withLabels r id from to }
+    ensures { result ≡ with_labels r id from to }
 {
     let code = r.code;
     let rec = r.rec;
@@ -44,10 +44,10 @@ fn behind_word(
     n: usize,
     notes: &[[u8; BYTES]],
 ) -> Readout
-    requires { (kinds.now ≡ rows) × ((at ≤ length l.now) × ((1 ≤ f) × ((f ≤ 68) × (((a : ℕ) → (lookIn notes.now a).w ≤ 64) × Risen table.now n)))) }
-    ensures { Tells result (ended (lookIn notes.now) (givenIn notes.now) (ids_of table.now n) f (takenIn f (tokensIn (drop at l.now))))
+    requires { (kinds.now ≡ rows) × ((at ≤ length l.now) × ((1 ≤ f) × ((f ≤ 68) × (((a : ℕ) → (look_in notes.now a).w ≤ 64) × Risen table.now n)))) }
+    ensures { Tells result (ended (look_in notes.now) (given_in notes.now) (ids_of table.now n) f (taken_in f (tokens_in (drop at l.now))))
         × (result.what ≡ 0 → (result.id ≡ id) × ((result.from ≤ result.to) × ((result.to ≤ length l.now)
-        × (take (result.to - result.from) (drop result.from l.now) ≡ nameIn f (tokensIn (drop at l.now)))))) }
+        × (take (result.to - result.from) (drop result.from l.now) ≡ name_in f (tokens_in (drop at l.now)))))) }
 {
     let t = stages::take(l, kinds, f, at);
     let p = tokens::next(l, t.at);
@@ -67,8 +67,8 @@ pub fn read_line(
     room: usize,
     notes: &[[u8; BYTES]],
 ) -> Readout
-    requires { (kinds.now ≡ rows) × (Risen table.now n × ((a : ℕ) → (lookIn notes.now a).w ≤ 64)) }
-    ensures { Tells result (judgedLine (lookIn notes.now) (givenIn notes.now) (ids_of table.now n) room (tokensIn l.now))
+    requires { (kinds.now ≡ rows) × (Risen table.now n × ((a : ℕ) → (look_in notes.now a).w ≤ 64)) }
+    ensures { Tells result (judged_line (look_in notes.now) (given_in notes.now) (ids_of table.now n) room (tokens_in l.now))
         × (result.what ≡ 0 → Labelled l.now result) }
 {
     let a = tokens::skip(l, 0);

@@ -3,8 +3,8 @@ ghost use Rattle.std.specs.Prelude.{◌≡◌, [], ◌∷◌, ◌≤◌, length,
 ghost use Rattle.tables.specs.Kinds.{rows};
 ghost use Rattle.tables.specs.Model.Notes.{Shows};
 ghost use Rattle.tables.specs.Answers.{told};
-ghost use Rattle.tables.specs.Types.{noCtx};
-ghost use Rattle.texts.specs.Reading.{lines_read, outcomeOf};
+ghost use Rattle.tables.specs.Types.{no_ctx};
+ghost use Rattle.texts.specs.Reading.{lines_read, outcome_of};
 ghost use Rattle.texts.specs.Model.Chains.{Ample};
 
 use crate::line;
@@ -20,9 +20,9 @@ pub fn read_lines(
     names: &mut [u16],
 ) -> Answer
     requires { (length text.now ≤ 65536) × ((table.old ≡ replicate (length table.old) 0) × ((length notes.old ≡ 16385)
-        × (Shows notes.old noCtx × ((kinds.now ≡ rows) × ((names.old ≡ replicate (length names.old) 0) × Ample text.now names.old))))) }
+        × (Shows notes.old no_ctx × ((kinds.now ≡ rows) × ((names.old ≡ replicate (length names.old) 0) × Ample text.now names.old))))) }
     ensures { told result (table.new ∷ [])
-        ≡ outcomeOf (length table.old) (lines_read (length table.old) text.now) }
+        ≡ outcome_of (length table.old) (lines_read (length table.old) text.now) }
 {
     let room = records::room_of(false, table.len());
     let mut i: usize = 0;

@@ -1,12 +1,14 @@
 // Records in a table: the one place in the code that knows where the words of a record lie, and which is which.
+#![tactic(auto)]
+
 pub mod bytes; // lists of bytes
 pub mod ids; // the ids of a circuit's lines
 pub mod kinds; // the constant table of kinds
 pub mod notes; // what a check keeps of each line
 
 ghost use Rattle.std.specs.Prelude.{◌≡◌, ℕ, ◌<◌, ◌+◌, ◌*◌, length, replicate, false};
-ghost use Rattle.tables.specs.Lines.{fields, kindIn};
-ghost use Rattle.tables.specs.Layout.{recordSize, whole, held, room, placingIn, step_of, recordAt, id_at, withId, recorded};
+ghost use Rattle.tables.specs.Lines.{fields, kind_in};
+ghost use Rattle.tables.specs.Layout.{record_size, whole, held, room, placing_in, step_of, record_at, id_at, with_id, recorded};
 
 use tables::WORDS;
 
@@ -19,7 +21,7 @@ pub fn of(k: u64, s: u64, a: u64, b: u64, c: u64) -> [u64; WORDS]
 
 // The words of a record in a list: a circuit's has its id too.
 pub fn size(program: bool) -> usize
-    ensures { result ≡ recordSize program }
+    ensures { result ≡ record_size program }
 {
     if program {
         return WORDS;
@@ -55,7 +57,7 @@ pub fn room_of(program: bool, len: usize) -> usize
 // The record at the place i, from 0; h is the list's step.
 pub fn record(program: bool, table: &[u64], h: usize, i: usize) -> [u64; WORDS]
     requires { (i < held program (length table.now)) × (h ≡ step_of program (length table.now)) }
-    ensures { result ≡ recordAt program table.now i }
+    ensures { result ≡ record_at program table.now i }
 {
     [
         table[i],
@@ -69,7 +71,7 @@ pub fn record(program: bool, table: &[u64], h: usize, i: usize) -> [u64; WORDS]
 // The kind of the record at the place i. A pass over kinds alone reads one column.
 pub fn kind(program: bool, table: &[u64], i: usize) -> u64
     requires { i < held program (length table.now) }
-    ensures { result ≡ kindIn (recordAt program table.now i) }
+    ensures { result ≡ kind_in (record_at program table.now i) }
 {
     table[i]
 }
@@ -99,7 +101,7 @@ pub fn put(program: bool, table: &mut [u64], i: usize, rec: [u64; WORDS])
 // A record of a circuit goes to the place i, with its id.
 pub fn put_line(table: &mut [u64], i: usize, rec: [u64; WORDS], id: u64)
     requires { i < held false (length table.old) }
-    ensures { table.new ≡ recorded false table.old i (withId rec id) }
+    ensures { table.new ≡ recorded false table.old i (with_id rec id) }
 {
     put(false, table, i, rec);
     let h = step(false, table.len());
@@ -115,7 +117,7 @@ pub struct Strides {
 
 // The strides of a list of so many words that holds records in columns, or one record behind the other.
 pub fn strides_of(columns: bool, program: bool, len: usize) -> Strides
-    ensures { (i j : ℕ) → result.word * j + result.row * i ≡ placingIn columns program len i j }
+    ensures { (i j : ℕ) → result.word * j + result.row * i ≡ placing_in columns program len i j }
 {
     if columns {
         return Strides {

@@ -1,8 +1,8 @@
 // What a check keeps of each line, at the line's number: its role, which has the mark in it, its index width, its width, and two flags, of a state that has an init
 // line and of one that has a next line.
 ghost use Rattle.std.specs.Prelude.{◌≡◌, set};
-ghost use Rattle.tables.specs.Model.Notes.{noteAt, lookIn, typed as typed_of, withFlag as flaggedOf, flaggedBy};
-ghost use Rattle.tables.specs.Lines.{initOrNextKind};
+ghost use Rattle.tables.specs.Model.Notes.{note_at, look_in, typed as typed_of, with_flag as flagged_of, flagged_by};
+ghost use Rattle.tables.specs.Lines.{init_or_next_kind};
 
 use tables::{Ty, WORDS};
 
@@ -11,7 +11,7 @@ pub const BYTES: usize = 5;
 
 // The note of the line a; of no line past the end.
 pub fn at(notes: &[[u8; BYTES]], a: u64) -> [u8; BYTES]
-    ensures { result ≡ noteAt notes.now a }
+    ensures { result ≡ note_at notes.now a }
 {
     if a < notes.len() as u64 {
         let i = a as usize;
@@ -22,7 +22,7 @@ pub fn at(notes: &[[u8; BYTES]], a: u64) -> [u8; BYTES]
 
 // The type of the line a.
 pub fn look(notes: &[[u8; BYTES]], a: u64) -> Ty
-    ensures { result ≡ lookIn notes.now a }
+    ensures { result ≡ look_in notes.now a }
 {
     let r = at(notes, a);
     Ty {
@@ -44,7 +44,7 @@ fn put(notes: &mut [[u8; BYTES]], n: u64, r: [u8; BYTES])
 
 // A type goes to the line n.
 pub fn put_type(notes: &mut [[u8; BYTES]], n: u64, y: Ty)
-    ensures { notes.new ≡ set notes.old n (typed_of y (noteAt notes.old n)) }
+    ensures { notes.new ≡ set notes.old n (typed_of y (note_at notes.old n)) }
 {
     let r = at(notes, n);
     put(notes, n, [y.role, y.iw, y.w, r[3], r[4]]);
@@ -52,7 +52,7 @@ pub fn put_type(notes: &mut [[u8; BYTES]], n: u64, y: Ty)
 
 // A note with the flag of an init, or of a next.
 fn flagged(init: bool, r: [u8; BYTES]) -> [u8; BYTES]
-    ensures { result ≡ flaggedOf init r }
+    ensures { result ≡ flagged_of init r }
 {
     if init {
         return [r[0], r[1], r[2], 1, r[4]];
@@ -62,8 +62,8 @@ fn flagged(init: bool, r: [u8; BYTES]) -> [u8; BYTES]
 
 // A record of the kind k, an init or a next, flags its state.
 pub fn flag(init: bool, k: u64, rec: [u64; WORDS], notes: &mut [[u8; BYTES]])
-    requires { k ≡ initOrNextKind init }
-    ensures { notes.new ≡ flaggedBy init rec notes.old }
+    requires { k ≡ init_or_next_kind init }
+    ensures { notes.new ≡ flagged_by init rec notes.old }
 {
     if rec[0] == k {
         let r = at(notes, rec[2]);

@@ -1,9 +1,11 @@
 // The rules 8, 9 and 10 for a record after earlier lines. t is the type of its sort, a, b and c are those of its operands.
+#![tactic(auto)]
+
 ghost use Rattle.std.specs.Prelude.{◌≡◌};
-ghost use Rattle.tables.specs.Rules.{suits as suitsOf, classes, onceRules, fault as faultOf};
+ghost use Rattle.tables.specs.Rules.{suits as suits_of, classes, once_rules, fault as fault_of};
 ghost use Rattle.tables.specs.Pick.{all};
-ghost use Rattle.tables.specs.Lines.{line_of, kindIn};
-ghost use Rattle.tables.specs.Model.Notes.{givenIn, lookIn};
+ghost use Rattle.tables.specs.Lines.{line_of, kind_in};
+ghost use Rattle.tables.specs.Model.Notes.{given_in, look_in};
 ghost use Rattle.tables.specs.Kinds.{row_of};
 
 use records::kinds::{ARRAY, ASORT, SORT, STATE, VALUE, WORD, WSORT};
@@ -13,7 +15,7 @@ use tables::{Ty, WORDS};
 
 // A line of the type t may stand where the class k is asked for.
 fn suits(k: u8, t: Ty) -> bool
-    ensures { result ≡ suitsOf k t }
+    ensures { result ≡ suits_of k t }
 {
     match k {
         WORD => types::is_word(t),
@@ -45,7 +47,7 @@ fn classed(row: [u8; 16], t: Ty, a: Ty, b: Ty, c: Ty) -> bool
 
 // Rule 10: b is the type of the second operand. Of an init's value one mark is looked at.
 fn once(rec: [u64; WORDS], b: Ty, notes: &[[u8; BYTES]]) -> bool
-    ensures { result ≡ all (onceRules (line_of rec) (givenIn notes.now) b) }
+    ensures { result ≡ all (once_rules (line_of rec) (given_in notes.now) b) }
 {
     let k = rec[0];
     let q = rec[2];
@@ -67,8 +69,8 @@ fn once(rec: [u64; WORDS], b: Ty, notes: &[[u8; BYTES]]) -> bool
 
 // The first of 8, 9 and 10 that holds of a record after the lines that the notes hold, or 0. The row is that of its kind.
 pub fn fault(program: bool, row: [u8; 16], rec: [u64; WORDS], notes: &[[u8; BYTES]]) -> u64
-    requires { row ≡ row_of (kindIn rec) }
-    ensures { result ≡ faultOf program (lookIn notes.now) (givenIn notes.now) rec }
+    requires { row ≡ row_of (kind_in rec) }
+    ensures { result ≡ fault_of program (look_in notes.now) (given_in notes.now) rec }
 {
     let t = types::sort_at(program, notes, rec[1]);
     let a = notes::look(notes, rec[2]);

@@ -1,7 +1,9 @@
 // Runs of circuits and of programs: the check of the table, then the engine. The work area is zero after any call, and the signals after a refusal.
+#![tactic(auto)]
+
 ghost use Rattle.std.specs.Prelude.{◌≡◌, false, true, [], ◌∷◌, length, replicate};
 ghost use Rattle.tables.specs.Model.Notes.{Fresh};
-ghost use Rattle.circuits.specs.Answers.{toldRun, runs};
+ghost use Rattle.circuits.specs.Answers.{told_run, runs};
 
 use circuits::Ran;
 use records::bytes;
@@ -21,7 +23,7 @@ fn run_noted(
     work: &mut [u64],
 ) -> Ran
     requires { Fresh count notes.old × ((signals.old ≡ replicate (length signals.old) 0) × (work.old ≡ replicate (length work.old) 0)) }
-    ensures { toldRun result (signals.new ∷ work.new ∷ []) ≡ runs program table.now count k
+    ensures { told_run result (signals.new ∷ work.new ∷ []) ≡ runs program table.now count k
         starts.now inputs.now (length signals.old) (length work.old) }
 {
     match checks::check(program, table, count, notes) {
@@ -47,7 +49,7 @@ fn run_table(
     signals: &mut [u8],
     work: &mut [u64],
 ) -> Ran
-    ensures { toldRun result (signals.new ∷ work.new ∷ []) ≡ runs program table.now count k
+    ensures { told_run result (signals.new ∷ work.new ∷ []) ≡ runs program table.now count k
         starts.now inputs.now (length signals.old) (length work.old) }
 {
     bytes::clear(signals);
@@ -74,7 +76,7 @@ pub fn run_circuit(
     signals: &mut [u8],
     work: &mut [u64],
 ) -> Ran
-    ensures { toldRun result (signals.new ∷ work.new ∷ []) ≡ runs false table.now count k
+    ensures { told_run result (signals.new ∷ work.new ∷ []) ≡ runs false table.now count k
         starts.now inputs.now (length signals.old) (length work.old) }
 {
     run_table(false, table, count, k, starts, inputs, signals, work)
@@ -90,7 +92,7 @@ pub fn run_program(
     signals: &mut [u8],
     work: &mut [u64],
 ) -> Ran
-    ensures { toldRun result (signals.new ∷ work.new ∷ []) ≡ runs true table.now count k
+    ensures { told_run result (signals.new ∷ work.new ∷ []) ≡ runs true table.now count k
         starts.now inputs.now (length signals.old) (length work.old) }
 {
     run_table(true, table, count, k, starts, inputs, signals, work)

@@ -1,18 +1,20 @@
 // What stands behind the word of a line: the refusals 6 to 10 in their order. The table holds the records so far, with their ids, and the notes what is known of their lines.
+#![tactic(auto)]
+
 ghost use Rattle.std.specs.Prelude.{◌≡◌, ◌-◌, ◌^◌, ◌≤◌, ℕ, length, drop};
 ghost use Rattle.texts.specs.Forms.{kind_of};
 ghost use Rattle.texts.specs.Operands.{resolved};
-ghost use Rattle.texts.specs.Minus.{minusFits, minusesBy};
+ghost use Rattle.texts.specs.Minus.{minus_fits, minuses_by};
 ghost use Rattle.texts.specs.Reading.{no, settled};
-ghost use Rattle.texts.specs.Model.Stages.{ruled as ruledBy, judged, allowed, concluded, large as largeOf, ended, takenIn};
-ghost use Rattle.texts.specs.Model.Structs.{asRead, asTook, anySign, several};
+ghost use Rattle.texts.specs.Model.Stages.{ruled as ruled_by, judged, allowed, concluded, large as large_of, ended, taken_in};
+ghost use Rattle.texts.specs.Model.Structs.{as_read, as_took, any_sign, several};
 ghost use Rattle.tables.specs.Pick.{all};
 ghost use Rattle.tables.specs.Kinds.{rows, row_of};
-ghost use Rattle.tables.specs.Lines.{kindIn};
+ghost use Rattle.tables.specs.Lines.{kind_in};
 ghost use Rattle.tables.specs.Layout.{ids_of};
 ghost use Rattle.tables.specs.Model.Risen.{Risen};
-ghost use Rattle.tables.specs.Model.Notes.{lookIn, givenIn};
-ghost use Rattle.texts.specs.Split.{tokens as tokensIn};
+ghost use Rattle.tables.specs.Model.Notes.{look_in, given_in};
+ghost use Rattle.texts.specs.Split.{tokens as tokens_in};
 
 use forms::operands;
 use records::kinds::{NONE, VALUE};
@@ -23,7 +25,7 @@ use texts::{Readout, Taken};
 
 // A refusal.
 pub fn refuse(r: Refusal) -> Readout
-    ensures { result ≡ asRead (no r) }
+    ensures { result ≡ as_read (no r) }
 {
     Readout {
         what: 2,
@@ -38,7 +40,7 @@ pub fn refuse(r: Refusal) -> Readout
 
 // 9, 10, or the record with its signs.
 fn ruled(a: u64, rec: [u64; WORDS], minus: [bool; WORDS]) -> Readout
-    ensures { result ≡ asRead (ruledBy a rec minus) }
+    ensures { result ≡ as_read (ruled_by a rec minus) }
 {
     if a == 0 {
         return Readout {
@@ -94,8 +96,8 @@ fn judge(
     minus: [bool; WORDS],
     notes: &[[u8; BYTES]],
 ) -> Readout
-    requires { row ≡ row_of (kindIn rec) }
-    ensures { result ≡ asRead (judged (lookIn notes.now) (givenIn notes.now) f len rec minus) }
+    requires { row ≡ row_of (kind_in rec) }
+    ensures { result ≡ as_read (judged (look_in notes.now) (given_in notes.now) f len rec minus) }
 {
     let a = rules::fault(false, row, rec, notes);
     if a == 8 {
@@ -113,7 +115,7 @@ fn judge(
 
 // The line a, in a place of the given class of a record of the kind k, may have the sign that it has: a minus stands before a word, in no init.
 fn sign_fits(k: u64, class: u8, a: u64, minus: bool, notes: &[[u8; BYTES]]) -> bool
-    ensures { result ≡ minusFits k class (lookIn notes.now a) minus }
+    ensures { result ≡ minus_fits k class (look_in notes.now a) minus }
 {
     if !minus {
         return true;
@@ -132,7 +134,7 @@ fn sign_fits(k: u64, class: u8, a: u64, minus: bool, notes: &[[u8; BYTES]]) -> b
 
 // Each minus of a record stands where it may, by a row.
 fn signs_fit(row: [u8; 16], rec: [u64; WORDS], minus: [bool; WORDS], notes: &[[u8; BYTES]]) -> bool
-    ensures { result ≡ all (minusesBy row (lookIn notes.now) minus rec) }
+    ensures { result ≡ all (minuses_by row (look_in notes.now) minus rec) }
 {
     let k = rec[0];
     if !sign_fits(k, row[11], rec[1], minus[1], notes) {
@@ -149,7 +151,7 @@ fn signs_fit(row: [u8; 16], rec: [u64; WORDS], minus: [bool; WORDS], notes: &[[u
 
 // Some place of a record has a minus.
 fn has_signs(minus: [bool; WORDS]) -> bool
-    ensures { result ≡ anySign minus }
+    ensures { result ≡ any_sign minus }
 {
     if minus[1] {
         return true;
@@ -172,8 +174,8 @@ fn allow(
     minus: [bool; WORDS],
     notes: &[[u8; BYTES]],
 ) -> Readout
-    requires { row ≡ row_of (kindIn rec) }
-    ensures { result ≡ asRead (allowed (lookIn notes.now) (givenIn notes.now) f len rec minus) }
+    requires { row ≡ row_of (kind_in rec) }
+    ensures { result ≡ as_read (allowed (look_in notes.now) (given_in notes.now) f len rec minus) }
 {
     if has_signs(minus) {
         if !signs_fit(row, rec, minus, notes) {
@@ -194,8 +196,8 @@ fn conclude(
     n: usize,
     notes: &[[u8; BYTES]],
 ) -> Readout
-    requires { (row ≡ row_of (kindIn rec)) × (((a : ℕ) → (lookIn notes.now a).w ≤ 64) × Risen table.now n) }
-    ensures { result ≡ asRead (concluded (lookIn notes.now) (givenIn notes.now) f len (resolved (ids_of table.now n) rec) minus) }
+    requires { (row ≡ row_of (kind_in rec)) × (((a : ℕ) → (look_in notes.now a).w ≤ 64) × Risen table.now n) }
+    ensures { result ≡ as_read (concluded (look_in notes.now) (given_in notes.now) f len (resolved (ids_of table.now n) rec) minus) }
 {
     let p = ids::resolve(row, rec, table, n);
     let w = notes::look(notes, p[1]).w;
@@ -215,8 +217,8 @@ fn large(
     n: usize,
     notes: &[[u8; BYTES]],
 ) -> Readout
-    requires { (row ≡ row_of (kindIn rec)) × (((a : ℕ) → (lookIn notes.now a).w ≤ 64) × Risen table.now n) }
-    ensures { result ≡ asRead (largeOf (lookIn notes.now) (givenIn notes.now) (ids_of table.now n) f rec minus big len) }
+    requires { (row ≡ row_of (kind_in rec)) × (((a : ℕ) → (look_in notes.now a).w ≤ 64) × Risen table.now n) }
+    ensures { result ≡ as_read (large_of (look_in notes.now) (given_in notes.now) (ids_of table.now n) f rec minus big len) }
 {
     if big {
         return refuse(Refusal::NumberTooLarge);
@@ -232,7 +234,7 @@ fn large(
 // The numbers of a line of the form f, from behind its word on; kinds are the rows of all kinds.
 pub fn take(l: &[u8], kinds: &[[u8; 16]; 63], f: usize, at: usize) -> Taken
     requires { (kinds.now ≡ rows) × ((at ≤ length l.now) × ((1 ≤ f) × (f ≤ 68))) }
-    ensures { (result.at ≤ length l.now) × ((kindIn result.rec ≡ kind_of f) × (takenIn f (tokensIn (drop at l.now)) ≡ asTook l.now result)) }
+    ensures { (result.at ≤ length l.now) × ((kind_in result.rec ≡ kind_of f) × (taken_in f (tokens_in (drop at l.now)) ≡ as_took l.now result)) }
 {
     let row = forms::row(kinds, f);
     let s = forms::sorted(row);
@@ -253,9 +255,9 @@ pub fn finish(
     n: usize,
     notes: &[[u8; BYTES]],
 ) -> Readout
-    requires { (kinds.now ≡ rows) × ((1 ≤ f) × ((f ≤ 68) × ((kindIn t.rec ≡ kind_of f) × ((crowded ≡ several (tokensIn (drop t.at l.now)))
-        × (((a : ℕ) → (lookIn notes.now a).w ≤ 64) × Risen table.now n))))) }
-    ensures { result ≡ asRead (ended (lookIn notes.now) (givenIn notes.now) (ids_of table.now n) f (asTook l.now t)) }
+    requires { (kinds.now ≡ rows) × ((1 ≤ f) × ((f ≤ 68) × ((kind_in t.rec ≡ kind_of f) × ((crowded ≡ several (tokens_in (drop t.at l.now)))
+        × (((a : ℕ) → (look_in notes.now a).w ≤ 64) × Risen table.now n))))) }
+    ensures { result ≡ as_read (ended (look_in notes.now) (given_in notes.now) (ids_of table.now n) f (as_took l.now t)) }
 {
     if !t.ok {
         return refuse(Refusal::BadOperand);

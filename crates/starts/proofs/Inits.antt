@@ -7,71 +7,71 @@ use native.Mathlib.Omega.{arith}
 use lib.ListN.{length, get_or, drop, drop_of_length-le, get_or-map}
 use lib.Seq.{drop-cons}
 use Rattle.tables.specs.declared.Checked.TheVariants.{Accepted}
-use Rattle.tables.specs.Lines.{Line, isState, isInitOrNext, shape_of, words_of, kindIn, sortIn}
-use Rattle.tables.specs.Layout.{held, recordAt, recordsOf, lines_of}
+use Rattle.tables.specs.Lines.{Line, is_state, is_init_or_next, shape_of, words_of, kind_in, sort_in}
+use Rattle.tables.specs.Layout.{held, record_at, records_of, lines_of}
 use Rattle.tables.specs.Tables.{checked}
-use Rattle.tables.proofs.Laws.{or-true, or-false, getD-in}
+use Rattle.tables.proofs.Laws.{or_true, or_false, get_or_in}
 use Rattle.tables.proofs.Shapes.{line_as}
-use Rattle.tables.proofs.Places.{length-records, record-at}
-use Rattle.tables.proofs.Encoding.{fits-table, words_lines}
-use Rattle.circuits.proofs.Walked.{lines-many, line-here}
-use Rattle.starts.specs.Model.Starting.{initLine, hasInit}
+use Rattle.tables.proofs.Places.{length_records, record_at_lem}
+use Rattle.tables.proofs.Encoding.{fits_table, words_lines}
+use Rattle.circuits.proofs.Walked.{lines_many, line_here}
+use Rattle.starts.specs.Model.Starting.{init_line, has_init}
 
 -- ---- the line at hand
 
-no-init : (l : Line) → (kindIn (words_of l) ≡ 6 → ⊥) → initLine l ≡ false
-no-init (Line.bitvec w) h = refl
-no-init (Line.array i e) h = refl
-no-init (Line.input s) h = refl
-no-init (Line.state s) h = refl
-no-init (Line.value s e) h = refl
-no-init (Line.initOrNext true s q v) h = absurd (h refl)
-no-init (Line.initOrNext false s q v) h = refl
-no-init (Line.signal m a) h = refl
-no-init (Line.output a) h = refl
-no-init Line.unknown h = refl
+no_init : (l : Line) → (kind_in (words_of l) ≡ 6 → ⊥) → init_line l ≡ false
+no_init (Line.bitvec w) h = refl
+no_init (Line.array i e) h = refl
+no_init (Line.input s) h = refl
+no_init (Line.state s) h = refl
+no_init (Line.value s e) h = refl
+no_init (Line.init_or_next true s q v) h = absurd (h refl)
+no_init (Line.init_or_next false s q v) h = refl
+no_init (Line.signal m a) h = refl
+no_init (Line.output a) h = refl
+no_init Line.unknown h = refl
 
 module _ (p : Bool) (t : List ℕ) (n : ℕ) (acc : checked p t n ≡ Accepted) (i : ℕ) (h : i < n) where
   -- its record is in the table
-  pub record-there : i < held p (length t)
-  record-there = omega (arith, (fits-table p t n acc).1)
+  pub record_there : i < held p (length t)
+  record_there = omega (arith, (fits_table p t n acc).1)
 
   -- its kind
-  pub kind-here : kindIn (words_of (get_or (lines_of p t n) i Line.unknown)) ≡ kindIn (recordAt p t i)
-  kind-here =
+  pub kind_here : kind_in (words_of (get_or (lines_of p t n) i Line.unknown)) ≡ kind_in (record_at p t i)
+  kind_here =
       let d : List ℕ = words_of Line.unknown in
-      ap kindIn
+      ap kind_in
       (sym (get_or-map words_of (lines_of p t n) i Line.unknown) ∙ ap (λ (rs : List (List ℕ)). get_or rs i d) (words_lines p t n acc)
-      ∙ getD-in (recordsOf p t n) i d [] (omega (arith, length-records p t n)) ∙ record-at p t n i h)
+      ∙ get_or_in (records_of p t n) i d [] (omega (arith, length_records p t n)) ∙ record_at_lem p t n i h)
 
-  pub state-here : kindIn (recordAt p t i) ≡ 5 → get_or (lines_of p t n) i Line.unknown ≡ Line.state (sortIn (recordAt p t i))
-  state-here e = line-here p t n acc i h ∙ line_as (recordAt p t i) isState (ap shape_of e)
+  pub state_here : kind_in (record_at p t i) ≡ 5 → get_or (lines_of p t n) i Line.unknown ≡ Line.state (sort_in (record_at p t i))
+  state_here e = line_here p t n acc i h ∙ line_as (record_at p t i) is_state (ap shape_of e)
 
-  init-here : kindIn (recordAt p t i) ≡ 6 → initLine (get_or (lines_of p t n) i Line.unknown) ≡ true
-  init-here e = ap initLine (line-here p t n acc i h ∙ line_as (recordAt p t i) (isInitOrNext true) (ap shape_of e))
+  init_here : kind_in (record_at p t i) ≡ 6 → init_line (get_or (lines_of p t n) i Line.unknown) ≡ true
+  init_here e = ap init_line (line_here p t n acc i h ∙ line_as (record_at p t i) (is_init_or_next true) (ap shape_of e))
 
 -- ---- an init among the lines
 
 -- what the i kinds looked at say, or what the lines ahead say
 pub record Looked (p : Bool) (t : List ℕ) (n i : ℕ) (found : Bool) : Type 0 where
   pub most : i ≤ n
-  pub at : hasInit (lines_of p t n) ≡ (found || hasInit (drop i (lines_of p t n)))
+  pub at : has_init (lines_of p t n) ≡ (found || has_init (drop i (lines_of p t n)))
 
-pub init-start : (p : Bool) (t : List ℕ) (n : ℕ) → Looked p t n 0 false
-init-start p t n = record { most = omega arith; at = refl }
+pub init_start : (p : Bool) (t : List ℕ) (n : ℕ) → Looked p t n 0 false
+init_start p t n = record { most = omega arith; at = refl }
 
 module _ {p : Bool} {t : List ℕ} {n i : ℕ} {found : Bool} (Y : Looked p t n i found) (acc : checked p t n ≡ Accepted) where
-  from-here : i < n → (b : Bool) → initLine (get_or (lines_of p t n) i Line.unknown) ≡ b → hasInit (lines_of p t n) ≡ (found || (b || hasInit (drop (i + 1) (lines_of p t n))))
-  from-here h b q =
+  from_here : i < n → (b : Bool) → init_line (get_or (lines_of p t n) i Line.unknown) ≡ b → has_init (lines_of p t n) ≡ (found || (b || has_init (drop (i + 1) (lines_of p t n))))
+  from_here h b q =
       let C = lines_of p t n in
       let s : suc i ≡ i + 1 = omega arith in
-      Y.at ∙ ap (λ (x : Bool). found || x) (ap hasInit (drop-cons C i Line.unknown (omega (arith, lines-many p t n acc))) ∙ ap₂ (λ (x : Bool) (k : ℕ). x || hasInit (drop k C)) q s)
+      Y.at ∙ ap (λ (x : Bool). found || x) (ap has_init (drop-cons C i Line.unknown (omega (arith, lines_many p t n acc))) ∙ ap₂ (λ (x : Bool) (k : ℕ). x || has_init (drop k C)) q s)
 
-  pub init-found : (k : ℕ) → i < n → k ≡ kindIn (recordAt p t i) → k ≡ 6 → Looked p t n (i + 1) true
-  init-found k h q six = record { most = omega arith; at = from-here h true (init-here p t n acc i h (sym q ∙ six)) ∙ or-true found }
+  pub init_found : (k : ℕ) → i < n → k ≡ kind_in (record_at p t i) → k ≡ 6 → Looked p t n (i + 1) true
+  init_found k h q six = record { most = omega arith; at = from_here h true (init_here p t n acc i h (sym q ∙ six)) ∙ or_true found }
 
-  pub init-further : (k : ℕ) → i < n → k ≡ kindIn (recordAt p t i) → (k ≡ 6 → ⊥) → Looked p t n (i + 1) found
-  init-further k h q other = record { most = omega arith; at = from-here h false (no-init (get_or (lines_of p t n) i Line.unknown) (λ e. other (q ∙ sym (kind-here p t n acc i h) ∙ e))) }
+  pub init_further : (k : ℕ) → i < n → k ≡ kind_in (record_at p t i) → (k ≡ 6 → ⊥) → Looked p t n (i + 1) found
+  init_further k h q other = record { most = omega arith; at = from_here h false (no_init (get_or (lines_of p t n) i Line.unknown) (λ e. other (q ∙ sym (kind_here p t n acc i h) ∙ e))) }
 
-  pub init-end : n ≤ i → found ≡ hasInit (lines_of p t n)
-  init-end h = sym (Y.at ∙ ap (λ (x : List Line). found || hasInit x) (drop_of_length-le (lines_of p t n) {i = i} (omega (arith, lines-many p t n acc))) ∙ or-false found)
+  pub init_end : n ≤ i → found ≡ has_init (lines_of p t n)
+  init_end h = sym (Y.at ∙ ap (λ (x : List Line). found || has_init x) (drop_of_length-le (lines_of p t n) {i = i} (omega (arith, lines_many p t n acc))) ∙ or_false found)

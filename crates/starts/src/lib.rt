@@ -1,22 +1,24 @@
 // The state words that a run starts from: the start words, taken modulo 2 to their states' widths, and what init lines store. The words of the work area before `all` are the
 // lines' cells, those from it on the state words.
+#![tactic(auto)]
+
 ghost use Rattle.std.specs.Prelude.{◌≡◌, true, List, ℕ, ◌≤◌, ◌+◌, length, drop};
 ghost use Rattle.words.specs.Word.{Width};
 ghost use Rattle.tables.specs.declared.Checked.TheVariants.{Accepted};
 ghost use Rattle.tables.specs.Tables.{checked};
 ghost use Rattle.tables.specs.Layout.{lines_of};
-ghost use Rattle.circuits.specs.Cells.{part, put, maskWords};
+ghost use Rattle.circuits.specs.Cells.{part, put, mask_words};
 ghost use Rattle.circuits.specs.Meaning.{step};
-ghost use Rattle.circuits.specs.Model.Work.{numIn, posIn, widIn};
+ghost use Rattle.circuits.specs.Model.Work.{num_in, pos_in, wid_in};
 ghost use Rattle.circuits.specs.Model.Places.{Ready};
-ghost use Rattle.starts.specs.Model.Starting.{hasInit, NoInit};
+ghost use Rattle.starts.specs.Model.Starting.{has_init, NoInit};
 
 use area::LAID;
 
 // A counted record is an init line. All kinds are looked at, so that the compiled code takes several of them at a time.
 fn has_init(program: bool, table: &[u64], count: usize) -> bool
     requires { checked program table.now count ≡ Accepted }
-    ensures { result ≡ hasInit (lines_of program table.now count) }
+    ensures { result ≡ has_init (lines_of program table.now count) }
 {
     let mut found = false;
     let mut i: usize = 0;
@@ -31,9 +33,9 @@ fn has_init(program: bool, table: &[u64], count: usize) -> bool
 
 // The words of the state on the line n are taken modulo 2 to its width.
 fn mask_state(n: usize, laid: &[[u32; LAID]; 16385], all: usize, work: &mut [u64])
-    requires { (n ≤ 16384) × (Width (widIn laid.now n) × (all + posIn laid.now n + numIn laid.now n ≤ length work.old)) }
-    ensures { work.new ≡ put work.old (all + posIn laid.now n)
-        (maskWords (widIn laid.now n) (part work.old (all + posIn laid.now n) (numIn laid.now n))) }
+    requires { (n ≤ 16384) × (Width (wid_in laid.now n) × (all + pos_in laid.now n + num_in laid.now n ≤ length work.old)) }
+    ensures { work.new ≡ put work.old (all + pos_in laid.now n)
+        (mask_words (wid_in laid.now n) (part work.old (all + pos_in laid.now n) (num_in laid.now n))) }
 {
     let m = area::cells(laid, n);
     let p = area::place(laid, n);

@@ -1,7 +1,9 @@
 // Lines of a step that begin, set or show: states, init and next lines, bad and constraint lines. `first` is true as the run starts, where init lines store and no line signals.
+#![tactic(auto)]
+
 ghost use Rattle.std.specs.Prelude.{◌≡◌, true, false, not, ◌||◌, ◌+◌, length, set};
-ghost use Rattle.circuits.specs.Cells.{put, ifNonzero};
-ghost use Rattle.circuits.specs.Model.Work.{stateIn, storedIn, offIn, posIn, wordKept};
+ghost use Rattle.circuits.specs.Cells.{put, if_nonzero};
+ghost use Rattle.circuits.specs.Model.Work.{state_in, stored_in, off_in, pos_in, word_kept};
 ghost use Rattle.circuits.specs.Model.Fits.{FitState, FitInit, FitNext, FitSignal};
 ghost use Rattle.tables.specs.Pick.{pick};
 
@@ -26,8 +28,8 @@ pub fn line_state(
     work: &mut [u64],
 )
     requires { FitState laid.now all (length work.old) n }
-    ensures { work.new ≡ put (put work.old (all + posIn laid.now n) (stateIn program first laid.now all work.old n))
-        (offIn laid.now n) (stateIn program first laid.now all work.old n) }
+    ensures { work.new ≡ put (put work.old (all + pos_in laid.now n) (state_in program first laid.now all work.old n))
+        (off_in laid.now n) (state_in program first laid.now all work.old n) }
 {
     let o = area::off(laid, n);
     let m = area::cells(laid, n);
@@ -47,7 +49,7 @@ pub fn line_init(
 )
     requires { FitInit laid.now all (length work.old) q v }
     ensures { work.new
-        ≡ pick first (put work.old (all + posIn laid.now q) (storedIn laid.now work.old true q v)) work.old }
+        ≡ pick first (put work.old (all + pos_in laid.now q) (stored_in laid.now work.old true q v)) work.old }
 {
     if !first {
         return;
@@ -69,7 +71,7 @@ pub fn line_next(
 )
     requires { FitNext laid.now all (length work.old) q v }
     ensures { work.new
-        ≡ pick (not first) (put work.old (all + posIn laid.now q) (storedIn laid.now work.old false q v)) work.old }
+        ≡ pick (not first) (put work.old (all + pos_in laid.now q) (stored_in laid.now work.old false q v)) work.old }
 {
     if first {
         return;
@@ -90,7 +92,7 @@ pub fn line_signal(
 )
     requires { FitSignal laid.now (length work.now) (length sig.old) n a }
     ensures { sig.new
-        ≡ pick first sig.old (set sig.old (posIn laid.now n) (ifNonzero (wordKept laid.now work.now a) 1 0)) }
+        ≡ pick first sig.old (set sig.old (pos_in laid.now n) (if_nonzero (word_kept laid.now work.now a) 1 0)) }
 {
     if first {
         return;

@@ -1,7 +1,9 @@
 // One line of a step, by its kind.
+#![tactic(auto)]
+
 ghost use Rattle.std.specs.Prelude.{◌≡◌, length};
 ghost use Rattle.tables.specs.Lines.{line_of};
-ghost use Rattle.circuits.specs.Model.Work.{workIn, sigsIn};
+ghost use Rattle.circuits.specs.Model.Work.{work_in, sigs_in};
 ghost use Rattle.circuits.specs.Model.Fits.{FitL};
 
 use area::LAID;
@@ -20,8 +22,8 @@ pub fn line(
     work: &mut [u64],
 )
     requires { FitL program laid.now all (length row.now) (length sig.old) work.old n (line_of rec) }
-    ensures { (work.new ≡ workIn program first laid.now all row.now work.old n (line_of rec))
-        × (sig.new ≡ sigsIn first laid.now sig.old work.old n (line_of rec)) }
+    ensures { (work.new ≡ work_in program first laid.now all row.now work.old n (line_of rec))
+        × (sig.new ≡ sigs_in first laid.now sig.old work.old n (line_of rec)) }
 {
     let k = rec[0];
     let a = rec[2] as usize;

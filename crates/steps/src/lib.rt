@@ -1,4 +1,6 @@
 // The steps of a run. The words of the work area before `all` are the lines' cells, those from it on the state words.
+#![tactic(auto)]
+
 ghost use Rattle.std.specs.Prelude.{◌≡◌, ◌≤◌, ◌*◌, ◌+◌, ◌<◌, length, drop, replicate};
 ghost use Rattle.circuits.specs.Run.{bytes, steps as steps_of, run};
 ghost use Rattle.tables.specs.Layout.{lines_of};

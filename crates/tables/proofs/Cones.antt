@@ -10,23 +10,23 @@ use borrow.Author.Tests.{eqb-true}
 use Rattle.tables.specs.declared.Ty.{Ty}
 use Rattle.tables.specs.Pick.{among}
 use Rattle.tables.specs.Lines.{Line, Expr}
-use Rattle.tables.specs.Types.{sortAt, ty_at, given, noCtx, growAll}
-use Rattle.tables.specs.Cone.{lineNumbered, usesExpr, uses}
-use Rattle.tables.proofs.Kept.{either, no-yes}
+use Rattle.tables.specs.Types.{sort_at, ty_at, given, no_ctx, grow_all}
+use Rattle.tables.specs.Cone.{line_numbered, uses_expr, uses}
+use Rattle.tables.proofs.Kept.{either, no_yes}
 use Rattle.tables.proofs.Showing.{earlier}
 use Rattle.tables.proofs.Facts.{OkExpr, Ok, AllOk}
-use Rattle.tables.proofs.Entries.{Entry, entry, keeps-type, length-all}
+use Rattle.tables.proofs.Entries.{Entry, entry, keeps_type, length_all}
 
 -- every operand of a value is a value
 abbrev Values : (ℕ → Ty) → List ℕ → Type 0
 Values L [] = Unit {0}
 Values L (a ∷ r) = (2 ≤ (L a).role) × Values L r
 
-value-at : (L : ℕ → Ty) (r : List ℕ) → Values L r → (a : ℕ) → among a r ≡ true → 2 ≤ (L a).role
-value-at L [] k a e = absurd (no-yes e)
-value-at L (x ∷ r) k a e = either (eqb a x) (among a r) e (λ q. subst (λ (n : ℕ). 2 ≤ (L n).role) (sym (eqb-true a x q)) k.0) (λ q. value-at L r k.1 a q)
+value_at : (L : ℕ → Ty) (r : List ℕ) → Values L r → (a : ℕ) → among a r ≡ true → 2 ≤ (L a).role
+value_at L [] k a e = absurd (no_yes e)
+value_at L (x ∷ r) k a e = either (eqb a x) (among a r) e (λ q. subst (λ (n : ℕ). 2 ≤ (L n).role) (sym (eqb-true a x q)) k.0) (λ q. value_at L r k.1 a q)
 
-operands : (p : Bool) (L : ℕ → Ty) (t : Ty) (e : Expr) → OkExpr p L t e → Values L (usesExpr e)
+operands : (p : Bool) (L : ℕ → Ty) (t : Ty) (e : Expr) → OkExpr p L t e → Values L (uses_expr e)
 operands p L t (Expr.const v) k = tt
 operands p L t (Expr.unary n a x y) k = (k.arg.is, tt)
 operands p L t (Expr.binary n a b) k = (k.left.is, (k.right.is, tt))
@@ -35,19 +35,19 @@ operands p L t (Expr.ite c a b) k = (k.cond.is, (k.left.is, (k.right.is, tt)))
 operands p L t (Expr.read a i) k = (k.arr.is, (k.index.is, tt))
 operands p L t (Expr.write a i v) k = (k.arr.is, (k.index.is, (k.value.is, tt)))
 
-pub operand-value : (p : Bool) (L : ℕ → Ty) (t : Ty) (e : Expr) → OkExpr p L t e → (a : ℕ) → among a (usesExpr e) ≡ true → 2 ≤ (L a).role
-operand-value p L t e k a m = value-at L (usesExpr e) (operands p L t e k) a m
+pub operand_value : (p : Bool) (L : ℕ → Ty) (t : Ty) (e : Expr) → OkExpr p L t e → (a : ℕ) → among a (uses_expr e) ≡ true → 2 ≤ (L a).role
+operand_value p L t e k a m = value_at L (uses_expr e) (operands p L t e k) a m
 
-used-value : (p : Bool) (L : ℕ → Ty) (G : Bool → ℕ → Bool) (l : Line) → Ok p L G l → (a : ℕ) → among a (uses l) ≡ true → 2 ≤ (L a).role
-used-value p L G (Line.bitvec w) k a m = absurd (no-yes m)
-used-value p L G (Line.array i e) k a m = absurd (no-yes m)
-used-value p L G (Line.input s) k a m = absurd (no-yes m)
-used-value p L G (Line.state s) k a m = absurd (no-yes m)
-used-value p L G (Line.value s e) k a m = operand-value p L (sortAt p L s) e k a m
-used-value p L G (Line.initOrNext n s q v) k a m = absurd (no-yes m)
-used-value p L G (Line.signal n x) k a m = absurd (no-yes m)
-used-value p L G (Line.output x) k a m = absurd (no-yes m)
-used-value p L G Line.unknown k a m = absurd (no-yes m)
+used_value : (p : Bool) (L : ℕ → Ty) (G : Bool → ℕ → Bool) (l : Line) → Ok p L G l → (a : ℕ) → among a (uses l) ≡ true → 2 ≤ (L a).role
+used_value p L G (Line.bitvec w) k a m = absurd (no_yes m)
+used_value p L G (Line.array i e) k a m = absurd (no_yes m)
+used_value p L G (Line.input s) k a m = absurd (no_yes m)
+used_value p L G (Line.state s) k a m = absurd (no_yes m)
+used_value p L G (Line.value s e) k a m = operand_value p L (sort_at p L s) e k a m
+used_value p L G (Line.init_or_next n s q v) k a m = absurd (no_yes m)
+used_value p L G (Line.signal n x) k a m = absurd (no_yes m)
+used_value p L G (Line.output x) k a m = absurd (no_yes m)
+used_value p L G Line.unknown k a m = absurd (no_yes m)
 
 -- what is known of a line that a value line of accepted lines uses
 pub record Used (v a : ℕ) (now before : Ty) : Type 0 where
@@ -55,29 +55,29 @@ pub record Used (v a : ℕ) (now before : Ty) : Type 0 where
   pub same : now ≡ before
   pub is : 2 ≤ now.role
 
-module _ (p : Bool) (C : List Line) (ok : AllOk p noCtx C) where
-  first-type : (ty_at (growAll p noCtx C) 0).role ≡ 0
-  first-type = ap (λ (t : Ty). t.role) (keeps-type p noCtx C 0 (omega arith))
+module _ (p : Bool) (C : List Line) (ok : AllOk p no_ctx C) where
+  first_type : (ty_at (grow_all p no_ctx C) 0).role ≡ 0
+  first_type = ap (λ (t : Ty). t.role) (keeps_type p no_ctx C 0 (omega arith))
 
   -- a line with a role has a number from 1 on
-  pub some-line : (v : ℕ) → 1 ≤ (ty_at (growAll p noCtx C) v).role → 1 ≤ v
-  some-line zero h = absurd (omega (arith, first-type))
-  some-line (suc i) h = omega arith
+  pub some_line : (v : ℕ) → 1 ≤ (ty_at (grow_all p no_ctx C) v).role → 1 ≤ v
+  some_line zero h = absurd (omega (arith, first_type))
+  some_line (suc i) h = omega arith
 
   -- what it was when it was read
-  pub line-entry : (v : ℕ) → 1 ≤ (ty_at (growAll p noCtx C) v).role → Entry p (growAll p noCtx C) v (lineNumbered C v)
-  line-entry zero h = absurd (omega (arith, first-type))
-  line-entry (suc i) h =
-      subst (λ (n : ℕ). Entry p (growAll p noCtx C) n (get_or C i Line.unknown)) (one i)
-      (entry p noCtx C ok i (omega (arith, earlier (growAll p noCtx C).tys (suc i) h, length-all p noCtx C)))
+  pub line_entry : (v : ℕ) → 1 ≤ (ty_at (grow_all p no_ctx C) v).role → Entry p (grow_all p no_ctx C) v (line_numbered C v)
+  line_entry zero h = absurd (omega (arith, first_type))
+  line_entry (suc i) h =
+      subst (λ (n : ℕ). Entry p (grow_all p no_ctx C) n (get_or C i Line.unknown)) (one i)
+      (entry p no_ctx C ok i (omega (arith, earlier (grow_all p no_ctx C).tys (suc i) h, length_all p no_ctx C)))
     where
       one : (i : ℕ) → 1 + i ≡ suc i
       one i = omega arith
 
-  pub used : (v : ℕ) (E : Entry p (growAll p noCtx C) v (lineNumbered C v)) (a : ℕ) → among a (uses (lineNumbered C v)) ≡ true
-      → Used v a (ty_at (growAll p noCtx C) a) (ty_at E.before a)
+  pub used : (v : ℕ) (E : Entry p (grow_all p no_ctx C) v (line_numbered C v)) (a : ℕ) → among a (uses (line_numbered C v)) ≡ true
+      → Used v a (ty_at (grow_all p no_ctx C) a) (ty_at E.before a)
   used v E a m =
-      let t = used-value p (ty_at E.before) (given E.before) (lineNumbered C v) E.ok a m in
+      let t = used_value p (ty_at E.before) (given E.before) (line_numbered C v) E.ok a m in
       let z = earlier E.before.tys a (omega arith) in
       let b : a < v = omega (arith, E.count) in
       let o = E.old a b in

@@ -7,7 +7,7 @@ use native.Mathlib.Omega.{arith}
 use lib.ListN.{length, get_or, length-append, get_or-append}
 use lib.Seq.{get_or_at}
 use Rattle.tables.specs.Lines.{Line}
-use Rattle.tables.specs.Types.{no_ty, lineType, Ctx, ty_at, given, grow, growAll}
+use Rattle.tables.specs.Types.{no_ty, line_type, Ctx, ty_at, given, grow, grow_all}
 use Rattle.tables.proofs.Facts.{Ok, AllOk}
 
 pub record Entry (p : Bool) (c : Ctx) (v : ℕ) (l : Line) : Type 0 where
@@ -15,23 +15,23 @@ pub record Entry (p : Bool) (c : Ctx) (v : ℕ) (l : Line) : Type 0 where
   pub before : Ctx
   pub count : length before.tys ≡ v
   pub ok : Ok p (ty_at before) (given before) l
-  pub is : ty_at c v ≡ lineType p (ty_at before) l
+  pub is : ty_at c v ≡ line_type p (ty_at before) l
   pub old : (a : ℕ) → a < v → ty_at c a ≡ ty_at before a
 
 pub grown : (p : Bool) (c : Ctx) (l : Line) → length (grow p c l).tys ≡ suc (length c.tys)
-grown p c l = length-append c.tys (lineType p (ty_at c) l ∷ []) ∙ omega arith
+grown p c l = length-append c.tys (line_type p (ty_at c) l ∷ []) ∙ omega arith
 
 -- lines keep their types
-pub keeps-type : (p : Bool) (c : Ctx) (ls : List Line) (a : ℕ) → a < length c.tys → ty_at (growAll p c ls) a ≡ ty_at c a
-keeps-type p c [] a h = refl
-keeps-type p c (l ∷ ls) a h =
-    keeps-type p (grow p c l) ls a (omega (arith, grown p c l)) ∙ get_or-append c.tys (lineType p (ty_at c) l ∷ []) no_ty a h
+pub keeps_type : (p : Bool) (c : Ctx) (ls : List Line) (a : ℕ) → a < length c.tys → ty_at (grow_all p c ls) a ≡ ty_at c a
+keeps_type p c [] a h = refl
+keeps_type p c (l ∷ ls) a h =
+    keeps_type p (grow p c l) ls a (omega (arith, grown p c l)) ∙ get_or-append c.tys (line_type p (ty_at c) l ∷ []) no_ty a h
 
-pub length-all : (p : Bool) (c : Ctx) (ls : List Line) → length (growAll p c ls).tys ≡ length c.tys + length ls
-length-all p c [] = omega arith
-length-all p c (l ∷ ls) = length-all p (grow p c l) ls ∙ omega (arith, grown p c l)
+pub length_all : (p : Bool) (c : Ctx) (ls : List Line) → length (grow_all p c ls).tys ≡ length c.tys + length ls
+length_all p c [] = omega arith
+length_all p c (l ∷ ls) = length_all p (grow p c l) ls ∙ omega (arith, grown p c l)
 
-pub entry : (p : Bool) (c : Ctx) (ls : List Line) → AllOk p c ls → (i : ℕ) → i < length ls → Entry p (growAll p c ls) (length c.tys + i) (get_or ls i Line.unknown)
+pub entry : (p : Bool) (c : Ctx) (ls : List Line) → AllOk p c ls → (i : ℕ) → i < length ls → Entry p (grow_all p c ls) (length c.tys + i) (get_or ls i Line.unknown)
 entry p c [] k i h = absurd (omega arith)
 entry p c (l ∷ ls) k zero h =
     let n = length c.tys in
@@ -40,14 +40,14 @@ entry p c (l ∷ ls) k zero h =
       before = c;
       count = sym z;
       ok = k.0;
-      is = ap (ty_at (growAll p (grow p c l) ls)) z ∙ keeps-type p (grow p c l) ls n (omega (arith, grown p c l)) ∙ get_or_at c.tys (lineType p (ty_at c) l) [] no_ty n refl;
-      old = λ a q. keeps-type p c (l ∷ ls) a (omega arith);
+      is = ap (ty_at (grow_all p (grow p c l) ls)) z ∙ keeps_type p (grow p c l) ls n (omega (arith, grown p c l)) ∙ get_or_at c.tys (line_type p (ty_at c) l) [] no_ty n refl;
+      old = λ a q. keeps_type p c (l ∷ ls) a (omega arith);
     }
 entry p c (l ∷ ls) k (suc i) h =
     let z : length (grow p c l).tys + i ≡ length c.tys + suc i = omega (arith, grown p c l) in
-    subst (λ (n : ℕ). Entry p (growAll p (grow p c l) ls) n (get_or ls i Line.unknown)) z (entry p (grow p c l) ls k.1 i (omega arith))
+    subst (λ (n : ℕ). Entry p (grow_all p (grow p c l) ls) n (get_or ls i Line.unknown)) z (entry p (grow p c l) ls k.1 i (omega arith))
 
 -- lines that keep the rules behind others that do
-pub ok-append : (p : Bool) (c : Ctx) (xs ys : List Line) → AllOk p c xs → AllOk p (growAll p c xs) ys → AllOk p c (xs ++ ys)
-ok-append p c [] ys h k = k
-ok-append p c (x ∷ xs) ys h k = (h.0, ok-append p (grow p c x) xs ys h.1 k)
+pub ok_append : (p : Bool) (c : Ctx) (xs ys : List Line) → AllOk p c xs → AllOk p (grow_all p c xs) ys → AllOk p c (xs ++ ys)
+ok_append p c [] ys h k = k
+ok_append p c (x ∷ xs) ys h k = (h.0, ok_append p (grow p c x) xs ys h.1 k)

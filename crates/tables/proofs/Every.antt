@@ -22,8 +22,8 @@ module _ (f : ℕ → Bool) where
       go false e r = let p : (k ≡ n → ⊥) = eqb-false k n e in r (omega arith)
 
 -- and of each from i on
-pub from-to : (f : ℕ → Bool) (i n k : ℕ) → ((m : ℕ) → m < n → T (f (m + i))) → i ≤ k → k < n + i → f k ≡ true
-from-to f i n k g h l =
+pub from_to : (f : ℕ → Bool) (i n k : ℕ) → ((m : ℕ) → m < n → T (f (m + i))) → i ≤ k → k < n + i → f k ≡ true
+from_to f i n k g h l =
     let m : ℕ = k - i in
     let q : m + i ≡ k = omega arith in
     true_of (f k) (subst (λ (x : ℕ). T (f x)) q (g m (omega arith)))

@@ -6,10 +6,10 @@ use mathlib.Core.Logic.{◌⊎◌}
 use mathlib.Core.Bool.{Bool, true, false}
 use mathlib.Core.List.{List, [], ◌∷◌}
 use Rattle.tables.specs.declared.Ty.{Ty}
-use Rattle.tables.specs.Kinds.{row_of, secondClass, thirdClass}
+use Rattle.tables.specs.Kinds.{row_of, second_class, third_class}
 use Rattle.tables.specs.Lines.{Line, Expr}
-use Rattle.tables.specs.Types.{marked, sortAt, Ctx, ty_at, given, grow}
-use Rattle.tables.specs.Rules.{fitsUnary, fitsBinary, valueIndex}
+use Rattle.tables.specs.Types.{marked, sort_at, Ctx, ty_at, given, grow}
+use Rattle.tables.specs.Rules.{fits_unary, fits_binary, value_index}
 use Rattle.tables.specs.Tables.{unused}
 use Rattle.tables.proofs.Shapes.{BinaryKind}
 
@@ -53,17 +53,17 @@ pub record OkUnary (p : Bool) (t : Ty) (k : ℕ) (a : Ty) (x y : ℕ) : Type 0 w
   pub kind : OneKind p k
   pub sort : IsWordSort t
   pub arg : IsWord a
-  pub rule : fitsUnary k t.w a.w x y ≡ true
+  pub rule : fits_unary k t.w a.w x y ≡ true
   -- a number that the kind does not have is 0
-  pub spare₂ : unused (secondClass (row_of k)) x ≡ true
-  pub spare₃ : unused (thirdClass (row_of k)) y ≡ true
+  pub spare₂ : unused (second_class (row_of k)) x ≡ true
+  pub spare₃ : unused (third_class (row_of k)) y ≡ true
 
 pub record OkBinary (t : Ty) (k : ℕ) (a b : Ty) : Type 0 where
   pub kind : BinaryKind k
   pub sort : IsWordSort t
   pub left : IsWord a
   pub right : IsWord b
-  pub rule : fitsBinary k t.w a.w b.w ≡ true
+  pub rule : fits_binary k t.w a.w b.w ≡ true
 
 pub record OkEquality (t a b : Ty) : Type 0 where
   pub sort : IsWordSort t
@@ -78,8 +78,8 @@ pub record OkIte (t c a b : Ty) : Type 0 where
   pub bit : c.w ≡ 1
   pub left : IsValue a
   pub right : IsValue b
-  pub sameA : Same a t
-  pub sameB : Same b t
+  pub same_a : Same a t
+  pub same_b : Same b t
 
 pub record OkRead (p : Bool) (t a i : Ty) : Type 0 where
   pub form : p ≡ false
@@ -134,7 +134,7 @@ pub record OkInitOrNext (m : Bool) (G : Bool → ℕ → Bool) (t a b : Ty) (q v
   pub state : a.role ≡ 4
   pub same : Same a t
   pub value : OkValue m q v b
-  pub iw : b.iw ≡ valueIndex m t
+  pub iw : b.iw ≡ value_index m t
   pub w : b.w ≡ t.w
   pub once : G m q ≡ false
 
@@ -145,10 +145,10 @@ pub record OkSignal (a : Ty) : Type 0 where
 abbrev pub Ok : Bool → (ℕ → Ty) → (Bool → ℕ → Bool) → Line → Type 0
 Ok p L G (Line.bitvec w) = OkBitvec p w
 Ok p L G (Line.array i e) = OkArray p (L i) (L e)
-Ok p L G (Line.input s) = IsWordSort (sortAt p L s)
-Ok p L G (Line.state s) = IsSort (sortAt p L s)
-Ok p L G (Line.value s e) = OkExpr p L (sortAt p L s) e
-Ok p L G (Line.initOrNext m s q v) = OkInitOrNext m G (sortAt p L s) (L q) (L v) q v
+Ok p L G (Line.input s) = IsWordSort (sort_at p L s)
+Ok p L G (Line.state s) = IsSort (sort_at p L s)
+Ok p L G (Line.value s e) = OkExpr p L (sort_at p L s) e
+Ok p L G (Line.init_or_next m s q v) = OkInitOrNext m G (sort_at p L s) (L q) (L v) q v
 Ok p L G (Line.signal m a) = OkSignal (L a)
 Ok p L G (Line.output a) = IsWord (L a)
 Ok p L G Line.unknown = ⊥

@@ -10,53 +10,53 @@ use borrow.Author.Tests.{eqb-true}
 use Rattle.tables.specs.declared.Ty.{Ty}
 use Rattle.tables.specs.Pick.{all, inside}
 use Rattle.tables.specs.Kinds.{row_of}
-use Rattle.tables.specs.Lines.{kindIn}
+use Rattle.tables.specs.Lines.{kind_in}
 use Rattle.tables.specs.Rules.{fault}
 use Rattle.tables.specs.Tables.{known, tidy, formed, keeps}
 use Rattle.tables.proofs.Shapes.{range}
 
-pub no-yes : ◌≡◌ {A = Bool} false true → ⊥
-no-yes z = let q : ◌≡◌ {A = ℕ} 0 1 = cc in omega arith
+pub no_yes : ◌≡◌ {A = Bool} false true → ⊥
+no_yes z = let q : ◌≡◌ {A = ℕ} 0 1 = cc in omega arith
 
 -- the parts of a conjunction
 pub both : (a b : Bool) → (a && b) ≡ true → (a ≡ true) × (b ≡ true)
 both true b e = (refl, e)
-both false b e = absurd (no-yes e)
+both false b e = absurd (no_yes e)
 
 -- each test of a list that holds
-pub all-at : (bs : List Bool) → all bs ≡ true → (j : ℕ) → get_or bs j true ≡ true
-all-at [] h j = refl
-all-at (b ∷ bs) h zero = (both b _ h).0
-all-at (b ∷ bs) h (suc j) = all-at bs (both b _ h).1 j
+pub all_at : (bs : List Bool) → all bs ≡ true → (j : ℕ) → get_or bs j true ≡ true
+all_at [] h j = refl
+all_at (b ∷ bs) h zero = (both b _ h).0
+all_at (b ∷ bs) h (suc j) = all_at bs (both b _ h).1 j
 
 pub either : (a b : Bool) {P : Type 0} → (a || b) ≡ true → (a ≡ true → P) → (b ≡ true → P) → P
 either true b e f g = f refl
 either false b e f g = g e
 
 pub neither : (a b : Bool) → (a || b) ≡ false → (a ≡ false) × (b ≡ false)
-neither true b e = absurd (no-yes (sym e))
+neither true b e = absurd (no_yes (sym e))
 neither false b e = (refl, e)
 
 -- a kind that is known has a row
-pub known-range : (p : Bool) (k : ℕ) → known p k ≡ true → (1 ≤ k) × (k ≤ 63)
-known-range false k e =
+pub known_range : (p : Bool) (k : ℕ) → known p k ≡ true → (1 ≤ k) × (k ≤ 63)
+known_range false k e =
     either (inside 1 55 k) (inside 57 63 k) e (λ q. let h = range 1 55 k q in (h.0, omega arith)) (λ q. let h = range 57 63 k q in (omega arith, h.1))
-known-range true k e =
+known_range true k e =
     either (inside 3 53 k) (inside 56 63 k) e (λ q. let h = range 3 53 k q in (omega arith, omega arith)) (λ q. let h = range 56 63 k q in (omega arith, h.1))
 
 -- a circuit has no mask
-pub no-mask : (k : ℕ) → known false k ≡ true → k ≡ 56 → ⊥
-no-mask k e q = no-yes (subst (λ (m : ℕ). known false m ≡ true) q e)
+pub no_mask : (k : ℕ) → known false k ≡ true → k ≡ 56 → ⊥
+no_mask k e q = no_yes (subst (λ (m : ℕ). known false m ≡ true) q e)
 
 module _ (p : Bool) (L : ℕ → Ty) (G : Bool → ℕ → Bool) (r row : List ℕ) where
-  pub breaks-kind : known p (kindIn r) ≡ false → false ≡ keeps p L G r
-  breaks-kind e = rw e
+  pub breaks_kind : known p (kind_in r) ≡ false → false ≡ keeps p L G r
+  breaks_kind e = rw e
 
-  pub breaks-place : known p (kindIn r) ≡ true → row ≡ row_of (kindIn r) → all (tidy row r) ≡ false → false ≡ keeps p L G r
-  breaks-place e q f = let g : all (tidy (row_of (kindIn r)) r) ≡ false = subst (λ (x : List ℕ). all (tidy x r) ≡ false) q f in rw (e, g)
+  pub breaks_place : known p (kind_in r) ≡ true → row ≡ row_of (kind_in r) → all (tidy row r) ≡ false → false ≡ keeps p L G r
+  breaks_place e q f = let g : all (tidy (row_of (kind_in r)) r) ≡ false = subst (λ (x : List ℕ). all (tidy x r) ≡ false) q f in rw (e, g)
 
-  pub by-fault : known p (kindIn r) ≡ true → row ≡ row_of (kindIn r) → all (tidy row r) ≡ true → {m : ℕ} → m ≡ fault p L G r → eqb m 0 ≡ keeps p L G r
-  by-fault e q f h = let g : all (tidy (row_of (kindIn r)) r) ≡ true = subst (λ (x : List ℕ). all (tidy x r) ≡ true) q f in rw (e, g, h) refl
+  pub by_fault : known p (kind_in r) ≡ true → row ≡ row_of (kind_in r) → all (tidy row r) ≡ true → {m : ℕ} → m ≡ fault p L G r → eqb m 0 ≡ keeps p L G r
+  by_fault e q f h = let g : all (tidy (row_of (kind_in r)) r) ≡ true = subst (λ (x : List ℕ). all (tidy x r) ≡ true) q f in rw (e, g, h) refl
 
-pub kept-fault : (p : Bool) (L : ℕ → Ty) (G : Bool → ℕ → Bool) (r : List ℕ) → keeps p L G r ≡ true → fault p L G r ≡ 0
-kept-fault p L G r e = eqb-true (fault p L G r) 0 (both (formed p r) _ e).1
+pub kept_fault : (p : Bool) (L : ℕ → Ty) (G : Bool → ℕ → Bool) (r : List ℕ) → keeps p L G r ≡ true → fault p L G r ≡ 0
+kept_fault p L G r e = eqb-true (fault p L G r) 0 (both (formed p r) _ e).1

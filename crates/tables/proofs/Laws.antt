@@ -12,42 +12,42 @@ use borrow.Author.Tests.{eq-eqb, ne_eqb, ltb-true, ltb-false}
 use Rattle.tables.specs.Pick.{pick}
 
 -- what holds of both choices holds of the one that is picked
-pub by-pick : {A : Type 0} (P : A → Type 0) (b : Bool) {x y : A} → (b ≡ true → P x) → (b ≡ false → P y) → P (pick b x y)
-by-pick P true f g = f refl
-by-pick P false f g = g refl
+pub by_pick : {A : Type 0} (P : A → Type 0) (b : Bool) {x y : A} → (b ≡ true → P x) → (b ≡ false → P y) → P (pick b x y)
+by_pick P true f g = f refl
+by_pick P false f g = g refl
 
 -- a test that is computed
 pub true_of : (b : Bool) → T b → b ≡ true
 true_of true t = refl
 true_of false t = absurd t
 
-pub and-true : (b : Bool) → (b && true) ≡ b
-and-true true = refl
-and-true false = refl
+pub and_true : (b : Bool) → (b && true) ≡ b
+and_true true = refl
+and_true false = refl
 
-pub and-false : (b : Bool) → (b && false) ≡ false
-and-false true = refl
-and-false false = refl
+pub and_false : (b : Bool) → (b && false) ≡ false
+and_false true = refl
+and_false false = refl
 
-pub or-true : (b : Bool) → (b || true) ≡ true
-or-true true = refl
-or-true false = refl
+pub or_true : (b : Bool) → (b || true) ≡ true
+or_true true = refl
+or_true false = refl
 
-pub or-false : (b : Bool) → (b || false) ≡ b
-or-false true = refl
-or-false false = refl
+pub or_false : (b : Bool) → (b || false) ≡ b
+or_false true = refl
+or_false false = refl
 
 pub or_assoc : (a b c : Bool) → (a || (b || c)) ≡ ((a || b) || c)
 or_assoc true b c = refl
 or_assoc false b c = refl
 
-pub not-of : (b : Bool) → T (not b) → b ≡ false
-not-of true t = absurd t
-not-of false t = refl
+pub not_of_lem : (b : Bool) → T (not b) → b ≡ false
+not_of_lem true t = absurd t
+not_of_lem false t = refl
 
 -- what is left of v is nothing just where v is below m
-pub shifted-out : (v m : ℕ) → 0 < m → eqb (v / m) 0 ≡ ltb v m
-shifted-out v m h = go (ltb v m) refl
+pub shifted_out : (v m : ℕ) → 0 < m → eqb (v / m) 0 ≡ ltb v m
+shifted_out v m h = go (ltb v m) refl
   where
     empty : v / m ≡ 0 → v < m
     empty e = let q : v / m * m + v % m ≡ v = div-add-mod' v m in let r : v % m < m = mod-lt v h in omega (arith, subst (λ (n : ℕ). n * m + v % m ≡ v) e q)
@@ -64,7 +64,7 @@ pub within : {n k : ℕ} → k < suc n → k ≤ n
 within h = omega arith
 
 -- an entry that is there is the same whatever stands for none
-pub getD-in : {A : Type 0} (xs : List A) (n : ℕ) (d e : A) → n < length xs → get_or xs n d ≡ get_or xs n e
-getD-in [] n d e h = absurd (omega arith)
-getD-in (x ∷ xs) zero d e h = refl
-getD-in (x ∷ xs) (suc n) d e h = getD-in xs n d e (omega arith)
+pub get_or_in : {A : Type 0} (xs : List A) (n : ℕ) (d e : A) → n < length xs → get_or xs n d ≡ get_or xs n e
+get_or_in [] n d e h = absurd (omega arith)
+get_or_in (x ∷ xs) zero d e h = refl
+get_or_in (x ∷ xs) (suc n) d e h = get_or_in xs n d e (omega arith)

@@ -14,12 +14,12 @@ use Rattle.tables.specs.Answers.{Outcome, told}
 
 -- ---- what is told is built from the answer and what is left
 
-pub told-as : {r a : Answer} {x y : List (List ℕ)} → r ≡ a → x ≡ y → told r x ≡ told a y
-told-as e f = ap₂ told e f
+pub told_as : {r a : Answer} {x y : List (List ℕ)} → r ≡ a → x ≡ y → told r x ≡ told a y
+told_as e f = ap₂ told e f
 
-pub left-told : (r : Answer) (x : List (List ℕ)) → (told r x).left ≡ x
-left-told (Done n) x = refl
-left-told (Refused r l) x = refl
+pub left_told : (r : Answer) (x : List (List ℕ)) → (told r x).left ≡ x
+left_told (Done n) x = refl
+left_told (Refused r l) x = refl
 
 -- ---- and both are found in it
 
@@ -30,41 +30,41 @@ refusals =
 abbrev answer_in : Outcome → Answer
 answer_in o = pick (eqb o.number 0) (Done (get_or o.values 0 0)) (Refused (get_or refusals o.number NotATable) (get_or o.values 0 0))
 
-answer-again : (a : Answer) (x : List (List ℕ)) → answer_in (told a x) ≡ a
-answer-again (Done n) x = refl
-answer-again (Refused NotATable l) x = refl
-answer-again (Refused TextTooLong l) x = refl
-answer-again (Refused WrongId l) x = refl
-answer-again (Refused NoRecordLeft l) x = refl
-answer-again (Refused UnknownWord l) x = refl
-answer-again (Refused BadOperand l) x = refl
-answer-again (Refused NumberTooLarge l) x = refl
-answer-again (Refused WrongClass l) x = refl
-answer-again (Refused Misfit l) x = refl
-answer-again (Refused InitOrNext l) x = refl
-answer-again (Refused BadTable l) x = refl
-answer-again (Refused TargetTooSmall l) x = refl
-answer-again (Refused TooManySteps l) x = refl
-answer-again (Refused StartWords l) x = refl
-answer-again (Refused InputWords l) x = refl
-answer-again (Refused SignalBytes l) x = refl
-answer-again (Refused WorkArea l) x = refl
-answer-again (Refused NoSuchCell l) x = refl
-answer-again (Refused ArrayPresent l) x = refl
-answer-again (Refused BadProgram l) x = refl
-answer-again (Refused TextBuffer l) x = refl
-answer-again (Refused NameUsed l) x = refl
+answer_again : (a : Answer) (x : List (List ℕ)) → answer_in (told a x) ≡ a
+answer_again (Done n) x = refl
+answer_again (Refused NotATable l) x = refl
+answer_again (Refused TextTooLong l) x = refl
+answer_again (Refused WrongId l) x = refl
+answer_again (Refused NoRecordLeft l) x = refl
+answer_again (Refused UnknownWord l) x = refl
+answer_again (Refused BadOperand l) x = refl
+answer_again (Refused NumberTooLarge l) x = refl
+answer_again (Refused WrongClass l) x = refl
+answer_again (Refused Misfit l) x = refl
+answer_again (Refused InitOrNext l) x = refl
+answer_again (Refused BadTable l) x = refl
+answer_again (Refused TargetTooSmall l) x = refl
+answer_again (Refused TooManySteps l) x = refl
+answer_again (Refused StartWords l) x = refl
+answer_again (Refused InputWords l) x = refl
+answer_again (Refused SignalBytes l) x = refl
+answer_again (Refused WorkArea l) x = refl
+answer_again (Refused NoSuchCell l) x = refl
+answer_again (Refused ArrayPresent l) x = refl
+answer_again (Refused BadProgram l) x = refl
+answer_again (Refused TextBuffer l) x = refl
+answer_again (Refused NameUsed l) x = refl
 
-pub told-answer : (r a : Answer) (x y : List (List ℕ)) → told r x ≡ told a y → r ≡ a
-told-answer r a x y e = sym (answer-again r x) ∙ (ap answer_in e ∙ answer-again a y)
+pub told_answer : (r a : Answer) (x y : List (List ℕ)) → told r x ≡ told a y → r ≡ a
+told_answer r a x y e = sym (answer_again r x) ∙ (ap answer_in e ∙ answer_again a y)
 
-pub told-left : (r a : Answer) (x y : List (List ℕ)) → told r x ≡ told a y → x ≡ y
-told-left r a x y e = sym (left-told r x) ∙ (ap (λ (o : Outcome). o.left) e ∙ left-told a y)
+pub told_left : (r a : Answer) (x y : List (List ℕ)) → told r x ≡ told a y → x ≡ y
+told_left r a x y e = sym (left_told r x) ∙ (ap (λ (o : Outcome). o.left) e ∙ left_told a y)
 
 -- ---- a count is no refusal, and one count is not another
 
 pub not_done : (r : Refusal) (m : ℕ) → Refused r 0 ≡ Done m → ⊥
 not_done r m e = let z : ◌≡◌ {A = ℕ} 0 1 = cc in omega arith
 
-pub done-count : (m n : ℕ) → Done m ≡ Done n → m ≡ n
-done-count m n e = cc
+pub done_count : (m n : ℕ) → Done m ≡ Done n → m ≡ n
+done_count m n e = cc

@@ -6,57 +6,57 @@ use native.Mathlib.Omega.{arith}
 use lib.Dec.{leb}
 use borrow.Author.Tests.{leb-true, leb-false}
 use Rattle.tables.specs.declared.Ty.{Ty}
-use Rattle.tables.specs.Lines.{Line, Expr, words_of, firstIn, secondIn, thirdIn}
-use Rattle.tables.specs.Types.{unmarkedRole, marked, sortAt, valueRole, lineType, markedExpr}
+use Rattle.tables.specs.Lines.{Line, Expr, words_of, first_in, second_in, third_in}
+use Rattle.tables.specs.Types.{unmarked_role, marked, sort_at, value_role, line_type, marked_expr}
 
 -- ---- the role of a value, and its mark
 
-pub role-least : (m : Bool) → 2 ≤ valueRole m
-role-least true = omega arith
-role-least false = omega arith
+pub role_least : (m : Bool) → 2 ≤ value_role m
+role_least true = omega arith
+role_least false = omega arith
 
-pub role-most : (m : Bool) → valueRole m ≤ 3
-role-most true = omega arith
-role-most false = omega arith
+pub role_most : (m : Bool) → value_role m ≤ 3
+role_most true = omega arith
+role_most false = omega arith
 
-pub role-mark : (m : Bool) → leb 3 (valueRole m) ≡ m
-role-mark true = refl
-role-mark false = refl
+pub role_mark : (m : Bool) → leb 3 (value_role m) ≡ m
+role_mark true = refl
+role_mark false = refl
 
-pub role-back : (c : ℕ) → 2 ≤ c → c ≤ 3 → valueRole (leb 3 c) ≡ c
-role-back c h l = go (leb 3 c) refl
+pub role_back : (c : ℕ) → 2 ≤ c → c ≤ 3 → value_role (leb 3 c) ≡ c
+role_back c h l = go (leb 3 c) refl
   where
-    go : (b : Bool) → leb 3 c ≡ b → valueRole b ≡ c
+    go : (b : Bool) → leb 3 c ≡ b → value_role b ≡ c
     go true e = omega (arith, leb-true 3 c e)
     go false e = omega (arith, leb-false 3 c e)
 
-pub unmarked-value : (t : Ty) → 2 ≤ t.role → marked t ≡ false → t.role ≡ unmarkedRole
-unmarked-value t h e = omega (arith, leb-false 3 t.role e)
+pub unmarked_value : (t : Ty) → 2 ≤ t.role → marked t ≡ false → t.role ≡ unmarked_role
+unmarked_value t h e = omega (arith, leb-false 3 t.role e)
 
 -- ---- the type of a value line
 
 module _ (p : Bool) (L : ℕ → Ty) (s : ℕ) where
-  pub val-iw : (e : Expr) → (lineType p L (Line.value s e)).iw ≡ (sortAt p L s).iw
-  val-iw (Expr.const v) = refl
-  val-iw (Expr.unary k a x y) = refl
-  val-iw (Expr.binary k a b) = refl
-  val-iw (Expr.equality e a b) = refl
-  val-iw (Expr.ite c a b) = refl
-  val-iw (Expr.read a i) = refl
-  val-iw (Expr.write a i v) = refl
+  pub val_iw : (e : Expr) → (line_type p L (Line.value s e)).iw ≡ (sort_at p L s).iw
+  val_iw (Expr.const v) = refl
+  val_iw (Expr.unary k a x y) = refl
+  val_iw (Expr.binary k a b) = refl
+  val_iw (Expr.equality e a b) = refl
+  val_iw (Expr.ite c a b) = refl
+  val_iw (Expr.read a i) = refl
+  val_iw (Expr.write a i v) = refl
 
-  pub val-w : (e : Expr) → (lineType p L (Line.value s e)).w ≡ (sortAt p L s).w
-  val-w (Expr.const v) = refl
-  val-w (Expr.unary k a x y) = refl
-  val-w (Expr.binary k a b) = refl
-  val-w (Expr.equality e a b) = refl
-  val-w (Expr.ite c a b) = refl
-  val-w (Expr.read a i) = refl
-  val-w (Expr.write a i v) = refl
+  pub val_w : (e : Expr) → (line_type p L (Line.value s e)).w ≡ (sort_at p L s).w
+  val_w (Expr.const v) = refl
+  val_w (Expr.unary k a x y) = refl
+  val_w (Expr.binary k a b) = refl
+  val_w (Expr.equality e a b) = refl
+  val_w (Expr.ite c a b) = refl
+  val_w (Expr.read a i) = refl
+  val_w (Expr.write a i v) = refl
 
   -- it has a value's role, and is no state
-  pub val-value : (e : Expr) → 2 ≤ (lineType p L (Line.value s e)).role
-  val-value e = let r = words_of (Line.value s e) in role-least (markedExpr e (L (firstIn r)) (L (secondIn r)) (L (thirdIn r)))
+  pub val_value : (e : Expr) → 2 ≤ (line_type p L (Line.value s e)).role
+  val_value e = let r = words_of (Line.value s e) in role_least (marked_expr e (L (first_in r)) (L (second_in r)) (L (third_in r)))
 
-  pub val-most : (e : Expr) → (lineType p L (Line.value s e)).role ≤ 3
-  val-most e = let r = words_of (Line.value s e) in role-most (markedExpr e (L (firstIn r)) (L (secondIn r)) (L (thirdIn r)))
+  pub val_most : (e : Expr) → (line_type p L (Line.value s e)).role ≤ 3
+  val_most e = let r = words_of (Line.value s e) in role_most (marked_expr e (L (first_in r)) (L (second_in r)) (L (third_in r)))

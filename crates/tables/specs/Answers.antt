@@ -26,15 +26,15 @@ told (Refused r l) left = outcome (number_of r) l 0 0 left
 -- ---- operations that leave records in a target
 
 -- where the table is accepted, the answer a
-abbrev pub ifAccepted : Checked → (a : Answer) → Answer
-ifAccepted Accepted a = a
-ifAccepted (NotAccepted r) a = Refused r 0
+abbrev pub if_accepted : Checked → (a : Answer) → Answer
+if_accepted Accepted a = a
+if_accepted (NotAccepted r) a = Refused r 0
 
 -- 12: more records than the target, of len words, or 16,384 holds; else their number m
 abbrev pub fitting : Bool → (m len : ℕ) → Answer
 fitting p m len = pick (leb m (room p len)) (Done m) (Refused TargetTooSmall 0)
 
 -- what a target of len words holds then: the list t, and zeros after a refusal
-abbrev pub leftBy : Answer → (len : ℕ) → (t : List ℕ) → List ℕ
-leftBy (Done m) len t = t
-leftBy (Refused r l) len t = replicate len 0
+abbrev pub left_by : Answer → (len : ℕ) → (t : List ℕ) → List ℕ
+left_by (Done m) len t = t
+left_by (Refused r l) len t = replicate len 0

@@ -28,16 +28,16 @@ abbrev pub state : ℕ
 state = 4
 
 -- a sort line of words
-abbrev pub wordSort : ℕ
-wordSort = 5
+abbrev pub word_sort : ℕ
+word_sort = 5
 
 -- a sort line of arrays
-abbrev pub arraySort : ℕ
-arraySort = 6
+abbrev pub array_sort : ℕ
+array_sort = 6
 
 -- any sort line
-abbrev pub anySort : ℕ
-anySort = 7
+abbrev pub any_sort : ℕ
+any_sort = 7
 
 -- no line, but a number that stays as it is written: a width, a constant, a bound, a count of extra bits
 abbrev pub number : ℕ
@@ -69,74 +69,74 @@ abbrev pub rows : List (List ℕ)
 rows =
     -- 1 to 5: sorts, constants, inputs, states
     row "bitvec" none (number ∷ [])
-    ∷ row "array" none (wordSort ∷ wordSort ∷ [])
-    ∷ row "constd" wordSort (number ∷ [])
-    ∷ row "input" wordSort []
-    ∷ row "state" anySort []
+    ∷ row "array" none (word_sort ∷ word_sort ∷ [])
+    ∷ row "constd" word_sort (number ∷ [])
+    ∷ row "input" word_sort []
+    ∷ row "state" any_sort []
     -- 6 to 10: what states start with and take next, signals, outputs
-    ∷ row "init" anySort (state ∷ word ∷ [])
-    ∷ row "next" anySort (state ∷ value ∷ [])
+    ∷ row "init" any_sort (state ∷ word ∷ [])
+    ∷ row "next" any_sort (state ∷ value ∷ [])
     ∷ row "bad" none (word ∷ [])
     ∷ row "constraint" none (word ∷ [])
     ∷ row "output" none (word ∷ [])
     -- 11 to 20: operators of one word
-    ∷ row "not" wordSort (word ∷ [])
-    ∷ row "neg" wordSort (word ∷ [])
-    ∷ row "inc" wordSort (word ∷ [])
-    ∷ row "dec" wordSort (word ∷ [])
-    ∷ row "redand" wordSort (word ∷ [])
-    ∷ row "redor" wordSort (word ∷ [])
-    ∷ row "redxor" wordSort (word ∷ [])
-    ∷ row "slice" wordSort (word ∷ number ∷ number ∷ [])
-    ∷ row "uext" wordSort (word ∷ number ∷ [])
-    ∷ row "sext" wordSort (word ∷ number ∷ [])
+    ∷ row "not" word_sort (word ∷ [])
+    ∷ row "neg" word_sort (word ∷ [])
+    ∷ row "inc" word_sort (word ∷ [])
+    ∷ row "dec" word_sort (word ∷ [])
+    ∷ row "redand" word_sort (word ∷ [])
+    ∷ row "redor" word_sort (word ∷ [])
+    ∷ row "redxor" word_sort (word ∷ [])
+    ∷ row "slice" word_sort (word ∷ number ∷ number ∷ [])
+    ∷ row "uext" word_sort (word ∷ number ∷ [])
+    ∷ row "sext" word_sort (word ∷ number ∷ [])
     -- 21 to 52: operators of two; eq and neq take arrays as well
-    ∷ row "eq" wordSort (value ∷ value ∷ [])
-    ∷ row "neq" wordSort (value ∷ value ∷ [])
-    ∷ row "ult" wordSort (word ∷ word ∷ [])
-    ∷ row "ulte" wordSort (word ∷ word ∷ [])
-    ∷ row "ugt" wordSort (word ∷ word ∷ [])
-    ∷ row "ugte" wordSort (word ∷ word ∷ [])
-    ∷ row "slt" wordSort (word ∷ word ∷ [])
-    ∷ row "slte" wordSort (word ∷ word ∷ [])
-    ∷ row "sgt" wordSort (word ∷ word ∷ [])
-    ∷ row "sgte" wordSort (word ∷ word ∷ [])
-    ∷ row "iff" wordSort (word ∷ word ∷ [])
-    ∷ row "implies" wordSort (word ∷ word ∷ [])
-    ∷ row "and" wordSort (word ∷ word ∷ [])
-    ∷ row "or" wordSort (word ∷ word ∷ [])
-    ∷ row "xor" wordSort (word ∷ word ∷ [])
-    ∷ row "nand" wordSort (word ∷ word ∷ [])
-    ∷ row "nor" wordSort (word ∷ word ∷ [])
-    ∷ row "xnor" wordSort (word ∷ word ∷ [])
-    ∷ row "add" wordSort (word ∷ word ∷ [])
-    ∷ row "sub" wordSort (word ∷ word ∷ [])
-    ∷ row "mul" wordSort (word ∷ word ∷ [])
-    ∷ row "udiv" wordSort (word ∷ word ∷ [])
-    ∷ row "urem" wordSort (word ∷ word ∷ [])
-    ∷ row "sdiv" wordSort (word ∷ word ∷ [])
-    ∷ row "srem" wordSort (word ∷ word ∷ [])
-    ∷ row "smod" wordSort (word ∷ word ∷ [])
-    ∷ row "sll" wordSort (word ∷ word ∷ [])
-    ∷ row "srl" wordSort (word ∷ word ∷ [])
-    ∷ row "sra" wordSort (word ∷ word ∷ [])
-    ∷ row "rol" wordSort (word ∷ word ∷ [])
-    ∷ row "ror" wordSort (word ∷ word ∷ [])
-    ∷ row "concat" wordSort (word ∷ word ∷ [])
+    ∷ row "eq" word_sort (value ∷ value ∷ [])
+    ∷ row "neq" word_sort (value ∷ value ∷ [])
+    ∷ row "ult" word_sort (word ∷ word ∷ [])
+    ∷ row "ulte" word_sort (word ∷ word ∷ [])
+    ∷ row "ugt" word_sort (word ∷ word ∷ [])
+    ∷ row "ugte" word_sort (word ∷ word ∷ [])
+    ∷ row "slt" word_sort (word ∷ word ∷ [])
+    ∷ row "slte" word_sort (word ∷ word ∷ [])
+    ∷ row "sgt" word_sort (word ∷ word ∷ [])
+    ∷ row "sgte" word_sort (word ∷ word ∷ [])
+    ∷ row "iff" word_sort (word ∷ word ∷ [])
+    ∷ row "implies" word_sort (word ∷ word ∷ [])
+    ∷ row "and" word_sort (word ∷ word ∷ [])
+    ∷ row "or" word_sort (word ∷ word ∷ [])
+    ∷ row "xor" word_sort (word ∷ word ∷ [])
+    ∷ row "nand" word_sort (word ∷ word ∷ [])
+    ∷ row "nor" word_sort (word ∷ word ∷ [])
+    ∷ row "xnor" word_sort (word ∷ word ∷ [])
+    ∷ row "add" word_sort (word ∷ word ∷ [])
+    ∷ row "sub" word_sort (word ∷ word ∷ [])
+    ∷ row "mul" word_sort (word ∷ word ∷ [])
+    ∷ row "udiv" word_sort (word ∷ word ∷ [])
+    ∷ row "urem" word_sort (word ∷ word ∷ [])
+    ∷ row "sdiv" word_sort (word ∷ word ∷ [])
+    ∷ row "srem" word_sort (word ∷ word ∷ [])
+    ∷ row "smod" word_sort (word ∷ word ∷ [])
+    ∷ row "sll" word_sort (word ∷ word ∷ [])
+    ∷ row "srl" word_sort (word ∷ word ∷ [])
+    ∷ row "sra" word_sort (word ∷ word ∷ [])
+    ∷ row "rol" word_sort (word ∷ word ∷ [])
+    ∷ row "ror" word_sort (word ∷ word ∷ [])
+    ∷ row "concat" word_sort (word ∷ word ∷ [])
     -- 53 to 55: choice, and the operators of arrays
-    ∷ row "ite" anySort (word ∷ value ∷ value ∷ [])
-    ∷ row "read" wordSort (array ∷ word ∷ [])
-    ∷ row "write" arraySort (array ∷ word ∷ word ∷ [])
+    ∷ row "ite" any_sort (word ∷ value ∷ value ∷ [])
+    ∷ row "read" word_sort (array ∷ word ∷ [])
+    ∷ row "write" array_sort (array ∷ word ∷ word ∷ [])
     -- 56: a program's mask
-    ∷ row "" wordSort (word ∷ [])
+    ∷ row "" word_sort (word ∷ [])
     -- 57 to 63: overflow detectors
-    ∷ row "uaddo" wordSort (word ∷ word ∷ [])
-    ∷ row "saddo" wordSort (word ∷ word ∷ [])
-    ∷ row "usubo" wordSort (word ∷ word ∷ [])
-    ∷ row "ssubo" wordSort (word ∷ word ∷ [])
-    ∷ row "umulo" wordSort (word ∷ word ∷ [])
-    ∷ row "smulo" wordSort (word ∷ word ∷ [])
-    ∷ row "sdivo" wordSort (word ∷ word ∷ [])
+    ∷ row "uaddo" word_sort (word ∷ word ∷ [])
+    ∷ row "saddo" word_sort (word ∷ word ∷ [])
+    ∷ row "usubo" word_sort (word ∷ word ∷ [])
+    ∷ row "ssubo" word_sort (word ∷ word ∷ [])
+    ∷ row "umulo" word_sort (word ∷ word ∷ [])
+    ∷ row "smulo" word_sort (word ∷ word ∷ [])
+    ∷ row "sdivo" word_sort (word ∷ word ∷ [])
     ∷ []
 
 -- a kind's row
@@ -147,25 +147,25 @@ row_of k = get_or rows (k - 1) []
 abbrev pub word_of : List ℕ → List ℕ
 word_of r = take (get_or r 0 0) (drop 1 r)
 
-abbrev pub sortClass : List ℕ → ℕ
-sortClass r = get_or r 11 0
+abbrev pub sort_class : List ℕ → ℕ
+sort_class r = get_or r 11 0
 
-abbrev pub operandCount : List ℕ → ℕ
-operandCount r = get_or r 12 0
+abbrev pub operand_count : List ℕ → ℕ
+operand_count r = get_or r 12 0
 
-abbrev pub firstClass : List ℕ → ℕ
-firstClass r = get_or r 13 0
+abbrev pub first_class : List ℕ → ℕ
+first_class r = get_or r 13 0
 
-abbrev pub secondClass : List ℕ → ℕ
-secondClass r = get_or r 14 0
+abbrev pub second_class : List ℕ → ℕ
+second_class r = get_or r 14 0
 
-abbrev pub thirdClass : List ℕ → ℕ
-thirdClass r = get_or r 15 0
+abbrev pub third_class : List ℕ → ℕ
+third_class r = get_or r 15 0
 
 -- the class of the place j of a record: the sort's where j is 1, an operand's from 2 on
 abbrev pub class_at : List ℕ → (j : ℕ) → ℕ
 class_at r j = get_or r (11 + pick (eqb j 1) 0 j) 0
 
 -- a place of the class k names a line; else it holds a plain number, or the line has no such place
-abbrev pub namesLine : (k : ℕ) → Bool
-namesLine k = inside word anySort k
+abbrev pub names_line : (k : ℕ) → Bool
+names_line k = inside word any_sort k

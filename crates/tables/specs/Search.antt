@@ -4,10 +4,10 @@ use Rattle.tables.specs.declared.Ty.{Ty}
 use Rattle.tables.specs.declared.Checked.{Checked}
 use Rattle.tables.specs.Pick.{pick, inside}
 use Rattle.tables.specs.Lines.{Line, line_of}
-use Rattle.tables.specs.Layout.{recordsOf}
-use Rattle.tables.specs.Ids.{idsRight}
-use Rattle.tables.specs.Types.{ty, unmarkedRole, markedRole, valueRole, ty_at, given, context}
-use Rattle.tables.specs.Cone.{lineNumbered, uses, isSource}
+use Rattle.tables.specs.Layout.{records_of}
+use Rattle.tables.specs.Ids.{ids_right}
+use Rattle.tables.specs.Types.{ty, unmarked_role, marked_role, value_role, ty_at, given, context}
+use Rattle.tables.specs.Cone.{line_numbered, uses, is_source}
 use Rattle.tables.specs.Tables.{keeps, verdict}
 
 -- a test holds of a number of a list
@@ -16,27 +16,27 @@ any_of f [] = false
 any_of f (a ∷ r) = f a || any_of f r
 
 -- the line v, or one of its cone up to n lines beneath it, is an input or a state
-abbrev pub sourceWithin : (n : ℕ) → List Line → ℕ → Bool
-sourceWithin zero C v = isSource (lineNumbered C v)
-sourceWithin (suc n) C v = isSource (lineNumbered C v) || any_of (sourceWithin n C) (uses (lineNumbered C v))
+abbrev pub source_within : (n : ℕ) → List Line → ℕ → Bool
+source_within zero C v = is_source (line_numbered C v)
+source_within (suc n) C v = is_source (line_numbered C v) || any_of (source_within n C) (uses (line_numbered C v))
 
 -- a search of the whole cone: operands stand before the lines that use them, so that no cone is deeper than its line's number
-abbrev pub searchCone : List Line → ℕ → Bool
-searchCone C v = sourceWithin v C v
+abbrev pub search_cone : List Line → ℕ → Bool
+search_cone C v = source_within v C v
 
 -- the type of a value with a mark in place of its own; that of a state is in its role
 abbrev pub remarked : (mark : Bool) → Ty → Ty
-remarked mark t = pick (inside unmarkedRole markedRole t.role) (ty (valueRole mark) t.iw t.w) t
+remarked mark t = pick (inside unmarked_role marked_role t.role) (ty (value_role mark) t.iw t.w) t
 
 -- the types of the lines C, each with the mark that a search of its cone finds
 abbrev pub searched : List Line → (ℕ → Ty) → ℕ → Ty
-searched C L v = remarked (searchCone C v) (L v)
+searched C L v = remarked (search_cone C v) (L v)
 
 -- every record breaks no rule after the lines before it, C and then its own: cones are searched
-abbrev pub lawfulBySearch : Bool → List Line → List (List ℕ) → Bool
-lawfulBySearch p C [] = true
-lawfulBySearch p C (r ∷ rs) = keeps p (searched C (ty_at (context p C))) (given (context p C)) r && lawfulBySearch p (C ++ (line_of r ∷ [])) rs
+abbrev pub lawful_by_search : Bool → List Line → List (List ℕ) → Bool
+lawful_by_search p C [] = true
+lawful_by_search p C (r ∷ rs) = keeps p (searched C (ty_at (context p C))) (given (context p C)) r && lawful_by_search p (C ++ (line_of r ∷ [])) rs
 
 -- the check of a table (11) or a program (20)
-abbrev pub checkedBySearch : Bool → List ℕ → ℕ → Checked
-checkedBySearch p t n = verdict p (length t) n (lawfulBySearch p [] (recordsOf p t n) && idsRight p t n)
+abbrev pub checked_by_search : Bool → List ℕ → ℕ → Checked
+checked_by_search p t n = verdict p (length t) n (lawful_by_search p [] (records_of p t n) && ids_right p t n)

@@ -6,11 +6,11 @@ use Rattle.tables.specs.declared.Refusal.TheVariants.{NotATable, BadTable, BadPr
 use Rattle.tables.specs.declared.Checked.{Checked}
 use Rattle.tables.specs.declared.Checked.TheVariants.{Accepted, Refused}
 use Rattle.tables.specs.Pick.{pick, inside, all}
-use Rattle.tables.specs.Kinds.{row_of, sortClass, firstClass, secondClass, thirdClass}
-use Rattle.tables.specs.Lines.{line_of, kindIn, sortIn, firstIn, secondIn, thirdIn}
-use Rattle.tables.specs.Layout.{Placing, recordWords, whole, room, placing, rows_from}
-use Rattle.tables.specs.Ids.{idsRightBy}
-use Rattle.tables.specs.Types.{Ctx, ty_at, given, grow, noCtx}
+use Rattle.tables.specs.Kinds.{row_of, sort_class, first_class, second_class, third_class}
+use Rattle.tables.specs.Lines.{line_of, kind_in, sort_in, first_in, second_in, third_in}
+use Rattle.tables.specs.Layout.{Placing, record_words, whole, room, placing, rows_from}
+use Rattle.tables.specs.Ids.{ids_right_by}
+use Rattle.tables.specs.Types.{Ctx, ty_at, given, grow, no_ctx}
 use Rattle.tables.specs.Rules.{fault}
 
 -- the kinds of a circuit, 1 to 55 and 57 to 63, and of a program, 3 to 53 and 56 to 63
@@ -24,11 +24,11 @@ unused k x = not (eqb k 0) || eqb x 0
 
 abbrev pub tidy : List ℕ → List ℕ → List Bool
 tidy row r =
-    unused (sortClass row) (sortIn r) ∷ unused (firstClass row) (firstIn r) ∷ unused (secondClass row) (secondIn r) ∷ unused (thirdClass row) (thirdIn r) ∷ []
+    unused (sort_class row) (sort_in r) ∷ unused (first_class row) (first_in r) ∷ unused (second_class row) (second_in r) ∷ unused (third_class row) (third_in r) ∷ []
 
 -- a record that keeps the rules of its own words
 abbrev pub formed : Bool → List ℕ → Bool
-formed p r = known p (kindIn r) && all (tidy (row_of (kindIn r)) r)
+formed p r = known p (kind_in r) && all (tidy (row_of (kind_in r)) r)
 
 -- a record breaks no rule, after lines whose types are L
 abbrev pub keeps : Bool → (ℕ → Ty) → (Bool → ℕ → Bool) → List ℕ → Bool
@@ -49,8 +49,8 @@ abbrev pub verdict : Bool → (len n : ℕ) → Bool → Checked
 verdict p len n kept = pick (whole p len) (pick (leb n (room p len) && kept) Accepted (Refused (broken p))) (Refused NotATable)
 
 -- the check of a list that holds records by a layout, and that of a table
-abbrev pub checkedBy : Placing → Bool → List ℕ → ℕ → Checked
-checkedBy f p t n = verdict p (length t) n (lawful p noCtx (rows_from f recordWords t 0 n) && idsRightBy f p t n)
+abbrev pub checked_by : Placing → Bool → List ℕ → ℕ → Checked
+checked_by f p t n = verdict p (length t) n (lawful p no_ctx (rows_from f record_words t 0 n) && ids_right_by f p t n)
 
 unfoldable pub checked : Bool → List ℕ → ℕ → Checked
-checked p t n = checkedBy (placing p) p t n
+checked p t n = checked_by (placing p) p t n

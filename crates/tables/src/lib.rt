@@ -1,4 +1,5 @@
 // Tables: what a record and a line are, the kinds, the rules, when a table is accepted, and the laws of these. The code is in `records`, `types`, `widths`, `rules` and `checks`.
+#![tactic(auto)]
 
 // The words of a record that is handed about.
 pub const WORDS: usize = 5;

@@ -7,26 +7,26 @@ use native.Mathlib.Omega.{arith}
 use lib.Dec.{eqb, ltb}
 use borrow.Author.Tests.{ne_eqb, le-leb, lt-ltb, ltb-true, ltb-false}
 use Rattle.texts.specs.declared.Num.TheVariants.{Is}
-use Rattle.texts.specs.Decimal.{digit, allIn, valueFrom, plain, valued, scanned, decimal, digitsF, digits}
-use Rattle.texts.proofs.Splitting.{CleanByte, Clean, Tok, clean-append}
+use Rattle.texts.specs.Decimal.{digit, all_in, value_from, plain, valued, scanned, decimal, digits_f, digits}
+use Rattle.texts.proofs.Splitting.{CleanByte, Clean, Tok, clean_append}
 
-pub digit-of : (d : ℕ) → d < 10 → digit (48 + d) ≡ d
+pub digit_of : (d : ℕ) → d < 10 → digit (48 + d) ≡ d
 unfolding digit
-digit-of d h = rw (le-leb 48 (48 + d) (omega arith), le-leb (48 + d) 57 (omega arith), digit) (omega arith)
+digit_of d h = rw (le-leb 48 (48 + d) (omega arith), le-leb (48 + d) 57 (omega arith), digit) (omega arith)
 
-pub allIn-append : (b : ℕ) (s t : List ℕ) → allIn b s ≡ true → allIn b t ≡ true → allIn b (s ++ t) ≡ true
-unfolding allIn
-allIn-append b [] t h k = k
-allIn-append b (c ∷ s) t h k = step (ltb (digit c) b) h (λ e. allIn-append b s t e k)
+pub all_in_append : (b : ℕ) (s t : List ℕ) → all_in b s ≡ true → all_in b t ≡ true → all_in b (s ++ t) ≡ true
+unfolding all_in
+all_in_append b [] t h k = k
+all_in_append b (c ∷ s) t h k = step (ltb (digit c) b) h (λ e. all_in_append b s t e k)
   where
-    step : (q : Bool) → (q && allIn b s) ≡ true → (allIn b s ≡ true → allIn b (s ++ t) ≡ true) → (q && allIn b (s ++ t)) ≡ true
+    step : (q : Bool) → (q && all_in b s) ≡ true → (all_in b s ≡ true → all_in b (s ++ t) ≡ true) → (q && all_in b (s ++ t)) ≡ true
     step true e f = f e
     step false e f = e
 
-pub value-append : (b v : ℕ) (s : List ℕ) (c : ℕ) → valueFrom b v (s ++ (c ∷ [])) ≡ valueFrom b v s * b + digit c
-unfolding valueFrom
-value-append b v [] c = refl
-value-append b v (x ∷ s) c = value-append b (v * b + digit x) s c
+pub value_append : (b v : ℕ) (s : List ℕ) (c : ℕ) → value_from b v (s ++ (c ∷ [])) ≡ value_from b v s * b + digit c
+unfolding value_from
+value_append b v [] c = refl
+value_append b v (x ∷ s) c = value_append b (v * b + digit x) s c
 
 -- ---- what holds of the digits of n, by the number of steps
 
@@ -34,50 +34,50 @@ abbrev Lead : List ℕ → Type 0
 Lead [] = ⊥
 Lead (c ∷ t) = eqb c 48 ≡ false
 
-lead-append : (s t : List ℕ) → Lead s → Lead (s ++ t)
-lead-append [] t h = absurd h
-lead-append (c ∷ s) t h = h
+lead_append : (s t : List ℕ) → Lead s → Lead (s ++ t)
+lead_append [] t h = absurd h
+lead_append (c ∷ s) t h = h
 
-plain-lead : (s : List ℕ) → Lead s → plain s ≡ true
-plain-lead [] h = absurd h
-plain-lead (c ∷ []) h = refl
-plain-lead (c ∷ d ∷ t) h = rw h refl
+plain_lead : (s : List ℕ) → Lead s → plain s ≡ true
+plain_lead [] h = absurd h
+plain_lead (c ∷ []) h = refl
+plain_lead (c ∷ d ∷ t) h = rw h refl
 
 record Digits (n : ℕ) (t : List ℕ) : Type 0 where
-  all : allIn 10 t ≡ true
-  value : valueFrom 10 0 t ≡ n
+  all : all_in 10 t ≡ true
+  value : value_from 10 0 t ≡ n
   clean : Clean t
   lead : 0 < n → Lead t
   plain : plain t ≡ true
 
-clean-digit : (d : ℕ) → d < 10 → CleanByte (48 + d)
-clean-digit d h =
+clean_digit : (d : ℕ) → d < 10 → CleanByte (48 + d)
+clean_digit d h =
     record {
       feed = ne_eqb (48 + d) 10 (λ e. omega arith);
       space = ne_eqb (48 + d) 32 (λ e. omega arith);
       comment = ne_eqb (48 + d) 59 (λ e. omega arith);
     }
 
-one_in : (d : ℕ) → d < 10 → allIn 10 ((48 + d) ∷ []) ≡ true
-unfolding allIn
-one_in d h = rw (digit-of d h, lt-ltb d 10 h) refl
+one_in : (d : ℕ) → d < 10 → all_in 10 ((48 + d) ∷ []) ≡ true
+unfolding all_in
+one_in d h = rw (digit_of d h, lt-ltb d 10 h) refl
 
-one_value : (d : ℕ) → d < 10 → valueFrom 10 0 ((48 + d) ∷ []) ≡ d
-unfolding valueFrom
-one_value d h = rw (digit-of d h) (omega arith)
+one_value : (d : ℕ) → d < 10 → value_from 10 0 ((48 + d) ∷ []) ≡ d
+unfolding value_from
+one_value d h = rw (digit_of d h) (omega arith)
 
-digitsF-ok : (f n : ℕ) → n < f → Digits n (digitsF f n)
-unfolding digitsF
-digitsF-ok zero n h = absurd (omega arith)
-digitsF-ok (suc f) n h = go (ltb n 10) refl (λ l. digitsF-ok f (n / 10) (omega arith))
+digits_f_ok : (f n : ℕ) → n < f → Digits n (digits_f f n)
+unfolding digits_f
+digits_f_ok zero n h = absurd (omega arith)
+digits_f_ok (suc f) n h = go (ltb n 10) refl (λ l. digits_f_ok f (n / 10) (omega arith))
   where
-    go : (q : Bool) → ltb n 10 ≡ q → (10 ≤ n → Digits (n / 10) (digitsF f (n / 10))) → Digits n (elim q [ true ↦ (48 + n) ∷ [] | false ↦ digitsF f (n / 10) ++ ((48 + n % 10) ∷ []) ])
+    go : (q : Bool) → ltb n 10 ≡ q → (10 ≤ n → Digits (n / 10) (digits_f f (n / 10))) → Digits n (elim q [ true ↦ (48 + n) ∷ [] | false ↦ digits_f f (n / 10) ++ ((48 + n % 10) ∷ []) ])
     go true e r =
         let l : n < 10 = ltb-true n 10 e in
         record {
           all = one_in n l;
           value = one_value n l;
-          clean = (clean-digit n l, tt);
+          clean = (clean_digit n l, tt);
           lead = λ p. ne_eqb (48 + n) 48 (λ z. omega arith);
           plain = refl;
         }
@@ -85,32 +85,32 @@ digitsF-ok (suc f) n h = go (ltb n 10) refl (λ l. digitsF-ok f (n / 10) (omega 
         let l : 10 ≤ n = ltb-false n 10 e in
         let i = r l in
         let m : n % 10 < 10 = omega arith in
-        let d : Lead (digitsF f (n / 10) ++ ((48 + n % 10) ∷ [])) = lead-append (digitsF f (n / 10)) _ (i.lead (omega arith)) in
+        let d : Lead (digits_f f (n / 10) ++ ((48 + n % 10) ∷ [])) = lead_append (digits_f f (n / 10)) _ (i.lead (omega arith)) in
         record {
-          all = allIn-append 10 (digitsF f (n / 10)) _ i.all (one_in (n % 10) m);
-          value = value-append 10 0 (digitsF f (n / 10)) (48 + n % 10) ∙ rw (i.value, digit-of (n % 10) m) (omega arith);
-          clean = clean-append (digitsF f (n / 10)) _ i.clean (clean-digit (n % 10) m, tt);
+          all = all_in_append 10 (digits_f f (n / 10)) _ i.all (one_in (n % 10) m);
+          value = value_append 10 0 (digits_f f (n / 10)) (48 + n % 10) ∙ rw (i.value, digit_of (n % 10) m) (omega arith);
+          clean = clean_append (digits_f f (n / 10)) _ i.clean (clean_digit (n % 10) m, tt);
           lead = λ p. d;
-          plain = plain-lead (digitsF f (n / 10) ++ ((48 + n % 10) ∷ [])) d;
+          plain = plain_lead (digits_f f (n / 10) ++ ((48 + n % 10) ∷ [])) d;
         }
 
-tok-of : (t : List ℕ) → Clean t → plain t ≡ true → Tok t
-tok-of [] h p = let z : ◌≡◌ {A = Bool} true false = sym p in absurd (differ z)
+tok_of : (t : List ℕ) → Clean t → plain t ≡ true → Tok t
+tok_of [] h p = let z : ◌≡◌ {A = Bool} true false = sym p in absurd (differ z)
   where
     differ : ◌≡◌ {A = Bool} true false → ⊥
     differ e = let z : ◌≡◌ {A = ℕ} 0 1 = cc in omega arith
-tok-of (c ∷ t) h p = h
+tok_of (c ∷ t) h p = h
 
-pub digits-tok : (n : ℕ) → Tok (digits n)
+pub digits_tok : (n : ℕ) → Tok (digits n)
 unfolding digits
-digits-tok n = let d = digitsF-ok (suc n) n (omega arith) in tok-of (digitsF (suc n) n) d.clean d.plain
+digits_tok n = let d = digits_f_ok (suc n) n (omega arith) in tok_of (digits_f (suc n) n) d.clean d.plain
 
-pub decimal-is : (t : List ℕ) (v : ℕ) → plain t ≡ true → allIn 10 t ≡ true → valueFrom 10 0 t ≡ v → v < 2 ^ 64 → decimal t ≡ Is v
+pub decimal_is : (t : List ℕ) (v : ℕ) → plain t ≡ true → all_in 10 t ≡ true → value_from 10 0 t ≡ v → v < 2 ^ 64 → decimal t ≡ Is v
 unfolding decimal scanned valued
-decimal-is t v p a e h = rw (p, decimal) (rw (a, scanned) (rw (e, lt-ltb v (2 ^ 64) h, valued) (ap Is e)))
+decimal_is t v p a e h = rw (p, decimal) (rw (a, scanned) (rw (e, lt-ltb v (2 ^ 64) h, valued) (ap Is e)))
 
-pub decimal-digits : (n : ℕ) → n < 2 ^ 64 → decimal (digits n) ≡ Is n
+pub decimal_digits : (n : ℕ) → n < 2 ^ 64 → decimal (digits n) ≡ Is n
 unfolding digits
-decimal-digits n h =
-    let d = digitsF-ok (suc n) n (omega arith) in
-    decimal-is (digitsF (suc n) n) n d.plain d.all d.value h
+decimal_digits n h =
+    let d = digits_f_ok (suc n) n (omega arith) in
+    decimal_is (digits_f (suc n) n) n d.plain d.all d.value h

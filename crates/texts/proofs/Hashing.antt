@@ -5,7 +5,7 @@ use mathlib.Core.List.{List}
 use native.Mathlib.Omega.{arith}
 use lib.ListN.{length, get_or}
 use borrow.Author.Tests.{le-leb, lt-leb}
-use Rattle.texts.specs.Model.Chains.{hashes, mixed, mixedFour, hashFrom, hashFours, hashOf}
+use Rattle.texts.specs.Model.Chains.{hashes, mixed, mixed_four, hash_from, hash_fours, hash_of}
 
 -- ---- byte by byte
 
@@ -13,23 +13,23 @@ use Rattle.texts.specs.Model.Chains.{hashes, mixed, mixedFour, hashFrom, hashFou
 pub record Hashing (t : List ℕ) (step r h p : ℕ) : Type 0 where
   pub most : ℕ
   pub enough : p ≤ most
-  pub left : r ≡ hashFrom most step t h p
+  pub left : r ≡ hash_from most step t h p
 
-pub hash-start : (t : List ℕ) (step h p : ℕ) → Hashing t step (hashFrom p step t h p) h p
-hash-start t step h p = record { most = p; enough = omega arith; left = refl }
+pub hash_start : (t : List ℕ) (step h p : ℕ) → Hashing t step (hash_from p step t h p) h p
+hash_start t step h p = record { most = p; enough = omega arith; left = refl }
 
 module _ (t : List ℕ) (step r h p : ℕ) where
-  pub hash-on : 1 ≤ step → step ≤ p → Hashing t step r h p → Hashing t step r (mixed h (get_or t (p - 1) 0)) (p - step)
-  hash-on a b k = go k.most k.enough k.left
+  pub hash_on : 1 ≤ step → step ≤ p → Hashing t step r h p → Hashing t step r (mixed h (get_or t (p - 1) 0)) (p - step)
+  hash_on a b k = go k.most k.enough k.left
     where
-      go : (m : ℕ) → p ≤ m → r ≡ hashFrom m step t h p → Hashing t step r (mixed h (get_or t (p - 1) 0)) (p - step)
+      go : (m : ℕ) → p ≤ m → r ≡ hash_from m step t h p → Hashing t step r (mixed h (get_or t (p - 1) 0)) (p - step)
       go zero c e = absurd (omega arith)
       go (suc m) c e = record { most = m; enough = omega arith; left = rw (le-leb step p b) at e }
 
-  pub hash-end : p < step → Hashing t step r h p → h ≡ r
-  hash-end b k = go k.most k.left
+  pub hash_end : p < step → Hashing t step r h p → h ≡ r
+  hash_end b k = go k.most k.left
     where
-      go : (m : ℕ) → r ≡ hashFrom m step t h p → h ≡ r
+      go : (m : ℕ) → r ≡ hash_from m step t h p → h ≡ r
       go zero e = cc
       go (suc m) e = let q : r ≡ h = (rw (lt-leb step p b) at e) in cc
 
@@ -38,26 +38,26 @@ module _ (t : List ℕ) (step r h p : ℕ) where
 pub record HashingFours (t : List ℕ) (step h p : ℕ) : Type 0 where
   pub most : ℕ
   pub enough : p ≤ most
-  pub left : hashOf t ≡ hashFours most step t h p
+  pub left : hash_of t ≡ hash_fours most step t h p
 
-pub fours-start : (t : List ℕ) → HashingFours t (length t / 32 + 1) (length t % hashes) (length t)
-unfolding hashOf
-fours-start t = record { most = length t; enough = omega arith; left = refl }
+pub fours_start : (t : List ℕ) → HashingFours t (length t / 32 + 1) (length t % hashes) (length t)
+unfolding hash_of
+fours_start t = record { most = length t; enough = omega arith; left = refl }
 
 module _ (t : List ℕ) (step h p : ℕ) where
   abbrev next : ℕ
-  next = mixedFour h (get_or t (p - 1) 0) (get_or t (p - step - 1) 0) (get_or t (p - 2 * step - 1) 0) (get_or t (p - 3 * step - 1) 0)
+  next = mixed_four h (get_or t (p - 1) 0) (get_or t (p - step - 1) 0) (get_or t (p - 2 * step - 1) 0) (get_or t (p - 3 * step - 1) 0)
 
-  pub fours-on : 1 ≤ step → 4 * step ≤ p → HashingFours t step h p → HashingFours t step next (p - 4 * step)
-  fours-on a b k = go k.most k.enough k.left
+  pub fours_on : 1 ≤ step → 4 * step ≤ p → HashingFours t step h p → HashingFours t step next (p - 4 * step)
+  fours_on a b k = go k.most k.enough k.left
     where
-      go : (m : ℕ) → p ≤ m → hashOf t ≡ hashFours m step t h p → HashingFours t step next (p - 4 * step)
+      go : (m : ℕ) → p ≤ m → hash_of t ≡ hash_fours m step t h p → HashingFours t step next (p - 4 * step)
       go zero c e = absurd (omega arith)
       go (suc m) c e = record { most = m; enough = omega arith; left = rw (le-leb (4 * step) p b) at e }
 
-  pub fours-end : p < 4 * step → HashingFours t step h p → hashOf t ≡ hashFrom p step t h p
-  fours-end b k = go k.most k.left
+  pub fours_end : p < 4 * step → HashingFours t step h p → hash_of t ≡ hash_from p step t h p
+  fours_end b k = go k.most k.left
     where
-      go : (m : ℕ) → hashOf t ≡ hashFours m step t h p → hashOf t ≡ hashFrom p step t h p
+      go : (m : ℕ) → hash_of t ≡ hash_fours m step t h p → hash_of t ≡ hash_from p step t h p
       go zero e = e
       go (suc m) e = rw (lt-leb (4 * step) p b) at e

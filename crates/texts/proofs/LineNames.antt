@@ -3,10 +3,10 @@ use Prim.Native.Nat.{ℕ}
 use mathlib.Core.Path.{◌≡◌, refl}
 use mathlib.Core.List.{List}
 use Rattle.tables.specs.Kinds.{row_of}
-use Rattle.texts.specs.Forms.{formRow}
-use Rattle.texts.specs.Reading.{Word, word, unknown, form_of, behind, nameIn, nameBehind}
+use Rattle.texts.specs.Forms.{form_row}
+use Rattle.texts.specs.Reading.{Word, word, unknown, form_of, behind, name_in, name_behind}
 
-pub name-behind : (w : Word) → nameBehind w ≡ nameIn (form_of w) (behind w)
-unfolding formRow row_of
-name-behind unknown = refl
-name-behind (word f ts) = refl
+pub name_behind_lem : (w : Word) → name_behind w ≡ name_in (form_of w) (behind w)
+unfolding form_row row_of
+name_behind_lem unknown = refl
+name_behind_lem (word f ts) = refl

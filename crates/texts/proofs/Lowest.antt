@@ -22,27 +22,27 @@ abbrev pub NoneHolds : List (Refusal × Bool) → Type 0
 NoneHolds [] = Unit {0}
 NoneHolds (x ∷ xs) = (x.1 ≡ false) × NoneHolds xs
 
-pub none-holds : (xs : List (Refusal × Bool)) (y : Reply) → NoneHolds xs → lowest xs y ≡ y
+pub none_holds : (xs : List (Refusal × Bool)) (y : Reply) → NoneHolds xs → lowest xs y ≡ y
 unfolding lowest
-none-holds [] y h = refl
-none-holds (x ∷ xs) y h = passes x.0 x.1 xs y h.0 ∙ none-holds xs y h.1
+none_holds [] y h = refl
+none_holds (x ∷ xs) y h = passes x.0 x.1 xs y h.0 ∙ none_holds xs y h.1
 
 -- a record is given only then
-pub got-none : (xs : List (Refusal × Bool)) (y : Reply) (r : List ℕ) (s : List Bool) → lowest xs y ≡ got r s → NoneHolds xs × (y ≡ got r s)
+pub got_none : (xs : List (Refusal × Bool)) (y : Reply) (r : List ℕ) (s : List Bool) → lowest xs y ≡ got r s → NoneHolds xs × (y ≡ got r s)
 unfolding lowest
-got-none [] y r s e = (tt, e)
-got-none (x ∷ xs) y r s e = go x.1 refl (got-none xs y r s)
+got_none [] y r s e = (tt, e)
+got_none (x ∷ xs) y r s e = go x.1 refl (got_none xs y r s)
   where
     go : (b : Bool) → x.1 ≡ b → (lowest xs y ≡ got r s → NoneHolds xs × (y ≡ got r s)) → NoneHolds (x ∷ xs) × (y ≡ got r s)
     go true h f = let z : no x.0 ≡ got r s = sym (holds x.0 x.1 xs y h) ∙ e in let w : ◌≡◌ {A = ℕ} 0 1 = cc in absurd (omega arith)
     go false h f = let g = f (sym (passes x.0 x.1 xs y h) ∙ e) in ((h, g.0), g.1)
 
 -- 22 and 4 again, last of all
-pub stopped-last : (q : Refusal) (test : List Bool → Bool) (xs : List (Refusal × Bool)) (rec : List ℕ) (s : List Bool)
+pub stopped_last : (q : Refusal) (test : List Bool → Bool) (xs : List (Refusal × Bool)) (rec : List ℕ) (s : List Bool)
     → stopped q test (lowest xs (got rec s)) ≡ lowest (xs ++ ((q, test s) ∷ [])) (got rec s)
 unfolding lowest stopped
-stopped-last q test [] rec s = refl
-stopped-last q test (x ∷ xs) rec s = go x.1 refl (stopped-last q test xs rec s)
+stopped_last q test [] rec s = refl
+stopped_last q test (x ∷ xs) rec s = go x.1 refl (stopped_last q test xs rec s)
   where
     later : List (Refusal × Bool)
     later = xs ++ ((q, test s) ∷ [])

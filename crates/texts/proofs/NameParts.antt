@@ -8,25 +8,25 @@ use lib.Dec.{eqb, ltb}
 use lib.ListN.{length, take, drop, get_or}
 use borrow.Author.Tests.{ltb-true, ltb-false, lt-ltb, le-ltb, eqb-true, eqb-false}
 use Rattle.tables.specs.declared.Ty.{Ty}
-use Rattle.tables.proofs.Kept.{no-yes}
+use Rattle.tables.proofs.Kept.{no_yes}
 use Rattle.texts.specs.declared.Taken.{Taken}
 use Rattle.texts.specs.declared.Readout.{Readout}
 use Rattle.texts.specs.Split.{tokens}
 use Rattle.texts.specs.Names.{only}
-use Rattle.texts.specs.Reading.{extraTokens, nameIn}
-use Rattle.texts.specs.Model.Stages.{Took, took, malformed, takenIn, ended}
-use Rattle.texts.specs.Model.Structs.{asTook, asRead, several, NextToken, tookAt}
-use Rattle.texts.proofs.Places.{no-token, several-more}
-use Rattle.texts.proofs.Readouts.{refused-what}
-use Rattle.texts.proofs.Steps.{ended-bad, ended-many}
-use Rattle.texts.proofs.Staged.{taken-rest}
+use Rattle.texts.specs.Reading.{extra_tokens, name_in}
+use Rattle.texts.specs.Model.Stages.{Took, took, malformed, taken_in, ended}
+use Rattle.texts.specs.Model.Structs.{as_took, as_read, several, NextToken, took_at}
+use Rattle.texts.proofs.Places.{no_token, several_more}
+use Rattle.texts.proofs.Readouts.{refused_what}
+use Rattle.texts.proofs.Steps.{ended_bad, ended_many}
+use Rattle.texts.proofs.Staged.{taken_rest}
 
 -- ---- the token from a to z, the first from the place i on, and what stands behind it, from the place q on
 
 module _ (l : List ℕ) (i a z q : ℕ) (ordered : a ≤ z) (first : NextToken l i a z) (same : tokens (drop q l) ≡ tokens (drop z l)) (least : z ≤ q) (most : q ≤ length l)
     (some : q < length l → get_or l q 0 ≡ 32 → ⊥) where
-  pub is-several : ltb q (length l) ≡ several (tokens (drop i l))
-  is-several = go (eqb a z) refl (ltb q (length l)) refl
+  pub is_several : ltb q (length l) ≡ several (tokens (drop i l))
+  is_several = go (eqb a z) refl (ltb q (length l)) refl
     where
       one : a < z → several (tokens (drop i l)) ≡ several (take (z - a) (drop a l) ∷ tokens (drop q l))
       one h = ap several (first.0 h) ∙ ap (λ (x : List (List ℕ)). several (take (z - a) (drop a l) ∷ x)) (sym same)
@@ -36,18 +36,18 @@ module _ (l : List ℕ) (i a z q : ℕ) (ordered : a ≤ z) (first : NextToken l
       go false e true f =
           let k = ltb-true q (length l) f in
           let n : a ≡ z → ⊥ = eqb-false a z e in
-          f ∙ sym (one (omega (arith, n, ordered)) ∙ several-more l q (take (z - a) (drop a l)) k (some k))
+          f ∙ sym (one (omega (arith, n, ordered)) ∙ several_more l q (take (z - a) (drop a l)) k (some k))
       go false e false f =
           let n : a ≡ z → ⊥ = eqb-false a z e in
-          f ∙ sym (one (omega (arith, n, ordered)) ∙ ap (λ (x : List (List ℕ)). several (take (z - a) (drop a l) ∷ x)) (no-token l q (ltb-false q (length l) f)))
+          f ∙ sym (one (omega (arith, n, ordered)) ∙ ap (λ (x : List (List ℕ)). several (take (z - a) (drop a l) ∷ x)) (no_token l q (ltb-false q (length l) f)))
 
 -- alone it is the only one
-only-first : (t : List ℕ) (ts : List (List ℕ)) → several (t ∷ ts) ≡ false → only (t ∷ ts) ≡ t
-only-first t [] h = refl
-only-first t (u ∷ ts) h = absurd (no-yes (sym h))
+only_first : (t : List ℕ) (ts : List (List ℕ)) → several (t ∷ ts) ≡ false → only (t ∷ ts) ≡ t
+only_first t [] h = refl
+only_first t (u ∷ ts) h = absurd (no_yes (sym h))
 
-pub is-only : (l : List ℕ) (i a z : ℕ) → a ≤ z → NextToken l i a z → several (tokens (drop i l)) ≡ false → take (z - a) (drop a l) ≡ only (tokens (drop i l))
-is-only l i a z ordered first s = go (eqb a z) refl
+pub is_only : (l : List ℕ) (i a z : ℕ) → a ≤ z → NextToken l i a z → several (tokens (drop i l)) ≡ false → take (z - a) (drop a l) ≡ only (tokens (drop i l))
+is_only l i a z ordered first s = go (eqb a z) refl
   where
     go : (p : Bool) → eqb a z ≡ p → take (z - a) (drop a l) ≡ only (tokens (drop i l))
     go true e =
@@ -57,22 +57,22 @@ is-only l i a z ordered first s = go (eqb a z) refl
     go false e =
         let n : a ≡ z → ⊥ = eqb-false a z e in
         let h = first.0 (omega (arith, n, ordered)) in
-        sym (ap only h ∙ only-first (take (z - a) (drop a l)) (tokens (drop z l)) (sym (ap several h) ∙ s))
+        sym (ap only h ∙ only_first (take (z - a) (drop a l)) (tokens (drop z l)) (sym (ap several h) ∙ s))
 
 -- ---- a line that gives a record
 
 module _ (L : ℕ → Ty) (G : Bool → ℕ → Bool) (ds : List ℕ) (f : ℕ) (l : List ℕ) (t : Taken) where
   -- has its numbers, and one token behind them at most
-  record-taken : {r : Readout} → r ≡ asRead (ended L G ds f (asTook l t)) → r.what ≡ 0 → (t.ok ≡ true) × (several (tokens (drop t.at l)) ≡ false)
-  record-taken {r} e h = go t.ok refl (several (tokens (drop t.at l))) refl
+  record_taken : {r : Readout} → r ≡ as_read (ended L G ds f (as_took l t)) → r.what ≡ 0 → (t.ok ≡ true) × (several (tokens (drop t.at l)) ≡ false)
+  record_taken {r} e h = go t.ok refl (several (tokens (drop t.at l))) refl
     where
       go : (p : Bool) → t.ok ≡ p → (q : Bool) → several (tokens (drop t.at l)) ≡ q → (t.ok ≡ true) × (several (tokens (drop t.at l)) ≡ false)
       go true a false b = (a, b)
-      go false a q b = refused-what _ (e ∙ ap asRead (ended-bad L G f t.rec t.minus t.len ds t.big t.ok (tokens (drop t.at l)) a)) h
-      go true a true b = refused-what _ (e ∙ ap asRead (ended-many L G f t.rec t.minus t.len ds t.big t.ok (tokens (drop t.at l)) a b)) h
+      go false a q b = refused_what _ (e ∙ ap as_read (ended_bad L G f t.rec t.minus t.len ds t.big t.ok (tokens (drop t.at l)) a)) h
+      go true a true b = refused_what _ (e ∙ ap as_read (ended_many L G f t.rec t.minus t.len ds t.big t.ok (tokens (drop t.at l)) a b)) h
 
-  pub is_name : {r : Readout} (ts : List (List ℕ)) (a z : ℕ) → takenIn f ts ≡ asTook l t → a ≤ z → NextToken l t.at a z → r ≡ asRead (ended L G ds f (asTook l t)) → r.what ≡ 0
-      → take (z - a) (drop a l) ≡ nameIn f ts
+  pub is_name : {r : Readout} (ts : List (List ℕ)) (a z : ℕ) → taken_in f ts ≡ as_took l t → a ≤ z → NextToken l t.at a z → r ≡ as_read (ended L G ds f (as_took l t)) → r.what ≡ 0
+      → take (z - a) (drop a l) ≡ name_in f ts
   is_name ts a z k ordered first e h =
-      let p = record-taken e h in
-      is-only l t.at a z ordered first p.1 ∙ ap only (sym (taken-rest f ts l t k p.0))
+      let p = record_taken e h in
+      is_only l t.at a z ordered first p.1 ∙ ap only (sym (taken_rest f ts l t k p.0))

@@ -10,11 +10,11 @@ use borrow.Author.Tests.{ltb-true, eqb-true, eqb-false}
 use Rattle.tables.specs.Kinds.{row_of}
 use Rattle.tables.proofs.Laws.{true_of}
 use Rattle.tables.proofs.Every.{every, at_each}
-use Rattle.texts.specs.Forms.{formRow, numbersOf, sortWord}
-use Rattle.texts.specs.Split.{glue, split, nonEmpty, tokens, sameBytes}
+use Rattle.texts.specs.Forms.{form_row, numbers_of, sort_word}
+use Rattle.texts.specs.Split.{glue, split, non_empty, tokens, same_bytes}
 use Rattle.texts.specs.Names.{only}
-use Rattle.texts.specs.Reading.{findIn, findWord, Word, word, unknown, formWord, sortWords, word_in, form_of, behind, nameIn, nameBehind, lineName}
-use Rattle.texts.proofs.Words.{InForms, word-forms}
+use Rattle.texts.specs.Reading.{find_in, find_word, Word, word, unknown, form_word, sort_words, word_in, form_of, behind, name_in, name_behind, line_name}
+use Rattle.texts.proofs.Words.{InForms, word_forms}
 
 -- ---- tokens take two bytes each, but the last
 
@@ -23,10 +23,10 @@ abbrev weight : List (List ℕ) → ℕ
 weight [] = 0
 weight (p ∷ ps) = length p + 1 + weight ps
 
-split-weight : (b : ℕ) (l : List ℕ) → (weight (split b l) ≡ length l + 1) × (0 < length (split b l))
+split_weight : (b : ℕ) (l : List ℕ) → (weight (split b l) ≡ length l + 1) × (0 < length (split b l))
 unfolding split
-split-weight b [] = (refl, omega arith)
-split-weight b (c ∷ l) = go (eqb c b) (split b l) (split-weight b l)
+split_weight b [] = (refl, omega arith)
+split_weight b (c ∷ l) = go (eqb c b) (split b l) (split_weight b l)
   where
     go : (q : Bool) (ls : List (List ℕ)) → (weight ls ≡ length l + 1) × (0 < length ls)
         → (weight (elim q [ true ↦ [] ∷ ls | false ↦ glue c ls ]) ≡ length (c ∷ l) + 1) × (0 < length {A = List ℕ} (elim q [ true ↦ [] ∷ ls | false ↦ glue c ls ]))
@@ -34,75 +34,75 @@ split-weight b (c ∷ l) = go (eqb c b) (split b l) (split-weight b l)
     go false [] h = absurd (omega (arith, h.1))
     go false (p ∷ ps) h = (omega (arith, h.0), omega arith)
 
-filled-weight : (ls : List (List ℕ)) → 2 * length (nonEmpty ls) ≤ weight ls
-filled-weight [] = omega arith
-filled-weight ([] ∷ ls) = omega (arith, filled-weight ls)
-filled-weight ((c ∷ l) ∷ ls) = omega (arith, filled-weight ls)
+filled_weight : (ls : List (List ℕ)) → 2 * length (non_empty ls) ≤ weight ls
+filled_weight [] = omega arith
+filled_weight ([] ∷ ls) = omega (arith, filled_weight ls)
+filled_weight ((c ∷ l) ∷ ls) = omega (arith, filled_weight ls)
 
-token-bytes : (l : List ℕ) → 2 * length (tokens l) ≤ length l + 1
+token_bytes : (l : List ℕ) → 2 * length (tokens l) ≤ length l + 1
 unfolding tokens
-token-bytes l = omega (arith, filled-weight (split 32 l), (split-weight 32 l).0)
+token_bytes l = omega (arith, filled_weight (split 32 l), (split_weight 32 l).0)
 
 -- ---- a line with a name has four tokens
 
 numbered? : ℕ → Bool
-numbered? i = ltb 0 (numbersOf (formRow (suc i)))
+numbered? i = ltb 0 (numbers_of (form_row (suc i)))
 
-all-numbered : T (every numbered? 68)
-unfolding numbered? formRow row_of
-all-numbered = tt
+all_numbered : T (every numbered? 68)
+unfolding numbered? form_row row_of
+all_numbered = tt
 
-numbers-some : (f : ℕ) → 1 ≤ f → f ≤ 68 → 0 < numbersOf (formRow f)
+numbers_some : (f : ℕ) → 1 ≤ f → f ≤ 68 → 0 < numbers_of (form_row f)
 unfolding numbered?
-numbers-some zero a b = absurd (omega arith)
-numbers-some (suc i) a b = ltb-true 0 (numbersOf (formRow (suc i))) (true_of (numbered? i) (at_each numbered? 68 all-numbered i (omega arith)))
+numbers_some zero a b = absurd (omega arith)
+numbers_some (suc i) a b = ltb-true 0 (numbers_of (form_row (suc i))) (true_of (numbered? i) (at_each numbered? 68 all_numbered i (omega arith)))
 
 -- its word is one of its tokens
-form-behind : (f : ℕ) (ts : List (List ℕ)) → length (behind (formWord f ts)) ≤ length ts
-form-behind zero ts = omega arith
-form-behind (suc f) ts = omega arith
+form_behind : (f : ℕ) (ts : List (List ℕ)) → length (behind (form_word f ts)) ≤ length ts
+form_behind zero ts = omega arith
+form_behind (suc f) ts = omega arith
 
-word-behind : (ts : List (List ℕ)) → 0 < length ts → length (behind (word_in ts)) < length ts
+word_behind : (ts : List (List ℕ)) → 0 < length ts → length (behind (word_in ts)) < length ts
 unfolding word_in
-word-behind [] h = absurd (omega arith)
-word-behind (t ∷ ts) h = go (sameBytes t sortWord)
+word_behind [] h = absurd (omega arith)
+word_behind (t ∷ ts) h = go (same_bytes t sort_word)
   where
-    sorted : (us : List (List ℕ)) → length (behind (sortWords us)) ≤ length us
+    sorted : (us : List (List ℕ)) → length (behind (sort_words us)) ≤ length us
     sorted [] = omega arith
-    sorted (u ∷ us) = omega (arith, form-behind (findIn 1 2 u) us)
+    sorted (u ∷ us) = omega (arith, form_behind (find_in 1 2 u) us)
 
-    go : (q : Bool) → length (behind (elim q [ true ↦ sortWords ts | false ↦ formWord (findWord t) ts ])) < length (t ∷ ts)
+    go : (q : Bool) → length (behind (elim q [ true ↦ sort_words ts | false ↦ form_word (find_word t) ts ])) < length (t ∷ ts)
     go true = omega (arith, sorted ts)
-    go false = omega (arith, form-behind (findWord t) ts)
+    go false = omega (arith, form_behind (find_word t) ts)
 
-only-some : (ts : List (List ℕ)) → 0 < length (only ts) → 0 < length ts
-only-some [] h = absurd (omega arith)
-only-some (t ∷ ts) h = omega arith
+only_some : (ts : List (List ℕ)) → 0 < length (only ts) → 0 < length ts
+only_some [] h = absurd (omega arith)
+only_some (t ∷ ts) h = omega arith
 
-name-some : (w : Word) → InForms w → 0 < length (nameBehind w) → 2 ≤ length (behind w)
-name-some unknown f h = absurd (omega arith)
-name-some (word f ts) b h =
-    let n = numbers-some f b.0 b.1.0 in
-    omega (arith, n, only-some (drop (numbersOf (formRow f)) ts) h, length-drop (numbersOf (formRow f)) ts)
+name_some : (w : Word) → InForms w → 0 < length (name_behind w) → 2 ≤ length (behind w)
+name_some unknown f h = absurd (omega arith)
+name_some (word f ts) b h =
+    let n = numbers_some f b.0 b.1.0 in
+    omega (arith, n, only_some (drop (numbers_of (form_row f)) ts) h, length-drop (numbers_of (form_row f)) ts)
 
 -- nothing stands behind no word
-none-behind : (ts : List (List ℕ)) → length ts ≡ 0 → length (behind (word_in ts)) ≡ 0
+none_behind : (ts : List (List ℕ)) → length ts ≡ 0 → length (behind (word_in ts)) ≡ 0
 unfolding word_in
-none-behind [] e = refl
-none-behind (t ∷ ts) e = absurd (omega arith)
+none_behind [] e = refl
+none_behind (t ∷ ts) e = absurd (omega arith)
 
-name-tokens : (ts : List (List ℕ)) → 0 < length (lineName ts) → 4 ≤ length ts
-name-tokens ts h = go (eqb (length (drop 1 ts)) 0) refl
+name_tokens : (ts : List (List ℕ)) → 0 < length (line_name ts) → 4 ≤ length ts
+name_tokens ts h = go (eqb (length (drop 1 ts)) 0) refl
   where
     k : 2 ≤ length (behind (word_in (drop 1 ts)))
-    k = name-some (word_in (drop 1 ts)) (word-forms (drop 1 ts)) h
+    k = name_some (word_in (drop 1 ts)) (word_forms (drop 1 ts)) h
 
     go : (q : Bool) → eqb (length (drop 1 ts)) 0 ≡ q → 4 ≤ length ts
-    go true e = absurd (omega (arith, k, none-behind (drop 1 ts) (eqb-true (length (drop 1 ts)) 0 e)))
+    go true e = absurd (omega (arith, k, none_behind (drop 1 ts) (eqb-true (length (drop 1 ts)) 0 e)))
     go false e =
         let n : length (drop 1 ts) ≡ 0 → ⊥ = eqb-false (length (drop 1 ts)) 0 e in
         let o : 0 < length (drop 1 ts) = omega (arith, n) in
-        omega (arith, k, word-behind (drop 1 ts) o, length-drop 1 ts)
+        omega (arith, k, word_behind (drop 1 ts) o, length-drop 1 ts)
 
-pub named-bytes : (l : List ℕ) → 0 < length (lineName (tokens l)) → 7 ≤ length l
-named-bytes l h = omega (arith, name-tokens (tokens l) h, token-bytes l)
+pub named_bytes : (l : List ℕ) → 0 < length (line_name (tokens l)) → 7 ≤ length l
+named_bytes l h = omega (arith, name_tokens (tokens l) h, token_bytes l)

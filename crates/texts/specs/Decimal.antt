@@ -11,14 +11,14 @@ digit c =
       | false ↦ elim (leb 65 c && leb c 70) [ true ↦ c - 55 | false ↦ elim (leb 97 c && leb c 102) [ true ↦ c - 87 | false ↦ 99 ] ]
     ]
 
-unfoldable pub allIn : ℕ → List ℕ → Bool
-allIn b [] = true
-allIn b (c ∷ t) = ltb (digit c) b && allIn b t
+unfoldable pub all_in : ℕ → List ℕ → Bool
+all_in b [] = true
+all_in b (c ∷ t) = ltb (digit c) b && all_in b t
 
 -- the value of the digits t behind a number v
-unfoldable pub valueFrom : ℕ → ℕ → List ℕ → ℕ
-valueFrom b v [] = v
-valueFrom b v (c ∷ t) = valueFrom b (v * b + digit c) t
+unfoldable pub value_from : ℕ → ℕ → List ℕ → ℕ
+value_from b v [] = v
+value_from b v (c ∷ t) = value_from b (v * b + digit c) t
 
 -- no leading zero
 abbrev pub plain : List ℕ → Bool
@@ -32,27 +32,27 @@ some (c ∷ t) = true
 
 -- a number, where it is below 2 ^ 64
 unfoldable pub valued : ℕ → List ℕ → Num
-valued b t = elim (ltb (valueFrom b 0 t) (2 ^ 64)) [ true ↦ Is (valueFrom b 0 t) | false ↦ Big ]
+valued b t = elim (ltb (value_from b 0 t) (2 ^ 64)) [ true ↦ Is (value_from b 0 t) | false ↦ Big ]
 
 -- the number that digits have, where there are no other bytes
 unfoldable pub scanned : ℕ → List ℕ → Num
-scanned b t = elim (allIn b t) [ true ↦ valued b t | false ↦ Bad ]
+scanned b t = elim (all_in b t) [ true ↦ valued b t | false ↦ Bad ]
 
 -- a decimal number has no leading zero and is below 2 ^ 64; the others are at most `most` digits long
 unfoldable pub decimal : List ℕ → Num
 decimal t = elim (plain t) [ true ↦ scanned 10 t | false ↦ Bad ]
 
-unfoldable pub digitsIn : ℕ → ℕ → List ℕ → Num
-digitsIn b most t =
-    elim (some t && allIn b t) [
-      | true ↦ elim (leb (length t) most) [ true ↦ Is (valueFrom b 0 t) | false ↦ Big ]
+unfoldable pub digits_in : ℕ → ℕ → List ℕ → Num
+digits_in b most t =
+    elim (some t && all_in b t) [
+      | true ↦ elim (leb (length t) most) [ true ↦ Is (value_from b 0 t) | false ↦ Big ]
       | false ↦ Bad
     ]
 
-unfoldable pub digitsF : ℕ → ℕ → List ℕ
-digitsF zero n = []
-digitsF (suc f) n = elim (ltb n 10) [ true ↦ (48 + n) ∷ [] | false ↦ digitsF f (n / 10) ++ ((48 + n % 10) ∷ []) ]
+unfoldable pub digits_f : ℕ → ℕ → List ℕ
+digits_f zero n = []
+digits_f (suc f) n = elim (ltb n 10) [ true ↦ (48 + n) ∷ [] | false ↦ digits_f f (n / 10) ++ ((48 + n % 10) ∷ []) ]
 
 -- the decimal digits of n
 unfoldable pub digits : ℕ → List ℕ
-digits n = digitsF (suc n) n
+digits n = digits_f (suc n) n

@@ -7,28 +7,28 @@ use Rattle.tables.specs.declared.Refusal.TheVariants.{NotATable, TextTooLong, Wr
 use Rattle.tables.specs.declared.Answer.{Answer}
 use Rattle.tables.specs.declared.Answer.TheVariants.{Done, Refused}
 use Rattle.tables.specs.Pick.{inside, all}
-use Rattle.tables.specs.Kinds.{word_of, class_at, namesLine}
-use Rattle.tables.specs.Lines.{line_of, fields, sortIn, firstIn}
-use Rattle.tables.specs.Types.{Ctx, noCtx, ty_at, given, growAll}
+use Rattle.tables.specs.Kinds.{word_of, class_at, names_line}
+use Rattle.tables.specs.Lines.{line_of, fields, sort_in, first_in}
+use Rattle.tables.specs.Types.{Ctx, no_ctx, ty_at, given, grow_all}
 use Rattle.tables.specs.Rules.{fault}
-use Rattle.tables.specs.Layout.{whole, room, withIds, filled}
+use Rattle.tables.specs.Layout.{whole, room, with_ids, filled}
 use Rattle.tables.specs.Ids.{follows}
 use Rattle.tables.specs.Answers.{Outcome, told}
 use Rattle.texts.specs.declared.Num.{Num}
 use Rattle.texts.specs.declared.Num.TheVariants.{Bad, Big, Is}
-use Rattle.texts.specs.Forms.{formRow, kind_of, first_of, numbersOf, sortWord}
-use Rattle.texts.specs.Split.{split, up_to, tokens, sameBytes}
-use Rattle.texts.specs.Decimal.{decimal, digitsIn}
+use Rattle.texts.specs.Forms.{form_row, kind_of, first_of, numbers_of, sort_word}
+use Rattle.texts.specs.Split.{split, up_to, tokens, same_bytes}
+use Rattle.texts.specs.Decimal.{decimal, digits_in}
 use Rattle.texts.specs.Operands.{resolved}
-use Rattle.texts.specs.Names.{only, used, withName}
-use Rattle.texts.specs.Minus.{minusesFit, minuses, lineRecords, lineIds, noSigns}
+use Rattle.texts.specs.Names.{only, used, with_name}
+use Rattle.texts.specs.Minus.{minuses_fit, minuses, line_records, line_ids, no_signs}
 
 -- ---- the word
 
 -- the first of n forms from k on that has the word t, or 0
-unfoldable pub findIn : ℕ → ℕ → List ℕ → ℕ
-findIn k zero t = 0
-findIn k (suc n) t = elim (sameBytes t (word_of (formRow k))) [ true ↦ k | false ↦ findIn (suc k) n t ]
+unfoldable pub find_in : ℕ → ℕ → List ℕ → ℕ
+find_in k zero t = 0
+find_in k (suc n) t = elim (same_bytes t (word_of (form_row k))) [ true ↦ k | false ↦ find_in (suc k) n t ]
 
 -- m, or n where m is 0
 abbrev pub or_else : ℕ → ℕ → ℕ
@@ -37,26 +37,26 @@ or_else (suc m) n = suc m
 
 -- The form other than a sort's that has the word t, or 0. A mask, kind 56, has no word: these are the kinds 3 to 55, the other words for a constant, and the overflow detectors.
 -- Their words differ, so the order in which they are gone through changes no answer.
-abbrev pub findWord : List ℕ → ℕ
-findWord t = or_else (findIn 3 53 t) (or_else (findIn 64 5 t) (findIn 57 7 t))
+abbrev pub find_word : List ℕ → ℕ
+find_word t = or_else (find_in 3 53 t) (or_else (find_in 64 5 t) (find_in 57 7 t))
 
 -- a form and the tokens behind its word
 pub data Word : Type 0 where
   unknown : Word
   word : (f : ℕ) (rest : List (List ℕ)) → Word
 
-abbrev pub formWord : ℕ → List (List ℕ) → Word
-formWord zero ts = unknown
-formWord (suc f) ts = word (suc f) ts
+abbrev pub form_word : ℕ → List (List ℕ) → Word
+form_word zero ts = unknown
+form_word (suc f) ts = word (suc f) ts
 
 -- behind `sort` a second word says which of kinds 1 and 2 it is
-abbrev pub sortWords : List (List ℕ) → Word
-sortWords [] = unknown
-sortWords (t ∷ ts) = formWord (findIn 1 2 t) ts
+abbrev pub sort_words : List (List ℕ) → Word
+sort_words [] = unknown
+sort_words (t ∷ ts) = form_word (find_in 1 2 t) ts
 
 unfoldable pub word_in : List (List ℕ) → Word
 word_in [] = unknown
-word_in (t ∷ ts) = elim (sameBytes t sortWord) [ true ↦ sortWords ts | false ↦ formWord (findWord t) ts ]
+word_in (t ∷ ts) = elim (same_bytes t sort_word) [ true ↦ sort_words ts | false ↦ form_word (find_word t) ts ]
 
 -- its form, 0 where it is unknown or missing, and what stands behind it
 abbrev pub form_of : Word → ℕ
@@ -70,43 +70,43 @@ behind (word f ts) = ts
 -- ---- the numbers: a line's sort, where it has one, and its operands
 
 -- the token begins with a minus
-abbrev pub leadsMinus : List ℕ → Bool
-leadsMinus [] = false
-leadsMinus (c ∷ t) = eqb c 45
+abbrev pub leads_minus : List ℕ → Bool
+leads_minus [] = false
+leads_minus (c ∷ t) = eqb c 45
 
 -- "An operand token yields a line and a sign": a token for the place j of a record has a minus, which only one that names a line may have
-abbrev pub signAt : (f j : ℕ) → List ℕ → Bool
-signAt f j t = namesLine (class_at (formRow f) j) && leadsMinus t
+abbrev pub sign_at : (f j : ℕ) → List ℕ → Bool
+sign_at f j t = names_line (class_at (form_row f) j) && leads_minus t
 
 -- a number without a sign: the value of const is in binary, that of consth in hexadecimal digits
-abbrev pub plainAt : (f j : ℕ) → List ℕ → Num
-plainAt f j t =
+abbrev pub plain_at : (f j : ℕ) → List ℕ → Num
+plain_at f j t =
     elim (eqb f 64 && eqb j 2) [
-      | true ↦ digitsIn 2 64 t
-      | false ↦ elim (eqb f 65 && eqb j 2) [ true ↦ digitsIn 16 16 t | false ↦ decimal t ]
+      | true ↦ digits_in 2 64 t
+      | false ↦ elim (eqb f 65 && eqb j 2) [ true ↦ digits_in 16 16 t | false ↦ decimal t ]
     ]
 
 -- the number that a token is, for the place j of a record: that of its digits, behind the minus where it has one
 abbrev pub number_at : (f j : ℕ) → List ℕ → Num
-number_at f j t = elim (signAt f j t) [ true ↦ decimal (drop 1 t) | false ↦ plainAt f j t ]
+number_at f j t = elim (sign_at f j t) [ true ↦ decimal (drop 1 t) | false ↦ plain_at f j t ]
 
 -- tokens as numbers for the places j and up
-abbrev pub numbersFrom : (f j : ℕ) → List (List ℕ) → List Num
-numbersFrom f j [] = []
-numbersFrom f j (t ∷ ts) = number_at f j t ∷ numbersFrom f (suc j) ts
+abbrev pub numbers_from : (f j : ℕ) → List (List ℕ) → List Num
+numbers_from f j [] = []
+numbers_from f j (t ∷ ts) = number_at f j t ∷ numbers_from f (suc j) ts
 
 -- one of the numbers is malformed; one is too large
-abbrev pub anyBad : List Num → Bool
-anyBad [] = false
-anyBad (Bad ∷ ns) = true
-anyBad (Big ∷ ns) = anyBad ns
-anyBad (Is v ∷ ns) = anyBad ns
+abbrev pub any_bad : List Num → Bool
+any_bad [] = false
+any_bad (Bad ∷ ns) = true
+any_bad (Big ∷ ns) = any_bad ns
+any_bad (Is v ∷ ns) = any_bad ns
 
-abbrev pub anyBig : List Num → Bool
-anyBig [] = false
-anyBig (Bad ∷ ns) = anyBig ns
-anyBig (Big ∷ ns) = true
-anyBig (Is v ∷ ns) = anyBig ns
+abbrev pub any_big : List Num → Bool
+any_big [] = false
+any_big (Bad ∷ ns) = any_big ns
+any_big (Big ∷ ns) = true
+any_big (Is v ∷ ns) = any_big ns
 
 -- numbers at the places j and up of a record; one that has no value leaves its place as it is
 abbrev pub placed : (j : ℕ) → List Num → List ℕ → List ℕ
@@ -116,9 +116,9 @@ placed j (Big ∷ ns) rec = placed (suc j) ns rec
 placed j (Is v ∷ ns) rec = placed (suc j) ns (set rec j v)
 
 -- which places of a record have a minus: the signs of tokens at the places j and up, the other places as in s
-abbrev pub signsFrom : (f j : ℕ) → List (List ℕ) → List Bool → List Bool
-signsFrom f j [] s = s
-signsFrom f j (t ∷ ts) s = signsFrom f (suc j) ts (set s j (signAt f j t))
+abbrev pub signs_from : (f j : ℕ) → List (List ℕ) → List Bool → List Bool
+signs_from f j [] s = s
+signs_from f j (t ∷ ts) s = signs_from f (suc j) ts (set s j (sign_at f j t))
 
 -- the last of a list, or t where it is empty
 abbrev pub last_of : {A : Type 0} → A → List A → A
@@ -128,56 +128,56 @@ last_of t (u ∷ ts) = last_of u ts
 -- ---- what stands behind a word of the form f: the tokens ts
 
 -- the tokens of its numbers, and the extra ones
-abbrev pub numberTokens : ℕ → List (List ℕ) → List (List ℕ)
-numberTokens f ts = take (numbersOf (formRow f)) ts
+abbrev pub number_tokens : ℕ → List (List ℕ) → List (List ℕ)
+number_tokens f ts = take (numbers_of (form_row f)) ts
 
-abbrev pub extraTokens : ℕ → List (List ℕ) → List (List ℕ)
-extraTokens f ts = drop (numbersOf (formRow f)) ts
+abbrev pub extra_tokens : ℕ → List (List ℕ) → List (List ℕ)
+extra_tokens f ts = drop (numbers_of (form_row f)) ts
 
-abbrev pub numbersIn : ℕ → List (List ℕ) → List Num
-numbersIn f ts = numbersFrom f (first_of (formRow f)) (numberTokens f ts)
+abbrev pub numbers_in : ℕ → List (List ℕ) → List Num
+numbers_in f ts = numbers_from f (first_of (form_row f)) (number_tokens f ts)
 
-abbrev pub signsIn : ℕ → List (List ℕ) → List Bool
-signsIn f ts = signsFrom f (first_of (formRow f)) (numberTokens f ts) noSigns
+abbrev pub signs_in : ℕ → List (List ℕ) → List Bool
+signs_in f ts = signs_from f (first_of (form_row f)) (number_tokens f ts) no_signs
 
 -- the record as it is written, signs left out: all places but the kind are 0 before the numbers are put
 abbrev pub fresh : ℕ → List ℕ
 fresh k = fields k 0 0 0 0
 
-abbrev pub writtenRecord : ℕ → List (List ℕ) → List ℕ
-writtenRecord f ts = placed (first_of (formRow f)) (numbersIn f ts) (fresh (kind_of f))
+abbrev pub written_record : ℕ → List (List ℕ) → List ℕ
+written_record f ts = placed (first_of (form_row f)) (numbers_in f ts) (fresh (kind_of f))
 
 -- one and ones have their value from the word; w is the width of the line's sort
 unfoldable pub settled : (w f : ℕ) → List ℕ → List ℕ
 settled w f rec = elim (eqb f 67) [ true ↦ set rec 2 1 | false ↦ elim (eqb f 68) [ true ↦ set rec 2 (2 ^ w - 1) | false ↦ rec ] ]
 
 -- the same with places for the ids that it names, after lines whose ids are ds
-abbrev pub placedRecord : List ℕ → ℕ → List (List ℕ) → List ℕ
-placedRecord ds f ts = resolved ds (writtenRecord f ts)
+abbrev pub placed_record : List ℕ → ℕ → List (List ℕ) → List ℕ
+placed_record ds f ts = resolved ds (written_record f ts)
 
 -- the line's record, after lines whose types are L
-abbrev pub recordIn : (ℕ → Ty) → (ds : List ℕ) → ℕ → List (List ℕ) → List ℕ
-recordIn L ds f ts = settled (L (sortIn (placedRecord ds f ts))).w f (placedRecord ds f ts)
+abbrev pub record_in : (ℕ → Ty) → (ds : List ℕ) → ℕ → List (List ℕ) → List ℕ
+record_in L ds f ts = settled (L (sort_in (placed_record ds f ts))).w f (placed_record ds f ts)
 
 -- the one extra token is the line's name, which is empty where there is none
-abbrev pub nameIn : ℕ → List (List ℕ) → List ℕ
-nameIn f ts = only (extraTokens f ts)
+abbrev pub name_in : ℕ → List (List ℕ) → List ℕ
+name_in f ts = only (extra_tokens f ts)
 
-abbrev pub nameBehind : Word → List ℕ
-nameBehind unknown = []
-nameBehind (word f ts) = nameIn f ts
+abbrev pub name_behind : Word → List ℕ
+name_behind unknown = []
+name_behind (word f ts) = name_in f ts
 
 -- the name in a line's tokens, of which the first is the id
-abbrev pub lineName : List (List ℕ) → List ℕ
-lineName ts = nameBehind (word_in (drop 1 ts))
+abbrev pub line_name : List (List ℕ) → List ℕ
+line_name ts = name_behind (word_in (drop 1 ts))
 
 -- ---- the id
 
 -- a token may be the id of a line behind one whose id is last
-abbrev pub isNext : Num → (last : ℕ) → Bool
-isNext Bad last = false
-isNext Big last = false
-isNext (Is v) last = follows last v
+abbrev pub is_next : Num → (last : ℕ) → Bool
+is_next Bad last = false
+is_next Big last = false
+is_next (Is v) last = follows last v
 
 -- the value of a number, 0 where it has none; the id of a line is that of its first token
 abbrev pub value_of : Num → ℕ
@@ -185,9 +185,9 @@ value_of Bad = 0
 value_of Big = 0
 value_of (Is v) = v
 
-abbrev pub lineId : List (List ℕ) → ℕ
-lineId [] = 0
-lineId (t ∷ ts) = value_of (decimal t)
+abbrev pub line_id : List (List ℕ) → ℕ
+line_id [] = 0
+line_id (t ∷ ts) = value_of (decimal t)
 
 -- ---- the refusals of a line
 
@@ -196,58 +196,58 @@ lineId (t ∷ ts) = value_of (decimal t)
 -- an unknown word's numbers, an earlier one holds.
 module _ (L : ℕ → Ty) (G : Bool → ℕ → Bool) (m : ℕ) (ds : List ℕ) (ns : List (List ℕ)) (t : List ℕ) (f : ℕ) (ts : List (List ℕ)) where
   -- 3: the id is no number, not above the id before, or above 4,294,967,295
-  abbrev pub wrongId : Bool
-  wrongId = not (isNext (decimal t) (last_of 0 ds))
+  abbrev pub wrong_id : Bool
+  wrong_id = not (is_next (decimal t) (last_of 0 ds))
 
   -- 4: no record is left
-  abbrev pub noRecordLeft : Bool
-  noRecordLeft = not (ltb (length ds) m)
+  abbrev pub no_record_left : Bool
+  no_record_left = not (ltb (length ds) m)
 
   -- 5: the word is unknown or missing
-  abbrev pub unknownWord : Bool
-  unknownWord = eqb f 0
+  abbrev pub unknown_word : Bool
+  unknown_word = eqb f 0
 
   -- 6: an operand is missing or malformed, or there are two extra tokens; one is a name
-  abbrev pub badOperand : Bool
-  badOperand = ltb (length ts) (numbersOf (formRow f)) || (anyBad (numbersIn f ts) || leb 2 (length (extraTokens f ts)))
+  abbrev pub bad_operand : Bool
+  bad_operand = ltb (length ts) (numbers_of (form_row f)) || (any_bad (numbers_in f ts) || leb 2 (length (extra_tokens f ts)))
 
   -- 7: a number is above 2 ^ 64 - 1, a const above 64 or a consth above 16 digits, or a bitvec width not 1 to 64
-  abbrev pub numberTooLarge : Bool
-  numberTooLarge = anyBig (numbersIn f ts) || (eqb f 1 && not (inside 1 64 (firstIn (writtenRecord f ts))))
+  abbrev pub number_too_large : Bool
+  number_too_large = any_big (numbers_in f ts) || (eqb f 1 && not (inside 1 64 (first_in (written_record f ts))))
 
   -- 8: an operand does not name an earlier line of the right class, or a minus stands where none may
-  abbrev pub wrongClass : Bool
-  wrongClass = eqb (fault false L G (recordIn L ds f ts)) 8 || not (all (minusesFit L (signsIn f ts) (recordIn L ds f ts)))
+  abbrev pub wrong_class : Bool
+  wrong_class = eqb (fault false L G (record_in L ds f ts)) 8 || not (all (minuses_fit L (signs_in f ts) (record_in L ds f ts)))
 
   -- 9: sorts, widths, bounds or a constant misfit; a const token, the last of its numbers, has as many digits as its width
   abbrev pub misfit : Bool
-  misfit = eqb (fault false L G (recordIn L ds f ts)) 9 || (eqb f 64 && not (eqb (length (last_of [] (numberTokens f ts))) (L (sortIn (recordIn L ds f ts))).w))
+  misfit = eqb (fault false L G (record_in L ds f ts)) 9 || (eqb f 64 && not (eqb (length (last_of [] (number_tokens f ts))) (L (sort_in (record_in L ds f ts))).w))
 
   -- 10: a second init or next of a state, or the init rule
-  abbrev pub initOrNext : Bool
-  initOrNext = eqb (fault false L G (recordIn L ds f ts)) 10
+  abbrev pub init_or_next : Bool
+  init_or_next = eqb (fault false L G (record_in L ds f ts)) 10
 
   -- 22: the line's name already stands on an earlier line
-  abbrev pub nameUsed : Bool
-  nameUsed = used (nameIn f ts) ns
+  abbrev pub name_used : Bool
+  name_used = used (name_in f ts) ns
 
   -- 4 again: no record is left for the line with its not records
-  abbrev pub noRecordsLeft : Bool
-  noRecordsLeft = not (ltb (length ds + minuses (signsIn f ts)) m)
+  abbrev pub no_records_left : Bool
+  no_records_left = not (ltb (length ds + minuses (signs_in f ts)) m)
 
   -- all of them, in their order
   abbrev pub refusals : List (Refusal × Bool)
   refusals =
-      (WrongId, wrongId)
-      ∷ (NoRecordLeft, noRecordLeft)
-      ∷ (UnknownWord, unknownWord)
-      ∷ (BadOperand, badOperand)
-      ∷ (NumberTooLarge, numberTooLarge)
-      ∷ (WrongClass, wrongClass)
+      (WrongId, wrong_id)
+      ∷ (NoRecordLeft, no_record_left)
+      ∷ (UnknownWord, unknown_word)
+      ∷ (BadOperand, bad_operand)
+      ∷ (NumberTooLarge, number_too_large)
+      ∷ (WrongClass, wrong_class)
       ∷ (Misfit, misfit)
-      ∷ (InitOrNext, initOrNext)
-      ∷ (NameUsed, nameUsed)
-      ∷ (NoRecordLeft, noRecordsLeft)
+      ∷ (InitOrNext, init_or_next)
+      ∷ (NameUsed, name_used)
+      ∷ (NoRecordLeft, no_records_left)
       ∷ []
 
 -- ---- a line
@@ -264,16 +264,16 @@ lowest [] y = y
 lowest (x ∷ xs) y = elim x.1 [ true ↦ no x.0 | false ↦ lowest xs y ]
 
 -- a line's tokens: a semicolon starts a comment to the line's end
-abbrev pub lineTokens : List ℕ → List (List ℕ)
-lineTokens l = tokens (up_to 59 l)
+abbrev pub line_tokens : List ℕ → List (List ℕ)
+line_tokens l = tokens (up_to 59 l)
 
 -- the record of a form and the tokens behind its word, with its signs
-abbrev pub replyIn : (ℕ → Ty) → (ds : List ℕ) (f : ℕ) → List (List ℕ) → Reply
-replyIn L ds f ts = got (recordIn L ds f ts) (signsIn f ts)
+abbrev pub reply_in : (ℕ → Ty) → (ds : List ℕ) (f : ℕ) → List (List ℕ) → Reply
+reply_in L ds f ts = got (record_in L ds f ts) (signs_in f ts)
 
-unfoldable pub readLine : (ℕ → Ty) → (Bool → ℕ → Bool) → (m : ℕ) (ds : List ℕ) (ns : List (List ℕ)) → List (List ℕ) → Reply
-readLine L G m ds ns [] = skip
-readLine L G m ds ns (t ∷ ts) = lowest (refusals L G m ds ns t (form_of (word_in ts)) (behind (word_in ts))) (replyIn L ds (form_of (word_in ts)) (behind (word_in ts)))
+unfoldable pub read_line : (ℕ → Ty) → (Bool → ℕ → Bool) → (m : ℕ) (ds : List ℕ) (ns : List (List ℕ)) → List (List ℕ) → Reply
+read_line L G m ds ns [] = skip
+read_line L G m ds ns (t ∷ ts) = lowest (refusals L G m ds ns t (form_of (word_in ts)) (behind (word_in ts))) (reply_in L ds (form_of (word_in ts)) (behind (word_in ts)))
 
 -- ---- a text
 
@@ -292,72 +292,72 @@ pub record Sofar : Type 0 where
 abbrev pub sofar : Ctx → (records : List (List ℕ)) (ids : List ℕ) (names : List (List ℕ)) → Sofar
 sofar c rs ds ns = record { ctx = c; records = rs; ids = ds; names = ns }
 
-abbrev pub noLines : Sofar
-noLines = sofar noCtx [] [] []
+abbrev pub no_lines : Sofar
+no_lines = sofar no_ctx [] [] []
 
 -- with the line whose tokens are ts, which gave the record rec with the signs s
-abbrev pub withLine : (b : Sofar) (ts : List (List ℕ)) (rec : List ℕ) (s : List Bool) → Sofar
-withLine b ts rec s =
-    sofar (growAll false b.ctx (map line_of (lineRecords s b.records rec))) (b.records ++ lineRecords s b.records rec) (b.ids ++ lineIds s (lineId ts))
-    (withName (lineName ts) b.names)
+abbrev pub with_line : (b : Sofar) (ts : List (List ℕ)) (rec : List ℕ) (s : List Bool) → Sofar
+with_line b ts rec s =
+    sofar (grow_all false b.ctx (map line_of (line_records s b.records rec))) (b.records ++ line_records s b.records rec) (b.ids ++ line_ids s (line_id ts))
+    (with_name (line_name ts) b.names)
 
 -- how the types of the lines so far are looked up, by their records and their context: as the context keeps them
-abbrev pub keptTypes : List (List ℕ) → Ctx → ℕ → Ty
-keptTypes rs c = ty_at c
+abbrev pub kept_types : List (List ℕ) → Ctx → ℕ → Ty
+kept_types rs c = ty_at c
 
 -- a text, by any way to look the types up
 module _ (types : List (List ℕ) → Ctx → ℕ → Ty) where
   -- a line after those so far, with room for m records
-  abbrev pub replyBy : (m : ℕ) (b : Sofar) → (ts : List (List ℕ)) → Reply
-  replyBy m b ts = readLine (types b.records b.ctx) (given b.ctx) m b.ids b.names ts
+  abbrev pub reply_by : (m : ℕ) (b : Sofar) → (ts : List (List ℕ)) → Reply
+  reply_by m b ts = read_line (types b.records b.ctx) (given b.ctx) m b.ids b.names ts
 
   -- the lines from the line l on
-  unfoldable pub readLinesBy : (m l : ℕ) (b : Sofar) → List (List ℕ) → Text
-  readLinesBy m l b [] = done b.records b.ids
-  readLinesBy m l b (x ∷ xs) =
-      elim (replyBy m b (lineTokens x)) [
-        | skip ↦ readLinesBy m (suc l) b xs
+  unfoldable pub read_lines_by : (m l : ℕ) (b : Sofar) → List (List ℕ) → Text
+  read_lines_by m l b [] = done b.records b.ids
+  read_lines_by m l b (x ∷ xs) =
+      elim (reply_by m b (line_tokens x)) [
+        | skip ↦ read_lines_by m (suc l) b xs
         | no r ↦ refused r l
-        | got rec s ↦ readLinesBy m (suc l) (withLine b (lineTokens x) rec s) xs
+        | got rec s ↦ read_lines_by m (suc l) (with_line b (line_tokens x) rec s) xs
       ]
 
   -- all lines of the text s, into a table of len words
-  abbrev pub linesReadBy : (len : ℕ) → List ℕ → Text
-  linesReadBy len s = readLinesBy (room false len) 1 noLines (split 10 s)
+  abbrev pub lines_read_by : (len : ℕ) → List ℕ → Text
+  lines_read_by len s = read_lines_by (room false len) 1 no_lines (split 10 s)
 
   -- the text s read into a table of len words: 1, 2, and then line by line
-  unfoldable pub readTextBy : (len : ℕ) → List ℕ → Text
-  readTextBy len s =
+  unfoldable pub read_text_by : (len : ℕ) → List ℕ → Text
+  read_text_by len s =
       elim (whole false len) [
         | false ↦ refused NotATable 0
-        | true ↦ elim (leb (length s) 65536) [ true ↦ linesReadBy len s | false ↦ refused TextTooLong 0 ]
+        | true ↦ elim (leb (length s) 65536) [ true ↦ lines_read_by len s | false ↦ refused TextTooLong 0 ]
       ]
 
 -- and by the types that are kept, their marks among them
-abbrev pub replyAfter : (m : ℕ) (b : Sofar) → (ts : List (List ℕ)) → Reply
-replyAfter = replyBy keptTypes
+abbrev pub reply_after : (m : ℕ) (b : Sofar) → (ts : List (List ℕ)) → Reply
+reply_after = reply_by kept_types
 
-abbrev pub readLines : (m l : ℕ) (b : Sofar) → List (List ℕ) → Text
-readLines = readLinesBy keptTypes
+abbrev pub read_lines : (m l : ℕ) (b : Sofar) → List (List ℕ) → Text
+read_lines = read_lines_by kept_types
 
 abbrev pub lines_read : (len : ℕ) → List ℕ → Text
-lines_read = linesReadBy keptTypes
+lines_read = lines_read_by kept_types
 
-abbrev pub readText : (len : ℕ) → List ℕ → Text
-readText = readTextBy keptTypes
+abbrev pub read_text : (len : ℕ) → List ℕ → Text
+read_text = read_text_by kept_types
 
 -- what is answered, and the words of the table afterwards: zero past the records, and zero after a refusal
-abbrev pub textAnswer : Text → Answer
-textAnswer (done rs ds) = Done (length rs)
-textAnswer (refused r l) = Refused r l
+abbrev pub text_answer : Text → Answer
+text_answer (done rs ds) = Done (length rs)
+text_answer (refused r l) = Refused r l
 
 abbrev pub table_of : (len : ℕ) → Text → List ℕ
-table_of len (done rs ds) = filled false len (withIds rs ds)
+table_of len (done rs ds) = filled false len (with_ids rs ds)
 table_of len (refused r l) = replicate len 0
 
-abbrev pub outcomeOf : (len : ℕ) → Text → Outcome
-outcomeOf len x = told (textAnswer x) (table_of len x ∷ [])
+abbrev pub outcome_of : (len : ℕ) → Text → Outcome
+outcome_of len x = told (text_answer x) (table_of len x ∷ [])
 
 -- the outcome of reading the text s into a table of len words
 unfoldable pub reads : (len : ℕ) → List ℕ → Outcome
-reads len s = outcomeOf len (readText len s)
+reads len s = outcome_of len (read_text len s)

@@ -5,15 +5,15 @@ use Rattle.tables.specs.Lines.{line_of}
 use Rattle.tables.specs.Types.{Ctx, ty_at}
 use Rattle.tables.specs.Search.{searched}
 use Rattle.tables.specs.Answers.{Outcome}
-use Rattle.texts.specs.Reading.{Text, readTextBy, outcomeOf}
+use Rattle.texts.specs.Reading.{Text, read_text_by, outcome_of}
 
 -- the types of the lines so far, each with the mark that a search of its cone finds
-abbrev pub searchedTypes : List (List ℕ) → Ctx → ℕ → Ty
-searchedTypes rs c = searched (map line_of rs) (ty_at c)
+abbrev pub searched_types : List (List ℕ) → Ctx → ℕ → Ty
+searched_types rs c = searched (map line_of rs) (ty_at c)
 
-abbrev pub readTextBySearch : (len : ℕ) → List ℕ → Text
-readTextBySearch = readTextBy searchedTypes
+abbrev pub read_text_by_search : (len : ℕ) → List ℕ → Text
+read_text_by_search = read_text_by searched_types
 
 -- the outcome of reading the text s into a table of len words
-abbrev pub readsBySearch : (len : ℕ) → List ℕ → Outcome
-readsBySearch len s = outcomeOf len (readTextBySearch len s)
+abbrev pub reads_by_search : (len : ℕ) → List ℕ → Outcome
+reads_by_search len s = outcome_of len (read_text_by_search len s)

@@ -15,14 +15,14 @@ unfoldable pub up_to : ℕ → List ℕ → List ℕ
 up_to b [] = []
 up_to b (c ∷ t) = elim (eqb c b) [ true ↦ [] | false ↦ c ∷ up_to b t ]
 
-abbrev pub nonEmpty : List (List ℕ) → List (List ℕ)
-nonEmpty [] = []
-nonEmpty ([] ∷ ls) = nonEmpty ls
-nonEmpty ((c ∷ l) ∷ ls) = (c ∷ l) ∷ nonEmpty ls
+abbrev pub non_empty : List (List ℕ) → List (List ℕ)
+non_empty [] = []
+non_empty ([] ∷ ls) = non_empty ls
+non_empty ((c ∷ l) ∷ ls) = (c ∷ l) ∷ non_empty ls
 
 -- the parts between spaces that are not empty
 unfoldable pub tokens : List ℕ → List (List ℕ)
-tokens l = nonEmpty (split 32 l)
+tokens l = non_empty (split 32 l)
 
 -- tokens with one space between two of them
 abbrev pub spaced : List (List ℕ) → List ℕ
@@ -33,8 +33,8 @@ abbrev pub join : List (List ℕ) → List ℕ
 join [] = []
 join (t ∷ ts) = t ++ spaced ts
 
-abbrev pub sameBytes : List ℕ → List ℕ → Bool
-sameBytes [] [] = true
-sameBytes [] (y ∷ ys) = false
-sameBytes (x ∷ xs) [] = false
-sameBytes (x ∷ xs) (y ∷ ys) = eqb x y && sameBytes xs ys
+abbrev pub same_bytes : List ℕ → List ℕ → Bool
+same_bytes [] [] = true
+same_bytes [] (y ∷ ys) = false
+same_bytes (x ∷ xs) [] = false
+same_bytes (x ∷ xs) (y ∷ ys) = eqb x y && same_bytes xs ys

@@ -7,11 +7,11 @@ use Rattle.tables.specs.declared.Checked.TheVariants.{Accepted, Refused as Refus
 use Rattle.tables.specs.declared.Answer.{Answer}
 use Rattle.tables.specs.declared.Answer.TheVariants.{Done, Refused}
 use Rattle.tables.specs.Kinds.{row_of, word_of}
-use Rattle.tables.specs.Lines.{kindIn}
-use Rattle.tables.specs.Layout.{recordsOf}
+use Rattle.tables.specs.Lines.{kind_in}
+use Rattle.tables.specs.Layout.{records_of}
 use Rattle.tables.specs.Tables.{checked}
 use Rattle.tables.specs.Answers.{Outcome, told}
-use Rattle.texts.specs.Forms.{first_of, numbersOf, sortWord}
+use Rattle.texts.specs.Forms.{first_of, numbers_of, sort_word}
 use Rattle.texts.specs.Split.{join}
 use Rattle.texts.specs.Decimal.{digits}
 
@@ -21,25 +21,25 @@ numbers zero j rec = []
 numbers (suc m) j rec = digits (get_or rec j 0) ∷ numbers m (suc j) rec
 
 abbrev pub headed : Bool → List ℕ → List (List ℕ)
-headed true w = sortWord ∷ w ∷ []
+headed true w = sort_word ∷ w ∷ []
 headed false w = w ∷ []
 
 -- the word of a kind; `sort` stands before those of kinds 1 and 2
-abbrev pub kindTokens : ℕ → List (List ℕ)
-kindTokens k = headed (leb k 2) (word_of (row_of k))
+abbrev pub kind_tokens : ℕ → List (List ℕ)
+kind_tokens k = headed (leb k 2) (word_of (row_of k))
 
 -- the tokens of a record's line with the id n
-abbrev pub tokensOf : ℕ → List ℕ → List (List ℕ)
-tokensOf n rec = digits n ∷ (kindTokens (kindIn rec) ++ numbers (numbersOf (row_of (kindIn rec))) (first_of (row_of (kindIn rec))) rec)
+abbrev pub tokens_of : ℕ → List ℕ → List (List ℕ)
+tokens_of n rec = digits n ∷ (kind_tokens (kind_in rec) ++ numbers (numbers_of (row_of (kind_in rec))) (first_of (row_of (kind_in rec))) rec)
 
 -- the lines of records, the first of which has the id n
-unfoldable pub writeFrom : ℕ → List (List ℕ) → List ℕ
-writeFrom n [] = []
-writeFrom n (rec ∷ rs) = join (tokensOf n rec) ++ 10 ∷ writeFrom (suc n) rs
+unfoldable pub write_from : ℕ → List (List ℕ) → List ℕ
+write_from n [] = []
+write_from n (rec ∷ rs) = join (tokens_of n rec) ++ 10 ∷ write_from (suc n) rs
 
 -- the text of a table's records
-unfoldable pub writeText : List (List ℕ) → List ℕ
-writeText rs = writeFrom 1 rs
+unfoldable pub write_text : List (List ℕ) → List ℕ
+write_text rs = write_from 1 rs
 
 -- ---- a table with its count, into a text buffer of len bytes: 1, 11, 21
 
@@ -54,18 +54,18 @@ abbrev pub written_by : Checked → ℕ → List ℕ → Out
 written_by Accepted len s = fitted len s
 written_by (RefusedTable r) len s = refuse r
 
-unfoldable pub writeTable : (t : List ℕ) (n len : ℕ) → Out
-writeTable t n len = written_by (checked false t n) len (writeText (recordsOf false t n))
+unfoldable pub write_table : (t : List ℕ) (n len : ℕ) → Out
+write_table t n len = written_by (checked false t n) len (write_text (records_of false t n))
 
 -- what is answered, and the bytes of the buffer afterwards: zero past the text, and zero after a refusal
-abbrev pub writeAnswer : Out → Answer
-writeAnswer (wrote s) = Done (length s)
-writeAnswer (refuse r) = Refused r 0
+abbrev pub write_answer : Out → Answer
+write_answer (wrote s) = Done (length s)
+write_answer (refuse r) = Refused r 0
 
-abbrev pub bufferOf : (len : ℕ) → Out → List ℕ
-bufferOf len (wrote s) = s ++ replicate (len - length s) 0
-bufferOf len (refuse r) = replicate len 0
+abbrev pub buffer_of : (len : ℕ) → Out → List ℕ
+buffer_of len (wrote s) = s ++ replicate (len - length s) 0
+buffer_of len (refuse r) = replicate len 0
 
 -- the outcome of writing the first n records of the table t into a buffer of len bytes
 unfoldable pub writes : (t : List ℕ) (n len : ℕ) → Outcome
-writes t n len = told (writeAnswer (writeTable t n len)) (bufferOf len (writeTable t n len) ∷ [])
+writes t n len = told (write_answer (write_table t n len)) (buffer_of len (write_table t n len) ∷ [])

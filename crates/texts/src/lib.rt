@@ -1,4 +1,6 @@
 // Texts: what reading, writing and name answer; that what is written is read back. The code is in `tokens`, `forms`, `stages`, `reading`, `writing` and `naming`.
+#![tactic(auto)]
+
 use tables::{Refusal, WORDS};
 
 // A token as a number: malformed, above 2^64 - 1, or its value.

@@ -1,4 +1,6 @@
 // Lines and tokens: places in a text, and in a line.
+#![tactic(auto)]
+
 pub mod numbers; // numbers in digits
 
 ghost use Rattle.std.specs.Prelude.{◌≡◌, true, ◌+◌, ◌≤◌, ◌<◌, ◌-◌, min, length, drop, get_or, take};

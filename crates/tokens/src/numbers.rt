@@ -1,6 +1,6 @@
 // Numbers in decimal, binary and hexadecimal digits.
 ghost use Rattle.std.specs.Prelude.{◌≡◌, ◌≤◌, ◌^◌};
-ghost use Rattle.texts.specs.Decimal.{digit as digitOf, allIn, valued, scanned, decimal as decimalOf, digitsIn};
+ghost use Rattle.texts.specs.Decimal.{digit as digit_of, all_in, valued, scanned, decimal as decimal_of, digits_in};
 
 use texts::Num;
 
@@ -12,7 +12,7 @@ fn wide(b: u8) -> u64
 
 // What a byte stands for as a digit, 99 where it is none.
 fn digit(b: u8) -> u64
-    ensures { result ≡ digitOf b }
+    ensures { result ≡ digit_of b }
 {
     let c = wide(b);
     if c < 48 {
@@ -38,7 +38,7 @@ fn digit(b: u8) -> u64
 
 // Every byte of a token is a digit of the base.
 fn all_in(t: &[u8], base: u64) -> bool
-    ensures { result ≡ allIn base t.now }
+    ensures { result ≡ all_in base t.now }
 {
     let mut i: usize = 0;
     while i < t.len() {
@@ -103,7 +103,7 @@ fn tens(t: &[u8]) -> Num
 
 // A decimal number without leading zeros.
 pub fn decimal(t: &[u8]) -> Num
-    ensures { result ≡ decimalOf t.now }
+    ensures { result ≡ decimal_of t.now }
 {
     if t.len() == 0 {
         return Num::Bad;
@@ -120,7 +120,7 @@ pub fn decimal(t: &[u8]) -> Num
 // Digits of a base other than ten, at most `most` of them.
 pub fn digits_in(t: &[u8], base: u64, most: usize) -> Num
     requires { (2 ≤ base) × ((base ≤ 16) × (base ^ most ≤ 2 ^ 64)) }
-    ensures { result ≡ digitsIn base most t.now }
+    ensures { result ≡ digits_in base most t.now }
 {
     if t.len() == 0 {
         return Num::Bad;

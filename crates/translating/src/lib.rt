@@ -1,4 +1,6 @@
 // Translating a flat circuit into a program.
+#![tactic(auto)]
+
 mod make; // the program of an accepted table, where it fits
 
 ghost use Rattle.std.specs.Prelude.{◌≡◌, [], ◌∷◌, length};

@@ -4,7 +4,7 @@ ghost use Rattle.tables.specs.declared.Checked.TheVariants.{Accepted};
 ghost use Rattle.tables.specs.Tables.{checked};
 ghost use Rattle.tables.specs.Answers.{told};
 ghost use Rattle.programs.specs.Answers.{program_of};
-ghost use Rattle.programs.specs.Model.Passes.{Prepared, Fitted, programIn, makes};
+ghost use Rattle.programs.specs.Model.Passes.{Prepared, Fitted, program_in, makes};
 
 use tables::{Answer, Refusal};
 
@@ -42,7 +42,7 @@ fn count_many(table: &[u64], count: usize, marks: &[u8]) -> usize
 // The instructions go to the target.
 fn writing(table: &[u64], count: usize, marks: &[u8], target: &mut [u64])
     requires { Fitted table.now count marks.now target.old }
-    ensures { target.new ≡ programIn table.now count (length target.old) }
+    ensures { target.new ≡ program_in table.now count (length target.old) }
 {
     if count < 512 {
         write_few(table, count, marks, target);
@@ -53,7 +53,7 @@ fn writing(table: &[u64], count: usize, marks: &[u8], target: &mut [u64])
 
 fn write_few(table: &[u64], count: usize, marks: &[u8], target: &mut [u64])
     requires { Fitted table.now count marks.now target.old × (count < 512) }
-    ensures { target.new ≡ programIn table.now count (length target.old) }
+    ensures { target.new ≡ program_in table.now count (length target.old) }
 {
     let mut wd = [0u64; 512];
     let mut num = [0u64; 512];
@@ -63,7 +63,7 @@ fn write_few(table: &[u64], count: usize, marks: &[u8], target: &mut [u64])
 
 fn write_many(table: &[u64], count: usize, marks: &[u8], target: &mut [u64])
     requires { Fitted table.now count marks.now target.old }
-    ensures { target.new ≡ programIn table.now count (length target.old) }
+    ensures { target.new ≡ program_in table.now count (length target.old) }
 {
     let mut wd = [0u64; 16385];
     let mut num = [0u64; 16385];

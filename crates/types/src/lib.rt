@@ -1,8 +1,10 @@
 // Types of lines: what is known of a line before anything is computed.
+#![tactic(auto)]
+
 ghost use Rattle.std.specs.Prelude.{◌≡◌, ◌||◌, ◌≤◌, ◌<◌};
-ghost use Rattle.tables.specs.Model.Notes.{lookIn};
-ghost use Rattle.tables.specs.Types.{sortAt, isWord, isArray, isWordSort, isArraySort, marked as markedOf, ty, valueRole, type_of};
-ghost use Rattle.tables.specs.Lines.{line_of, kindIn, firstIn};
+ghost use Rattle.tables.specs.Model.Notes.{look_in};
+ghost use Rattle.tables.specs.Types.{sort_at, is_word, is_array, is_word_sort, is_array_sort, marked as marked_of, ty, value_role, type_of};
+ghost use Rattle.tables.specs.Lines.{line_of, kind_in, first_in};
 
 use records::notes;
 use records::notes::BYTES;
@@ -10,7 +12,7 @@ use tables::{Ty, WORDS};
 
 // The sort that a line's second word names: in a program the word is the width.
 pub fn sort_at(program: bool, notes: &[[u8; BYTES]], s: u64) -> Ty
-    ensures { result ≡ sortAt program (lookIn notes.now) s }
+    ensures { result ≡ sort_at program (look_in notes.now) s }
 {
     if !program {
         return notes::look(notes, s);
@@ -37,7 +39,7 @@ pub fn sort_at(program: bool, notes: &[[u8; BYTES]], s: u64) -> Ty
 }
 
 pub fn is_word(t: Ty) -> bool
-    ensures { result ≡ isWord t }
+    ensures { result ≡ is_word t }
 {
     if t.role < 2 {
         return false;
@@ -46,7 +48,7 @@ pub fn is_word(t: Ty) -> bool
 }
 
 pub fn is_array(t: Ty) -> bool
-    ensures { result ≡ isArray t }
+    ensures { result ≡ is_array t }
 {
     if t.role < 2 {
         return false;
@@ -55,7 +57,7 @@ pub fn is_array(t: Ty) -> bool
 }
 
 pub fn is_word_sort(t: Ty) -> bool
-    ensures { result ≡ isWordSort t }
+    ensures { result ≡ is_word_sort t }
 {
     if t.role != 1 {
         return false;
@@ -64,7 +66,7 @@ pub fn is_word_sort(t: Ty) -> bool
 }
 
 pub fn is_array_sort(t: Ty) -> bool
-    ensures { result ≡ isArraySort t }
+    ensures { result ≡ is_array_sort t }
 {
     if t.role != 1 {
         return false;
@@ -74,14 +76,14 @@ pub fn is_array_sort(t: Ty) -> bool
 
 // The line is, or has beneath it, an input or a state.
 pub fn marked(t: Ty) -> bool
-    ensures { result ≡ markedOf t }
+    ensures { result ≡ marked_of t }
 {
     3 <= t.role
 }
 
 // One of the lines that a value uses is marked: of two, and of three.
 fn marked_two(a: Ty, b: Ty) -> bool
-    ensures { result ≡ (markedOf a || markedOf b) }
+    ensures { result ≡ (marked_of a || marked_of b) }
 {
     if 3 <= a.role {
         return true;
@@ -90,7 +92,7 @@ fn marked_two(a: Ty, b: Ty) -> bool
 }
 
 fn marked_three(a: Ty, b: Ty, c: Ty) -> bool
-    ensures { result ≡ (markedOf a || (markedOf b || markedOf c)) }
+    ensures { result ≡ (marked_of a || (marked_of b || marked_of c)) }
 {
     if marked_two(a, b) {
         return true;
@@ -100,7 +102,7 @@ fn marked_three(a: Ty, b: Ty, c: Ty) -> bool
 
 // A value of the sort t, marked or not.
 fn value(mark: bool, t: Ty) -> Ty
-    ensures { result ≡ ty (valueRole mark) t.iw t.w }
+    ensures { result ≡ ty (value_role mark) t.iw t.w }
 {
     if mark {
         return Ty {
@@ -118,7 +120,7 @@ fn value(mark: bool, t: Ty) -> Ty
 
 // The type of a record's line, from those of its sort and its operands.
 pub fn type_of(rec: [u64; WORDS], t: Ty, a: Ty, b: Ty, c: Ty) -> Ty
-    requires { kindIn rec ≡ 1 → firstIn rec ≤ 64 }
+    requires { kind_in rec ≡ 1 → first_in rec ≤ 64 }
     ensures { result ≡ type_of (line_of rec) t a b c }
 {
     let k = rec[0];
@@ -160,7 +162,7 @@ pub fn type_of(rec: [u64; WORDS], t: Ty, a: Ty, b: Ty, c: Ty) -> Ty
 
 // The same, for the kinds of operators.
 fn type_of_value(rec: [u64; WORDS], t: Ty, a: Ty, b: Ty, c: Ty) -> Ty
-    requires { 10 < kindIn rec }
+    requires { 10 < kind_in rec }
     ensures { result ≡ type_of (line_of rec) t a b c }
 {
     let k = rec[0];

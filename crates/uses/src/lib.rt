@@ -1,9 +1,11 @@
 // Loose lines and needing uses, by kind; and the marks of lines that have a needing use.
+#![tactic(auto)]
+
 pub mod flags; // lists of marks
 
 ghost use Rattle.std.specs.Prelude.{◌≡◌, ◌&&◌, ◌≤◌, ◌/◌, ◌%◌, ◌^◌};
-ghost use Rattle.programs.specs.Model.Kinds.{usesOf, looseHow, firstLine, secondLine, thirdLine, has_value, flagAt, markIf, usesMarked};
-ghost use Rattle.tables.specs.Lines.{kindIn};
+ghost use Rattle.programs.specs.Model.Kinds.{uses_of, loose_how, first_line, second_line, third_line, has_value, flag_at, mark_if, uses_marked};
+ghost use Rattle.tables.specs.Lines.{kind_in};
 
 use tables::WORDS;
 
@@ -30,7 +32,7 @@ fn member(set: u64, k: u64) -> u8
 // Of a kind: whether its first operand has to be clean, whether its second does, and when its line is loose.
 pub fn row(k: u64) -> [u8; 3]
     requires { k ≤ 63 }
-    ensures { result ≡ usesOf k }
+    ensures { result ≡ uses_of k }
 {
     let x = member(LOOSE_1, k);
     let y = member(LOOSE_2, k);
@@ -44,7 +46,7 @@ pub fn row(k: u64) -> [u8; 3]
 
 // The line is loose, by its row and its operands.
 pub fn loose_how(h: u8, l1: bool, l2: bool, l3: bool) -> bool
-    ensures { result ≡ looseHow h l1 l2 l3 }
+    ensures { result ≡ loose_how h l1 l2 l3 }
 {
     if h == 1 {
         return true;
@@ -75,14 +77,14 @@ pub fn loose_how(h: u8, l1: bool, l2: bool, l3: bool) -> bool
 
 // The first operand is a line.
 pub fn first_line(k: u64) -> bool
-    ensures { result ≡ firstLine k }
+    ensures { result ≡ first_line k }
 {
     k >= 6
 }
 
 // The second operand is a line.
 pub fn second_line(k: u64) -> bool
-    ensures { result ≡ secondLine k }
+    ensures { result ≡ second_line k }
 {
     if k < 6 {
         return false;
@@ -95,7 +97,7 @@ pub fn second_line(k: u64) -> bool
 
 // The third operand is a line.
 pub fn third_line(k: u64) -> bool
-    ensures { result ≡ thirdLine k }
+    ensures { result ≡ third_line k }
 {
     if k == 53 {
         return true;
@@ -118,7 +120,7 @@ pub fn has_value(k: u64) -> bool
 
 // An operand is a line that has a mark.
 pub fn used(line: bool, lo: &[u8], a: u64) -> bool
-    ensures { result ≡ (line && flagAt lo.now a) }
+    ensures { result ≡ (line && flag_at lo.now a) }
 {
     if !line {
         return false;
@@ -128,7 +130,7 @@ pub fn used(line: bool, lo: &[u8], a: u64) -> bool
 
 // A mark at the line a, if v is 1.
 fn mark_if(v: u8, a: u64, marks: &mut [u8])
-    ensures { marks.new ≡ markIf v a marks.old }
+    ensures { marks.new ≡ mark_if v a marks.old }
 {
     if v == 1 {
         flags::put(marks, a, 1);
@@ -137,8 +139,8 @@ fn mark_if(v: u8, a: u64, marks: &mut [u8])
 
 // A mark at each line that the record needs clean.
 pub fn mark(rec: [u64; WORDS], marks: &mut [u8])
-    requires { kindIn rec ≤ 63 }
-    ensures { marks.new ≡ usesMarked rec marks.old }
+    requires { kind_in rec ≤ 63 }
+    ensures { marks.new ≡ uses_marked rec marks.old }
 {
     let r = row(rec[0]);
     mark_if(r[0], rec[2], marks);

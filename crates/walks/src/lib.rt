@@ -1,10 +1,12 @@
 // The walk over all lines, as a run starts and at each step. The words of the work area before `all` are the lines' cells, those from it on the state words.
+#![tactic(auto)]
+
 ghost use Rattle.std.specs.Prelude.{◌≡◌, false, ◌≤◌, ◌+◌, ◌<◌, length, drop};
 ghost use Rattle.tables.specs.Lines.{line_of};
-ghost use Rattle.tables.specs.Layout.{held, step_of, recordAt, lines_of};
+ghost use Rattle.tables.specs.Layout.{held, step_of, record_at, lines_of};
 ghost use Rattle.circuits.specs.Meaning.{step};
 ghost use Rattle.circuits.specs.Run.{bytes_of};
-ghost use Rattle.circuits.specs.Model.Work.{workIn, sigsIn};
+ghost use Rattle.circuits.specs.Model.Work.{work_in, sigs_in};
 ghost use Rattle.circuits.specs.Model.Fits.{FitL};
 ghost use Rattle.circuits.specs.Model.Places.{Ready};
 
@@ -25,9 +27,9 @@ fn line(
     work: &mut [u64],
 )
     requires { ((i < held program (length table.now)) × (h ≡ step_of program (length table.now))) × ((i < 16384)
-        × FitL program laid.now all (length row.now) (length sig.old) work.old (i + 1) (line_of (recordAt program table.now i))) }
-    ensures { (work.new ≡ workIn program first laid.now all row.now work.old (i + 1) (line_of (recordAt program table.now i)))
-        × (sig.new ≡ sigsIn first laid.now sig.old work.old (i + 1) (line_of (recordAt program table.now i))) }
+        × FitL program laid.now all (length row.now) (length sig.old) work.old (i + 1) (line_of (record_at program table.now i))) }
+    ensures { (work.new ≡ work_in program first laid.now all row.now work.old (i + 1) (line_of (record_at program table.now i)))
+        × (sig.new ≡ sigs_in first laid.now sig.old work.old (i + 1) (line_of (record_at program table.now i))) }
 {
     let rec = records::record(program, table, h, i);
     if word_dispatch::line(program, first, rec, i + 1, laid, all, row, sig, work) {

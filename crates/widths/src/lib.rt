@@ -1,6 +1,8 @@
 // Rule 9: sorts, widths, bounds and constants fit. t is the type of the line's sort, a, b and c are those of its operands.
+#![tactic(auto)]
+
 ghost use Rattle.std.specs.Prelude.{◌≡◌, ◌^◌, ltb, leb, ◌||◌};
-ghost use Rattle.tables.specs.Rules.{fitsUnary, fitsBinary, sameSort as sameOf, fitsEquality, fitsIte, fitsRead, fitsWrite, fitsInitOrNext, fits as fits_of};
+ghost use Rattle.tables.specs.Rules.{fits_unary, fits_binary, same_sort as same_of, fits_equality, fits_ite, fits_read, fits_write, fits_init_or_next, fits as fits_of};
 ghost use Rattle.tables.specs.Pick.{all, inside};
 ghost use Rattle.tables.specs.Lines.{line_of};
 
@@ -8,7 +10,7 @@ use tables::{Ty, WORDS};
 
 // The line's width w, the operand's u and the numbers of an operator of one word fit.
 fn fits_unary(k: u64, w: u8, u: u8, x: u64, y: u64) -> bool
-    ensures { result ≡ fitsUnary k w u x y }
+    ensures { result ≡ fits_unary k w u x y }
 {
     if k <= 14 {
         return w == u;
@@ -46,7 +48,7 @@ fn tests(k: u64) -> bool
 
 // The widths of an operator of two words fit.
 fn fits_binary(k: u64, w: u8, u: u8, v: u8) -> bool
-    ensures { result ≡ fitsBinary k w u v }
+    ensures { result ≡ fits_binary k w u v }
 {
     if tests(k) {
         if w != 1 {
@@ -74,7 +76,7 @@ fn fits_binary(k: u64, w: u8, u: u8, v: u8) -> bool
 
 // The same widths.
 fn same(a: Ty, t: Ty) -> bool
-    ensures { result ≡ sameOf a t }
+    ensures { result ≡ same_of a t }
 {
     if a.iw != t.iw {
         return false;
@@ -93,7 +95,7 @@ fn fits_const(v: u64, w: u8) -> bool
 }
 
 fn fits_equality(t: Ty, a: Ty, b: Ty) -> bool
-    ensures { result ≡ all (fitsEquality t a b) }
+    ensures { result ≡ all (fits_equality t a b) }
 {
     if t.w != 1 {
         return false;
@@ -102,7 +104,7 @@ fn fits_equality(t: Ty, a: Ty, b: Ty) -> bool
 }
 
 fn fits_ite(t: Ty, a: Ty, b: Ty, c: Ty) -> bool
-    ensures { result ≡ all (fitsIte t a b c) }
+    ensures { result ≡ all (fits_ite t a b c) }
 {
     if a.w != 1 {
         return false;
@@ -114,7 +116,7 @@ fn fits_ite(t: Ty, a: Ty, b: Ty, c: Ty) -> bool
 }
 
 fn fits_read(t: Ty, a: Ty, b: Ty) -> bool
-    ensures { result ≡ all (fitsRead t a b) }
+    ensures { result ≡ all (fits_read t a b) }
 {
     if a.w != t.w {
         return false;
@@ -123,7 +125,7 @@ fn fits_read(t: Ty, a: Ty, b: Ty) -> bool
 }
 
 fn fits_write(t: Ty, a: Ty, b: Ty, c: Ty) -> bool
-    ensures { result ≡ all (fitsWrite t a b c) }
+    ensures { result ≡ all (fits_write t a b c) }
 {
     if !same(a, t) {
         return false;
@@ -136,7 +138,7 @@ fn fits_write(t: Ty, a: Ty, b: Ty, c: Ty) -> bool
 
 // The value's type b fits the state's, a, which is the sort t; an init's value is one word.
 fn fits_init_or_next(init: bool, t: Ty, a: Ty, b: Ty) -> bool
-    ensures { result ≡ all (fitsInitOrNext init t a b) }
+    ensures { result ≡ all (fits_init_or_next init t a b) }
 {
     if !same(a, t) {
         return false;

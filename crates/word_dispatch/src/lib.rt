@@ -1,8 +1,10 @@
 // One line of a step that is one word, or does nothing, by its kind. The walk of a step tries this first: no line of words is a call there.
+#![tactic(auto)]
+
 ghost use Rattle.std.specs.Prelude.{◌≡◌, length};
 ghost use Rattle.tables.specs.Pick.{pick};
 ghost use Rattle.tables.specs.Lines.{line_of};
-ghost use Rattle.circuits.specs.Model.Work.{workIn, sigsIn};
+ghost use Rattle.circuits.specs.Model.Work.{work_in, sigs_in};
 ghost use Rattle.circuits.specs.Model.Fits.{FitL};
 
 use area::LAID;
@@ -22,8 +24,8 @@ pub fn line(
     work: &mut [u64],
 ) -> bool
     requires { FitL program laid.now all (length row.now) (length sig.old) work.old n (line_of rec) }
-    ensures { (work.new ≡ pick result (workIn program first laid.now all row.now work.old n (line_of rec)) work.old)
-        × (sig.new ≡ pick result (sigsIn first laid.now sig.old work.old n (line_of rec)) sig.old) }
+    ensures { (work.new ≡ pick result (work_in program first laid.now all row.now work.old n (line_of rec)) work.old)
+        × (sig.new ≡ pick result (sigs_in first laid.now sig.old work.old n (line_of rec)) sig.old) }
 {
     let k = rec[0];
     let a = rec[2] as usize;

@@ -1,12 +1,14 @@
 // Lines of a step that are one word, as the steps of a run compute them. Each function says whether it did: a line of more cells, or of another kind, is left as it stands.
+#![tactic(auto)]
+
 ghost use Rattle.std.specs.Prelude.{◌≡◌, true, false, not, ◌+◌, length};
 ghost use Rattle.tables.specs.Pick.{pick};
 ghost use Rattle.tables.specs.Lines.{Expr};
 ghost use Rattle.circuits.specs.Cells.{put};
-ghost use Rattle.circuits.specs.Meaning.{opWord};
-ghost use Rattle.circuits.specs.Model.Work.{offIn, posIn, widIn, wordKept, exprIn, stateIn, storedIn};
+ghost use Rattle.circuits.specs.Meaning.{op_word};
+ghost use Rattle.circuits.specs.Model.Work.{off_in, pos_in, wid_in, word_kept, expr_in, state_in, stored_in};
 ghost use Rattle.circuits.specs.Model.Fits.{WordBelow, RunBelow, FitUnary, FitBinary, FitEquality, FitIte, FitState, FitNext};
-ghost use Rattle.word_lines.specs.Model.Operators.{Asked, Given, Room, isWord, leaves};
+ghost use Rattle.word_lines.specs.Model.Operators.{Asked, Given, Room, is_word, leaves};
 
 use area::LAID;
 
@@ -29,7 +31,7 @@ fn unary(
     work: &[u64],
 ) -> u64
     requires { WordBelow laid.now (length work.now) n × FitUnary program laid.now work.now n k a x y }
-    ensures { result ≡ opWord program k (widIn laid.now a) 64 (wordKept laid.now work.now a) x y }
+    ensures { result ≡ op_word program k (wid_in laid.now a) 64 (word_kept laid.now work.now a) x y }
 {
     let p = area::off(laid, a);
     let v = work[p];
@@ -56,8 +58,8 @@ fn binary(
     work: &[u64],
 ) -> u64
     requires { WordBelow laid.now (length work.now) n × FitBinary program laid.now work.now n k a b }
-    ensures { result ≡ opWord program k (widIn laid.now a) (widIn laid.now b) (wordKept laid.now work.now a)
-        (wordKept laid.now work.now b) 0 }
+    ensures { result ≡ op_word program k (wid_in laid.now a) (wid_in laid.now b) (word_kept laid.now work.now a)
+        (word_kept laid.now work.now b) 0 }
 {
     let p = area::off(laid, a);
     let v = work[p];
@@ -165,7 +167,7 @@ pub fn high_kinds(
 // Stores the word, if there is one.
 pub fn store(r: Word, n: usize, laid: &[[u32; LAID]; 16385], work: &mut [u64]) -> bool
     requires { Room laid.now work.old n r }
-    ensures { (result ≡ isWord r) × (work.new ≡ leaves laid.now work.old n r) }
+    ensures { (result ≡ is_word r) × (work.new ≡ leaves laid.now work.old n r) }
 {
     match r {
         Word::Is(v) => {
@@ -186,7 +188,7 @@ pub fn equality(
     work: &mut [u64],
 ) -> bool
     requires { WordBelow laid.now (length work.old) n × FitEquality laid.now n a b }
-    ensures { work.new ≡ pick result (put work.old (offIn laid.now n) (exprIn false laid.now work.old (Expr.equality e a b)))
+    ensures { work.new ≡ pick result (put work.old (off_in laid.now n) (expr_in false laid.now work.old (Expr.equality e a b)))
         work.old }
 {
     if area::cells(laid, a) != 1 {
@@ -205,7 +207,7 @@ pub fn ite(
     work: &mut [u64],
 ) -> bool
     requires { RunBelow laid.now (length work.old) n × FitIte laid.now n c a b }
-    ensures { work.new ≡ pick result (put work.old (offIn laid.now n) (exprIn false laid.now work.old (Expr.ite c a b)))
+    ensures { work.new ≡ pick result (put work.old (off_in laid.now n) (expr_in false laid.now work.old (Expr.ite c a b)))
         work.old }
 {
     if area::cells(laid, n) != 1 {
@@ -224,8 +226,8 @@ pub fn state(
     work: &mut [u64],
 ) -> bool
     requires { FitState laid.now all (length work.old) n }
-    ensures { work.new ≡ pick result (put (put work.old (all + posIn laid.now n) (stateIn program first laid.now all work.old n))
-        (offIn laid.now n) (stateIn program first laid.now all work.old n)) work.old }
+    ensures { work.new ≡ pick result (put (put work.old (all + pos_in laid.now n) (state_in program first laid.now all work.old n))
+        (off_in laid.now n) (state_in program first laid.now all work.old n)) work.old }
 {
     if area::cells(laid, n) != 1 {
         return false;
@@ -243,7 +245,7 @@ pub fn next(
     work: &mut [u64],
 ) -> bool
     requires { FitNext laid.now all (length work.old) q v }
-    ensures { work.new ≡ pick result (pick (not first) (put work.old (all + posIn laid.now q) (storedIn laid.now work.old false q v))
+    ensures { work.new ≡ pick result (pick (not first) (put work.old (all + pos_in laid.now q) (stored_in laid.now work.old false q v))
         work.old) work.old }
 {
     if area::cells(laid, v) != 1 {

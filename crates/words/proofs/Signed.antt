@@ -13,7 +13,7 @@ use lib.Signed.{le_z, non_neg}
 use mir.Syntax.{w64}
 use mir.Val.{Fits, SFits, to_z, of_z}
 use mir.Facts.{to_z_pos, to_z-of_z, Fits-nat_abs}
-use Rattle.words.specs.Word.{Width, flip, signedValue, twosComplement}
+use Rattle.words.specs.Word.{Width, flip, signed_value, twos_complement}
 
 -- ---- the sign bit
 
@@ -31,10 +31,10 @@ sign_clear w a e = subst (λ (n : ℕ). a < n) (one-mul (2 ^ (w - 1))) ((div-lt_
 pub sign_set : (w a : ℕ) → (a / 2 ^ (w - 1) ≡ 0 → ⊥) → 2 ^ (w - 1) ≤ a
 sign_set w a f = let g : ¬ (a < 2 ^ (w - 1)) = λ l. f (div-eq_of_lt l) in omega arith
 
-pub signed_low : (w a : ℕ) → a < 2 ^ (w - 1) → signedValue w a ≡ pos a
+pub signed_low : (w a : ℕ) → a < 2 ^ (w - 1) → signed_value w a ≡ pos a
 signed_low w a h = ap (λ (t : Bool). cond t (pos a) (negsuc (2 ^ w - suc a))) (lt-ltb a (2 ^ (w - 1)) h)
 
-pub signed_high : (w a : ℕ) → 2 ^ (w - 1) ≤ a → signedValue w a ≡ negsuc (2 ^ w - suc a)
+pub signed_high : (w a : ℕ) → 2 ^ (w - 1) ≤ a → signed_value w a ≡ negsuc (2 ^ w - suc a)
 signed_high w a h = ap (λ (t : Bool). cond t (pos a) (negsuc (2 ^ w - suc a))) (le-ltb a (2 ^ (w - 1)) h)
 
 -- ---- negation. The opposites of 0 to 2^63 - 1 are signed numbers, and one less of each is too, the least number included
@@ -44,17 +44,17 @@ negated : (n : ℕ) → pos 0 -ℤ pos n ≡ neg_ℤ (pos n)
 negated n = +ℤ_idl (neg_ℤ (pos n))
 
 -- `-n - 1`
-negated-less : (n : ℕ) → neg_ℤ (pos n) -ℤ pos 1 ≡ negsuc n
-negated-less zero = refl
-negated-less (suc n) = ap (λ (k : ℕ). negsuc (suc k)) (add-zero n)
+negated_less : (n : ℕ) → neg_ℤ (pos n) -ℤ pos 1 ≡ negsuc n
+negated_less zero = refl
+negated_less (suc n) = ap (λ (k : ℕ). negsuc (suc k)) (add-zero n)
 
 -- `z + 1` for z = -1 - n, and `-(z + 1)`
 up : (n : ℕ) → negsuc n +ℤ pos 1 ≡ neg_ℤ (pos n)
 up zero = refl
 up (suc n) = +ℤ_one (negsuc (suc n))
 
-negated-up : (n : ℕ) → pos 0 -ℤ neg_ℤ (pos n) ≡ pos n
-negated-up n = +ℤ_idl (neg_ℤ (neg_ℤ (pos n))) ∙ neg_ℤ-neg_ℤ (pos n)
+negated_up : (n : ℕ) → pos 0 -ℤ neg_ℤ (pos n) ≡ pos n
+negated_up n = +ℤ_idl (neg_ℤ (neg_ℤ (pos n))) ∙ neg_ℤ-neg_ℤ (pos n)
 
 negated_fits : (n : ℕ) → n < 2 ^ 63 → SFits w64 (neg_ℤ (pos n))
 negated_fits zero h = record { sfits = h }
@@ -69,12 +69,12 @@ module _ (n : ℕ) (h : n < 2 ^ 63) where
   minus : pos 0 -ℤ to_z w64 n ≡ neg_ℤ (pos n)
   minus = ap (λ (z : ℤ). pos 0 -ℤ z) (to_z_pos w64 h) ∙ negated n
 
-  pub minus-fits : SFits w64 (pos 0 -ℤ to_z w64 n)
-  minus-fits = subst (λ (z : ℤ). SFits w64 z) (sym minus) (negated_fits n h)
+  pub minus_fits_lem : SFits w64 (pos 0 -ℤ to_z w64 n)
+  minus_fits_lem = subst (λ (z : ℤ). SFits w64 z) (sym minus) (negated_fits n h)
 
   -- `-(n as i64) - 1`
-  minus-less : back (pos 0 -ℤ to_z w64 n) -ℤ pos 1 ≡ negsuc n
-  minus-less = ap (λ (z : ℤ). z -ℤ pos 1) (to_z-of_z minus-fits ∙ minus) ∙ negated-less n
+  minus_less : back (pos 0 -ℤ to_z w64 n) -ℤ pos 1 ≡ negsuc n
+  minus_less = ap (λ (z : ℤ). z -ℤ pos 1) (to_z-of_z minus_fits_lem ∙ minus) ∙ negated_less n
 
 -- ---- by the test `z >= 0`
 
@@ -92,49 +92,49 @@ abbrev pub down : ℤ → ℤ
 down z = pos 0 -ℤ back (z +ℤ pos 1)
 
 down_is : (n : ℕ) → SFits w64 (negsuc n) → down (negsuc n) ≡ pos n
-down_is n f = ap (λ (y : ℤ). pos 0 -ℤ y) (to_z-of_z (up_fits (negsuc n) f refl) ∙ up n) ∙ negated-up n
+down_is n f = ap (λ (y : ℤ). pos 0 -ℤ y) (to_z-of_z (up_fits (negsuc n) f refl) ∙ up n) ∙ negated_up n
 
 pub down_fits : (z : ℤ) → SFits w64 z → le_z (pos 0) z ≡ false → SFits w64 (down z)
 down_fits (pos n) f e = absurd (true≢false (sym (le-leb 0 n zero-le) ∙ e))
 down_fits (negsuc n) f e = subst (λ (y : ℤ). SFits w64 y) (sym (down_is n f)) (record { sfits = f.sfits })
 
-pub down-test : (z : ℤ) → SFits w64 z → le_z (pos 0) z ≡ false → le_z (pos 0) (down z) ≡ true
-down-test (pos n) f e = absurd (true≢false (sym (le-leb 0 n zero-le) ∙ e))
-down-test (negsuc n) f e = ap (λ (y : ℤ). le_z (pos 0) y) (down_is n f) ∙ le-leb 0 n zero-le
+pub down_test : (z : ℤ) → SFits w64 z → le_z (pos 0) z ≡ false → le_z (pos 0) (down z) ≡ true
+down_test (pos n) f e = absurd (true≢false (sym (le-leb 0 n zero-le) ∙ e))
+down_test (negsuc n) f e = ap (λ (y : ℤ). le_z (pos 0) y) (down_is n f) ∙ le-leb 0 n zero-le
 
-pub complement-up : (w : ℕ) (z : ℤ) → le_z (pos 0) z ≡ true → nat_abs z % 2 ^ w ≡ twosComplement w z
-complement-up w (pos n) e = refl
-complement-up w (negsuc n) e = absurd (false≢true e)
+pub complement_up : (w : ℕ) (z : ℤ) → le_z (pos 0) z ≡ true → nat_abs z % 2 ^ w ≡ twos_complement w z
+complement_up w (pos n) e = refl
+complement_up w (negsuc n) e = absurd (false≢true e)
 
-pub complement-down : (w : ℕ) (z : ℤ) → SFits w64 z → le_z (pos 0) z ≡ false → flip w (nat_abs (down z) % 2 ^ w) ≡ twosComplement w z
-complement-down w (pos n) f e = absurd (true≢false (sym (le-leb 0 n zero-le) ∙ e))
-complement-down w (negsuc n) f e = ap (λ (y : ℤ). flip w (nat_abs y % 2 ^ w)) (down_is n f)
+pub complement_down : (w : ℕ) (z : ℤ) → SFits w64 z → le_z (pos 0) z ≡ false → flip w (nat_abs (down z) % 2 ^ w) ≡ twos_complement w z
+complement_down w (pos n) f e = absurd (true≢false (sym (le-leb 0 n zero-le) ∙ e))
+complement_down w (negsuc n) f e = ap (λ (y : ℤ). flip w (nat_abs y % 2 ^ w)) (down_is n f)
 
 -- ---- `to_signed` and `from_signed`, as laws of numbers
 
 -- the sign bit is clear
-pub clear-fits : (w a : ℕ) → Width w → a / 2 ^ (w - 1) ≡ 0 → a < 2 ^ 63
-clear-fits w a k e = lt_of_lt_of_le (sign_clear w a e) (half_le k)
+pub clear_fits : (w a : ℕ) → Width w → a / 2 ^ (w - 1) ≡ 0 → a < 2 ^ 63
+clear_fits w a k e = lt_of_lt_of_le (sign_clear w a e) (half_le k)
 
-pub clear-law : (w a : ℕ) → Width w → a / 2 ^ (w - 1) ≡ 0 → to_z w64 a ≡ signedValue w a
-clear-law w a k e = to_z_pos w64 (clear-fits w a k e) ∙ sym (signed_low w a (sign_clear w a e))
+pub clear_law : (w a : ℕ) → Width w → a / 2 ^ (w - 1) ≡ 0 → to_z w64 a ≡ signed_value w a
+clear_law w a k e = to_z_pos w64 (clear_fits w a k e) ∙ sym (signed_low w a (sign_clear w a e))
 
 -- the sign bit is set; m is the mask
-pub set-fits : (w a m : ℕ) → Width w → m ≡ 2 ^ w - 1 → (a / 2 ^ (w - 1) ≡ 0 → ⊥) → m - a < 2 ^ 63
-set-fits w a m k e f = lt_of_lt_of_le below (half_le k)
+pub set_fits : (w a m : ℕ) → Width w → m ≡ 2 ^ w - 1 → (a / 2 ^ (w - 1) ≡ 0 → ⊥) → m - a < 2 ^ 63
+set_fits w a m k e f = lt_of_lt_of_le below (half_le k)
   where
     below : m - a < 2 ^ (w - 1)
     below = omega (arith, half w k.least, pow_pos (w - 1), sign_set w a f)
 
-pub set-neg : (w a m : ℕ) → Width w → m ≡ 2 ^ w - 1 → (a / 2 ^ (w - 1) ≡ 0 → ⊥) → SFits w64 (pos 0 -ℤ to_z w64 (m - a))
-set-neg w a m k e f = minus-fits (m - a) (set-fits w a m k e f)
+pub set_neg : (w a m : ℕ) → Width w → m ≡ 2 ^ w - 1 → (a / 2 ^ (w - 1) ≡ 0 → ⊥) → SFits w64 (pos 0 -ℤ to_z w64 (m - a))
+set_neg w a m k e f = minus_fits_lem (m - a) (set_fits w a m k e f)
 
-pub set-down : (w a m : ℕ) → Width w → m ≡ 2 ^ w - 1 → (a / 2 ^ (w - 1) ≡ 0 → ⊥) → SFits w64 (back (pos 0 -ℤ to_z w64 (m - a)) -ℤ pos 1)
-set-down w a m k e f = subst (λ (z : ℤ). SFits w64 z) (sym (minus-less (m - a) (set-fits w a m k e f))) (record { sfits = set-fits w a m k e f })
+pub set_down : (w a m : ℕ) → Width w → m ≡ 2 ^ w - 1 → (a / 2 ^ (w - 1) ≡ 0 → ⊥) → SFits w64 (back (pos 0 -ℤ to_z w64 (m - a)) -ℤ pos 1)
+set_down w a m k e f = subst (λ (z : ℤ). SFits w64 z) (sym (minus_less (m - a) (set_fits w a m k e f))) (record { sfits = set_fits w a m k e f })
 
-pub set-law : (w a m : ℕ) → Width w → a < 2 ^ w → m ≡ 2 ^ w - 1 → (a / 2 ^ (w - 1) ≡ 0 → ⊥) → back (back (pos 0 -ℤ to_z w64 (m - a)) -ℤ pos 1) ≡ signedValue w a
-set-law w a m k h e f =
-    to_z-of_z (set-down w a m k e f) ∙ minus-less (m - a) (set-fits w a m k e f) ∙ ap negsuc same ∙ sym (signed_high w a (sign_set w a f))
+pub set_law : (w a m : ℕ) → Width w → a < 2 ^ w → m ≡ 2 ^ w - 1 → (a / 2 ^ (w - 1) ≡ 0 → ⊥) → back (back (pos 0 -ℤ to_z w64 (m - a)) -ℤ pos 1) ≡ signed_value w a
+set_law w a m k h e f =
+    to_z-of_z (set_down w a m k e f) ∙ minus_less (m - a) (set_fits w a m k e f) ∙ ap negsuc same ∙ sym (signed_high w a (sign_set w a f))
   where
     same : m - a ≡ 2 ^ w - suc a
     same = omega arith

@@ -4,7 +4,7 @@ use mathlib.Core.Bool.{Bool, true, false, not, ◌||◌}
 use Prim.Native.Nat.{ℕ, ◌%◌, ◌^◌, ◌<◌}
 use native.Mathlib.Nat.{mod-eq_of_lt}
 use lib.Dec.{T}
-use Rattle.words.specs.Model.Loose.{atUse}
+use Rattle.words.specs.Model.Loose.{at_use}
 
 -- x stands for a, a word of width w; the flag says whether x is loose
 abbrev pub Stands : Bool → ℕ → ℕ → ℕ → Type 0
@@ -31,6 +31,6 @@ loosen l true w x t h e = low_bits l w x h e
 loosen false false w x t h e = e
 
 -- a clean word stands for itself at every use
-pub itself : (need : Bool) (w x : ℕ) → Stands (atUse need false) w x x
+pub itself : (need : Bool) (w x : ℕ) → Stands (at_use need false) w x x
 itself true w x = refl
 itself false w x = refl

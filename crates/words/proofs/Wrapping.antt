@@ -8,13 +8,13 @@ use borrow.Author.Tests.{ltb-true, ltb-false, leb-true, leb-false}
 use lib.Dec.{ltb, leb}
 use lib.Pow.{pow_pos}
 use lib.IntN.{ℤ, pos, negsuc, neg_ℤ, sub_ℕ, ◌+ℤ◌, ◌-ℤ◌, ◌*ℤ◌}
-use Rattle.words.specs.Word.{Width, flip, signedValue, twosComplement}
+use Rattle.words.specs.Word.{Width, flip, signed_value, twos_complement}
 use Rattle.words.specs.Op.{Op, add, sub, mul, sdiv, Detector, uaddo, saddo, usubo, ssubo, umulo, smulo, sdivo}
-use Rattle.words.specs.Overflow.{wholeResult}
+use Rattle.words.specs.Overflow.{whole_result}
 use Rattle.words.specs.Circuit.{circ}
 use Rattle.words.proofs.Signed.{half, signed_low, signed_high}
-use Rattle.words.proofs.Divide.{div-else}
-use Rattle.words.proofs.Division.{not-zero}
+use Rattle.words.proofs.Divide.{div_else}
+use Rattle.words.proofs.Division.{not_zero}
 
 -- ---- modulo M
 
@@ -52,10 +52,10 @@ module _ (M : ℕ) (hM : 0 < M) where
 
 module _ (w : ℕ) where
   -- a less s, which is at most 2 ^ w
-  less-word : (a s : ℕ) → s ≤ 2 ^ w → twosComplement w (sub_ℕ a s) ≡ (a + (2 ^ w - s)) % 2 ^ w
-  less-word a s h = go (ltb a s) refl
+  less_word : (a s : ℕ) → s ≤ 2 ^ w → twos_complement w (sub_ℕ a s) ≡ (a + (2 ^ w - s)) % 2 ^ w
+  less_word a s h = go (ltb a s) refl
     where
-      go : (t : Bool) → ltb a s ≡ t → twosComplement w (cond t (negsuc (s - suc a)) (pos (a - s))) ≡ (a + (2 ^ w - s)) % 2 ^ w
+      go : (t : Bool) → ltb a s ≡ t → twos_complement w (cond t (negsuc (s - suc a)) (pos (a - s))) ≡ (a + (2 ^ w - s)) % 2 ^ w
       go true e =
           let l = ltb-true a s e in
           ap (flip w) (mod-eq_of_lt (omega arith)) ∙ omega arith ∙ sym (mod-eq_of_lt (omega arith))
@@ -64,13 +64,13 @@ module _ (w : ℕ) where
           let q : a - s + 2 ^ w ≡ a + (2 ^ w - s) = omega arith in
           sym (add-mod_right (a - s) (2 ^ w)) ∙ ap (λ (n : ℕ). n % 2 ^ w) q
 
-  minus-word : (a b : ℕ) → b ≤ 2 ^ w → twosComplement w (pos a -ℤ pos b) ≡ (a + (2 ^ w - b)) % 2 ^ w
-  minus-word a zero h = let q : a + 0 + 2 ^ w ≡ a + (2 ^ w - 0) = omega arith in sym (add-mod_right (a + 0) (2 ^ w)) ∙ ap (λ (n : ℕ). n % 2 ^ w) q
-  minus-word a (suc b) h = less-word a (suc b) h
+  minus_word : (a b : ℕ) → b ≤ 2 ^ w → twos_complement w (pos a -ℤ pos b) ≡ (a + (2 ^ w - b)) % 2 ^ w
+  minus_word a zero h = let q : a + 0 + 2 ^ w ≡ a + (2 ^ w - 0) = omega arith in sym (add-mod_right (a + 0) (2 ^ w)) ∙ ap (λ (n : ℕ). n % 2 ^ w) q
+  minus_word a (suc b) h = less_word a (suc b) h
 
-  opposite-word : (k : ℕ) → twosComplement w (neg_ℤ (pos k)) ≡ (2 ^ w - k % 2 ^ w) % 2 ^ w
-  opposite-word zero = zero-mod (2 ^ w) ∙ sym (ap (λ (x : ℕ). (2 ^ w - x) % 2 ^ w) (zero-mod (2 ^ w)) ∙ ap (λ (x : ℕ). x % 2 ^ w) (sub-zero (2 ^ w)) ∙ mod_self (2 ^ w))
-  opposite-word (suc n) =
+  opposite_word : (k : ℕ) → twos_complement w (neg_ℤ (pos k)) ≡ (2 ^ w - k % 2 ^ w) % 2 ^ w
+  opposite_word zero = zero-mod (2 ^ w) ∙ sym (ap (λ (x : ℕ). (2 ^ w - x) % 2 ^ w) (zero-mod (2 ^ w)) ∙ ap (λ (x : ℕ). x % 2 ^ w) (sub-zero (2 ^ w)) ∙ mod_self (2 ^ w))
+  opposite_word (suc n) =
       let l : n % 2 ^ w < 2 ^ w = mod-lt n (pow_pos w) in
       let d : n / 2 ^ w * 2 ^ w + n % 2 ^ w ≡ n = div-add-mod' n (2 ^ w) in
       let q : suc n + (2 ^ w - 1 - n % 2 ^ w) ≡ n / 2 ^ w * 2 ^ w + 2 ^ w = omega arith in
@@ -81,8 +81,8 @@ module _ (w : ℕ) where
 
 -- a word is itself, or less than 0 by 2 ^ w - x
 data Sign (w x : ℕ) : Type 0 where
-  plus : signedValue w x ≡ pos x → x < 2 ^ (w - 1) → Sign w x
-  minus : signedValue w x ≡ negsuc (2 ^ w - suc x) → 2 ^ (w - 1) ≤ x → Sign w x
+  plus : signed_value w x ≡ pos x → x < 2 ^ (w - 1) → Sign w x
+  minus : signed_value w x ≡ negsuc (2 ^ w - suc x) → 2 ^ (w - 1) ≤ x → Sign w x
 
 sign : (w x : ℕ) → Sign w x
 sign w x = go (ltb x (2 ^ (w - 1))) refl
@@ -99,32 +99,32 @@ module _ (w a b : ℕ) (k : Width w) (ha : a < 2 ^ w) (hb : b < 2 ^ w) where
   back : {x : ℕ} → x < 2 ^ w → suc (2 ^ w - suc x) ≡ 2 ^ w - x
   back h = omega arith
 
-  sum-word : Sign w a → Sign w b → twosComplement w (signedValue w a +ℤ signedValue w b) ≡ (a + b) % 2 ^ w
-  sum-word (plus ea la) (plus eb lb) = ap₂ (λ (n d : ℤ). twosComplement w (n +ℤ d)) ea eb
-  sum-word (plus ea la) (minus eb lb) =
+  sum_word : Sign w a → Sign w b → twos_complement w (signed_value w a +ℤ signed_value w b) ≡ (a + b) % 2 ^ w
+  sum_word (plus ea la) (plus eb lb) = ap₂ (λ (n d : ℤ). twos_complement w (n +ℤ d)) ea eb
+  sum_word (plus ea la) (minus eb lb) =
       let q : a + (2 ^ w - suc (2 ^ w - suc b)) ≡ a + b = omega arith in
-      ap₂ (λ (n d : ℤ). twosComplement w (n +ℤ d)) ea eb ∙ less-word w a (suc (2 ^ w - suc b)) (omega arith) ∙ ap (λ (n : ℕ). n % 2 ^ w) q
-  sum-word (minus ea la) (plus eb lb) =
+      ap₂ (λ (n d : ℤ). twos_complement w (n +ℤ d)) ea eb ∙ less_word w a (suc (2 ^ w - suc b)) (omega arith) ∙ ap (λ (n : ℕ). n % 2 ^ w) q
+  sum_word (minus ea la) (plus eb lb) =
       let q : b + (2 ^ w - suc (2 ^ w - suc a)) ≡ a + b = omega arith in
-      ap₂ (λ (n d : ℤ). twosComplement w (n +ℤ d)) ea eb ∙ less-word w b (suc (2 ^ w - suc a)) (omega arith) ∙ ap (λ (n : ℕ). n % 2 ^ w) q
-  sum-word (minus ea la) (minus eb lb) =
-      ap₂ (λ (n d : ℤ). twosComplement w (n +ℤ d)) ea eb ∙ ap (flip w) (mod-eq_of_lt (omega (arith, two)))
+      ap₂ (λ (n d : ℤ). twos_complement w (n +ℤ d)) ea eb ∙ less_word w b (suc (2 ^ w - suc a)) (omega arith) ∙ ap (λ (n : ℕ). n % 2 ^ w) q
+  sum_word (minus ea la) (minus eb lb) =
+      ap₂ (λ (n d : ℤ). twos_complement w (n +ℤ d)) ea eb ∙ ap (flip w) (mod-eq_of_lt (omega (arith, two)))
       ∙ omega (arith, two) ∙ sym (once (2 ^ w) (pow_pos w) (a + b) (omega (arith, two)) (omega arith))
 
-  difference-word : Sign w a → Sign w b → twosComplement w (signedValue w a -ℤ signedValue w b) ≡ (a + (2 ^ w - b)) % 2 ^ w
-  difference-word (plus ea la) (plus eb lb) = ap₂ (λ (n d : ℤ). twosComplement w (n -ℤ d)) ea eb ∙ minus-word w a b (omega arith)
-  difference-word (plus ea la) (minus eb lb) = ap₂ (λ (n d : ℤ). twosComplement w (n -ℤ d)) ea eb ∙ ap (λ (n : ℕ). (a + n) % 2 ^ w) (back hb)
-  difference-word (minus ea la) (plus eb lb) = ap₂ (λ (n d : ℤ). twosComplement w (n -ℤ d)) ea eb ∙ go b lb
+  difference_word : Sign w a → Sign w b → twos_complement w (signed_value w a -ℤ signed_value w b) ≡ (a + (2 ^ w - b)) % 2 ^ w
+  difference_word (plus ea la) (plus eb lb) = ap₂ (λ (n d : ℤ). twos_complement w (n -ℤ d)) ea eb ∙ minus_word w a b (omega arith)
+  difference_word (plus ea la) (minus eb lb) = ap₂ (λ (n d : ℤ). twos_complement w (n -ℤ d)) ea eb ∙ ap (λ (n : ℕ). (a + n) % 2 ^ w) (back hb)
+  difference_word (minus ea la) (plus eb lb) = ap₂ (λ (n d : ℤ). twos_complement w (n -ℤ d)) ea eb ∙ go b lb
     where
-      go : (y : ℕ) → y < 2 ^ (w - 1) → twosComplement w (negsuc (2 ^ w - suc a) -ℤ pos y) ≡ (a + (2 ^ w - y)) % 2 ^ w
+      go : (y : ℕ) → y < 2 ^ (w - 1) → twos_complement w (negsuc (2 ^ w - suc a) -ℤ pos y) ≡ (a + (2 ^ w - y)) % 2 ^ w
       go zero l =
           let q : 0 + (2 ^ w - suc (2 ^ w - suc a)) + 2 ^ w ≡ a + (2 ^ w - 0) = omega arith in
-          less-word w 0 (suc (2 ^ w - suc a)) (omega arith) ∙ sym (add-mod_right (0 + (2 ^ w - suc (2 ^ w - suc a))) (2 ^ w)) ∙ ap (λ (n : ℕ). n % 2 ^ w) q
+          less_word w 0 (suc (2 ^ w - suc a)) (omega arith) ∙ sym (add-mod_right (0 + (2 ^ w - suc (2 ^ w - suc a))) (2 ^ w)) ∙ ap (λ (n : ℕ). n % 2 ^ w) q
       go (suc y) l =
           ap (flip w) (mod-eq_of_lt (omega (arith, two))) ∙ omega (arith, two) ∙ sym (once (2 ^ w) (pow_pos w) (a + (2 ^ w - suc y)) (omega (arith, two)) (omega arith))
-  difference-word (minus ea la) (minus eb lb) =
+  difference_word (minus ea la) (minus eb lb) =
       let q : suc (2 ^ w - suc b) + (2 ^ w - suc (2 ^ w - suc a)) ≡ a + (2 ^ w - b) = omega arith in
-      ap₂ (λ (n d : ℤ). twosComplement w (n -ℤ d)) ea eb ∙ less-word w (suc (2 ^ w - suc b)) (suc (2 ^ w - suc a)) (omega arith) ∙ ap (λ (n : ℕ). n % 2 ^ w) q
+      ap₂ (λ (n d : ℤ). twos_complement w (n -ℤ d)) ea eb ∙ less_word w (suc (2 ^ w - suc b)) (suc (2 ^ w - suc a)) (omega arith) ∙ ap (λ (n : ℕ). n % 2 ^ w) q
 
   -- a product with an opposite
   turned : (x y : ℕ) → y < 2 ^ w → x * y % 2 ^ w ≡ (2 ^ w - x * (2 ^ w - y) % 2 ^ w) % 2 ^ w
@@ -132,15 +132,15 @@ module _ (w a b : ℕ) (k : Width w) (ha : a < 2 ^ w) (hb : b < 2 ^ w) where
       let e : 2 ^ w - y + y ≡ 2 ^ w = omega arith in
       opposite (2 ^ w) (pow_pos w) (x * (2 ^ w - y)) (x * y) (ap (λ (n : ℕ). n % 2 ^ w) (sym (mul-add x (2 ^ w - y) y) ∙ ap (λ (n : ℕ). x * n) e) ∙ mul-mod_left x (2 ^ w))
 
-  product-word : Sign w a → Sign w b → twosComplement w (signedValue w a *ℤ signedValue w b) ≡ a * b % 2 ^ w
-  product-word (plus ea la) (plus eb lb) = ap₂ (λ (n d : ℤ). twosComplement w (n *ℤ d)) ea eb
-  product-word (plus ea la) (minus eb lb) =
-      ap₂ (λ (n d : ℤ). twosComplement w (n *ℤ d)) ea eb ∙ opposite-word w (a * suc (2 ^ w - suc b)) ∙ ap (λ (n : ℕ). (2 ^ w - a * n % 2 ^ w) % 2 ^ w) (back hb) ∙ sym (turned a b hb)
-  product-word (minus ea la) (plus eb lb) =
-      ap₂ (λ (n d : ℤ). twosComplement w (n *ℤ d)) ea eb ∙ opposite-word w (suc (2 ^ w - suc a) * b)
+  product_word : Sign w a → Sign w b → twos_complement w (signed_value w a *ℤ signed_value w b) ≡ a * b % 2 ^ w
+  product_word (plus ea la) (plus eb lb) = ap₂ (λ (n d : ℤ). twos_complement w (n *ℤ d)) ea eb
+  product_word (plus ea la) (minus eb lb) =
+      ap₂ (λ (n d : ℤ). twos_complement w (n *ℤ d)) ea eb ∙ opposite_word w (a * suc (2 ^ w - suc b)) ∙ ap (λ (n : ℕ). (2 ^ w - a * n % 2 ^ w) % 2 ^ w) (back hb) ∙ sym (turned a b hb)
+  product_word (minus ea la) (plus eb lb) =
+      ap₂ (λ (n d : ℤ). twos_complement w (n *ℤ d)) ea eb ∙ opposite_word w (suc (2 ^ w - suc a) * b)
       ∙ ap (λ (n : ℕ). (2 ^ w - n % 2 ^ w) % 2 ^ w) (mul_comm (suc (2 ^ w - suc a)) b ∙ ap (λ (n : ℕ). b * n) (back ha)) ∙ sym (turned b a ha) ∙ ap (λ (n : ℕ). n % 2 ^ w) (mul_comm b a)
-  product-word (minus ea la) (minus eb lb) =
-      ap₂ (λ (n d : ℤ). twosComplement w (n *ℤ d)) ea eb ∙ ap₂ (λ (n d : ℕ). n * d % 2 ^ w) (back ha) (back hb)
+  product_word (minus ea la) (minus eb lb) =
+      ap₂ (λ (n d : ℤ). twos_complement w (n *ℤ d)) ea eb ∙ ap₂ (λ (n d : ℕ). n * d % 2 ^ w) (back ha) (back hb)
       ∙ turned (2 ^ w - a) (2 ^ w - b) (omega (arith, pow_pos (w - 1)))
       ∙ ap (λ (n : ℕ). (2 ^ w - n % 2 ^ w) % 2 ^ w) (ap (λ (n : ℕ). (2 ^ w - a) * n) twice ∙ mul_comm (2 ^ w - a) b) ∙ sym (turned b a ha) ∙ ap (λ (n : ℕ). n % 2 ^ w) (mul_comm b a)
     where
@@ -168,11 +168,11 @@ HasResult umulo b = Unit {0}
 HasResult smulo b = Unit {0}
 HasResult sdivo b = b ≡ 0 → ⊥
 
-pub watched-word : (o : Detector) (w v a b c : ℕ) → Width w → a < 2 ^ w → b < 2 ^ w → HasResult o b → circ (watched o) w v a b c ≡ twosComplement w (wholeResult o w a b)
-watched-word uaddo w v a b c k ha hb f = refl
-watched-word saddo w v a b c k ha hb f = sym (sum-word w a b k ha hb (sign w a) (sign w b))
-watched-word usubo w v a b c k ha hb f = sym (minus-word w a b (omega arith))
-watched-word ssubo w v a b c k ha hb f = sym (difference-word w a b k ha hb (sign w a) (sign w b))
-watched-word umulo w v a b c k ha hb f = refl
-watched-word smulo w v a b c k ha hb f = sym (product-word w a b k ha hb (sign w a) (sign w b))
-watched-word sdivo w v a b c k ha hb f = ap (twosComplement w) (div-else (signedValue w a) (signedValue w b) (not-zero w v c k hb f))
+pub watched_word : (o : Detector) (w v a b c : ℕ) → Width w → a < 2 ^ w → b < 2 ^ w → HasResult o b → circ (watched o) w v a b c ≡ twos_complement w (whole_result o w a b)
+watched_word uaddo w v a b c k ha hb f = refl
+watched_word saddo w v a b c k ha hb f = sym (sum_word w a b k ha hb (sign w a) (sign w b))
+watched_word usubo w v a b c k ha hb f = sym (minus_word w a b (omega arith))
+watched_word ssubo w v a b c k ha hb f = sym (difference_word w a b k ha hb (sign w a) (sign w b))
+watched_word umulo w v a b c k ha hb f = refl
+watched_word smulo w v a b c k ha hb f = sym (product_word w a b k ha hb (sign w a) (sign w b))
+watched_word sdivo w v a b c k ha hb f = ap (twos_complement w) (div_else (signed_value w a) (signed_value w b) (not_zero w v c k hb f))

@@ -1,7 +1,7 @@
 -- The operators in a program, on words of 64 bits: `prog op u v a b c`, with operands and widths as in a circuit. A word may have
 -- bits past its width. One clause an operator, under the request's sentences in their order; where these say w, the width is u, the
 -- first operand's. Assumes nothing.
-use Rattle.std.specs.Prelude.{ℕ, ◌+◌, ◌-◌, ◌*◌, ◌/◌, ◌%◌, ◌^◌, not as isNot, ltb, eqb}
+use Rattle.std.specs.Prelude.{ℕ, ◌+◌, ◌-◌, ◌*◌, ◌/◌, ◌%◌, ◌^◌, not as is_not, ltb, eqb}
 use Rattle.std.specs.Int.Bits.{bit_and, bit_or, bit_xor}
 use Rattle.words.specs.Word.{bit, flip, shl, choose}
 use Rattle.words.specs.Op.{Op, not, neg, inc, dec, redand, redor, redxor, slice, uext, sext, eq, neq, ult, ulte, ugt, ugte, slt, slte, sgt, sgte, iff, implies, and, or, xor, nand, nor, xnor, add, sub, mul, udiv, urem, sdiv, srem, smod, sll, srl, sra, rol, ror, concat, ite, mask, overflow}
@@ -57,7 +57,7 @@ prog udiv u v a b c = circ udiv u v a b c
 prog urem u v a b c = circ urem u v a b c
 prog srl u v a b c = circ srl u v a b c
 -- "A signal byte, redor and an ite condition count as 1 when the whole word is not 0; redand is 1 when it is 2^w - 1."
-prog redor u v a b c = bit (isNot (eqb a 0))
+prog redor u v a b c = bit (is_not (eqb a 0))
 prog ite u v a b c = choose a b c
 prog redand u v a b c = bit (eqb a (2 ^ u - 1))
 -- "kind 56 masks its operand to its width"

@@ -22,8 +22,8 @@ computed w = map (λ (r : Row). circ r.op w w r.a r.b 0)
 abbrev pub expected : List Row → List ℕ
 expected = map (λ (r : Row). r.result)
 
-abbrev pub markedRows : List Row
-markedRows =
+abbrev pub marked_rows : List Row
+marked_rows =
     row udiv 5 0 7 ∷ row urem 5 0 5
     ∷ row sdiv 4 7 4 ∷ row sdiv 5 0 1
     ∷ row srem 5 2 7
@@ -31,8 +31,8 @@ markedRows =
     ∷ row sra 4 3 7 ∷ row sll 1 3 0 ∷ row rol 1 4 2
     ∷ row slt 4 3 1 ∷ row add 7 1 0 ∷ []
 
-pub marked-values : computed 3 markedRows ≡ expected markedRows
-marked-values = refl
+pub marked_values : computed 3 marked_rows ≡ expected marked_rows
+marked_values = refl
 
 abbrev pub wide : List Row
 wide =
@@ -47,9 +47,9 @@ wide =
     ∷ row rol 0x8000_0000_0000_0001 0xffff_ffff_ffff_fffd 0x3000_0000_0000_0000
     ∷ row redxor 0xffff_ffff_ffff_fffe 0 1 ∷ []
 
-pub wide-values : computed 64 wide ≡ expected wide
+pub wide_values : computed 64 wide ≡ expected wide
 unfolding ones_in
-wide-values = refl
+wide_values = refl
 
 -- ---- overflow detectors, at the edges of widths 1, 3 and 64
 
@@ -60,17 +60,17 @@ detectors = uaddo ∷ saddo ∷ usubo ∷ ssubo ∷ umulo ∷ smulo ∷ sdivo �
 abbrev pub detected : (w a b : ℕ) → List ℕ
 detected w a b = map (λ (o : Detector). circ (overflow o) w w a b 0) detectors
 
-pub overflow-values : detected 3 4 7 ∷ detected 3 2 2 ∷ detected 3 3 0 ∷ []
+pub overflow_values : detected 3 4 7 ∷ detected 3 2 2 ∷ detected 3 3 0 ∷ []
     ≡ (1 ∷ 1 ∷ 1 ∷ 0 ∷ 1 ∷ 1 ∷ 1 ∷ []) ∷ (0 ∷ 1 ∷ 0 ∷ 0 ∷ 0 ∷ 1 ∷ 0 ∷ []) ∷ (0 ∷ 0 ∷ 0 ∷ 0 ∷ 0 ∷ 0 ∷ 0 ∷ []) ∷ []
-overflow-values = refl
+overflow_values = refl
 
 -- signed at width 1, the words are 0 and -1
-pub overflow-bits : detected 1 0 1 ∷ detected 1 1 0 ∷ detected 1 1 1 ∷ []
+pub overflow_bits : detected 1 0 1 ∷ detected 1 1 0 ∷ detected 1 1 1 ∷ []
     ≡ (0 ∷ 0 ∷ 1 ∷ 1 ∷ 0 ∷ 0 ∷ 0 ∷ []) ∷ (0 ∷ 0 ∷ 0 ∷ 0 ∷ 0 ∷ 0 ∷ 0 ∷ []) ∷ (1 ∷ 1 ∷ 0 ∷ 0 ∷ 0 ∷ 1 ∷ 1 ∷ []) ∷ []
-overflow-bits = refl
+overflow_bits = refl
 
-abbrev pub wideDetectors : List Row
-wideDetectors =
+abbrev pub wide_detectors : List Row
+wide_detectors =
     row (overflow umulo) 0x1_0000_0000 0x1_0000_0000 1
     ∷ row (overflow umulo) 0x1_0000_0000 0xffff_ffff 0
     ∷ row (overflow umulo) 6148914691236517205 3 0
@@ -86,8 +86,8 @@ wideDetectors =
     ∷ row (overflow sdivo) 0x8000_0000_0000_0000 0xffff_ffff_ffff_ffff 1
     ∷ row (overflow sdivo) 0x8000_0000_0000_0000 0 0 ∷ []
 
-pub wide-overflows : computed 64 wideDetectors ≡ expected wideDetectors
-wide-overflows = refl
+pub wide_overflows : computed 64 wide_detectors ≡ expected wide_detectors
+wide_overflows = refl
 
 -- ---- a program's words: a row is an operator, the widths of its first two operands, its three operands and the result
 
@@ -100,73 +100,73 @@ pub record ProgramRow : Type 0 where
   pub c : ℕ
   pub result : ℕ
 
-abbrev programRow : Op → (u v a b c result : ℕ) → ProgramRow
-programRow op u v a b c r = record { op = op; u = u; v = v; a = a; b = b; c = c; result = r }
+abbrev program_row : Op → (u v a b c result : ℕ) → ProgramRow
+program_row op u v a b c r = record { op = op; u = u; v = v; a = a; b = b; c = c; result = r }
 
-abbrev pub looseRows : List ProgramRow
-looseRows =
+abbrev pub loose_rows : List ProgramRow
+loose_rows =
     -- "add, sub, mul, neg, inc and dec work on whole words modulo 2^64;"
-    programRow add 3 3 7 1 0 8
-    ∷ programRow add 3 3 0xffff_ffff_ffff_ffff 1 0 0
-    ∷ programRow sub 3 3 0 1 0 0xffff_ffff_ffff_ffff
-    ∷ programRow mul 3 3 5 5 0 25
-    ∷ programRow neg 3 0 1 0 0 0xffff_ffff_ffff_ffff
-    ∷ programRow inc 3 0 7 0 0 8
-    ∷ programRow dec 3 0 0 0 0 0xffff_ffff_ffff_ffff
+    program_row add 3 3 7 1 0 8
+    ∷ program_row add 3 3 0xffff_ffff_ffff_ffff 1 0 0
+    ∷ program_row sub 3 3 0 1 0 0xffff_ffff_ffff_ffff
+    ∷ program_row mul 3 3 5 5 0 25
+    ∷ program_row neg 3 0 1 0 0 0xffff_ffff_ffff_ffff
+    ∷ program_row inc 3 0 7 0 0 8
+    ∷ program_row dec 3 0 0 0 0 0xffff_ffff_ffff_ffff
     -- "not, nand, nor, xnor, iff and implies flip all 64 bits;"
-    ∷ programRow not 3 0 5 0 0 0xffff_ffff_ffff_fffa
-    ∷ programRow nand 3 3 7 7 0 0xffff_ffff_ffff_fff8
-    ∷ programRow nor 3 3 1 2 0 0xffff_ffff_ffff_fffc
-    ∷ programRow xnor 3 3 5 4 0 0xffff_ffff_ffff_fffe
-    ∷ programRow iff 1 1 1 1 0 0xffff_ffff_ffff_ffff
-    ∷ programRow implies 1 1 1 0 0 0xffff_ffff_ffff_fffe
+    ∷ program_row not 3 0 5 0 0 0xffff_ffff_ffff_fffa
+    ∷ program_row nand 3 3 7 7 0 0xffff_ffff_ffff_fff8
+    ∷ program_row nor 3 3 1 2 0 0xffff_ffff_ffff_fffc
+    ∷ program_row xnor 3 3 5 4 0 0xffff_ffff_ffff_fffe
+    ∷ program_row iff 1 1 1 1 0 0xffff_ffff_ffff_ffff
+    ∷ program_row implies 1 1 1 0 0 0xffff_ffff_ffff_fffe
     -- "slice only shifts;": bits 3 to 1 of 255, and what lies above them
-    ∷ programRow slice 8 64 255 3 1 127
+    ∷ program_row slice 8 64 255 3 1 127
     -- "sll and concat drop what passes bit 63;", "Shift limits stay at w; concat ors its low operand in."
-    ∷ programRow sll 3 3 5 2 0 20
-    ∷ programRow sll 3 3 0x8000_0000_0000_0001 1 0 2
-    ∷ programRow sll 3 3 1 9 0 0
-    ∷ programRow concat 32 32 0x1_0000_0001 5 0 0x1_0000_0005
-    ∷ programRow concat 3 3 1 9 0 9
+    ∷ program_row sll 3 3 5 2 0 20
+    ∷ program_row sll 3 3 0x8000_0000_0000_0001 1 0 2
+    ∷ program_row sll 3 3 1 9 0 0
+    ∷ program_row concat 32 32 0x1_0000_0001 5 0 0x1_0000_0005
+    ∷ program_row concat 3 3 1 9 0 9
     -- "uext copies."
-    ∷ programRow uext 3 64 13 2 0 13
+    ∷ program_row uext 3 64 13 2 0 13
     -- "sext, signed operations (sra too) and rotations read each operand's low bits, to its width, and give a result modulo 2^w;"
-    ∷ programRow sext 3 64 13 2 0 29
-    ∷ programRow slt 3 3 12 3 0 1
-    ∷ programRow sdiv 3 3 12 15 0 4
-    ∷ programRow srem 3 3 13 10 0 7
-    ∷ programRow smod 3 3 13 10 0 1
-    ∷ programRow sra 3 3 12 9 0 6
-    ∷ programRow rol 3 3 9 12 0 2
-    ∷ programRow ror 3 3 9 12 0 4
+    ∷ program_row sext 3 64 13 2 0 29
+    ∷ program_row slt 3 3 12 3 0 1
+    ∷ program_row sdiv 3 3 12 15 0 4
+    ∷ program_row srem 3 3 13 10 0 7
+    ∷ program_row smod 3 3 13 10 0 1
+    ∷ program_row sra 3 3 12 9 0 6
+    ∷ program_row rol 3 3 9 12 0 2
+    ∷ program_row ror 3 3 9 12 0 4
     -- "the rest read whole words."
-    ∷ programRow redxor 3 0 11 0 0 1
-    ∷ programRow eq 3 3 9 1 0 0
-    ∷ programRow neq 3 3 9 1 0 1
-    ∷ programRow ult 3 3 9 2 0 0
-    ∷ programRow and 3 3 12 10 0 8
-    ∷ programRow or 3 3 12 10 0 14
-    ∷ programRow xor 3 3 12 10 0 6
-    ∷ programRow udiv 3 3 13 2 0 6
-    ∷ programRow udiv 3 3 13 8 0 1
-    ∷ programRow udiv 3 3 13 0 0 7
-    ∷ programRow urem 3 3 13 0 0 13
-    ∷ programRow srl 3 3 13 1 0 6
-    ∷ programRow srl 3 3 13 9 0 0
+    ∷ program_row redxor 3 0 11 0 0 1
+    ∷ program_row eq 3 3 9 1 0 0
+    ∷ program_row neq 3 3 9 1 0 1
+    ∷ program_row ult 3 3 9 2 0 0
+    ∷ program_row and 3 3 12 10 0 8
+    ∷ program_row or 3 3 12 10 0 14
+    ∷ program_row xor 3 3 12 10 0 6
+    ∷ program_row udiv 3 3 13 2 0 6
+    ∷ program_row udiv 3 3 13 8 0 1
+    ∷ program_row udiv 3 3 13 0 0 7
+    ∷ program_row urem 3 3 13 0 0 13
+    ∷ program_row srl 3 3 13 1 0 6
+    ∷ program_row srl 3 3 13 9 0 0
     -- "A signal byte, redor and an ite condition count as 1 when the whole word is not 0; redand is 1 when it is 2^w - 1."
-    ∷ programRow redor 1 0 2 0 0 1
-    ∷ programRow ite 1 3 2 9 4 9
-    ∷ programRow redand 3 0 15 0 0 0
-    ∷ programRow redand 3 0 7 0 0 1
+    ∷ program_row redor 1 0 2 0 0 1
+    ∷ program_row ite 1 3 2 9 4 9
+    ∷ program_row redand 3 0 15 0 0 0
+    ∷ program_row redand 3 0 7 0 0 1
     -- "kind 56 masks its operand to its width"
-    ∷ programRow mask 3 0 13 0 0 5
+    ∷ program_row mask 3 0 13 0 0 5
     -- "a program reads the low w bits of each operand"
-    ∷ programRow (overflow uaddo) 3 3 9 10 0 0
-    ∷ programRow (overflow umulo) 3 3 9 10 0 0
-    ∷ programRow (overflow uaddo) 3 3 15 15 0 1
-    ∷ programRow (overflow umulo) 3 3 15 15 0 1
-    ∷ programRow (overflow usubo) 3 3 2 8 0 0 ∷ []
+    ∷ program_row (overflow uaddo) 3 3 9 10 0 0
+    ∷ program_row (overflow umulo) 3 3 9 10 0 0
+    ∷ program_row (overflow uaddo) 3 3 15 15 0 1
+    ∷ program_row (overflow umulo) 3 3 15 15 0 1
+    ∷ program_row (overflow usubo) 3 3 2 8 0 0 ∷ []
 
-pub loose-values : map (λ (r : ProgramRow). prog r.op r.u r.v r.a r.b r.c) looseRows ≡ map (λ (r : ProgramRow). r.result) looseRows
+pub loose_values : map (λ (r : ProgramRow). prog r.op r.u r.v r.a r.b r.c) loose_rows ≡ map (λ (r : ProgramRow). r.result) loose_rows
 unfolding ones_in
-loose-values = refl
+loose_values = refl

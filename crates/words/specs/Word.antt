@@ -20,13 +20,13 @@ flip w a = (2 ^ w - 1) - a
 -- ---- signed words. `pos n` is n, and `negsuc n` is -1 - n
 
 -- a word's signed value: a itself where its sign bit, bit w - 1, is clear, and a - 2 ^ w where it is set
-abbrev pub signedValue : (w a : ℕ) → ℤ
-signedValue w a = cond (ltb a (2 ^ (w - 1))) (pos a) (negsuc (2 ^ w - suc a))
+abbrev pub signed_value : (w a : ℕ) → ℤ
+signed_value w a = cond (ltb a (2 ^ (w - 1))) (pos a) (negsuc (2 ^ w - suc a))
 
 -- the word of a signed number, in two's complement: the number modulo 2 ^ w
-abbrev pub twosComplement : (w : ℕ) → ℤ → ℕ
-twosComplement w (pos n) = n % 2 ^ w
-twosComplement w (negsuc n) = flip w (n % 2 ^ w)
+abbrev pub twos_complement : (w : ℕ) → ℤ → ℕ
+twos_complement w (pos n) = n % 2 ^ w
+twos_complement w (negsuc n) = flip w (n % 2 ^ w)
 
 -- ---- division
 
@@ -40,28 +40,28 @@ abbrev pub remainder : (a b : ℕ) → ℕ
 remainder a b = a % b
 
 -- sdiv truncates; by 0 it gives -1 for a dividend of 0 or more, else 1
-abbrev pub sdivZ : (n d : ℤ) → ℤ
-sdivZ (pos a) (pos zero) = negsuc 0
-sdivZ (negsuc a) (pos zero) = pos 1
-sdivZ (pos a) (pos (suc b)) = quot_z (pos a) (pos (suc b))
-sdivZ (negsuc a) (pos (suc b)) = quot_z (negsuc a) (pos (suc b))
-sdivZ (pos a) (negsuc b) = quot_z (pos a) (negsuc b)
-sdivZ (negsuc a) (negsuc b) = quot_z (negsuc a) (negsuc b)
+abbrev pub sdiv_z : (n d : ℤ) → ℤ
+sdiv_z (pos a) (pos zero) = negsuc 0
+sdiv_z (negsuc a) (pos zero) = pos 1
+sdiv_z (pos a) (pos (suc b)) = quot_z (pos a) (pos (suc b))
+sdiv_z (negsuc a) (pos (suc b)) = quot_z (negsuc a) (pos (suc b))
+sdiv_z (pos a) (negsuc b) = quot_z (pos a) (negsuc b)
+sdiv_z (negsuc a) (negsuc b) = quot_z (negsuc a) (negsuc b)
 
 -- a remainder r moved to the divisor d's sign: r + d where r is not 0 and the signs differ
-abbrev pub towardDivisor : (r d : ℤ) → ℤ
-towardDivisor (pos zero) d = pos zero
-towardDivisor (pos (suc r)) (pos d) = pos (suc r)
-towardDivisor (pos (suc r)) (negsuc d) = pos (suc r) +ℤ negsuc d
-towardDivisor (negsuc r) (pos d) = negsuc r +ℤ pos d
-towardDivisor (negsuc r) (negsuc d) = negsuc r
+abbrev pub toward_divisor : (r d : ℤ) → ℤ
+toward_divisor (pos zero) d = pos zero
+toward_divisor (pos (suc r)) (pos d) = pos (suc r)
+toward_divisor (pos (suc r)) (negsuc d) = pos (suc r) +ℤ negsuc d
+toward_divisor (negsuc r) (pos d) = negsuc r +ℤ pos d
+toward_divisor (negsuc r) (negsuc d) = negsuc r
 
 -- srem takes the dividend's sign, smod the divisor's; by 0 both give the dividend
-abbrev pub sremZ : (n d : ℤ) → ℤ
-sremZ n d = rem_z n d
+abbrev pub srem_z : (n d : ℤ) → ℤ
+srem_z n d = rem_z n d
 
-abbrev pub smodZ : (n d : ℤ) → ℤ
-smodZ n d = towardDivisor (rem_z n d) d
+abbrev pub smod_z : (n d : ℤ) → ℤ
+smod_z n d = toward_divisor (rem_z n d) d
 
 -- ---- shifts of a by b, in words of width w. The test says whether b is below the shift's limit: past it the power is not asked for
 
@@ -75,8 +75,8 @@ shr false a b = 0
 
 -- copies of the sign come in; by w there is nothing else left
 abbrev pub sar : Bool → (w a b : ℕ) → ℕ
-sar true w a b = twosComplement w (shr_z (signedValue w a) (2 ^ b))
-sar false w a b = twosComplement w (shr_z (signedValue w a) (2 ^ w))
+sar true w a b = twos_complement w (shr_z (signed_value w a) (2 ^ b))
+sar false w a b = twos_complement w (shr_z (signed_value w a) (2 ^ w))
 
 -- ---- rotations by r, which is below the width: what leaves at one end is added at the other
 

@@ -1,13 +1,15 @@
 // Writing: bytes go to a text one after the other. A byte past the end of the text is counted and dropped.
+#![tactic(auto)]
+
 ghost use Rattle.std.specs.Prelude.{◌≡◌, [], ◌∷◌, ◌++◌, true, false, ◌+◌, ◌^◌, ◌<◌, ◌≤◌, set, length, get_or};
 ghost use Rattle.std.proofs.lemmas.List.Edits.{sets};
 ghost use Rattle.texts.specs.Decimal.{digits};
 ghost use Rattle.tables.specs.Kinds.{word_of, row_of, rows};
 ghost use Rattle.texts.specs.Split.{spaced, join};
-ghost use Rattle.texts.specs.Writing.{kindTokens, numbers, tokensOf, writeText, writes};
-ghost use Rattle.tables.specs.Lines.{kindIn};
-ghost use Rattle.tables.specs.Layout.{recordWords, room, recordsOf};
-ghost use Rattle.tables.specs.Types.{noCtx};
+ghost use Rattle.texts.specs.Writing.{kind_tokens, numbers, tokens_of, write_text, writes};
+ghost use Rattle.tables.specs.Lines.{kind_in};
+ghost use Rattle.tables.specs.Layout.{record_words, room, records_of};
+ghost use Rattle.tables.specs.Types.{no_ctx};
 ghost use Rattle.tables.specs.Tables.{lawful};
 ghost use Rattle.tables.specs.Answers.{told};
 
@@ -56,8 +58,8 @@ pub fn put_word(out: &mut [u8], at: usize, r: [u8; 16]) -> usize
 
 // The word of the kind k, whose row is r, or two words for a sort, with a space before each.
 fn put_kind(out: &mut [u8], at: usize, k: u64, r: [u8; 16]) -> usize
-    requires { (1 ≤ k) × ((k ≤ 63) × ((r ≡ row_of k) × (at + length (spaced (kindTokens k)) < 2 ^ 63))) }
-    ensures { (result ≡ at + length (spaced (kindTokens k))) × (out.new ≡ sets out.old at (spaced (kindTokens k))) }
+    requires { (1 ≤ k) × ((k ≤ 63) × ((r ≡ row_of k) × (at + length (spaced (kind_tokens k)) < 2 ^ 63))) }
+    ensures { (result ≡ at + length (spaced (kind_tokens k))) × (out.new ≡ sets out.old at (spaced (kind_tokens k))) }
 {
     if k <= 2 {
         let a = put(out, at, 32);
@@ -75,7 +77,7 @@ fn put_kind(out: &mut [u8], at: usize, k: u64, r: [u8; 16]) -> usize
 
 // m numbers of a record from the place j on, with a space before each.
 pub fn put_numbers(out: &mut [u8], at: usize, m: usize, j: usize, rec: [u64; WORDS]) -> usize
-    requires { (j + m ≤ recordWords) × (at + length (spaced (numbers m j rec)) < 2 ^ 63) }
+    requires { (j + m ≤ record_words) × (at + length (spaced (numbers m j rec)) < 2 ^ 63) }
     ensures { (result ≡ at + length (spaced (numbers m j rec))) × (out.new ≡ sets out.old at (spaced (numbers m j rec))) }
 {
     let e = j + m;
@@ -92,8 +94,8 @@ pub fn put_numbers(out: &mut [u8], at: usize, m: usize, j: usize, rec: [u64; WOR
 
 // The line of a record, with its LF.
 fn put_line(kinds: &[[u8; 16]; 63], out: &mut [u8], at: usize, id: u64, rec: [u64; WORDS]) -> usize
-    requires { (kinds.now ≡ rows) × ((1 ≤ kindIn rec) × ((kindIn rec ≤ 63) × (at + length (join (tokensOf id rec) ++ (10 ∷ [])) < 2 ^ 63))) }
-    ensures { (result ≡ at + length (join (tokensOf id rec) ++ (10 ∷ []))) × (out.new ≡ sets out.old at (join (tokensOf id rec) ++ (10 ∷ []))) }
+    requires { (kinds.now ≡ rows) × ((1 ≤ kind_in rec) × ((kind_in rec ≤ 63) × (at + length (join (tokens_of id rec) ++ (10 ∷ [])) < 2 ^ 63))) }
+    ensures { (result ≡ at + length (join (tokens_of id rec) ++ (10 ∷ []))) × (out.new ≡ sets out.old at (join (tokens_of id rec) ++ (10 ∷ []))) }
 {
     let k = rec[0];
     let row = kinds::row_of(kinds, k);
@@ -107,9 +109,9 @@ fn put_line(kinds: &[[u8; 16]; 63], out: &mut [u8], at: usize, id: u64, rec: [u6
 
 // The lines of the first `count` records, which keep the rules.
 fn put_lines(out: &mut [u8], table: &[u64], count: usize) -> usize
-    requires { (count ≤ room false (length table.now)) × (lawful false noCtx (recordsOf false table.now count) ≡ true) }
-    ensures { (result ≡ length (writeText (recordsOf false table.now count)))
-        × (out.new ≡ sets out.old 0 (writeText (recordsOf false table.now count))) }
+    requires { (count ≤ room false (length table.now)) × (lawful false no_ctx (records_of false table.now count) ≡ true) }
+    ensures { (result ≡ length (write_text (records_of false table.now count)))
+        × (out.new ≡ sets out.old 0 (write_text (records_of false table.now count))) }
 {
     let kinds = kinds::all();
     let h = records::step(false, table.len());

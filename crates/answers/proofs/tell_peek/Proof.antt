@@ -2,7 +2,7 @@
 use Prim.Native.Nat.{ℕ}
 use mathlib.Core.Path.{sym, ap, ap₂, ◌∙◌}
 use mathlib.Core.List.{List, []}
-use Rattle.peeks.specs.Peek.{toldPeek}
+use Rattle.peeks.specs.Peek.{told_peek}
 use Rattle.answers.specs.Answers.{tells}
 use borrow.Author.Rules.{rules}
 use Rattle.answers.proofs.tell_peek.Statement.{statement}
@@ -27,13 +27,13 @@ same_length : tie.Need-same-length
 same_length c = search rules
 
 returns : tie.Need-returns
-returns c = ap (λ (x : List ℕ). tells 0 x []) c.before.before.tell.ensures ∙ ap toldPeek (sym c.before.before.before.before.before.r.given.1)
+returns c = ap (λ (x : List ℕ). tells 0 x []) c.before.before.tell.ensures ∙ ap told_peek (sym c.before.before.before.before.before.r.given.1)
 
 same-length-2 : tie.Need-same-length-2
 same-length-2 c = search rules
 
 returns-2 : tie.Need-returns-2
-returns-2 c = ap₂ (λ (n : ℕ) (x : List ℕ). tells n x []) c.number.ensures c.before.before.before.tell2.ensures ∙ ap toldPeek (sym c.before.before.before.before.before.before.r2.given.1)
+returns-2 c = ap₂ (λ (n : ℕ) (x : List ℕ). tells n x []) c.number.ensures c.before.before.before.tell2.ensures ∙ ap told_peek (sym c.before.before.before.before.before.before.r2.given.1)
 
 pub tell-peek-spec : {M : Type 1} → statement M
 tell-peek-spec =

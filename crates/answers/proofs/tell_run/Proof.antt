@@ -3,7 +3,7 @@ use Prim.Native.Nat.{ℕ}
 use mathlib.Core.Path.{sym, ap, ap₂, ◌∙◌}
 use mathlib.Core.List.{List}
 use Rattle.circuits.specs.declared.Ran.{Ran}
-use Rattle.circuits.specs.Answers.{toldRun}
+use Rattle.circuits.specs.Answers.{told_run}
 use Rattle.answers.specs.Answers.{tells}
 use borrow.Author.Rules.{rules}
 use Rattle.answers.proofs.tell_run.Statement.{statement}
@@ -34,19 +34,19 @@ same_length : tie.Need-same-length
 same_length c = search rules
 
 returns : tie.Need-returns
-returns c = λ left. ap (λ (x : List ℕ). tells 0 x left) c.before.before.tell.ensures ∙ ap (λ (a : Ran). toldRun a left) (sym c.before.before.before.before.enum_told.given.1)
+returns c = λ left. ap (λ (x : List ℕ). tells 0 x left) c.before.before.tell.ensures ∙ ap (λ (a : Ran). told_run a left) (sym c.before.before.before.before.enum_told.given.1)
 
 same-length-2 : tie.Need-same-length-2
 same-length-2 c = search rules
 
 returns-2 : tie.Need-returns-2
-returns-2 c = λ left. ap (λ (x : List ℕ). tells 0 x left) c.before.before.tell2.ensures ∙ ap (λ (a : Ran). toldRun a left) (sym c.before.before.before.before.before.r.given.1)
+returns-2 c = λ left. ap (λ (x : List ℕ). tells 0 x left) c.before.before.tell2.ensures ∙ ap (λ (a : Ran). told_run a left) (sym c.before.before.before.before.before.r.given.1)
 
 same-length-3 : tie.Need-same-length-3
 same-length-3 c = search rules
 
 returns-3 : tie.Need-returns-3
-returns-3 c = λ left. ap₂ (λ (n : ℕ) (x : List ℕ). tells n x left) c.number.ensures c.before.before.before.tell3.ensures ∙ ap (λ (a : Ran). toldRun a left) (sym c.before.before.before.before.before.before.r2.given.1)
+returns-3 c = λ left. ap₂ (λ (n : ℕ) (x : List ℕ). tells n x left) c.number.ensures c.before.before.before.tell3.ensures ∙ ap (λ (a : Ran). told_run a left) (sym c.before.before.before.before.before.before.r2.given.1)
 
 pub tell-run-spec : {M : Type 1} → statement M
 tell-run-spec =

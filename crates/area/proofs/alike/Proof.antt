@@ -5,13 +5,13 @@ use mathlib.Core.List.{List}
 use Prim.Native.Nat.{ℕ, ◌-◌, ◌≤◌}
 use native.Mathlib.Omega.{arith}
 use lib.ListN.{length, drop, drop_of_length-le}
-use Rattle.circuits.specs.Cells.{part, sameCells}
+use Rattle.circuits.specs.Cells.{part, same_cells}
 use Rattle.circuits.proofs.Puts as laws
 use Rattle.area.proofs.alike.Statement.{statement}
 use Rattle.area.proofs.alike.Tie as tie
 
 abbrev invariant-loop : tie.invariant-loop
-invariant-loop words x y n i₀ i = (i ≤ n) × (sameCells (part words x n) (part words y n) ≡ sameCells (drop i (part words x n)) (drop i (part words y n)))
+invariant-loop words x y n i₀ i = (i ≤ n) × (same_cells (part words x n) (part words y n) ≡ same_cells (drop i (part words x n)) (drop i (part words y n)))
 
 abbrev decreases-loop : tie.decreases-loop
 decreases-loop words x y n i₀ i = n - i
@@ -47,7 +47,7 @@ returns c =
     let lx : length xs ≡ a.n = laws.length_part a.words.now a.x a.n p.0 in
     let ly : length ys ≡ a.n = laws.length_part a.words.now a.y a.n p.1 in
     sym (l.invariant.1 ∙ laws.same_not xs ys l.i (omega arith) (omega arith)
-    (λ e. c.if1.true (sym (laws.part-getD a.words.now a.x a.n l.i (omega arith)) ∙ e ∙ laws.part-getD a.words.now a.y a.n l.i (omega arith))))
+    (λ e. c.if1.true (sym (laws.part_get_or a.words.now a.x a.n l.i (omega arith)) ∙ e ∙ laws.part_get_or a.words.now a.y a.n l.i (omega arith))))
 
 add-i : tie.Need-overflow-add-i invariant-loop decreases-loop
 add-i c = search rules
@@ -66,7 +66,7 @@ loop-again c =
     let ly : length ys ≡ a.n = laws.length_part a.words.now a.y a.n p.1 in (
       omega arith,
       l.invariant.1 ∙ laws.same_more xs ys l.i (omega arith) (omega arith)
-          (laws.part-getD a.words.now a.x a.n l.i (omega arith) ∙ c.if1.false ∙ sym (laws.part-getD a.words.now a.y a.n l.i (omega arith))),
+          (laws.part_get_or a.words.now a.x a.n l.i (omega arith) ∙ c.if1.false ∙ sym (laws.part_get_or a.words.now a.y a.n l.i (omega arith))),
     )
 
 returns-2 : tie.Need-returns-2 invariant-loop decreases-loop
@@ -77,7 +77,7 @@ returns-2 c =
     let xs : List ℕ = part a.words.now a.x a.n in
     let ys : List ℕ = part a.words.now a.y a.n in
     let lx : length xs ≡ a.n = laws.length_part a.words.now a.x a.n p.0 in
-    sym (l.invariant.1 ∙ ap (λ (u : List ℕ). sameCells u (drop l.i ys)) (drop_of_length-le xs {i = l.i} (omega arith)))
+    sym (l.invariant.1 ∙ ap (λ (u : List ℕ). same_cells u (drop l.i ys)) (drop_of_length-le xs {i = l.i} (omega arith)))
 
 pub alike_spec : {M : Type 1} → statement M
 alike_spec =

@@ -21,7 +21,7 @@ same_length : tie.Need-same-length
 same_length c = search rules
 
 returns : tie.Need-returns
-returns c = let a = c.before.before.before.args in laws.copied-word a.work.now a.o a.x a.m c.before.if1.true (omega arith) (omega arith)
+returns c = let a = c.before.before.before.args in laws.copied_word a.work.now a.o a.x a.m c.before.if1.true (omega arith) (omega arith)
 
 copy-cells-requires : tie.Need-copy-cells-requires
 copy-cells-requires c κs = search rules

@@ -16,7 +16,7 @@ abbrev decreases-loop : tie.decreases-loop
 decreases-loop work₀ x o m i₀ work i = m - i
 
 loop-holds : tie.Need-loop-init invariant-loop decreases-loop
-loop-holds c = let a = c.before.args in (search rules, (refl, sym (laws.put-none a.work.now a.o)))
+loop-holds c = let a = c.before.args in (search rules, (refl, sym (laws.put_none a.work.now a.o)))
 
 sub-loop : tie.Need-overflow-sub-loop invariant-loop decreases-loop
 sub-loop c = search rules

@@ -20,7 +20,7 @@ loop-holds : tie.Need-loop-init invariant-loop decreases-loop
 loop-holds c =
     let a = c.before.args in
     let none : a.from - a.from ≡ 0 = omega arith in
-    ((omega arith, omega arith), (refl, sym (ap (λ (n : ℕ). put a.work.now (a.o + a.from) (part a.work.now (a.x + a.from) n)) none ∙ laws.put-none a.work.now (a.o + a.from))))
+    ((omega arith, omega arith), (refl, sym (ap (λ (n : ℕ). put a.work.now (a.o + a.from) (part a.work.now (a.x + a.from) n)) none ∙ laws.put_none a.work.now (a.o + a.from))))
 
 add-v : tie.Need-overflow-add-v invariant-loop decreases-loop
 add-v c = search rules

@@ -38,7 +38,7 @@ shared-slice-read-t17 : tie.Need-shared-slice-read-t17
 shared-slice-read-t17 c = search rules
 
 returns : tie.Need-returns
-returns c = let s = c.before.before.before.before in laws.four-read s.args.words.now s.args.x s.requires
+returns c = let s = c.before.before.before.before in laws.four_read s.args.words.now s.args.x s.requires
 
 pub four-spec : {M : Type 1} → statement M
 four-spec =

@@ -6,13 +6,13 @@ use Prim.Native.Nat.{ℕ, ◌-◌, ◌%◌, ◌^◌, ◌≤◌}
 use native.Mathlib.Omega.{arith}
 use lib.ListN.{length, take, drop, get_or, set, length-set}
 use lib.Seq.{drop-length, take-length}
-use Rattle.circuits.specs.Cells.{maskWords}
+use Rattle.circuits.specs.Cells.{mask_words}
 use Rattle.circuits.proofs.Puts as laws
 use Rattle.area.proofs.mask_all.Statement.{statement}
 use Rattle.area.proofs.mask_all.Tie as tie
 
 abbrev invariant-loop : tie.invariant-loop
-invariant-loop cells₀ w i₀ cells i = (i ≤ length cells₀) × ((length cells ≡ length cells₀) × (cells ≡ maskWords w (take i cells₀) ++ drop i cells₀))
+invariant-loop cells₀ w i₀ cells i = (i ≤ length cells₀) × ((length cells ≡ length cells₀) × (cells ≡ mask_words w (take i cells₀) ++ drop i cells₀))
 
 abbrev decreases-loop : tie.decreases-loop
 decreases-loop cells₀ w i₀ cells i = length cells₀ - i
@@ -47,8 +47,8 @@ loop-again c =
     let i = l.i in
     let w = c.before.before.before.before.before.args.w in
     let d₀ = c.before.before.before.before.before.args.cells.now in
-    let e : c.low.result ≡ get_or d₀ i 0 % 2 ^ w = c.low.ensures.0 ∙ ap (λ (v : ℕ). v % 2 ^ w) (ap (λ (u : List ℕ). get_or u i 0) l.invariant.1.1 ∙ laws.lows-rest w d₀ i (omega arith)) in
-    (omega arith, (simp length-set l.invariant.1.0, ap₂ (λ (u : List ℕ) (v : ℕ). set u i v) l.invariant.1.1 e ∙ laws.lows-more w d₀ i (omega arith)))
+    let e : c.low.result ≡ get_or d₀ i 0 % 2 ^ w = c.low.ensures.0 ∙ ap (λ (v : ℕ). v % 2 ^ w) (ap (λ (u : List ℕ). get_or u i 0) l.invariant.1.1 ∙ laws.lows_rest w d₀ i (omega arith)) in
+    (omega arith, (simp length-set l.invariant.1.0, ap₂ (λ (u : List ℕ) (v : ℕ). set u i v) l.invariant.1.1 e ∙ laws.lows_more w d₀ i (omega arith)))
 
 same_length : tie.Need-same-length invariant-loop decreases-loop
 same_length c = search rules
@@ -59,8 +59,8 @@ returns c =
     let w = c.before.before.before.args.w in
     let past : c.before.loop.i ≡ length d₀ = omega arith in
     c.before.loop.invariant.1.1
-    ∙ ap (λ (k : ℕ). maskWords w (take k d₀) ++ drop k d₀) past
-    ∙ ap₂ (λ (l m : List ℕ). maskWords w l ++ m) (take-length d₀) (drop-length d₀)
+    ∙ ap (λ (k : ℕ). mask_words w (take k d₀) ++ drop k d₀) past
+    ∙ ap₂ (λ (l m : List ℕ). mask_words w l ++ m) (take-length d₀) (drop-length d₀)
     ∙ append-nil _
 
 pub mask-all-spec : {M : Type 1} → statement M

@@ -1,6 +1,6 @@
 -- `area::mask_run` meets its contract. Assumes nothing.
 use borrow.Author.Rules.{rules}
-use Rattle.circuits.specs.Cells.{maskWords}
+use Rattle.circuits.specs.Cells.{mask_words}
 use Rattle.circuits.proofs.Puts as laws
 use Rattle.area.proofs.mask_run.Statement.{statement}
 use Rattle.area.proofs.mask_run.Tie as tie
@@ -29,7 +29,7 @@ same_length c = search rules
 returns : tie.Need-returns
 returns c =
     let a = c.before.before.before.before.before.args in
-    laws.lent (maskWords a.w) (laws.length-lows a.w) a.work.now a.a a.m c.before.before.mask-all.new.0 c.before.before.before.before.before.requires.0 c.before.before.mask-all.ensures
+    laws.lent (mask_words a.w) (laws.length_lows a.w) a.work.now a.a a.m c.before.before.mask-all.new.0 c.before.before.before.before.before.requires.0 c.before.before.mask-all.ensures
 
 pub mask-run-spec : {M : Type 1} → statement M
 mask-run-spec =

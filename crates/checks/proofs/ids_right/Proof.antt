@@ -4,7 +4,7 @@ use mathlib.Core.Bool.{Bool}
 use Prim.Native.Nat.{◌≤◌}
 use lib.ListN.{length}
 use Rattle.tables.specs.Layout.{held}
-use Rattle.tables.specs.Ids.{idsRight}
+use Rattle.tables.specs.Ids.{ids_right}
 use borrow.Author.Rules.{rules}
 use Rattle.checks.proofs.ids_right.Statement.{statement}
 use Rattle.checks.proofs.ids_right.Tie as tie
@@ -16,7 +16,7 @@ ids-rise-requires : tie.Need-ids-rise-requires
 ids-rise-requires c κs = let s = c.before.before.args in subst (λ (p : Bool). s.count ≤ held p (length s.table.now)) c.if1.false c.before.before.requires
 
 returns-2 : tie.Need-returns-2
-returns-2 c = let s = c.before.before.before.args in subst (λ (p : Bool). c.ids-rise.result ≡ idsRight p s.table.now s.count) (sym c.before.if1.false) c.ids-rise.ensures
+returns-2 c = let s = c.before.before.before.args in subst (λ (p : Bool). c.ids-rise.result ≡ ids_right p s.table.now s.count) (sym c.before.if1.false) c.ids-rise.ensures
 
 pub ids-right-spec : {M : Type 1} → statement M
 ids-right-spec = tie.close (tie.spec returns ids-rise-requires returns-2)

@@ -1,10 +1,10 @@
-use Rattle.tables.proofs.Kept.{no-yes}
+use Rattle.tables.proofs.Kept.{no_yes}
 use Prim.Native.Nat.{◌-◌}
 use lib.ListN.{length}
 use mathlib.Core.Path.{◌≡◌, refl, sym, ◌∙◌}
 use borrow.Author.Rules.{rules}
 use borrow.Author.Tests.{not-true, not-false}
-use Rattle.tables.proofs.Sofar.{Sofar, begun, stopped, further, all-lawful, all_shown}
+use Rattle.tables.proofs.Sofar.{Sofar, begun, stopped, further, all_lawful, all_shown}
 use Rattle.checks.proofs.lines.Statement.{statement}
 use Rattle.checks.proofs.lines.Tie as tie
 
@@ -33,7 +33,7 @@ same_length : tie.Need-same-length invariant-loop decreases-loop
 same_length c = c.before.before.take-record.auto.1.1.1.1.0 ∙ c.before.before.before.before.before.before.loop.invariant.1
 
 returns : tie.Need-returns invariant-loop decreases-loop
-returns c = (stopped c.before.before.before.before.before.before.loop.invariant.0 c.before.before.before.before.before.loop-test.true c.before.before.before.before.«record».ensures (sym c.before.before.take-record.ensures.0 ∙ not-true _ c.if1.true), λ e. absurd (no-yes e))
+returns c = (stopped c.before.before.before.before.before.before.loop.invariant.0 c.before.before.before.before.before.loop-test.true c.before.before.before.before.«record».ensures (sym c.before.before.take-record.ensures.0 ∙ not-true _ c.if1.true), λ e. absurd (no_yes e))
 
 add-i : tie.Need-overflow-add-i invariant-loop decreases-loop
 add-i c = search rules
@@ -49,7 +49,7 @@ same-length-2 : tie.Need-same-length-2 invariant-loop decreases-loop
 same-length-2 c = c.before.loop.invariant.1
 
 returns-2 : tie.Need-returns-2 invariant-loop decreases-loop
-returns-2 c = (all-lawful c.before.loop.invariant.0 c.loop-test.false, λ e. all_shown c.before.loop.invariant.0 c.loop-test.false)
+returns-2 c = (all_lawful c.before.loop.invariant.0 c.loop-test.false, λ e. all_shown c.before.loop.invariant.0 c.loop-test.false)
 
 pub lines-spec : {M : Type 1} → statement M
 lines-spec =

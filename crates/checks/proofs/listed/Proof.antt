@@ -5,12 +5,12 @@ use mathlib.Core.Bool.{false}
 use mathlib.Core.Logic.{⊎_elim}
 use borrow.Author.Tests.{le-leb, lt-leb}
 use Rattle.tables.specs.Pick.{inside}
-use Rattle.tables.proofs.Laws.{and-false}
+use Rattle.tables.proofs.Laws.{and_false}
 use Rattle.checks.proofs.listed.Statement.{statement}
 use Rattle.checks.proofs.listed.Tie as tie
 
 above : (i j k : ℕ) → j < k → inside i j k ≡ false
-above i j k h = rw (lt-leb k j h, and-false)
+above i j k h = rw (lt-leb k j h, and_false)
 
 below : (i j k : ℕ) → k < i → inside i j k ≡ false
 below i j k h = rw (lt-leb i k h)

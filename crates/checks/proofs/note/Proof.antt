@@ -2,7 +2,7 @@ use mathlib.Core.Path.{refl, ap, ◌∙◌}
 use lib.ListN.{set}
 use mathlib.Core.Bool.{true, false}
 use Rattle.tables.specs.declared.Ty.{Ty}
-use Rattle.tables.specs.Model.Notes.{noteAt, typed, flaggedBy, noted}
+use Rattle.tables.specs.Model.Notes.{note_at, typed, flagged_by, noted}
 use borrow.Author.Rules.{rules}
 use Rattle.checks.proofs.note.Statement.{statement}
 use Rattle.checks.proofs.note.Tie as tie
@@ -25,8 +25,8 @@ same_length c = c.before.flag2.auto.1.1.1.0 ∙ c.before.before.before.before.fl
 returns : tie.Need-returns
 unfolding noted
 returns c = let s = c.before.before.before.before.before.before.before.before.before.before.before.args in
-    c.before.flag2.ensures ∙ ap (flaggedBy false s.rec)
-    (c.before.before.before.before.flag.ensures ∙ ap (flaggedBy true s.rec) (c.before.before.before.before.before.before.before.put-type.ensures ∙ ap (λ (y : Ty). set s.notes.now s.n (typed y (noteAt s.notes.now s.n))) c.before.before.before.before.before.before.before.before.before.type-in.ensures))
+    c.before.flag2.ensures ∙ ap (flagged_by false s.rec)
+    (c.before.before.before.before.flag.ensures ∙ ap (flagged_by true s.rec) (c.before.before.before.before.before.before.before.put-type.ensures ∙ ap (λ (y : Ty). set s.notes.now s.n (typed y (note_at s.notes.now s.n))) c.before.before.before.before.before.before.before.before.before.type-in.ensures))
 
 pub note-spec : {M : Type 1} → statement M
 note-spec =

@@ -1,8 +1,8 @@
 use mathlib.Core.Path.{refl, sym, ◌∙◌}
 use borrow.Author.Tests.{not-true, not-false}
-use Rattle.tables.specs.Model.Notes.{lookIn, givenIn}
-use Rattle.tables.proofs.Answers.{sort-width}
-use Rattle.tables.proofs.Kept.{no-yes, kept-fault}
+use Rattle.tables.specs.Model.Notes.{look_in, given_in}
+use Rattle.tables.proofs.Answers.{sort_width}
+use Rattle.tables.proofs.Kept.{no_yes, kept_fault}
 use Rattle.checks.proofs.take_record.Statement.{statement}
 use Rattle.checks.proofs.take_record.Tie as tie
 
@@ -13,13 +13,13 @@ same_length : tie.Need-same-length
 same_length c = refl
 
 returns : tie.Need-returns
-returns c = (sym (not-true _ c.if1.true) ∙ c.before.keeps-rules.ensures, λ e. absurd (no-yes e))
+returns c = (sym (not-true _ c.if1.true) ∙ c.before.keeps-rules.ensures, λ e. absurd (no_yes e))
 
 note-requires : tie.Need-note-requires
 note-requires c κs = let s = c.before.before.before.before.args in
-    let L = lookIn s.notes.now in
-    let G = givenIn s.notes.now in
-    sort-width s.program L G s.rec (kept-fault s.program L G s.rec (sym c.before.before.keeps-rules.ensures ∙ not-false _ c.before.if1.false))
+    let L = look_in s.notes.now in
+    let G = given_in s.notes.now in
+    sort_width s.program L G s.rec (kept_fault s.program L G s.rec (sym c.before.before.keeps-rules.ensures ∙ not-false _ c.before.if1.false))
 
 same-length-2 : tie.Need-same-length-2
 same-length-2 c = c.before.note.auto.1.1.1.0

@@ -1,6 +1,6 @@
 use mathlib.Core.Path.{sym, ◌∙◌}
 use borrow.Author.Tests.{not-true, not-false}
-use Rattle.tables.proofs.Laws.{and-true}
+use Rattle.tables.proofs.Laws.{and_true}
 use borrow.Author.Rules.{rules}
 use Rattle.checks.proofs.tidy.Statement.{statement}
 use Rattle.checks.proofs.tidy.Tie as tie
@@ -51,7 +51,7 @@ unused-requires-4 : tie.Need-unused-requires-4
 unused-requires-4 c κs = tt
 
 returns-4 : tie.Need-returns-4
-returns-4 c = rw (sym c.before.before.before.before.before.before.unused.ensures ∙ not-false _ c.before.before.before.before.before.if1.false, sym c.before.before.before.before.unused2.ensures ∙ not-false _ c.before.before.before.if2.false, sym c.before.before.unused3.ensures ∙ not-false _ c.before.if3.false, and-true) c.unused4.ensures
+returns-4 c = rw (sym c.before.before.before.before.before.before.unused.ensures ∙ not-false _ c.before.before.before.before.before.if1.false, sym c.before.before.before.before.unused2.ensures ∙ not-false _ c.before.before.before.if2.false, sym c.before.before.unused3.ensures ∙ not-false _ c.before.if3.false, and_true) c.unused4.ensures
 
 pub tidy-spec : {M : Type 1} → statement M
 tidy-spec =

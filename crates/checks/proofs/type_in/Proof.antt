@@ -1,4 +1,4 @@
-use Rattle.tables.specs.Model.Notes.{lookIn}
+use Rattle.tables.specs.Model.Notes.{look_in}
 use Rattle.tables.proofs.Answers.{typed}
 use borrow.Author.Rules.{rules}
 use Rattle.checks.proofs.type_in.Statement.{statement}
@@ -32,7 +32,7 @@ type-of-requires : tie.Need-type-of-requires
 type-of-requires c κs = search rules
 
 returns : tie.Need-returns
-returns c = let s = c.before.before.before.before.before.args in typed s.program (lookIn s.notes.now) s.t2 c.before.before.before.before.sort-at.ensures c.before.before.before.look.ensures c.before.before.look2.ensures c.before.look3.ensures c.type-of.ensures
+returns c = let s = c.before.before.before.before.before.args in typed s.program (look_in s.notes.now) s.t2 c.before.before.before.before.sort-at.ensures c.before.before.before.look.ensures c.before.before.look2.ensures c.before.look3.ensures c.type-of.ensures
 
 pub type-in-spec : {M : Type 1} → statement M
 type-in-spec =

@@ -6,27 +6,27 @@ use Rattle.tables.specs.Answers.{Outcome}
 use Rattle.circuits.specs.declared.Ran.{Ran}
 use Rattle.circuits.specs.declared.Totals.{Totals}
 use Rattle.circuits.specs.Layout.{layout}
-use Rattle.circuits.specs.Free.{sources, freeCount}
-use Rattle.circuits.specs.Run.{rowLength, run, bytes, firstBad}
-use Rattle.circuits.specs.Answers.{lent, answer_of, left_of, toldRun}
+use Rattle.circuits.specs.Free.{sources, free_count}
+use Rattle.circuits.specs.Run.{row_length, run, bytes, first_bad}
+use Rattle.circuits.specs.Answers.{lent, answer_of, left_of, told_run}
 
 -- what the steps of a run are lent, of a table with these totals: so many input words and signal bytes for k steps, at least one
 pub record RunAsked (p : Bool) (C : List Line) (t : Totals) (k i g : ℕ) : Type 0 where
-  pub free : t.free ≡ freeCount (sources p C)
+  pub free : t.free ≡ free_count (sources p C)
   pub inputs : k * (t.inputs + t.free) ≤ i
   pub signals : g ≡ k * t.signals
   pub some : 0 < k
 
 -- where what is lent lets it start: the first counted bad and the signal bytes of all steps; the work area, of w words, is zero
 abbrev pub started : (program : Bool) (C : List Line) (k : ℕ) (S I : List ℕ) (w : ℕ) → Outcome
-started p C k S I w = toldRun (firstBad 0 (run p C k S I)) (bytes (run p C k S I) ∷ replicate w 0 ∷ [])
+started p C k S I w = told_run (first_bad 0 (run p C k S I)) (bytes (run p C k S I) ∷ replicate w 0 ∷ [])
 
 -- where what is lent decides
-abbrev pub lentAnswer : (program : Bool) (t : List ℕ) (n k : ℕ) (S I : List ℕ) (g w : ℕ) → Ran
-lentAnswer p t n k S I g w = answer_of (lent (layout p (lines_of p t n)).counts (rowLength p (lines_of p t n)) k (length S) (length I) g w) (firstBad 0 (run p (lines_of p t n) k S I))
+abbrev pub lent_answer : (program : Bool) (t : List ℕ) (n k : ℕ) (S I : List ℕ) (g w : ℕ) → Ran
+lent_answer p t n k S I g w = answer_of (lent (layout p (lines_of p t n)).counts (row_length p (lines_of p t n)) k (length S) (length I) g w) (first_bad 0 (run p (lines_of p t n) k S I))
 
-abbrev pub lentSignals : (program : Bool) (t : List ℕ) (n k : ℕ) (S I : List ℕ) (g w : ℕ) → List ℕ
-lentSignals p t n k S I g w = left_of (lent (layout p (lines_of p t n)).counts (rowLength p (lines_of p t n)) k (length S) (length I) g w) g (bytes (run p (lines_of p t n) k S I))
+abbrev pub lent_signals : (program : Bool) (t : List ℕ) (n k : ℕ) (S I : List ℕ) (g w : ℕ) → List ℕ
+lent_signals p t n k S I g w = left_of (lent (layout p (lines_of p t n)).counts (row_length p (lines_of p t n)) k (length S) (length I) g w) g (bytes (run p (lines_of p t n) k S I))
 
-abbrev pub lentRuns : (program : Bool) (t : List ℕ) (n k : ℕ) (S I : List ℕ) (g w : ℕ) → Outcome
-lentRuns p t n k S I g w = toldRun (lentAnswer p t n k S I g w) (lentSignals p t n k S I g w ∷ replicate w 0 ∷ [])
+abbrev pub lent_runs : (program : Bool) (t : List ℕ) (n k : ℕ) (S I : List ℕ) (g w : ℕ) → Outcome
+lent_runs p t n k S I g w = told_run (lent_answer p t n k S I g w) (lent_signals p t n k S I g w ∷ replicate w 0 ∷ [])

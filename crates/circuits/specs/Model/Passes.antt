@@ -10,7 +10,7 @@ use Rattle.tables.specs.Tables.{checked}
 use Rattle.circuits.specs.declared.Spot.{Spot}
 use Rattle.circuits.specs.declared.Totals.{Totals}
 use Rattle.circuits.specs.Layout.{Counts, counting}
-use Rattle.circuits.specs.Free.{ifState}
+use Rattle.circuits.specs.Free.{if_state}
 
 -- the notes are those of an accepted table's check
 pub record Noted (p : Bool) (t : List ℕ) (n : ℕ) (xs : List (List ℕ)) : Type 0 where
@@ -18,33 +18,33 @@ pub record Noted (p : Bool) (t : List ℕ) (n : ℕ) (xs : List (List ℕ)) : Ty
   pub shows : Shows xs (context p (lines_of p t n))
 
 -- the counts, as the code has them
-abbrev pub countsOf : Totals → Counts
-countsOf t = counting t.cells t.states t.inputs t.signals
+abbrev pub counts_of : Totals → Counts
+counts_of t = counting t.cells t.states t.inputs t.signals
 
-abbrev pub totalsOf : Counts → (free : ℕ) → Totals
-totalsOf c f = record { cells = c.cells; states = c.states; inputs = c.inputs; signals = c.signals; free = f }
+abbrev pub totals_of : Counts → (free : ℕ) → Totals
+totals_of c f = record { cells = c.cells; states = c.states; inputs = c.inputs; signals = c.signals; free = f }
 
 -- the free words of a line of m cells
-abbrev pub freeHere : (isDriven : Bool) → (m : ℕ) → Line → ℕ
-freeHere isDriven m l = ifState l (pick isDriven 0 m) 0
+abbrev pub free_here : (is_driven : Bool) → (m : ℕ) → Line → ℕ
+free_here is_driven m l = if_state l (pick is_driven 0 m) 0
 
 abbrev pub spot : ℕ → ℕ → Spot
 spot o q = record { off = o; at = q }
 
-abbrev pub noSpot : Spot
-noSpot = spot 0 0
+abbrev pub no_spot : Spot
+no_spot = spot 0 0
 
 -- the first word and the place of a line after lines of so many cells, state words, inputs and signals
-abbrev pub spotBy : Counts → Line → Spot
-spotBy c (Line.bitvec w) = noSpot
-spotBy c (Line.array i e) = noSpot
-spotBy c (Line.input s) = spot c.cells c.inputs
-spotBy c (Line.state s) = spot c.cells c.states
-spotBy c (Line.value s e) = spot c.cells 0
-spotBy c (Line.initOrNext m s q v) = noSpot
-spotBy c (Line.signal m a) = spot 0 c.signals
-spotBy c (Line.output a) = noSpot
-spotBy c Line.unknown = noSpot
+abbrev pub spot_by : Counts → Line → Spot
+spot_by c (Line.bitvec w) = no_spot
+spot_by c (Line.array i e) = no_spot
+spot_by c (Line.input s) = spot c.cells c.inputs
+spot_by c (Line.state s) = spot c.cells c.states
+spot_by c (Line.value s e) = spot c.cells 0
+spot_by c (Line.init_or_next m s q v) = no_spot
+spot_by c (Line.signal m a) = spot 0 c.signals
+spot_by c (Line.output a) = no_spot
+spot_by c Line.unknown = no_spot
 
 -- the counts are small: m cells more fit a word of the list
 pub record Small (c : Counts) (m : ℕ) : Type 0 where

@@ -15,10 +15,10 @@ shared-slice-read-if1 : tie.Need-shared-slice-read-if1
 shared-slice-read-if1 c = search rules
 
 returns : tie.Need-returns
-returns c = let s = c.before.before.before.before in sym (laws.picked-yes s.args.work.now _ _ c.before.before.off.ensures c.if1.true)
+returns c = let s = c.before.before.before.before in sym (laws.picked_yes s.args.work.now _ _ c.before.before.off.ensures c.if1.true)
 
 returns-2 : tie.Need-returns-2
-returns-2 c = let s = c.before.before.before.before in sym (laws.picked-no s.args.work.now _ _ c.before.before.off.ensures c.if1.false)
+returns-2 c = let s = c.before.before.before.before in sym (laws.picked_no s.args.work.now _ _ c.before.before.off.ensures c.if1.false)
 
 pub chosen-spec : {M : Type 1} → statement M
 chosen-spec = tie.close (tie.spec off-requires mul-if1 shared-slice-read-if1 returns returns-2)

@@ -1,7 +1,7 @@
 -- `evaluation::line_binary` meets its contract. Assumes nothing.
 use lib.ListN.{length-set}
 use Prim.Native.Nat.{ℕ}
-use Rattle.circuits.proofs.Fitting.{op-as, fit-as}
+use Rattle.circuits.proofs.Fitting.{op_as, fit_as}
 use Rattle.circuits.proofs.Puts as laws
 use borrow.Author.Rules.{rules}
 use Rattle.evaluation.proofs.line_binary.Statement.{statement}
@@ -38,7 +38,7 @@ width-requires-3 : tie.Need-width-requires-3
 width-requires-3 c κs = c.before.before.before.before.before.before.before.before.requires.1.lb.known
 
 word-requires : tie.Need-word-requires
-word-requires c κs = fit-as c.before.before.width.ensures c.before.width2.ensures c.width3.ensures (laws.word-as c.before.before.before.before.before.before.before.before.before.args.work.now c.before.before.before.before.before.before.off2.ensures) (laws.word-as c.before.before.before.before.before.before.before.before.before.args.work.now c.before.before.before.before.off3.ensures) c.before.before.before.before.before.before.before.before.before.requires.1.op
+word-requires c κs = fit_as c.before.before.width.ensures c.before.width2.ensures c.width3.ensures (laws.word_as c.before.before.before.before.before.before.before.before.before.args.work.now c.before.before.before.before.before.before.off2.ensures) (laws.word_as c.before.before.before.before.before.before.before.before.before.args.work.now c.before.before.before.before.off3.ensures) c.before.before.before.before.before.before.before.before.before.requires.1.op
 
 mul-work : tie.Need-overflow-mul-work
 mul-work c = search rules
@@ -50,7 +50,7 @@ same_length : tie.Need-same-length
 same_length c = length-set c.before.before.before.before.before.before.before.before.before.before.args.work.now c.before.before.before.before.before.before.before.before.off.result c.word.result
 
 returns : tie.Need-returns
-returns c = let z : ℕ = 0 in laws.stored c.before.before.before.before.before.before.before.before.before.before.args.work.now c.before.before.before.before.before.before.before.before.off.ensures (op-as c.before.before.before.before.before.before.before.before.before.before.args.program c.before.before.before.before.before.before.before.before.before.before.args.k z c.word.ensures c.before.before.width2.ensures c.before.width3.ensures (laws.word-as c.before.before.before.before.before.before.before.before.before.before.args.work.now c.before.before.before.before.before.before.before.off2.ensures) (laws.word-as c.before.before.before.before.before.before.before.before.before.before.args.work.now c.before.before.before.before.before.off3.ensures)) (search rules)
+returns c = let z : ℕ = 0 in laws.stored c.before.before.before.before.before.before.before.before.before.before.args.work.now c.before.before.before.before.before.before.before.before.off.ensures (op_as c.before.before.before.before.before.before.before.before.before.before.args.program c.before.before.before.before.before.before.before.before.before.before.args.k z c.word.ensures c.before.before.width2.ensures c.before.width3.ensures (laws.word_as c.before.before.before.before.before.before.before.before.before.before.args.work.now c.before.before.before.before.before.before.before.off2.ensures) (laws.word_as c.before.before.before.before.before.before.before.before.before.before.args.work.now c.before.before.before.before.before.off3.ensures)) (search rules)
 
 pub line-binary-spec : {M : Type 1} → statement M
 line-binary-spec =

@@ -3,7 +3,7 @@ use mathlib.Core.Path.{sym, ap, ap₂, ◌∙◌}
 use mathlib.Core.Bool.{Bool}
 use lib.ListN.{length-set}
 use Rattle.words.specs.Word.{bit}
-use Rattle.circuits.specs.Cells.{eqOrNeq, sameCells, part}
+use Rattle.circuits.specs.Cells.{eq_or_neq, same_cells, part}
 use borrow.Author.Rules.{rules}
 use Rattle.circuits.proofs.Puts as laws
 use Rattle.evaluation.proofs.line_equality.Statement.{statement}
@@ -39,7 +39,7 @@ same_length c = length-set c.before.before.before.before.before.before.before.be
 returns : tie.Need-returns
 returns c = let a = c.before.before.before.before.before.before.before.before.args in let w = a.work.now in
     laws.stored w c.before.before.before.before.before.before.off.ensures
-    (c.says.ensures ∙ ap (λ (s : Bool). bit (eqOrNeq a.e s)) (c.before.alike.ensures ∙ ap₂ sameCells (ap₂ (part w) c.before.before.before.before.before.off2.ensures c.before.before.before.cells.ensures) (ap₂ (part w) c.before.before.before.before.off3.ensures (c.before.before.before.cells.ensures ∙ sym c.before.before.before.before.before.before.before.before.requires.1.size))))
+    (c.says.ensures ∙ ap (λ (s : Bool). bit (eq_or_neq a.e s)) (c.before.alike.ensures ∙ ap₂ same_cells (ap₂ (part w) c.before.before.before.before.before.off2.ensures c.before.before.before.cells.ensures) (ap₂ (part w) c.before.before.before.before.off3.ensures (c.before.before.before.cells.ensures ∙ sym c.before.before.before.before.before.before.before.before.requires.1.size))))
     (laws.below_as c.before.before.before.before.before.before.off.ensures c.before.before.before.before.before.before.before.before.requires.0.below)
 
 pub line-equality-spec : {M : Type 1} → statement M

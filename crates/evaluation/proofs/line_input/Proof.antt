@@ -3,7 +3,7 @@ use mathlib.Core.Path.{sym, ap₂, ◌∙◌, subst}
 use Prim.Native.Nat.{ℕ}
 use lib.ListN.{get_or, length-set}
 use Rattle.words.specs.Word.{Width}
-use Rattle.circuits.specs.Meaning.{inputWord}
+use Rattle.circuits.specs.Meaning.{input_word}
 use Rattle.circuits.proofs.Puts as laws
 use borrow.Author.Rules.{rules}
 use Rattle.evaluation.proofs.line_input.Statement.{statement}
@@ -38,7 +38,7 @@ same_length c = length-set c.before.before.before.before.before.before.before.ar
 
 returns : tie.Need-returns
 returns c = let a = c.before.before.before.before.before.before.before.args in
-    laws.stored a.work.now c.before.before.before.before.off.ensures (c.input-word.ensures ∙ ap₂ (λ (u p : ℕ). inputWord a.program u (get_or a.row.now p 0)) c.before.width.ensures c.before.before.before.place.ensures) (laws.below_as c.before.before.before.before.off.ensures c.before.before.before.before.before.before.before.requires.own.word.below)
+    laws.stored a.work.now c.before.before.before.before.off.ensures (c.input-word.ensures ∙ ap₂ (λ (u p : ℕ). input_word a.program u (get_or a.row.now p 0)) c.before.width.ensures c.before.before.before.place.ensures) (laws.below_as c.before.before.before.before.off.ensures c.before.before.before.before.before.before.before.requires.own.word.below)
 
 pub line-input-spec : {M : Type 1} → statement M
 line-input-spec =

@@ -4,7 +4,7 @@ use mathlib.Core.Path.{sym, subst}
 use mathlib.Core.Logic.{inl}
 use Prim.Native.Nat.{ℕ, ◌≤◌}
 use native.Mathlib.Omega.{arith}
-use Rattle.circuits.specs.Model.Work.{wordKept}
+use Rattle.circuits.specs.Model.Work.{word_kept}
 use Rattle.circuits.proofs.Puts as laws
 use Rattle.evaluation.proofs.line_ite.Statement.{statement}
 use Rattle.evaluation.proofs.line_ite.Tie as tie
@@ -21,7 +21,7 @@ chosen-requires c κs = search rules
 off-requires-2 : tie.Need-off-requires-2
 off-requires-2 c κs =
     let s = c.before.before.before.before.before in
-    subst (λ (i : ℕ). i ≤ 16384) (sym c.chosen.ensures) (laws.chosen-has (λ (i : ℕ). i ≤ 16384) (wordKept s.args.laid.now s.args.work.now s.args.c) s.requires.1.la.known s.requires.1.lb.known)
+    subst (λ (i : ℕ). i ≤ 16384) (sym c.chosen.ensures) (laws.chosen_has (λ (i : ℕ). i ≤ 16384) (word_kept s.args.laid.now s.args.work.now s.args.c) s.requires.1.la.known s.requires.1.lb.known)
 
 copy-requires : tie.Need-copy-requires
 copy-requires c κs =
@@ -31,7 +31,7 @@ copy-requires c κs =
     let s = m.before.before.before in
     let a = s.args in
     let f = s.requires.1 in
-    let h = laws.chosen-below a.laid.now (wordKept a.laid.now a.work.now a.c) a.a a.b _ x.off2.ensures z.chosen.ensures m.cells.ensures f.sizeA f.sizeB f.la.ends f.lb.ends in
+    let h = laws.chosen-below a.laid.now (word_kept a.laid.now a.work.now a.c) a.a a.b _ x.off2.ensures z.chosen.ensures m.cells.ensures f.size_a f.size_b f.la.ends f.lb.ends in
     (inl (omega (arith, h)), (omega (arith, h), omega arith))
 
 same_length : tie.Need-same-length
@@ -45,7 +45,7 @@ returns c =
     let o = m.before in
     let s = o.before.before in
     let a = s.args in
-    laws.chosen-as a.laid.now a.work.now (wordKept a.laid.now a.work.now a.c) a.a a.b c.before.before.copy.ensures o.off.ensures x.off2.ensures z.chosen.ensures m.cells.ensures s.requires.1.sizeA s.requires.1.sizeB
+    laws.chosen-as a.laid.now a.work.now (word_kept a.laid.now a.work.now a.c) a.a a.b c.before.before.copy.ensures o.off.ensures x.off2.ensures z.chosen.ensures m.cells.ensures s.requires.1.size_a s.requires.1.size_b
 
 pub line-ite-spec : {M : Type 1} → statement M
 line-ite-spec =

@@ -4,7 +4,7 @@ use mathlib.Core.Path.{◌≡◌, ap}
 use Prim.Native.Nat.{ℕ}
 use native.Mathlib.Omega.{arith}
 use lib.ListN.{get_or}
-use Rattle.circuits.specs.Model.Work.{offIn, numIn}
+use Rattle.circuits.specs.Model.Work.{off_in, num_in}
 use Rattle.circuits.proofs.Puts as laws
 use Rattle.evaluation.proofs.line_read.Statement.{statement}
 use Rattle.evaluation.proofs.line_read.Tie as tie
@@ -28,21 +28,21 @@ add-y : tie.Need-overflow-add-y
 add-y c =
     let s = c.before.before.before.before.before in
     let w = s.args.work.now in
-    let e : get_or w c.before.before.off2.result 0 ≡ get_or w (offIn s.args.laid.now s.args.i) 0 = ap (λ (p : ℕ). get_or w p 0) c.before.before.off2.ensures in
+    let e : get_or w c.before.before.off2.result 0 ≡ get_or w (off_in s.args.laid.now s.args.i) 0 = ap (λ (p : ℕ). get_or w p 0) c.before.before.off2.ensures in
     omega arith
 
 mul-y : tie.Need-overflow-mul-y
 mul-y c =
     let s = c.before.before.before.before.before in
     let w = s.args.work.now in
-    let e : get_or w c.before.before.off2.result 0 ≡ get_or w (offIn s.args.laid.now s.args.i) 0 = ap (λ (p : ℕ). get_or w p 0) c.before.before.off2.ensures in
+    let e : get_or w c.before.before.off2.result 0 ≡ get_or w (off_in s.args.laid.now s.args.i) 0 = ap (λ (p : ℕ). get_or w p 0) c.before.before.off2.ensures in
     omega arith
 
 slice-read-y : tie.Need-slice-read-y
 slice-read-y c =
     let s = c.before.before.before.before.before.before in
     let w = s.args.work.now in
-    let e : get_or w c.before.before.before.off2.result 0 ≡ get_or w (offIn s.args.laid.now s.args.i) 0 = ap (λ (p : ℕ). get_or w p 0) c.before.before.before.off2.ensures in
+    let e : get_or w c.before.before.before.off2.result 0 ≡ get_or w (off_in s.args.laid.now s.args.i) 0 = ap (λ (p : ℕ). get_or w p 0) c.before.before.before.off2.ensures in
     omega arith
 
 mul-work : tie.Need-overflow-mul-work
@@ -57,7 +57,7 @@ same_length c = search rules
 returns : tie.Need-returns
 returns c =
     let s = c.before.before.before.before.before.before in
-    laws.stored s.args.work.now c.before.before.before.before.off.ensures (laws.read_at s.args.work.now (numIn s.args.laid.now s.args.a) c.before.off3.ensures c.before.before.before.off2.ensures s.requires.1.inside) (search rules)
+    laws.stored s.args.work.now c.before.before.before.before.off.ensures (laws.read_at s.args.work.now (num_in s.args.laid.now s.args.a) c.before.off3.ensures c.before.before.before.off2.ensures s.requires.1.inside) (search rules)
 
 pub line-read-spec : {M : Type 1} → statement M
 line-read-spec =

@@ -1,6 +1,6 @@
 -- `evaluation::line_unary` meets its contract. Assumes nothing.
 use lib.ListN.{length-set}
-use Rattle.circuits.proofs.Fitting.{op-as, fit-as}
+use Rattle.circuits.proofs.Fitting.{op_as, fit_as}
 use mathlib.Core.Path.{refl}
 use Rattle.circuits.proofs.Puts as laws
 use borrow.Author.Rules.{rules}
@@ -26,7 +26,7 @@ width-requires-2 : tie.Need-width-requires-2
 width-requires-2 c κs = c.before.before.before.before.before.requires.1.la.known
 
 word-requires : tie.Need-word-requires
-word-requires c κs = fit-as c.before.width.ensures c.width2.ensures refl (laws.word-as c.before.before.before.before.before.before.args.work.now c.before.before.before.off2.ensures) refl c.before.before.before.before.before.before.requires.1.op
+word-requires c κs = fit_as c.before.width.ensures c.width2.ensures refl (laws.word_as c.before.before.before.before.before.before.args.work.now c.before.before.before.off2.ensures) refl c.before.before.before.before.before.before.requires.1.op
 
 mul-work : tie.Need-overflow-mul-work
 mul-work c = search rules
@@ -38,7 +38,7 @@ same_length : tie.Need-same-length
 same_length c = length-set c.before.before.before.before.before.before.before.args.work.now c.before.before.before.before.before.off.result c.word.result
 
 returns : tie.Need-returns
-returns c = laws.stored c.before.before.before.before.before.before.before.args.work.now c.before.before.before.before.before.off.ensures (op-as c.before.before.before.before.before.before.before.args.program c.before.before.before.before.before.before.before.args.k c.before.before.before.before.before.before.before.args.y c.word.ensures c.before.width2.ensures refl (laws.word-as c.before.before.before.before.before.before.before.args.work.now c.before.before.before.before.off2.ensures) refl) (search rules)
+returns c = laws.stored c.before.before.before.before.before.before.before.args.work.now c.before.before.before.before.before.off.ensures (op_as c.before.before.before.before.before.before.before.args.program c.before.before.before.before.before.before.before.args.k c.before.before.before.before.before.before.before.args.y c.word.ensures c.before.width2.ensures refl (laws.word_as c.before.before.before.before.before.before.before.args.work.now c.before.before.before.before.off2.ensures) refl) (search rules)
 
 pub line-unary-spec : {M : Type 1} → statement M
 line-unary-spec =

@@ -5,7 +5,7 @@ use mathlib.Core.Logic.{inl}
 use Prim.Native.Nat.{ℕ}
 use native.Mathlib.Omega.{arith}
 use lib.ListN.{get_or}
-use Rattle.circuits.specs.Model.Work.{offIn}
+use Rattle.circuits.specs.Model.Work.{off_in}
 use Rattle.circuits.proofs.Puts as laws
 use Rattle.evaluation.proofs.line_write.Statement.{statement}
 use Rattle.evaluation.proofs.line_write.Tie as tie
@@ -45,7 +45,7 @@ store-run-requires c κs =
     let s = c.before.before.before.before.before.before.before.before.before.before.before.before.before in
     let w = s.args.work.now in
     let l = c.before.before.before.copy.auto in
-    let e : get_or w c.before.before.before.before.before.before.before.before.before.off2.result 0 ≡ get_or w (offIn s.args.laid.now s.args.i) 0 = ap (λ (p : ℕ). get_or w p 0) c.before.before.before.before.before.before.before.before.before.off2.ensures in
+    let e : get_or w c.before.before.before.before.before.before.before.before.before.off2.result 0 ≡ get_or w (off_in s.args.laid.now s.args.i) 0 = ap (λ (p : ℕ). get_or w p 0) c.before.before.before.before.before.before.before.before.before.off2.ensures in
     (omega (arith, l.0), omega arith)
 
 same_length : tie.Need-same-length
@@ -55,7 +55,7 @@ returns : tie.Need-returns
 returns c =
     let s = c.before.before.before.before.before.before.before.before.before.before.before.before.before.before.before.before in
     let w = s.args.work.now in
-    laws.written_as w c.before.before.before.before.before.before.copy.ensures c.before.before.store-run.ensures c.before.before.before.before.before.before.before.off4.ensures c.before.before.before.before.before.before.before.before.before.before.before.before.before.before.off.ensures (c.before.before.before.before.before.before.before.before.before.before.before.before.before.cells.ensures ∙ sym s.requires.1.size) (laws.word-as w c.before.before.before.before.before.before.before.before.before.before.before.before.off2.ensures) (laws.word-as w c.before.before.before.before.before.before.before.before.before.before.off3.ensures) (omega arith) (omega arith)
+    laws.written_as w c.before.before.before.before.before.before.copy.ensures c.before.before.store-run.ensures c.before.before.before.before.before.before.before.off4.ensures c.before.before.before.before.before.before.before.before.before.before.before.before.before.before.off.ensures (c.before.before.before.before.before.before.before.before.before.before.before.before.before.cells.ensures ∙ sym s.requires.1.size) (laws.word_as w c.before.before.before.before.before.before.before.before.before.before.before.before.off2.ensures) (laws.word_as w c.before.before.before.before.before.before.before.before.before.before.off3.ensures) (omega arith) (omega arith)
 
 pub line-write-spec : {M : Type 1} → statement M
 line-write-spec =

@@ -1,7 +1,7 @@
 -- The answer list first, then the operation. Assumes nothing.
 use mathlib.Core.Path.{sym, ◌∙◌}
 use borrow.Author.Tests.{not-true, not-false}
-use Rattle.answers.proofs.Told.{three-length, is-told, is-refused, leaves, two-lists}
+use Rattle.answers.proofs.Told.{three_length, is_told, is_refused, leaves, two_lists}
 use borrow.Author.Rules.{rules}
 use Rattle.exports.proofs.gofeshan_run_circuit.Statement.{statement}
 use Rattle.exports.proofs.gofeshan_run_circuit.Tie as tie
@@ -27,13 +27,13 @@ same-length-3 c = search rules
 returns : tie.Need-returns
 returns c =
     let h = sym c.before.before.before.before.before.before.before.before.before.before.before.take.ensures.0 ∙ not-true _ c.before.before.before.before.before.before.before.before.if1.true in
-    leaves 1 c.before.before.before.before.before.before.before.before.before.before.before.take.ensures.1 (two-lists c.before.before.before.before.before.before.clear.ensures c.before.before.clear2.ensures) ∙ is-refused _ _ h
+    leaves 1 c.before.before.before.before.before.before.before.before.before.before.before.take.ensures.1 (two_lists c.before.before.before.before.before.before.clear.ensures c.before.before.clear2.ensures) ∙ is_refused _ _ h
 
 run-circuit-requires : tie.Need-run-circuit-requires
 run-circuit-requires c κs = search rules
 
 tell-run-requires : tie.Need-tell-run-requires
-tell-run-requires c κs = three-length c.before.before.before.before.before.before.before.before.before.before.before.before.before.before.before.before.before.before.before.args.answer.now c.before.before.before.before.before.before.before.before.before.before.before.take.new.0 (sym c.before.before.before.before.before.before.before.before.before.before.before.take.ensures.0 ∙ not-false _ c.before.before.before.before.before.before.before.before.if1.false) c.before.before.before.before.before.before.before.before.before.before.before.take.ensures.1
+tell-run-requires c κs = three_length c.before.before.before.before.before.before.before.before.before.before.before.before.before.before.before.before.before.before.before.args.answer.now c.before.before.before.before.before.before.before.before.before.before.before.take.new.0 (sym c.before.before.before.before.before.before.before.before.before.before.before.take.ensures.0 ∙ not-false _ c.before.before.before.before.before.before.before.before.if1.false) c.before.before.before.before.before.before.before.before.before.before.before.take.ensures.1
 
 same-length-4 : tie.Need-same-length-4
 same-length-4 c = search rules
@@ -47,7 +47,7 @@ same-length-6 c = search rules
 returns-2 : tie.Need-returns-2
 returns-2 c =
     let h = sym c.before.before.before.before.before.before.before.before.before.before.before.before.before.before.take.ensures.0 ∙ not-false _ c.before.before.before.before.before.before.before.before.before.before.before.if1.false in
-    c.before.before.tell-run.ensures _ ∙ c.before.before.before.before.before.before.before.before.run-circuit.ensures ∙ is-told _ _ h
+    c.before.before.tell-run.ensures _ ∙ c.before.before.before.before.before.before.before.before.run-circuit.ensures ∙ is_told _ _ h
 
 pub gofeshan-run-circuit-spec : {M : Type 1} → statement M
 gofeshan-run-circuit-spec =

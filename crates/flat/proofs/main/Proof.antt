@@ -1,7 +1,7 @@
 -- What the library's function answers lies within the output list. Assumes nothing.
 use mathlib.Core.Path.{sym}
 use lib.Seq.{length-take-le}
-use Rattle.flat_text.proofs.Outputs.{prints-within}
+use Rattle.flat_text.proofs.Outputs.{prints_within}
 use borrow.Author.Rules.{rules}
 use Rattle.flat.proofs.main.Statement.{statement}
 use Rattle.flat.proofs.main.Tie as tie
@@ -31,12 +31,12 @@ flat-requires : tie.Need-flat-requires
 flat-requires c κs = search rules
 
 array-share-prefix-out : tie.Need-array-share-prefix-out
-array-share-prefix-out c = let f = c.before.before.before.flat in prints-within _ _ _ _ f.new.1.0 f.new.1.1.0 f.new.1.1.1.0 f.result f.ensures
+array-share-prefix-out c = let f = c.before.before.before.flat in prints_within _ _ _ _ f.new.1.0 f.new.1.1.0 f.new.1.1.1.0 f.result f.ensures
 
 slice-aggregate-write-all : tie.Need-slice-aggregate-write-all
 slice-aggregate-write-all c =
     let f = c.before.before.before.before.flat in
-    sym (length-take-le f.result f.new.1.1.1.0 (prints-within _ _ _ _ f.new.1.0 f.new.1.1.0 f.new.1.1.1.0 f.result f.ensures))
+    sym (length-take-le f.result f.new.1.1.1.0 (prints_within _ _ _ _ f.new.1.0 f.new.1.1.0 f.new.1.1.1.0 f.result f.ensures))
 
 write-all-requires : tie.Need-write-all-requires
 write-all-requires c κs = search rules

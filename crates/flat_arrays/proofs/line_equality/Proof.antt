@@ -5,11 +5,11 @@ use mathlib.Core.Bool.{false}
 use native.Mathlib.Omega.{arith}
 use lib.ListN.{length}
 use Rattle.tables.specs.Layout.{held}
-use Rattle.flattening.specs.Placed.{putFlat}
-use Rattle.flattening.specs.Model.Rows.{equalityRecords}
-use Rattle.flattening.specs.Model.Lines.{madeAs}
-use Rattle.flattening.proofs.Laying.{size-le}
-use Rattle.tables.specs.Model.Notes.{lookIn}
+use Rattle.flattening.specs.Placed.{put_flat}
+use Rattle.flattening.specs.Model.Rows.{equality_records}
+use Rattle.flattening.specs.Model.Lines.{made_as}
+use Rattle.flattening.proofs.Laying.{size_le}
+use Rattle.tables.specs.Model.Notes.{look_in}
 use Rattle.flat_arrays.proofs.line_equality.Statement.{statement}
 use Rattle.flat_arrays.proofs.line_equality.Tie as tie
 
@@ -26,16 +26,16 @@ entry-requires : tie.Need-entry-requires
 entry-requires c κs = omega arith
 
 equality-lines-requires : tie.Need-equality-lines-requires
-equality-lines-requires c κs = let a = c.before.before.before.before.before.before.args in (c.before.before.before.before.before.before.requires.neat.sound, (subst⁻¹ (λ (x : ℕ). x ≤ 256) c.before.before.before.before.size.ensures (size-le (lookIn a.types.now a.x).iw (c.before.before.before.before.before.before.requires.neat.deep a.x)), (omega (arith, c.before.before.before.before.before.before.requires.low), subst⁻¹ (λ (x : ℕ). a.p + (x + (x - 1)) ≤ held false (length a.target.now)) c.before.before.before.before.size.ensures c.before.before.before.before.before.before.requires.room)))
+equality-lines-requires c κs = let a = c.before.before.before.before.before.before.args in (c.before.before.before.before.before.before.requires.neat.sound, (subst⁻¹ (λ (x : ℕ). x ≤ 256) c.before.before.before.before.size.ensures (size_le (look_in a.types.now a.x).iw (c.before.before.before.before.before.before.requires.neat.deep a.x)), (omega (arith, c.before.before.before.before.before.before.requires.low), subst⁻¹ (λ (x : ℕ). a.p + (x + (x - 1)) ≤ held false (length a.target.now)) c.before.before.before.before.size.ensures c.before.before.before.before.before.before.requires.room)))
 
 less-requires : tie.Need-less-requires
 less-requires c κs = tt
 
 add-q : tie.Need-overflow-add-q
-add-q c = let a = c.before.before.before.before.before.before.before.before.before.before.args in omega (arith, subst⁻¹ (λ (x : ℕ). x ≤ 256) c.before.before.before.before.before.before.before.before.size.ensures (size-le (lookIn a.types.now a.x).iw (c.before.before.before.before.before.before.before.before.before.before.requires.neat.deep a.x)), c.less.ensures)
+add-q c = let a = c.before.before.before.before.before.before.before.before.before.before.args in omega (arith, subst⁻¹ (λ (x : ℕ). x ≤ 256) c.before.before.before.before.before.before.before.before.size.ensures (size_le (look_in a.types.now a.x).iw (c.before.before.before.before.before.before.before.before.before.before.requires.neat.deep a.x)), c.less.ensures)
 
 add-q-2 : tie.Need-overflow-add-q-2
-add-q-2 c = let a = c.before.before.before.before.before.before.before.before.before.before.args in omega (arith, c.before.before.before.before.before.before.before.before.before.before.requires.low, subst⁻¹ (λ (x : ℕ). x ≤ 256) c.before.before.before.before.before.before.before.before.size.ensures (size-le (lookIn a.types.now a.x).iw (c.before.before.before.before.before.before.before.before.before.before.requires.neat.deep a.x)), c.less.ensures)
+add-q-2 c = let a = c.before.before.before.before.before.before.before.before.before.before.args in omega (arith, c.before.before.before.before.before.before.before.before.before.before.requires.low, subst⁻¹ (λ (x : ℕ). x ≤ 256) c.before.before.before.before.before.before.before.before.size.ensures (size_le (look_in a.types.now a.x).iw (c.before.before.before.before.before.before.before.before.before.before.requires.neat.deep a.x)), c.less.ensures)
 
 entry-requires-2 : tie.Need-entry-requires-2
 entry-requires-2 c κs = omega arith
@@ -44,7 +44,7 @@ same_length : tie.Need-same-length
 same_length c = c.before.before.before.before.equality-lines.auto.1.1.1.1.1.1.1.1.0
 
 returns : tie.Need-returns
-returns c = let a = c.before.before.before.before.before.before.before.before.before.before.before.args in let H = a.kept.now in let l = c.before.less.ensures ∙ ap (λ (x : ℕ). x - 1) c.before.before.before.before.before.before.before.before.before.size.ensures in record { kept = λ i. madeAs (a.p + (c.before.before.before.before.before.before.before.before.before.size.ensures i + l i)) (a.p + (c.before.before.before.before.before.before.before.before.before.size.ensures i + l i)) (c.entry2.ensures i) 0 1 0; records = c.before.before.before.before.equality-lines.ensures ∙ (λ i. putFlat a.target.now a.p (equalityRecords H a.p (c.before.before.before.before.before.before.before.before.equality-kind.ensures i) (c.before.before.before.before.before.before.before.join-kind.ensures i) (c.before.before.before.before.before.before.entry.ensures i) a.x a.y (c.before.before.before.before.before.before.before.before.before.size.ensures i))) }
+returns c = let a = c.before.before.before.before.before.before.before.before.before.before.before.args in let H = a.kept.now in let l = c.before.less.ensures ∙ ap (λ (x : ℕ). x - 1) c.before.before.before.before.before.before.before.before.before.size.ensures in record { kept = λ i. made_as (a.p + (c.before.before.before.before.before.before.before.before.before.size.ensures i + l i)) (a.p + (c.before.before.before.before.before.before.before.before.before.size.ensures i + l i)) (c.entry2.ensures i) 0 1 0; records = c.before.before.before.before.equality-lines.ensures ∙ (λ i. put_flat a.target.now a.p (equality_records H a.p (c.before.before.before.before.before.before.before.before.equality-kind.ensures i) (c.before.before.before.before.before.before.before.join-kind.ensures i) (c.before.before.before.before.before.before.entry.ensures i) a.x a.y (c.before.before.before.before.before.before.before.before.before.size.ensures i))) }
 
 pub line-equality-spec : {M : Type 1} → statement M
 line-equality-spec =

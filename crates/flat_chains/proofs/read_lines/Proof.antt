@@ -5,10 +5,10 @@ use mathlib.Core.Bool.{false}
 use mathlib.Core.List.{List}
 use native.Mathlib.Omega.{arith}
 use Rattle.tables.specs.Layout.{held}
-use Rattle.flattening.specs.Placed.{putFlat}
-use Rattle.flattening.specs.Model.Cells.{cellIn}
-use Rattle.flattening.specs.Model.Rows.{Tame, rowsFor, pair_at, stepping, still, runDown, ofDown}
-use Rattle.flattening.proofs.Holding.{cell-bound, tame-run, tame-run-down, tame-of-down}
+use Rattle.flattening.specs.Placed.{put_flat}
+use Rattle.flattening.specs.Model.Cells.{cell_in}
+use Rattle.flattening.specs.Model.Rows.{Tame, rows_for, pair_at, stepping, still, run_down, of_down}
+use Rattle.flattening.proofs.Holding.{cell_bound, tame_run, tame_run_down, tame_of_down}
 use Rattle.flattening.proofs.Placing.{flat_append, length_pairs}
 use borrow.Author.Rules.{rules}
 use Rattle.flat_chains.proofs.read_lines.Statement.{statement}
@@ -36,7 +36,7 @@ run-requires : tie.Need-run-requires
 run-requires c κs = tt
 
 pairs-requires : tie.Need-pairs-requires
-pairs-requires c κs = let a = c.before.before.before.before.before.before.args in let H = a.kept.now in let b = subst⁻¹ (λ (x : ℕ). x ≤ 131072) c.before.before.before.before.cell.ensures (cell-bound H c.before.before.before.before.before.before.requires.0 a.a (a.n - 1) (omega (arith, c.before.before.before.before.before.before.requires.1.0, c.before.before.before.before.before.before.requires.1.1.0))) in (c.before.before.before.before.before.before.requires.0, (subst⁻¹ Tame c.before.before.run_Down.ensures (tame-run-down (a.o + 1) (a.n - 2) (omega (arith, c.before.before.before.before.before.before.requires.1.1.1.1.0)) (omega (arith, c.before.before.before.before.before.before.requires.1.1.0, c.before.before.before.before.before.before.requires.1.0))), (subst⁻¹ Tame c.before.of-down.ensures (tame-of-down a.a (a.n - 2) (omega (arith, c.before.before.before.before.before.before.requires.1.1.0, c.before.before.before.before.before.before.requires.1.0))), (subst⁻¹ Tame c.run.ensures (tame-run c.before.before.before.before.cell.result 0 (omega (arith, b)) (omega arith)), (omega arith, (omega (arith, c.before.before.before.before.before.before.requires.1.1.1.0), omega (arith, c.before.before.before.before.before.before.requires.1.1.1.1.1, c.before.before.before.before.before.before.requires.1.0)))))))
+pairs-requires c κs = let a = c.before.before.before.before.before.before.args in let H = a.kept.now in let b = subst⁻¹ (λ (x : ℕ). x ≤ 131072) c.before.before.before.before.cell.ensures (cell_bound H c.before.before.before.before.before.before.requires.0 a.a (a.n - 1) (omega (arith, c.before.before.before.before.before.before.requires.1.0, c.before.before.before.before.before.before.requires.1.1.0))) in (c.before.before.before.before.before.before.requires.0, (subst⁻¹ Tame c.before.before.run_Down.ensures (tame_run_down (a.o + 1) (a.n - 2) (omega (arith, c.before.before.before.before.before.before.requires.1.1.1.1.0)) (omega (arith, c.before.before.before.before.before.before.requires.1.1.0, c.before.before.before.before.before.before.requires.1.0))), (subst⁻¹ Tame c.before.of-down.ensures (tame_of_down a.a (a.n - 2) (omega (arith, c.before.before.before.before.before.before.requires.1.1.0, c.before.before.before.before.before.before.requires.1.0))), (subst⁻¹ Tame c.run.ensures (tame_run c.before.before.before.before.cell.result 0 (omega (arith, b)) (omega arith)), (omega arith, (omega (arith, c.before.before.before.before.before.before.requires.1.1.1.0), omega (arith, c.before.before.before.before.before.before.requires.1.1.1.1.1, c.before.before.before.before.before.before.requires.1.0)))))))
 
 less-requires : tie.Need-less-requires
 less-requires c κs = tt
@@ -60,13 +60,13 @@ run-requires-2 : tie.Need-run-requires-2
 run-requires-2 c κs = tt
 
 pairs-requires-2 : tie.Need-pairs-requires-2
-pairs-requires-2 c κs = let a = c.before.before.before.before.before.before.before.before.before.before.before.before.before.before.args in let l = ap (held false) c.before.before.before.before.before.before.before.pairs.auto.1.0 in (c.before.before.before.before.before.before.before.before.before.before.before.before.before.before.requires.0, (subst⁻¹ Tame c.before.before.run-down2.ensures (tame-run-down (a.o + 1) c.before.before.before.before.less.result (omega (arith, c.before.before.before.before.before.before.before.before.before.before.before.before.before.before.requires.1.1.1.1.0)) (omega (arith, c.before.before.before.before.less.ensures, c.before.before.before.before.before.before.before.before.before.before.before.before.before.before.requires.1.1.0))), (subst⁻¹ Tame c.before.of-down2.ensures (tame-of-down a.a c.before.before.before.before.less.result (omega (arith, c.before.before.before.before.less.ensures, c.before.before.before.before.before.before.before.before.before.before.before.before.before.before.requires.1.1.0))), (subst⁻¹ Tame c.run2.ensures (tame-run (a.p + 2) 2 (omega (arith, c.before.before.before.before.before.before.before.before.before.before.before.before.before.before.requires.1.1.1.0)) (omega arith)), (omega (arith, c.before.before.before.before.before.before.before.before.before.before.before.before.before.before.requires.1.1.0), (omega (arith, c.before.before.before.before.before.before.before.before.before.before.before.before.before.before.requires.1.1.1.0), omega (arith, l, c.before.before.before.before.before.before.before.before.before.before.before.before.before.before.requires.1.1.1.1.1, c.before.before.before.before.before.before.before.before.before.before.before.before.before.before.requires.1.0)))))))
+pairs-requires-2 c κs = let a = c.before.before.before.before.before.before.before.before.before.before.before.before.before.before.args in let l = ap (held false) c.before.before.before.before.before.before.before.pairs.auto.1.0 in (c.before.before.before.before.before.before.before.before.before.before.before.before.before.before.requires.0, (subst⁻¹ Tame c.before.before.run-down2.ensures (tame_run_down (a.o + 1) c.before.before.before.before.less.result (omega (arith, c.before.before.before.before.before.before.before.before.before.before.before.before.before.before.requires.1.1.1.1.0)) (omega (arith, c.before.before.before.before.less.ensures, c.before.before.before.before.before.before.before.before.before.before.before.before.before.before.requires.1.1.0))), (subst⁻¹ Tame c.before.of-down2.ensures (tame_of_down a.a c.before.before.before.before.less.result (omega (arith, c.before.before.before.before.less.ensures, c.before.before.before.before.before.before.before.before.before.before.before.before.before.before.requires.1.1.0))), (subst⁻¹ Tame c.run2.ensures (tame_run (a.p + 2) 2 (omega (arith, c.before.before.before.before.before.before.before.before.before.before.before.before.before.before.requires.1.1.1.0)) (omega arith)), (omega (arith, c.before.before.before.before.before.before.before.before.before.before.before.before.before.before.requires.1.1.0), (omega (arith, c.before.before.before.before.before.before.before.before.before.before.before.before.before.before.requires.1.1.1.0), omega (arith, l, c.before.before.before.before.before.before.before.before.before.before.before.before.before.before.requires.1.1.1.1.1, c.before.before.before.before.before.before.before.before.before.before.before.before.before.before.requires.1.0)))))))
 
 same_length : tie.Need-same-length
 same_length c = c.before.before.pairs2.auto.1.0 ∙ c.before.before.before.before.before.before.before.before.before.before.pairs.auto.1.0
 
 returns : tie.Need-returns
-returns c = let a = c.before.before.before.before.before.before.before.before.before.before.before.before.before.before.before.before.before.args in let H = a.kept.now in let U = rowsFor 1 (pair_at H a.p a.o a.i a.s (runDown (a.o + 1) (a.n - 2)) (ofDown a.a (a.n - 2)) (still (cellIn H a.a (a.n - 1)))) in let Z = rowsFor (a.n - 2) (pair_at H (a.p + 2) a.o a.i a.s (runDown (a.o + 1) (a.n - 3)) (ofDown a.a (a.n - 3)) (stepping (a.p + 2) 2)) in c.before.before.pairs2.ensures ∙ (λ i. putFlat (c.before.before.before.before.before.before.before.before.before.before.pairs.ensures i) (a.p + 2) (rowsFor (a.n - 2) (pair_at H (a.p + 2) a.o a.i a.s ((c.before.before.before.before.before.run-down2.ensures ∙ ap (λ (t : ℕ). runDown (a.o + 1) t) c.before.before.before.before.before.before.before.less.ensures) i) ((c.before.before.before.before.of-down2.ensures ∙ ap (λ (t : ℕ). ofDown a.a t) c.before.before.before.before.before.before.before.less.ensures) i) (c.before.before.before.run2.ensures i)))) ∙ ap (λ (t : List ℕ). putFlat t (a.p + 2) Z) (λ i. putFlat a.target.now a.p (rowsFor 1 (pair_at H a.p a.o a.i a.s (c.before.before.before.before.before.before.before.before.before.before.before.before.before.run_Down.ensures i) (c.before.before.before.before.before.before.before.before.before.before.before.before.of-down.ensures i) ((c.before.before.before.before.before.before.before.before.before.before.before.run.ensures ∙ ap still c.before.before.before.before.before.before.before.before.before.before.before.before.before.before.before.cell.ensures) i)))) ∙ flat_append a.target.now a.p U (a.p + 2) Z (omega (arith, length_pairs H a.p a.o a.i a.s (runDown (a.o + 1) (a.n - 2)) (ofDown a.a (a.n - 2)) (still (cellIn H a.a (a.n - 1))) 1))
+returns c = let a = c.before.before.before.before.before.before.before.before.before.before.before.before.before.before.before.before.before.args in let H = a.kept.now in let U = rows_for 1 (pair_at H a.p a.o a.i a.s (run_down (a.o + 1) (a.n - 2)) (of_down a.a (a.n - 2)) (still (cell_in H a.a (a.n - 1)))) in let Z = rows_for (a.n - 2) (pair_at H (a.p + 2) a.o a.i a.s (run_down (a.o + 1) (a.n - 3)) (of_down a.a (a.n - 3)) (stepping (a.p + 2) 2)) in c.before.before.pairs2.ensures ∙ (λ i. put_flat (c.before.before.before.before.before.before.before.before.before.before.pairs.ensures i) (a.p + 2) (rows_for (a.n - 2) (pair_at H (a.p + 2) a.o a.i a.s ((c.before.before.before.before.before.run-down2.ensures ∙ ap (λ (t : ℕ). run_down (a.o + 1) t) c.before.before.before.before.before.before.before.less.ensures) i) ((c.before.before.before.before.of-down2.ensures ∙ ap (λ (t : ℕ). of_down a.a t) c.before.before.before.before.before.before.before.less.ensures) i) (c.before.before.before.run2.ensures i)))) ∙ ap (λ (t : List ℕ). put_flat t (a.p + 2) Z) (λ i. put_flat a.target.now a.p (rows_for 1 (pair_at H a.p a.o a.i a.s (c.before.before.before.before.before.before.before.before.before.before.before.before.before.run_Down.ensures i) (c.before.before.before.before.before.before.before.before.before.before.before.before.of-down.ensures i) ((c.before.before.before.before.before.before.before.before.before.before.before.run.ensures ∙ ap still c.before.before.before.before.before.before.before.before.before.before.before.before.before.before.before.cell.ensures) i)))) ∙ flat_append a.target.now a.p U (a.p + 2) Z (omega (arith, length_pairs H a.p a.o a.i a.s (run_down (a.o + 1) (a.n - 2)) (of_down a.a (a.n - 2)) (still (cell_in H a.a (a.n - 1))) 1))
 
 pub read-lines-spec : {M : Type 1} → statement M
 read-lines-spec =

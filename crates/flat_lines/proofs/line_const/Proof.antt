@@ -4,8 +4,8 @@ use Prim.Native.Nat.{◌+◌}
 use mathlib.Core.List.{[], ◌∷◌}
 use mathlib.Core.Path.{◌∙◌}
 use Rattle.tables.specs.Lines.{fields}
-use Rattle.flattening.specs.Placed.{putFlat}
-use Rattle.flattening.specs.Model.Lines.{madeAs}
+use Rattle.flattening.specs.Placed.{put_flat}
+use Rattle.flattening.specs.Model.Lines.{made_as}
 use borrow.Author.Rules.{rules}
 use Rattle.flat_lines.proofs.line_const.Statement.{statement}
 use Rattle.flat_lines.proofs.line_const.Tie as tie
@@ -32,7 +32,7 @@ same_length : tie.Need-same-length
 same_length c = c.before.before.single.auto.1.1.1.1.1.1.0
 
 returns : tie.Need-returns
-returns c = let a = c.before.before.before.before.before.before.before.before.before.args in record { kept = c.before.before.single.ensures.0 ∙ (λ i. madeAs (a.p + 1) (a.p + 1) (c.before.before.before.before.before.entry2.ensures i) 0 1 (c.before.before.before.before.small.ensures i)); records = c.before.before.single.ensures.1 ∙ (λ i. putFlat a.target.now a.p (c.before.before.before.before.before.before.of.ensures i ∷ [])) ∙ (λ i. putFlat a.target.now a.p (fields 3 (c.before.before.before.before.before.before.before.entry.ensures i) a.v 0 0 ∷ [])) }
+returns c = let a = c.before.before.before.before.before.before.before.before.before.args in record { kept = c.before.before.single.ensures.0 ∙ (λ i. made_as (a.p + 1) (a.p + 1) (c.before.before.before.before.before.entry2.ensures i) 0 1 (c.before.before.before.before.small.ensures i)); records = c.before.before.single.ensures.1 ∙ (λ i. put_flat a.target.now a.p (c.before.before.before.before.before.before.of.ensures i ∷ [])) ∙ (λ i. put_flat a.target.now a.p (fields 3 (c.before.before.before.before.before.before.before.entry.ensures i) a.v 0 0 ∷ [])) }
 
 pub line-const-spec : {M : Type 1} → statement M
 line-const-spec =

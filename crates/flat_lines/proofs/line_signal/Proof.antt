@@ -2,8 +2,8 @@
 use native.Mathlib.Omega.{arith}
 use mathlib.Core.List.{[], ◌∷◌}
 use mathlib.Core.Path.{sym, ◌∙◌}
-use Rattle.tables.specs.Lines.{fields, signalKind}
-use Rattle.flattening.specs.Placed.{putFlat}
+use Rattle.tables.specs.Lines.{fields, signal_kind}
+use Rattle.flattening.specs.Placed.{put_flat}
 use borrow.Author.Rules.{rules}
 use Rattle.flat_lines.proofs.line_signal.Statement.{statement}
 use Rattle.flat_lines.proofs.line_signal.Tie as tie
@@ -21,7 +21,7 @@ same_length : tie.Need-same-length
 same_length c = c.before.before.single.auto.1.1.1.1.1.1.0
 
 returns : tie.Need-returns
-returns c = let a = c.before.before.before.before.before.before.before.before.args in record { kept = c.before.before.single.ensures.0; records = c.before.before.single.ensures.1 ∙ (λ i. putFlat a.target.now a.p (c.before.before.before.before.of.ensures i ∷ [])) ∙ (λ i. putFlat a.target.now a.p (fields (signalKind (sym c.before.before.before.before.before.if1.true i)) 0 (c.before.before.before.before.before.before.cell.ensures i) 0 0 ∷ [])) }
+returns c = let a = c.before.before.before.before.before.before.before.before.args in record { kept = c.before.before.single.ensures.0; records = c.before.before.single.ensures.1 ∙ (λ i. put_flat a.target.now a.p (c.before.before.before.before.of.ensures i ∷ [])) ∙ (λ i. put_flat a.target.now a.p (fields (signal_kind (sym c.before.before.before.before.before.if1.true i)) 0 (c.before.before.before.before.before.before.cell.ensures i) 0 0 ∷ [])) }
 
 of-requires-2 : tie.Need-of-requires-2
 of-requires-2 c κs = tt
@@ -33,7 +33,7 @@ same-length-2 : tie.Need-same-length-2
 same-length-2 c = c.before.before.single2.auto.1.1.1.1.1.1.0
 
 returns-2 : tie.Need-returns-2
-returns-2 c = let a = c.before.before.before.before.before.before.before.before.args in record { kept = c.before.before.single2.ensures.0; records = c.before.before.single2.ensures.1 ∙ (λ i. putFlat a.target.now a.p (c.before.before.before.before.of2.ensures i ∷ [])) ∙ (λ i. putFlat a.target.now a.p (fields (signalKind (sym c.before.before.before.before.before.if1.false i)) 0 (c.before.before.before.before.before.before.cell.ensures i) 0 0 ∷ [])) }
+returns-2 c = let a = c.before.before.before.before.before.before.before.before.args in record { kept = c.before.before.single2.ensures.0; records = c.before.before.single2.ensures.1 ∙ (λ i. put_flat a.target.now a.p (c.before.before.before.before.of2.ensures i ∷ [])) ∙ (λ i. put_flat a.target.now a.p (fields (signal_kind (sym c.before.before.before.before.before.if1.false i)) 0 (c.before.before.before.before.before.before.cell.ensures i) 0 0 ∷ [])) }
 
 pub line-signal-spec : {M : Type 1} → statement M
 line-signal-spec =

@@ -1,7 +1,7 @@
 -- By what reading answers, and then flattening. Assumes nothing.
 use mathlib.Core.Path.{refl}
 use lib.ListN.{length}
-use Rattle.flat_text.proofs.Outputs.{flat-by, prints-by}
+use Rattle.flat_text.proofs.Outputs.{flat_by, prints_by}
 use borrow.Author.Rules.{rules}
 use Rattle.flat_text.proofs.flat.Statement.{statement}
 use Rattle.flat_text.proofs.flat.Tie as tie
@@ -40,7 +40,7 @@ returns : tie.Need-returns
 returns c =
     let s = c.before.before.before.before.before.before.before.before.before.before.before.before.before.before.before.before.before.before.before.args in
     let t = c.before.before.before.before.before.before.before.before.before.before.before.before.before.read in
-    prints-by (length s.table.now) (length s.target.now) (length s.out.now) s.text.now t.result t.new.1.0 t.ensures c.before.before.before.before.before.before.before.before.before.r.given.1 refl c.before.before.before.before.before.before.clear.ensures c.before.before.refuse.ensures
+    prints_by (length s.table.now) (length s.target.now) (length s.out.now) s.text.now t.result t.new.1.0 t.ensures c.before.before.before.before.before.before.before.before.before.r.given.1 refl c.before.before.before.before.before.before.clear.ensures c.before.before.refuse.ensures
 
 same-length-4 : tie.Need-same-length-4
 same-length-4 c = search rules
@@ -56,8 +56,8 @@ returns-2 c =
     let s = c.before.before.before.before.before.before.before.before.before.before.before.before.before.before.before.before.before.before.before.before.before.args in
     let t = c.before.before.before.before.before.before.before.before.before.before.before.before.before.before.before.read in
     let f = c.before.before.before.before.before.before.before.flatten in
-    let x = flat-by t.new.1.0 c.before.before.before.before.before.before.before.before.before.before.before.count.given.0.0 (length s.target.now) (length s.out.now) f.result f.new.1.1.0 f.ensures in
-    prints-by (length s.table.now) (length s.target.now) (length s.out.now) s.text.now t.result t.new.1.0 t.ensures c.before.before.before.before.before.before.before.before.before.before.before.count.given.1 x.0 x.1 c.before.before.print-flat.ensures
+    let x = flat_by t.new.1.0 c.before.before.before.before.before.before.before.before.before.before.before.count.given.0.0 (length s.target.now) (length s.out.now) f.result f.new.1.1.0 f.ensures in
+    prints_by (length s.table.now) (length s.target.now) (length s.out.now) s.text.now t.result t.new.1.0 t.ensures c.before.before.before.before.before.before.before.before.before.before.before.count.given.1 x.0 x.1 c.before.before.print-flat.ensures
 
 pub flat-spec : {M : Type 1} → statement M
 flat-spec =

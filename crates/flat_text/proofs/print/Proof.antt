@@ -1,6 +1,6 @@
 -- By what writing answers. Assumes nothing.
 use lib.ListN.{length}
-use Rattle.flat_text.proofs.Outputs.{text-held, text-not}
+use Rattle.flat_text.proofs.Outputs.{text_held, text_not}
 use borrow.Author.Rules.{rules}
 use Rattle.flat_text.proofs.print.Statement.{statement}
 use Rattle.flat_text.proofs.print.Tie as tie
@@ -24,7 +24,7 @@ returns : tie.Need-returns
 returns c =
     let s = c.before.before.before.before.before.before.before.before.before.args in
     let w = c.before.before.before.before.before.write in
-    text-held s.flat.now s.count (length s.out.now) w.result w.new.1.1.0 w.ensures c.before.n.given.1
+    text_held s.flat.now s.count (length s.out.now) w.result w.new.1.1.0 w.ensures c.before.n.given.1
 
 same-length-2 : tie.Need-same-length-2
 same-length-2 c = search rules
@@ -33,7 +33,7 @@ returns-2 : tie.Need-returns-2
 returns-2 c =
     let s = c.before.before.before.before.before.before.before.before.before.before.before.before.before.args in
     let w = c.before.before.before.before.before.before.before.before.before.write in
-    text-not s.flat.now s.count (length s.out.now) w.result w.new.1.1.0 w.ensures c.before.before.before.before.before.r.given.1 w.auto.1.1.0 c.before.before.refuse.ensures
+    text_not s.flat.now s.count (length s.out.now) w.result w.new.1.1.0 w.ensures c.before.before.before.before.before.r.given.1 w.auto.1.1.0 c.before.before.refuse.ensures
 
 pub print-spec : {M : Type 1} → statement M
 print-spec =

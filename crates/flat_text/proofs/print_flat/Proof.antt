@@ -2,7 +2,7 @@
 use mathlib.Core.Path.{sym, subst}
 use lib.ListN.{length}
 use Rattle.tables.specs.declared.Answer.{Answer}
-use Rattle.flat_text.specs.Printing.{afterFlattening}
+use Rattle.flat_text.specs.Printing.{after_flattening}
 use Rattle.flat_text.specs.Model.Output.{Printout}
 use borrow.Author.Rules.{rules}
 use Rattle.flat_text.proofs.print_flat.Statement.{statement}
@@ -27,7 +27,7 @@ returns : tie.Need-returns
 returns c =
     let s = c.before.before.before.before.before.before.before.before.before.args in
     let l = length s.out.now in
-    subst (λ (x : Answer). Printout l (afterFlattening l x s.flat.now) c.before.before.refuse.result c.before.before.refuse.new.1.1.0) (sym c.before.before.before.before.before.a.given.1) c.before.before.refuse.ensures
+    subst (λ (x : Answer). Printout l (after_flattening l x s.flat.now) c.before.before.refuse.result c.before.before.refuse.new.1.1.0) (sym c.before.before.before.before.before.a.given.1) c.before.before.refuse.ensures
 
 same-length-2 : tie.Need-same-length-2
 same-length-2 c = search rules
@@ -36,7 +36,7 @@ returns-2 : tie.Need-returns-2
 returns-2 c =
     let s = c.before.before.before.before.before.before.before.before.before.args in
     let l = length s.out.now in
-    subst (λ (x : Answer). Printout l (afterFlattening l x s.flat.now) c.before.before.print.result c.before.before.print.new.1.1.0) (sym c.before.before.before.before.before.a2.given.1) c.before.before.print.ensures
+    subst (λ (x : Answer). Printout l (after_flattening l x s.flat.now) c.before.before.print.result c.before.before.print.new.1.1.0) (sym c.before.before.before.before.before.a2.given.1) c.before.before.print.ensures
 
 pub print-flat-spec : {M : Type 1} → statement M
 print-flat-spec =

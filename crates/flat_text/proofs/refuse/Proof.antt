@@ -6,8 +6,8 @@ use mathlib.Core.List.{List}
 use lib.ListN.{length, replicate}
 use lib.Seq.{sets}
 use Rattle.tables.specs.Refusals.{number_of}
-use Rattle.flat_text.specs.Printing.{refusalLine}
-use Rattle.flat_text.proofs.Outputs.{refusal-held, refusal-dropped}
+use Rattle.flat_text.specs.Printing.{refusal_line}
+use Rattle.flat_text.proofs.Outputs.{refusal_held, refusal_dropped}
 use borrow.Author.Rules.{rules}
 use Rattle.flat_text.proofs.refuse.Statement.{statement}
 use Rattle.flat_text.proofs.refuse.Tie as tie
@@ -32,8 +32,8 @@ returns c =
     let s = c.before.before.before.before.before.before.before.before.before.before.before.before.before.before.before.args in
     let z = c.before.before.before.before.before.before.before.put-refusal in
     let k = z.auto.0 ∙ c.before.before.before.before.before.before.before.before.before.before.before.before.clear.auto.0 in
-    let e = z.ensures.0 ∙ ap (λ (n : ℕ). length (refusalLine n s.line)) c.before.before.before.before.before.before.before.before.number.ensures in
-    refusal-dropped (length s.out.now) (number_of s.r) s.line e (omega (arith, k, c.before.before.before.before.if1.true)) (c.before.before.clear2.ensures ∙ ap (λ (n : ℕ). replicate {A = ℕ} n 0) k)
+    let e = z.ensures.0 ∙ ap (λ (n : ℕ). length (refusal_line n s.line)) c.before.before.before.before.before.before.before.before.number.ensures in
+    refusal_dropped (length s.out.now) (number_of s.r) s.line e (omega (arith, k, c.before.before.before.before.if1.true)) (c.before.before.clear2.ensures ∙ ap (λ (n : ℕ). replicate {A = ℕ} n 0) k)
 
 same-length-2 : tie.Need-same-length-2
 same-length-2 c = search rules
@@ -44,8 +44,8 @@ returns-2 c =
     let z = c.before.before.before.put-refusal in
     let k = z.auto.0 ∙ c.before.before.before.before.before.before.before.before.clear.auto.0 in
     let q = c.before.before.before.before.number.ensures in
-    let e = z.ensures.0 ∙ ap (λ (n : ℕ). length (refusalLine n s.line)) q in
-    refusal-held (length s.out.now) (number_of s.r) s.line e (omega (arith, k, c.if1.false)) (z.ensures.1 ∙ ap₂ (λ (x : List ℕ) (n : ℕ). sets x 0 (refusalLine n s.line)) c.before.before.before.before.before.before.before.before.clear.ensures q)
+    let e = z.ensures.0 ∙ ap (λ (n : ℕ). length (refusal_line n s.line)) q in
+    refusal_held (length s.out.now) (number_of s.r) s.line e (omega (arith, k, c.if1.false)) (z.ensures.1 ∙ ap₂ (λ (x : List ℕ) (n : ℕ). sets x 0 (refusal_line n s.line)) c.before.before.before.before.before.before.before.before.clear.ensures q)
 
 pub refuse-spec : {M : Type 1} → statement M
 refuse-spec =

@@ -1,6 +1,6 @@
 -- Lists of zeros. Assumes nothing.
 use native.Mathlib.Omega.{arith}
-use Rattle.flattening.proofs.Refusing.{blank-lists}
+use Rattle.flattening.proofs.Refusing.{blank_lists}
 use borrow.Author.Rules.{rules}
 use Rattle.flatten.proofs.many.Statement.{statement}
 use Rattle.flatten.proofs.many.Tie as tie
@@ -12,7 +12,7 @@ slice-aggregate-checked-2 : tie.Need-slice-aggregate-checked-2
 slice-aggregate-checked-2 c = search rules
 
 checked-requires : tie.Need-checked-requires
-checked-requires c κs = blank-lists c.before.before.before.before.before.args.table.now c.before.before.before.before.before.args.count 16385 c.before.before.before.before.before.requires (λ h. omega arith) (omega arith)
+checked-requires c κs = blank_lists c.before.before.before.before.before.args.table.now c.before.before.before.before.before.args.count 16385 c.before.before.before.before.before.requires (λ h. omega arith) (omega arith)
 
 same_length : tie.Need-same-length
 same_length c = c.before.before.before.before.checked.auto.1.1.1.1.0

@@ -9,48 +9,48 @@ use Rattle.flattening.specs.declared.Made.{Made}
 abbrev pub Held : Type 0
 Held = List (List ℕ)
 
-abbrev pub keptNumbers : (at bit old key con word : ℕ) → List ℕ
-keptNumbers a b o k c w = a ∷ b ∷ o ∷ k ∷ c ∷ w ∷ []
+abbrev pub kept_numbers : (at bit old key con word : ℕ) → List ℕ
+kept_numbers a b o k c w = a ∷ b ∷ o ∷ k ∷ c ∷ w ∷ []
 
 -- what is kept of no line
 abbrev pub nothing : List ℕ
-nothing = keptNumbers 0 0 0 0 0 0
+nothing = kept_numbers 0 0 0 0 0 0
 
 -- the number k of what is kept of the line m
-abbrev pub keptOf : Held → (k m : ℕ) → ℕ
-keptOf H k m = get_or (get_or H m nothing) k 0
+abbrev pub kept_of : Held → (k m : ℕ) → ℕ
+kept_of H k m = get_or (get_or H m nothing) k 0
 
 abbrev pub at_of : Held → ℕ → ℕ
-at_of H m = keptOf H 0 m
+at_of H m = kept_of H 0 m
 
 abbrev pub bit_of : Held → ℕ → ℕ
-bit_of H m = keptOf H 1 m
+bit_of H m = kept_of H 1 m
 
 abbrev pub old_of : Held → ℕ → ℕ
-old_of H m = keptOf H 2 m
+old_of H m = kept_of H 2 m
 
 abbrev pub key_of : Held → ℕ → ℕ
-key_of H m = keptOf H 3 m
+key_of H m = kept_of H 3 m
 
-abbrev pub conOf : Held → ℕ → ℕ
-conOf H m = keptOf H 4 m
+abbrev pub con_of : Held → ℕ → ℕ
+con_of H m = kept_of H 4 m
 
 -- the flat line that the word i tells; the rest of the word is the code's own
-abbrev pub writtenAt : Held → ℕ → ℕ
-writtenAt H i = keptOf H 5 i % 131072
+abbrev pub written_at : Held → ℕ → ℕ
+written_at H i = kept_of H 5 i % 131072
 
 -- the flat line of the cell j of a line that writes over none
-abbrev pub ownCell : Held → (m j : ℕ) → ℕ
-ownCell H m j = pick (eqb (key_of H m) 257) (writtenAt H (at_of H m + j)) (at_of H m + key_of H m * j)
+abbrev pub own_cell : Held → (m j : ℕ) → ℕ
+own_cell H m j = pick (eqb (key_of H m) 257) (written_at H (at_of H m + j)) (at_of H m + key_of H m * j)
 
 -- the flat line of the cell j of the line m, along at most k writes
-abbrev pub cellBy : Held → (k m j : ℕ) → ℕ
-cellBy H zero m j = ownCell H m j
-cellBy H (suc k) m j = pick (eqb (old_of H m) 0) (ownCell H m j) (pick (eqb (key_of H m) j) (at_of H m) (cellBy H k (old_of H m) j))
+abbrev pub cell_by : Held → (k m j : ℕ) → ℕ
+cell_by H zero m j = own_cell H m j
+cell_by H (suc k) m j = pick (eqb (old_of H m) 0) (own_cell H m j) (pick (eqb (key_of H m) j) (at_of H m) (cell_by H k (old_of H m) j))
 
 -- a write comes after the line it writes over
-unfoldable pub cellIn : Held → (m j : ℕ) → ℕ
-cellIn H m j = cellBy H m m j
+unfoldable pub cell_in : Held → (m j : ℕ) → ℕ
+cell_in H m j = cell_by H m m j
 
 pub record Sound (H : Held) : Type 0 where
   pub falls : (m : ℕ) → old_of H m ≢ 0 → old_of H m < m
@@ -66,21 +66,21 @@ pub record Low (m : Made) : Type 0 where
   pub con : m.con ≤ 256
 
 -- the list with what is kept of the line n; the words stay
-abbrev pub keptNow : Held → ℕ → Made → List ℕ
-keptNow H n m = keptNumbers m.at m.bit m.old m.key m.con (keptOf H 5 n)
+abbrev pub kept_now : Held → ℕ → Made → List ℕ
+kept_now H n m = kept_numbers m.at m.bit m.old m.key m.con (kept_of H 5 n)
 
 abbrev pub keep : Held → ℕ → Made → Held
-keep H n m = set H n (keptNow H n m)
+keep H n m = set H n (kept_now H n m)
 
 -- ---- cells written out
 
 -- the list with the number w for the word i
-abbrev pub putWord : Held → (i w : ℕ) → Held
-putWord H i w = set H i (keptNumbers (keptOf H 0 i) (keptOf H 1 i) (keptOf H 2 i) (keptOf H 3 i) (keptOf H 4 i) w)
+abbrev pub put_word : Held → (i w : ℕ) → Held
+put_word H i w = set H i (kept_numbers (kept_of H 0 i) (kept_of H 1 i) (kept_of H 2 i) (kept_of H 3 i) (kept_of H 4 i) w)
 
 -- the list where the cells of the line m are those written out from the word u on
-abbrev pub putRow : Held → (m u : ℕ) → Held
-putRow H m u = set H m (keptNumbers u (keptOf H 1 m) 0 257 (keptOf H 4 m) (keptOf H 5 m))
+abbrev pub put_row : Held → (m u : ℕ) → Held
+put_row H m u = set H m (kept_numbers u (kept_of H 1 m) 0 257 (kept_of H 4 m) (kept_of H 5 m))
 
 -- the cells written out have words below u
 pub record Written (H : Held) (u : ℕ) : Type 0 where
@@ -91,22 +91,22 @@ pub record Written (H : Held) (u : ℕ) : Type 0 where
 -- K differs from H in words from u on alone
 pub record FromWord (H K : Held) (u : ℕ) : Type 0 where
   pub len : length K ≡ length H
-  pub own : (k a : ℕ) → k < 5 → keptOf K k a ≡ keptOf H k a
-  pub word : (i : ℕ) → i < u → writtenAt K i ≡ writtenAt H i
+  pub own : (k a : ℕ) → k < 5 → kept_of K k a ≡ kept_of H k a
+  pub word : (i : ℕ) → i < u → written_at K i ≡ written_at H i
 
 -- and where its words from u on tell the first n cells of the line m
 pub record Filled (H K : Held) (m u n : ℕ) : Type 0 where
   pub from : FromWord H K u
-  pub word : (j : ℕ) → j < n → writtenAt K (u + j) ≡ cellIn H m j
+  pub word : (j : ℕ) → j < n → written_at K (u + j) ≡ cell_in H m j
 
 -- K tells of each line what H tells
 pub record SameKept (H K : Held) : Type 0 where
   pub len : length K ≡ length H
   pub bit : (a : ℕ) → bit_of K a ≡ bit_of H a
-  pub con : (a : ℕ) → conOf K a ≡ conOf H a
+  pub con : (a : ℕ) → con_of K a ≡ con_of H a
   pub old : (a : ℕ) → old_of H a ≡ 0 → old_of K a ≡ 0
   pub at : (a : ℕ) → old_of H a ≡ 0 → at_of K a ≡ at_of H a
-  pub cells : (a j : ℕ) → j < 256 → cellIn K a j ≡ cellIn H a j
+  pub cells : (a j : ℕ) → j < 256 → cell_in K a j ≡ cell_in H a j
 
 -- the same, in a list that can be looked up in, with the words below u used
 pub record Shortened (H K : Held) (u : ℕ) : Type 0 where

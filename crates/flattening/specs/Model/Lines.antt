@@ -1,13 +1,13 @@
 -- What the code makes of one line: the number of its flat lines, their records, and what it keeps. The flat lines so far are p. Assumes nothing.
 use Rattle.std.specs.Prelude.{ℕ, ◌+◌, ◌-◌, ◌*◌, ◌^◌, Bool, true, false, List, [], ◌∷◌, eqb, ltb}
 use Rattle.tables.specs.Pick.{pick}
-use Rattle.tables.specs.Lines.{Line, Expr, fields, initOrNextKind, signalKind, equalityKind}
-use Rattle.tables.specs.Model.Notes.{lookIn}
+use Rattle.tables.specs.Lines.{Line, Expr, fields, init_or_next_kind, signal_kind, equality_kind}
+use Rattle.tables.specs.Model.Notes.{look_in}
 use Rattle.flattening.specs.declared.Source.{Source}
 use Rattle.flattening.specs.declared.Made.{Made}
-use Rattle.flattening.specs.Flat.{joinKind}
-use Rattle.flattening.specs.Model.Cells.{Held, at_of, bit_of, conOf, cellIn}
-use Rattle.flattening.specs.Model.Rows.{still, of, rowsFor, row_at, arrayRecords, equalityRecords, readRecords, writeRecords}
+use Rattle.flattening.specs.Flat.{join_kind}
+use Rattle.flattening.specs.Model.Cells.{Held, at_of, bit_of, con_of, cell_in}
+use Rattle.flattening.specs.Model.Rows.{still, of, rows_for, row_at, array_records, equality_records, read_records, write_records}
 
 -- what is kept of the lines so far, and the types of all lines, as a check notes them
 pub record Notes : Type 0 where
@@ -17,109 +17,109 @@ pub record Notes : Type 0 where
 abbrev pub notes : Held → (types : List (List ℕ)) → Notes
 notes H t = record { held = H; types = t }
 
-abbrev pub sortLine : Notes → ℕ → ℕ
-sortLine N s = at_of N.held s
+abbrev pub sort_line : Notes → ℕ → ℕ
+sort_line N s = at_of N.held s
 
 abbrev pub word_line : Notes → ℕ → ℕ
-word_line N a = cellIn N.held a 0
+word_line N a = cell_in N.held a 0
 
-abbrev pub bitIn : Notes → ℕ → ℕ
-bitIn N a = bit_of N.held a
+abbrev pub bit_in : Notes → ℕ → ℕ
+bit_in N a = bit_of N.held a
 
-abbrev pub conIn : Notes → ℕ → ℕ
-conIn N a = conOf N.held a
+abbrev pub con_in : Notes → ℕ → ℕ
+con_in N a = con_of N.held a
 
 -- the index width and the width of a line
-abbrev pub deepIn : Notes → ℕ → ℕ
-deepIn N a = (lookIn N.types a).iw
+abbrev pub deep_in : Notes → ℕ → ℕ
+deep_in N a = (look_in N.types a).iw
 
-abbrev pub wideIn : Notes → ℕ → ℕ
-wideIn N a = (lookIn N.types a).w
+abbrev pub wide_in : Notes → ℕ → ℕ
+wide_in N a = (look_in N.types a).w
 
-abbrev pub sizeIn : Notes → ℕ → ℕ
-sizeIn N a = 2 ^ deepIn N a
+abbrev pub size_in : Notes → ℕ → ℕ
+size_in N a = 2 ^ deep_in N a
 
 -- a small constant is kept as its value plus one
 abbrev pub small : ℕ → ℕ
 small v = pick (ltb v 256) (v + 1) 0
 
-abbrev pub madeAs : (next at bit old key con : ℕ) → Made
-madeAs n a b o k c = record { next = n; at = a; bit = b; old = o; key = k; con = c }
+abbrev pub made_as : (next at bit old key con : ℕ) → Made
+made_as n a b o k c = record { next = n; at = a; bit = b; old = o; key = k; con = c }
 
 -- the number of flat lines
-abbrev pub readCount : (c n : ℕ) → ℕ
-readCount c n = pick (eqb c 0) (2 * (n - 1)) 0
+abbrev pub read_count : (c n : ℕ) → ℕ
+read_count c n = pick (eqb c 0) (2 * (n - 1)) 0
 
-abbrev pub writeCount : (c n : ℕ) → ℕ
-writeCount c n = pick (eqb c 0) (2 * n) 0
+abbrev pub write_count : (c n : ℕ) → ℕ
+write_count c n = pick (eqb c 0) (2 * n) 0
 
-abbrev pub exprCount : Notes → ℕ → Expr → ℕ
-exprCount N s (Expr.const v) = 1
-exprCount N s (Expr.unary k a x y) = 1
-exprCount N s (Expr.binary k a b) = 1
-exprCount N s (Expr.equality e a b) = sizeIn N a + (sizeIn N a - 1)
-exprCount N s (Expr.ite c a b) = sizeIn N a
-exprCount N s (Expr.read a i) = readCount (conIn N i) (sizeIn N a)
-exprCount N s (Expr.write a i v) = writeCount (conIn N i) (sizeIn N s)
+abbrev pub expr_count : Notes → ℕ → Expr → ℕ
+expr_count N s (Expr.const v) = 1
+expr_count N s (Expr.unary k a x y) = 1
+expr_count N s (Expr.binary k a b) = 1
+expr_count N s (Expr.equality e a b) = size_in N a + (size_in N a - 1)
+expr_count N s (Expr.ite c a b) = size_in N a
+expr_count N s (Expr.read a i) = read_count (con_in N i) (size_in N a)
+expr_count N s (Expr.write a i v) = write_count (con_in N i) (size_in N s)
 
-abbrev pub flatCount : Notes → Line → ℕ
-flatCount N (Line.bitvec w) = 1
-flatCount N (Line.array i e) = 1 + 2 ^ wideIn N i
-flatCount N (Line.input s) = 1
-flatCount N (Line.state s) = sizeIn N s
-flatCount N (Line.value s e) = exprCount N s e
-flatCount N (Line.initOrNext m s q v) = sizeIn N q
-flatCount N (Line.signal m a) = 1
-flatCount N (Line.output a) = 1
-flatCount N Line.unknown = 1
+abbrev pub flat_count : Notes → Line → ℕ
+flat_count N (Line.bitvec w) = 1
+flat_count N (Line.array i e) = 1 + 2 ^ wide_in N i
+flat_count N (Line.input s) = 1
+flat_count N (Line.state s) = size_in N s
+flat_count N (Line.value s e) = expr_count N s e
+flat_count N (Line.init_or_next m s q v) = size_in N q
+flat_count N (Line.signal m a) = 1
+flat_count N (Line.output a) = 1
+flat_count N Line.unknown = 1
 
 -- their records
-abbrev pub exprRecords : Notes → (p s : ℕ) → Expr → List (List ℕ)
-exprRecords N p s (Expr.const v) = fields 3 (sortLine N s) v 0 0 ∷ []
-exprRecords N p s (Expr.unary k a x y) = fields k (sortLine N s) (word_line N a) x y ∷ []
-exprRecords N p s (Expr.binary k a b) = fields k (sortLine N s) (word_line N a) (word_line N b) 0 ∷ []
-exprRecords N p s (Expr.equality e a b) = equalityRecords N.held p (equalityKind e) (joinKind e) (sortLine N s) a b (sizeIn N a)
-exprRecords N p s (Expr.ite c a b) = rowsFor (sizeIn N a) (row_at N.held 53 (sortLine N s) (still (word_line N c)) (of a) (of b))
-exprRecords N p s (Expr.read a i) = pick (eqb (conIn N i) 0) (readRecords N.held p (bitIn N a) (word_line N i) (sortLine N s) a (sizeIn N a)) []
-exprRecords N p s (Expr.write a i v) = pick (eqb (conIn N i) 0) (writeRecords N.held p (bitIn N s) (word_line N i) (sortLine N s) (word_line N v) a (sizeIn N s)) []
+abbrev pub expr_records : Notes → (p s : ℕ) → Expr → List (List ℕ)
+expr_records N p s (Expr.const v) = fields 3 (sort_line N s) v 0 0 ∷ []
+expr_records N p s (Expr.unary k a x y) = fields k (sort_line N s) (word_line N a) x y ∷ []
+expr_records N p s (Expr.binary k a b) = fields k (sort_line N s) (word_line N a) (word_line N b) 0 ∷ []
+expr_records N p s (Expr.equality e a b) = equality_records N.held p (equality_kind e) (join_kind e) (sort_line N s) a b (size_in N a)
+expr_records N p s (Expr.ite c a b) = rows_for (size_in N a) (row_at N.held 53 (sort_line N s) (still (word_line N c)) (of a) (of b))
+expr_records N p s (Expr.read a i) = pick (eqb (con_in N i) 0) (read_records N.held p (bit_in N a) (word_line N i) (sort_line N s) a (size_in N a)) []
+expr_records N p s (Expr.write a i v) = pick (eqb (con_in N i) 0) (write_records N.held p (bit_in N s) (word_line N i) (sort_line N s) (word_line N v) a (size_in N s)) []
 
 -- an init gives one word to all cells, a next its cells
-abbrev pub givenFrom : Notes → Bool → ℕ → Source
-givenFrom N true v = still (word_line N v)
-givenFrom N false v = of v
+abbrev pub given_from : Notes → Bool → ℕ → Source
+given_from N true v = still (word_line N v)
+given_from N false v = of v
 
-abbrev pub lineRecords : Notes → ℕ → Line → List (List ℕ)
-lineRecords N p (Line.bitvec w) = fields 1 0 w 0 0 ∷ []
-lineRecords N p (Line.array i e) = arrayRecords N.held (sortLine N i) (2 ^ wideIn N i)
-lineRecords N p (Line.input s) = fields 4 (sortLine N s) 0 0 0 ∷ []
-lineRecords N p (Line.state s) = rowsFor (sizeIn N s) (row_at N.held 5 (sortLine N s) (still 0) (still 0) (still 0))
-lineRecords N p (Line.value s e) = exprRecords N p s e
-lineRecords N p (Line.initOrNext m s q v) = rowsFor (sizeIn N q) (row_at N.held (initOrNextKind m) (sortLine N s) (of q) (givenFrom N m v) (still 0))
-lineRecords N p (Line.signal m a) = fields (signalKind m) 0 (word_line N a) 0 0 ∷ []
-lineRecords N p (Line.output a) = fields 10 0 (word_line N a) 0 0 ∷ []
-lineRecords N p Line.unknown = fields 0 0 0 0 0 ∷ []
+abbrev pub line_records : Notes → ℕ → Line → List (List ℕ)
+line_records N p (Line.bitvec w) = fields 1 0 w 0 0 ∷ []
+line_records N p (Line.array i e) = array_records N.held (sort_line N i) (2 ^ wide_in N i)
+line_records N p (Line.input s) = fields 4 (sort_line N s) 0 0 0 ∷ []
+line_records N p (Line.state s) = rows_for (size_in N s) (row_at N.held 5 (sort_line N s) (still 0) (still 0) (still 0))
+line_records N p (Line.value s e) = expr_records N p s e
+line_records N p (Line.init_or_next m s q v) = rows_for (size_in N q) (row_at N.held (init_or_next_kind m) (sort_line N s) (of q) (given_from N m v) (still 0))
+line_records N p (Line.signal m a) = fields (signal_kind m) 0 (word_line N a) 0 0 ∷ []
+line_records N p (Line.output a) = fields 10 0 (word_line N a) 0 0 ∷ []
+line_records N p Line.unknown = fields 0 0 0 0 0 ∷ []
 
 -- what is kept: q is the number of flat lines after the line
-abbrev pub exprMade : Notes → (p q s : ℕ) → Expr → Made
-exprMade N p q s (Expr.const v) = madeAs q q (bitIn N s) 0 1 (small v)
-exprMade N p q s (Expr.unary k a x y) = madeAs q q (bitIn N s) 0 1 0
-exprMade N p q s (Expr.binary k a b) = madeAs q q (bitIn N s) 0 1 0
-exprMade N p q s (Expr.equality e a b) = madeAs q q (bitIn N s) 0 1 0
-exprMade N p q s (Expr.ite c a b) = madeAs q (p + 1) (bitIn N s) 0 1 0
-exprMade N p q s (Expr.read a i) = madeAs q (pick (eqb (conIn N i) 0) q (cellIn N.held a (conIn N i - 1))) (bitIn N s) 0 1 0
-exprMade N p q s (Expr.write a i v) =
-    pick (eqb (conIn N i) 0) (madeAs q (p + 2) (bitIn N s) 0 2 0) (madeAs q (word_line N v) (bitIn N s) a (conIn N i - 1) 0)
+abbrev pub expr_made : Notes → (p q s : ℕ) → Expr → Made
+expr_made N p q s (Expr.const v) = made_as q q (bit_in N s) 0 1 (small v)
+expr_made N p q s (Expr.unary k a x y) = made_as q q (bit_in N s) 0 1 0
+expr_made N p q s (Expr.binary k a b) = made_as q q (bit_in N s) 0 1 0
+expr_made N p q s (Expr.equality e a b) = made_as q q (bit_in N s) 0 1 0
+expr_made N p q s (Expr.ite c a b) = made_as q (p + 1) (bit_in N s) 0 1 0
+expr_made N p q s (Expr.read a i) = made_as q (pick (eqb (con_in N i) 0) q (cell_in N.held a (con_in N i - 1))) (bit_in N s) 0 1 0
+expr_made N p q s (Expr.write a i v) =
+    pick (eqb (con_in N i) 0) (made_as q (p + 2) (bit_in N s) 0 2 0) (made_as q (word_line N v) (bit_in N s) a (con_in N i - 1) 0)
 
-abbrev pub lineMade : Notes → (p q : ℕ) → Line → Made
-lineMade N p q (Line.bitvec w) = madeAs q q 0 0 0 0
-lineMade N p q (Line.array i e) = madeAs q (sortLine N e) (p + 1) 0 0 0
-lineMade N p q (Line.input s) = madeAs q q (bitIn N s) 0 1 0
-lineMade N p q (Line.state s) = madeAs q (p + 1) (bitIn N s) 0 1 0
-lineMade N p q (Line.value s e) = exprMade N p q s e
-lineMade N p q (Line.initOrNext m s x v) = madeAs q 0 0 0 0 0
-lineMade N p q (Line.signal m a) = madeAs q 0 0 0 0 0
-lineMade N p q (Line.output a) = madeAs q 0 0 0 0 0
-lineMade N p q Line.unknown = madeAs q 0 0 0 0 0
+abbrev pub line_made : Notes → (p q : ℕ) → Line → Made
+line_made N p q (Line.bitvec w) = made_as q q 0 0 0 0
+line_made N p q (Line.array i e) = made_as q (sort_line N e) (p + 1) 0 0 0
+line_made N p q (Line.input s) = made_as q q (bit_in N s) 0 1 0
+line_made N p q (Line.state s) = made_as q (p + 1) (bit_in N s) 0 1 0
+line_made N p q (Line.value s e) = expr_made N p q s e
+line_made N p q (Line.init_or_next m s x v) = made_as q 0 0 0 0 0
+line_made N p q (Line.signal m a) = made_as q 0 0 0 0 0
+line_made N p q (Line.output a) = made_as q 0 0 0 0 0
+line_made N p q Line.unknown = made_as q 0 0 0 0 0
 
-abbrev pub flatMade : Notes → ℕ → Line → Made
-flatMade N p l = lineMade N p (p + flatCount N l) l
+abbrev pub flat_made : Notes → ℕ → Line → Made
+flat_made N p l = line_made N p (p + flat_count N l) l

@@ -3,7 +3,7 @@ use Rattle.std.specs.Prelude.{ℕ, zero, suc, ◌+◌, ◌-◌, ◌*◌, ◌≤�
 use Rattle.tables.specs.Pick.{pick}
 use Rattle.tables.specs.Lines.{fields}
 use Rattle.flattening.specs.declared.Source.{Source}
-use Rattle.flattening.specs.Model.Cells.{Held, cellIn}
+use Rattle.flattening.specs.Model.Cells.{Held, cell_in}
 
 -- ---- sources
 
@@ -17,22 +17,22 @@ still b = stepping b 0
 abbrev pub of : ℕ → Source
 of a = record { line = a; base = 0; step = 0; falling = false; top = 0 }
 
-abbrev pub runDown : (base top : ℕ) → Source
-runDown b t = record { line = 0; base = b; step = 1; falling = true; top = t }
+abbrev pub run_down : (base top : ℕ) → Source
+run_down b t = record { line = 0; base = b; step = 1; falling = true; top = t }
 
-abbrev pub ofDown : (a top : ℕ) → Source
-ofDown a t = record { line = a; base = 0; step = 0; falling = true; top = t }
+abbrev pub of_down : (a top : ℕ) → Source
+of_down a t = record { line = a; base = 0; step = 0; falling = true; top = t }
 
 -- the place of the word j of a source: a falling one counts down from its top
-abbrev pub turnAt : Source → ℕ → ℕ
-turnAt s j = pick s.falling (s.top - j) j
+abbrev pub turn_at : Source → ℕ → ℕ
+turn_at s j = pick s.falling (s.top - j) j
 
 -- the word at a place: the flat line of a line's cell, or base + step * i
-abbrev pub wordFrom : Held → Source → ℕ → ℕ
-wordFrom H s i = pick (eqb s.line 0) (s.base + s.step * i) (cellIn H s.line i)
+abbrev pub word_from : Held → Source → ℕ → ℕ
+word_from H s i = pick (eqb s.line 0) (s.base + s.step * i) (cell_in H s.line i)
 
-abbrev pub sourceAt : Held → Source → ℕ → ℕ
-sourceAt H s j = wordFrom H s (turnAt s j)
+abbrev pub source_at : Held → Source → ℕ → ℕ
+source_at H s j = word_from H s (turn_at s j)
 
 pub record Tame (s : Source) : Type 0 where
   pub base : s.base ≤ 1048576
@@ -42,36 +42,36 @@ pub record Tame (s : Source) : Type 0 where
 -- ---- rows
 
 -- the records for n cells, where those for the cell j are g j
-abbrev pub rowsFor : ℕ → (ℕ → List (List ℕ)) → List (List ℕ)
-rowsFor zero g = []
-rowsFor (suc n) g = rowsFor n g ++ g n
+abbrev pub rows_for : ℕ → (ℕ → List (List ℕ)) → List (List ℕ)
+rows_for zero g = []
+rows_for (suc n) g = rows_for n g ++ g n
 
 -- the record j of a row
 abbrev pub row_at : Held → (k s : ℕ) → (x y z : Source) → ℕ → List (List ℕ)
-row_at H k s x y z j = fields k s (sourceAt H x j) (sourceAt H y j) (sourceAt H z j) ∷ []
+row_at H k s x y z j = fields k s (source_at H x j) (source_at H y j) (source_at H z j) ∷ []
 
 -- the pair j of an eq and an ite: the ite's condition is the line of the eq
 abbrev pub pair_at : Held → (p o i s : ℕ) → (c x y : Source) → ℕ → List (List ℕ)
-pair_at H p o i s c x y j = fields 21 o i (sourceAt H c j) 0 ∷ fields 53 s (suc (p + 2 * j)) (sourceAt H x j) (sourceAt H y j) ∷ []
+pair_at H p o i s c x y j = fields 21 o i (source_at H c j) 0 ∷ fields 53 s (suc (p + 2 * j)) (source_at H x j) (source_at H y j) ∷ []
 
 -- ---- the rows of one line, where n is a number of cells
 
-abbrev pub arrayRecords : Held → (s n : ℕ) → List (List ℕ)
-arrayRecords H s n = fields 1 0 1 0 0 ∷ rowsFor n (row_at H 3 s (stepping 0 1) (still 0) (still 0))
+abbrev pub array_records : Held → (s n : ℕ) → List (List ℕ)
+array_records H s n = fields 1 0 1 0 0 ∷ rows_for n (row_at H 3 s (stepping 0 1) (still 0) (still 0))
 
 -- the first of the ands, or ors, takes the first two tests; each of the others the one before it and the next test
-abbrev pub joinRecords : Held → (p j s n : ℕ) → List (List ℕ)
-joinRecords H p j s n =
-    pick (leb 2 n) (fields j s (p + 1) (p + 2) 0 ∷ rowsFor (n - 2) (row_at H j s (stepping (p + n + 1) 1) (stepping (p + 3) 1) (still 0))) []
+abbrev pub join_records : Held → (p j s n : ℕ) → List (List ℕ)
+join_records H p j s n =
+    pick (leb 2 n) (fields j s (p + 1) (p + 2) 0 ∷ rows_for (n - 2) (row_at H j s (stepping (p + n + 1) 1) (stepping (p + 3) 1) (still 0))) []
 
-abbrev pub equalityRecords : Held → (p k j s x y n : ℕ) → List (List ℕ)
-equalityRecords H p k j s x y n = rowsFor n (row_at H k s (of x) (of y) (still 0)) ++ joinRecords H p j s n
+abbrev pub equality_records : Held → (p k j s x y n : ℕ) → List (List ℕ)
+equality_records H p k j s x y n = rows_for n (row_at H k s (of x) (of y) (still 0)) ++ join_records H p j s n
 
 -- o is the width-1 sort line, i the flat line of the index; the index constants stand after o
-abbrev pub readRecords : Held → (p o i s a n : ℕ) → List (List ℕ)
-readRecords H p o i s a n =
-    rowsFor 1 (pair_at H p o i s (runDown (o + 1) (n - 2)) (ofDown a (n - 2)) (still (cellIn H a (n - 1))))
-    ++ rowsFor (n - 2) (pair_at H (p + 2) o i s (runDown (o + 1) (n - 3)) (ofDown a (n - 3)) (stepping (p + 2) 2))
+abbrev pub read_records : Held → (p o i s a n : ℕ) → List (List ℕ)
+read_records H p o i s a n =
+    rows_for 1 (pair_at H p o i s (run_down (o + 1) (n - 2)) (of_down a (n - 2)) (still (cell_in H a (n - 1))))
+    ++ rows_for (n - 2) (pair_at H (p + 2) o i s (run_down (o + 1) (n - 3)) (of_down a (n - 3)) (stepping (p + 2) 2))
 
-abbrev pub writeRecords : Held → (p o i s v a n : ℕ) → List (List ℕ)
-writeRecords H p o i s v a n = rowsFor n (pair_at H p o i s (stepping (o + 1) 1) (still v) (of a))
+abbrev pub write_records : Held → (p o i s v a n : ℕ) → List (List ℕ)
+write_records H p o i s v a n = rows_for n (pair_at H p o i s (stepping (o + 1) 1) (still v) (of a))

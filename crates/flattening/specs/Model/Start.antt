@@ -2,22 +2,22 @@
 use Rattle.std.specs.Prelude.{ℕ, ◌≤◌, ◌<◌, ◌≡◌, true, false, List, length, replicate}
 use Rattle.tables.specs.declared.Checked.TheVariants.{Accepted}
 use Rattle.tables.specs.Types.{ty_at, context}
-use Rattle.tables.specs.Model.Notes.{lookIn, Fresh}
+use Rattle.tables.specs.Model.Notes.{look_in, Fresh}
 use Rattle.tables.specs.Layout.{whole, lines_of}
 use Rattle.tables.specs.Tables.{checked}
 use Rattle.flattening.specs.Model.Cells.{nothing}
 
 pub record Begun (t : List ℕ) (n : ℕ) (types kept : List (List ℕ)) (target : List ℕ) : Type 0 where
   pub accepted : checked false t n ≡ Accepted
-  pub iw : (a : ℕ) → (lookIn types a).iw ≡ (ty_at (context false (lines_of false t n)) a).iw
-  pub w : (a : ℕ) → (lookIn types a).w ≡ (ty_at (context false (lines_of false t n)) a).w
+  pub iw : (a : ℕ) → (look_in types a).iw ≡ (ty_at (context false (lines_of false t n)) a).iw
+  pub w : (a : ℕ) → (look_in types a).w ≡ (ty_at (context false (lines_of false t n)) a).w
   pub even : whole false (length target) ≡ true
   pub empty : target ≡ replicate (length target) 0
   -- there are more entries than lines
   pub size : ℕ
   pub wide : n < size
   pub most : size ≤ 65536
-  pub no-kept : kept ≡ replicate size nothing
+  pub no_kept : kept ≡ replicate size nothing
 
 -- both tables hold whole records, and the target is empty
 pub record Clear (t target : List ℕ) : Type 0 where
@@ -32,4 +32,4 @@ pub record Blank (t : List ℕ) (n : ℕ) (types kept : List (List ℕ)) (target
   pub size : ℕ
   pub wide : n ≤ 16384 → n < size
   pub most : size ≤ 65536
-  pub no-kept : kept ≡ replicate size nothing
+  pub no_kept : kept ≡ replicate size nothing

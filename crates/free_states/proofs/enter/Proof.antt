@@ -3,13 +3,13 @@ use Prim.Native.Nat.{ℕ}
 use mathlib.Core.Path.{sym, ap, subst}
 use lib.ListN.{length, drop}
 use Rattle.circuits.specs.Model.Feeding.{AllFed}
-use Rattle.circuits.proofs.Feeding.{entered-zero, behind, entered-behind}
+use Rattle.circuits.proofs.Feeding.{entered_zero, behind, entered_behind}
 use borrow.Author.Rules.{rules}
 use Rattle.free_states.proofs.enter.Statement.{statement}
 use Rattle.free_states.proofs.enter.Tie as tie
 
 returns : tie.Need-returns
-returns c = let a = c.before.before.before.before.args in entered-zero a.laid.now a.lines.now a.i (drop a.all a.work.now) a.row.now c.if1.true
+returns c = let a = c.before.before.before.before.args in entered_zero a.laid.now a.lines.now a.i (drop a.all a.work.now) a.row.now c.if1.true
 
 mul-feed : tie.Need-overflow-mul-feed
 mul-feed c = search rules
@@ -37,7 +37,7 @@ returns-2 c =
     let s = c.before.before.before.before.before.before.before.before in
     let a = s.args in
     let f = c.before.before.feed in
-    entered-behind a.laid.now a.lines.now a.i a.work.now a.row.now f.new.1.1.1.0 a.all c.before.before.before.before.if1.false s.requires.0 f.auto.1.1.1.0 f.ensures
+    entered_behind a.laid.now a.lines.now a.i a.work.now a.row.now f.new.1.1.1.0 a.all c.before.before.before.before.if1.false s.requires.0 f.auto.1.1.1.0 f.ensures
 
 pub enter_spec : {M : Type 1} → statement M
 enter_spec =

@@ -1,7 +1,7 @@
 -- `free_states::feed_line` meets its contract. Assumes nothing.
 use native.Mathlib.Omega.{arith}
 use borrow.Author.Rules.{rules}
-use Rattle.circuits.proofs.Feeding.{fed-part}
+use Rattle.circuits.proofs.Feeding.{fed_part}
 use Rattle.free_states.proofs.feed_line.Statement.{statement}
 use Rattle.free_states.proofs.feed_line.Tie as tie
 
@@ -58,7 +58,7 @@ returns c =
     let o = c.before.before.before.before.before.before.place in
     let w = c.before.before.before.width in
     let f = s.requires in
-    fed-part a.words.now a.row.now c.before.before.load-masked.new.0 a.r m.ensures o.ensures w.ensures (omega (arith, m.ensures, o.ensures, f.0.inside)) (omega (arith, m.ensures, f.1)) c.before.before.load-masked.ensures
+    fed_part a.words.now a.row.now c.before.before.load-masked.new.0 a.r m.ensures o.ensures w.ensures (omega (arith, m.ensures, o.ensures, f.0.inside)) (omega (arith, m.ensures, f.1)) c.before.before.load-masked.ensures
 
 pub feed-line-spec : {M : Type 1} → statement M
 feed-line-spec =

@@ -7,13 +7,13 @@ use native.Mathlib.Omega.{arith}
 use native.Mathlib.Numerals.{add-one}
 use lib.ListN.{length, take, get_or, set, length-set}
 use lib.Seq.{take-suc-set, take-suc, take_all}
-use Rattle.circuits.specs.Cells.{maskWords}
-use Rattle.circuits.proofs.Puts.{lows-append}
+use Rattle.circuits.specs.Cells.{mask_words}
+use Rattle.circuits.proofs.Puts.{lows_append}
 use Rattle.free_states.proofs.load_masked.Statement.{statement}
 use Rattle.free_states.proofs.load_masked.Tie as tie
 
 abbrev invariant-loop : tie.invariant-loop
-invariant-loop to₀ from w i₀ to i = (i ≤ length from) × ((length to ≡ length to₀) × (take i to ≡ maskWords w (take i from)))
+invariant-loop to₀ from w i₀ to i = (i ≤ length from) × ((length to ≡ length to₀) × (take i to ≡ mask_words w (take i from)))
 
 abbrev decreases-loop : tie.decreases-loop
 decreases-loop to₀ from w i₀ to i = length from - i
@@ -54,7 +54,7 @@ loop-again c =
       (
         simp length-set l.invariant.1.0,
         ap (λ (n : ℕ). take n (set l.to l.i v)) (add-one l.i) ∙ take-suc-set l.to l.i v n ∙ ap₂ (λ (x : List ℕ) (y : ℕ). x ++ (y ∷ [])) l.invariant.1.1 e
-            ∙ sym (lows-append a.w (take l.i f) (get_or f l.i 0 ∷ [])) ∙ ap (maskWords a.w) (sym (take-suc f l.i 0 (omega arith)) ∙ ap (λ (n : ℕ). take n f) (sym (add-one l.i))),
+            ∙ sym (lows_append a.w (take l.i f) (get_or f l.i 0 ∷ [])) ∙ ap (mask_words a.w) (sym (take-suc f l.i 0 (omega arith)) ∙ ap (λ (n : ℕ). take n f) (sym (add-one l.i))),
       ),
     )
 
@@ -65,7 +65,7 @@ returns : tie.Need-returns invariant-loop decreases-loop
 returns c =
     let l = c.before.loop in
     let a = c.before.before.before.before.args in
-    sym (take_all l.i l.to (omega arith)) ∙ l.invariant.1.1 ∙ ap (maskWords a.w) (take_all l.i a.from.now (omega arith))
+    sym (take_all l.i l.to (omega arith)) ∙ l.invariant.1.1 ∙ ap (mask_words a.w) (take_all l.i a.from.now (omega arith))
 
 pub load-masked-spec : {M : Type 1} → statement M
 load-masked-spec =

@@ -5,14 +5,14 @@ use mathlib.Core.Bool.{Bool}
 use mathlib.Core.List.{List, [], ◌∷◌}
 use native.Mathlib.Omega.{arith}
 use Rattle.tables.specs.Pick.{pick}
-use Rattle.circuits.proofs.Placing.{state-line, other-line}
-use Rattle.circuits.proofs.Feeding.{put-line, put-no-line}
+use Rattle.circuits.proofs.Placing.{state_line, other_line}
+use Rattle.circuits.proofs.Feeding.{put_line, put_no_line}
 use borrow.Author.Rules.{rules}
 use Rattle.free_states.proofs.note_line.Statement.{statement}
 use Rattle.free_states.proofs.note_line.Tie as tie
 
 returns : tie.Need-returns
-returns c = let a = c.before.before.args in (λ r e. put-no-line a.lines.now a.m (other-line r e c.if1.true _ []), omega arith)
+returns c = let a = c.before.before.args in (λ r e. put_no_line a.lines.now a.m (other_line r e c.if1.true _ []), omega arith)
 
 driven-requires : tie.Need-driven-requires
 driven-requires c κs = search rules
@@ -21,8 +21,8 @@ returns-2 : tie.Need-returns-2
 returns-2 c =
     let a = c.before.before.before.before.args in (
       λ r e.
-          put-no-line a.lines.now a.m
-          (ap (λ (b : Bool). pick {A = List ℕ} b [] (a.n ∷ [])) (sym c.if2.true ∙ c.before.driven.ensures) ∙ state-line r e c.before.before.if1.false _ []),
+          put_no_line a.lines.now a.m
+          (ap (λ (b : Bool). pick {A = List ℕ} b [] (a.n ∷ [])) (sym c.if2.true ∙ c.before.driven.ensures) ∙ state_line r e c.before.before.if1.false _ []),
       omega arith,
     )
 
@@ -46,8 +46,8 @@ returns-3 c =
     let s = c.before.before.before.before in
     let a = s.args in (
       λ r e.
-          put-line a.lines.now a.m a.n s.requires.0
-          (ap (λ (b : Bool). pick {A = List ℕ} b [] (a.n ∷ [])) (sym c.if2.false ∙ c.before.driven.ensures) ∙ state-line r e c.before.before.if1.false _ []),
+          put_line a.lines.now a.m a.n s.requires.0
+          (ap (λ (b : Bool). pick {A = List ℕ} b [] (a.n ∷ [])) (sym c.if2.false ∙ c.before.driven.ensures) ∙ state_line r e c.before.before.if1.false _ []),
       omega arith,
     )
 

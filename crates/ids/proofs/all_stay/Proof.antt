@@ -1,7 +1,7 @@
 -- Each word by its class. Assumes nothing.
 use borrow.Author.Tests.{not-false}
 use Rattle.tables.specs.Layout.{ids_of}
-use Rattle.tables.proofs.Kept.{no-yes}
+use Rattle.tables.proofs.Kept.{no_yes}
 use Rattle.texts.proofs.Resolving.{all_same}
 use borrow.Author.Rules.{rules}
 use Rattle.ids.proofs.all_stay.Statement.{statement}
@@ -17,7 +17,7 @@ stays-requires : tie.Need-stays-requires
 stays-requires c κs = search rules
 
 returns : tie.Need-returns
-returns c = λ z. absurd (no-yes z)
+returns c = λ z. absurd (no_yes z)
 
 array-read-stays-3 : tie.Need-array-read-stays-3
 array-read-stays-3 c = search rules
@@ -29,7 +29,7 @@ stays-requires-2 : tie.Need-stays-requires-2
 stays-requires-2 c κs = search rules
 
 returns-2 : tie.Need-returns-2
-returns-2 c = λ z. absurd (no-yes z)
+returns-2 c = λ z. absurd (no_yes z)
 
 array-read-stays-5 : tie.Need-array-read-stays-5
 array-read-stays-5 c = search rules
@@ -41,7 +41,7 @@ stays-requires-3 : tie.Need-stays-requires-3
 stays-requires-3 c κs = search rules
 
 returns-3 : tie.Need-returns-3
-returns-3 c = λ z. absurd (no-yes z)
+returns-3 c = λ z. absurd (no_yes z)
 
 array-read-stays-7 : tie.Need-array-read-stays-7
 array-read-stays-7 c = search rules

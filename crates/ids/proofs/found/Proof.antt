@@ -5,7 +5,7 @@ use mathlib.Core.List.{List}
 use native.Mathlib.Omega.{arith}
 use borrow.Author.Rules.{rules}
 use Rattle.tables.specs.Layout.{ids_of}
-use Rattle.texts.proofs.Resolving.{ids-length, ids_at, place_at}
+use Rattle.texts.proofs.Resolving.{ids_length, ids_at, place_at_lem}
 use Rattle.ids.proofs.found.Statement.{statement}
 use Rattle.ids.proofs.found.Tie as tie
 
@@ -20,7 +20,7 @@ returns c =
     let s = c.before.before.before.before.args in
     let p = c.before.before.before.before.requires.1 in
     let t : List ℕ = s.table.now in
-    omega (arith, place_at (ids_of t s.n) p.1.1.0.rise s.d p.0 s.i (omega (arith, ids-length t s.n)) (ids_at t s.n s.i (omega arith) ∙ sym c.before.id.ensures ∙ c.if2.true))
+    omega (arith, place_at_lem (ids_of t s.n) p.1.1.0.rise s.d p.0 s.i (omega (arith, ids_length t s.n)) (ids_at t s.n s.i (omega arith) ∙ sym c.before.id.ensures ∙ c.if2.true))
 
 found-past-requires : tie.Need-found-past-requires
 found-past-requires c κs = search rules

@@ -1,5 +1,5 @@
 -- Each word by its class. Assumes nothing.
-use Rattle.texts.proofs.Resolving.{is-resolved}
+use Rattle.texts.proofs.Resolving.{is_resolved}
 use borrow.Author.Rules.{rules}
 use Rattle.ids.proofs.look_up.Statement.{statement}
 use Rattle.ids.proofs.look_up.Tie as tie
@@ -44,7 +44,7 @@ array-read-t17 : tie.Need-array-read-t17
 array-read-t17 c = search rules
 
 returns : tie.Need-returns
-returns c = is-resolved _ _ _ c.before.before.before.before.before.requires.0 c.before.before.before.meant.ensures c.before.before.meant2.ensures c.before.meant3.ensures c.meant4.ensures
+returns c = is_resolved _ _ _ c.before.before.before.before.before.requires.0 c.before.before.before.meant.ensures c.before.before.meant2.ensures c.before.meant3.ensures c.meant4.ensures
 
 pub look-up-spec : {M : Type 1} → statement M
 look-up-spec =

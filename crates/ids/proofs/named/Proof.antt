@@ -7,7 +7,7 @@ use lib.ListN.{get_or}
 use borrow.Author.Count.{below_more}
 use Rattle.tables.specs.Layout.{ids_of}
 use Rattle.texts.specs.Model.Searching.{AllZero}
-use Rattle.texts.proofs.Resolving.{ids-length, ids_at}
+use Rattle.texts.proofs.Resolving.{ids_length, ids_at}
 use Rattle.ids.proofs.named.Statement.{statement}
 use Rattle.ids.proofs.named.Tie as tie
 
@@ -30,7 +30,7 @@ returns c =
     let t : List ℕ = s.table.now in
     record {
       least = l.invariant.0;
-      most = omega (arith, ids-length t s.n);
+      most = omega (arith, ids_length t s.n);
       zeros = l.invariant.1.1;
       named = λ h e. c.if1.true (c.before.id.ensures ∙ sym (ids_at t s.n l.o (omega arith)) ∙ e);
     }
@@ -53,7 +53,7 @@ returns-2 : tie.Need-returns-2 invariant-loop decreases-loop
 returns-2 c =
     let s = c.before.before.before.args in
     let l = c.before.loop in
-    let e = ids-length s.table.now s.n in
+    let e = ids_length s.table.now s.n in
     record {
       least = l.invariant.0;
       most = omega arith;

@@ -4,7 +4,7 @@ use mathlib.Core.List.{List}
 use native.Mathlib.Omega.{arith}
 use borrow.Author.Rules.{rules}
 use Rattle.tables.specs.Layout.{ids_of}
-use Rattle.texts.proofs.Resolving.{ids-length, ids_at, below_on, not-below-on}
+use Rattle.texts.proofs.Resolving.{ids_length, ids_at, below_on, not_below_on}
 use Rattle.ids.proofs.past.Statement.{statement}
 use Rattle.ids.proofs.past.Tie as tie
 
@@ -16,21 +16,21 @@ returns c =
     let s = c.before.before.before.args in
     let p = c.before.before.before.requires.1 in
     let ds : List ℕ = ids_of s.table.now s.n in
-    let e = ids-length s.table.now s.n in
+    let e = ids_length s.table.now s.n in
     record {
       least = omega arith;
       most = omega arith;
       behind = λ h. absurd (omega arith);
-      before = λ q. not-below-on ds p.1.1.rise s.d p.0 s.i _ c.before.named.ensures.zeros (λ h. absurd (omega arith));
+      before = λ q. not_below_on ds p.1.1.rise s.d p.0 s.i _ c.before.named.ensures.zeros (λ h. absurd (omega arith));
     }
 
 id-requires : tie.Need-id-requires
 id-requires c κs = let s = c.before.before.before.args in
-    (omega (arith, ids-length s.table.now s.n, c.before.named.ensures.most, c.before.before.before.requires.1.1.1.there), c.before.before.before.requires.0)
+    (omega (arith, ids_length s.table.now s.n, c.before.named.ensures.most, c.before.before.before.requires.1.1.1.there), c.before.before.before.requires.0)
 
 add-result : tie.Need-overflow-add-result
 add-result c = let s = c.before.before.before.before.before.args in
-    omega (arith, ids-length s.table.now s.n, c.before.before.before.named.ensures.most)
+    omega (arith, ids_length s.table.now s.n, c.before.before.before.named.ensures.most)
 
 returns-2 : tie.Need-returns-2
 returns-2 c =
@@ -39,7 +39,7 @@ returns-2 c =
     let f = c.before.before.before.named.ensures in
     let o : ℕ = c.before.before.before.named.result in
     let t : List ℕ = s.table.now in
-    let e = ids-length t s.n in
+    let e = ids_length t s.n in
     let g = f.least in
     let k = f.most in
     record {
@@ -56,12 +56,12 @@ returns-3 c =
     let f = c.before.before.before.named.ensures in
     let o : ℕ = c.before.before.before.named.result in
     let t : List ℕ = s.table.now in
-    let e = ids-length t s.n in
+    let e = ids_length t s.n in
     record {
       least = omega arith;
       most = omega arith;
       behind = λ h. absurd (omega arith);
-      before = λ q. not-below-on (ids_of t s.n) p.1.1.rise s.d p.0 s.i o f.zeros (λ h. omega (arith, ids_at t s.n o (omega arith), c.before.id.ensures));
+      before = λ q. not_below_on (ids_of t s.n) p.1.1.rise s.d p.0 s.i o f.zeros (λ h. omega (arith, ids_at t s.n o (omega arith), c.before.id.ensures));
     }
 
 pub past-spec : {M : Type 1} → statement M

@@ -4,13 +4,13 @@ use mathlib.Core.Path.{sym, ◌∙◌}
 use mathlib.Core.List.{List}
 use native.Mathlib.Omega.{arith}
 use Rattle.tables.specs.Layout.{ids_of}
-use Rattle.texts.proofs.Resolving.{ids-length, ids_at, place_at, place-zero}
+use Rattle.texts.proofs.Resolving.{ids_length, ids_at, place_at_lem, place_zero}
 use borrow.Author.Rules.{rules}
 use Rattle.ids.proofs.place_of.Statement.{statement}
 use Rattle.ids.proofs.place_of.Tie as tie
 
 returns : tie.Need-returns
-returns c = let s = c.before.before.args in sym (place-zero (ids_of s.table.now s.n) s.d c.if1.true)
+returns c = let s = c.before.before.args in sym (place_zero (ids_of s.table.now s.n) s.d c.if1.true)
 
 sub-i : tie.Need-overflow-sub-i
 sub-i c = search rules
@@ -21,7 +21,7 @@ id-requires c κs = search rules
 returns-2 : tie.Need-returns-2
 returns-2 c = let s = c.before.before.before.before.before.args in
     let t : List ℕ = s.table.now in
-    omega (arith, place_at (ids_of t s.n) c.before.before.before.before.before.requires.1.rise s.d (omega arith) (s.d - 1) (omega (arith, ids-length t s.n)) (ids_at t s.n (s.d - 1) (omega arith) ∙ sym c.before.id.ensures ∙ c.if3.true))
+    omega (arith, place_at_lem (ids_of t s.n) c.before.before.before.before.before.requires.1.rise s.d (omega arith) (s.d - 1) (omega (arith, ids_length t s.n)) (ids_at t s.n (s.d - 1) (omega arith) ∙ sym c.before.id.ensures ∙ c.if3.true))
 
 search-requires : tie.Need-search-requires
 search-requires c κs = search rules

@@ -5,7 +5,7 @@ use mathlib.Core.List.{List}
 use native.Mathlib.Omega.{arith}
 use Rattle.tables.specs.Layout.{ids_of}
 use Rattle.texts.specs.Model.Searching.{AllBelow, NoneBelow}
-use Rattle.texts.proofs.Resolving.{ids-length, ids_at, below_on, not-below-on}
+use Rattle.texts.proofs.Resolving.{ids_length, ids_at, below_on, not_below_on}
 use Rattle.ids.proofs.search.Statement.{statement}
 use Rattle.ids.proofs.search.Tie as tie
 
@@ -16,7 +16,7 @@ abbrev decreases-loop : tie.decreases-loop
 decreases-loop table h n d lo₀ hi₀ lo hi = hi - lo
 
 loop-holds : tie.Need-loop-init invariant-loop decreases-loop
-loop-holds c = let s = c.before.args in (omega arith, (omega arith, (λ j k. absurd (omega arith), λ j k l. absurd (omega (arith, ids-length s.table.now s.n)))))
+loop-holds c = let s = c.before.args in (omega arith, (omega arith, (λ j k. absurd (omega arith), λ j k l. absurd (omega (arith, ids_length s.table.now s.n)))))
 
 sub-m : tie.Need-overflow-sub-m invariant-loop decreases-loop
 sub-m c = omega arith
@@ -37,7 +37,7 @@ loop-again c =
     let o = c.before.before.before.loop in
     let m : ℕ = o.lo + (o.hi - o.lo) / 2 in
     let t : List ℕ = s.table.now in
-    (o.invariant.0, (omega arith, (o.invariant.1.1.0, not-below-on (ids_of t s.n) p.1.rise s.d p.0 m m (λ j k l. absurd (omega arith)) (λ h. omega (arith, ids_at t s.n m (omega arith), c.before.id.ensures)))))
+    (o.invariant.0, (omega arith, (o.invariant.1.1.0, not_below_on (ids_of t s.n) p.1.rise s.d p.0 m m (λ j k l. absurd (omega arith)) (λ h. omega (arith, ids_at t s.n m (omega arith), c.before.id.ensures)))))
 
 add-lo : tie.Need-overflow-add-lo invariant-loop decreases-loop
 add-lo c = omega arith
@@ -53,7 +53,7 @@ loop-again-2 c =
     let m : ℕ = o.lo + (o.hi - o.lo) / 2 in
     let t : List ℕ = s.table.now in
     let v = ids_at t s.n m (omega arith) ∙ sym c.before.before.id.ensures in
-    (omega arith, (o.invariant.1.0, (below_on (ids_of t s.n) p.1.rise s.d p.0 m (omega (arith, ids-length t s.n)) (λ z. c.if2.true (sym v ∙ z)) (omega arith), o.invariant.1.1.1)))
+    (omega arith, (o.invariant.1.0, (below_on (ids_of t s.n) p.1.rise s.d p.0 m (omega (arith, ids_length t s.n)) (λ z. c.if2.true (sym v ∙ z)) (omega arith), o.invariant.1.1.1)))
 
 past-requires : tie.Need-past-requires invariant-loop decreases-loop
 past-requires c κs = let p = c.before.before.before.before.before.before.requires in (p.0, (p.1.0, (omega arith, p.1.1)))
@@ -74,7 +74,7 @@ loop-again-4 c =
     let s = c.before.before.before.before.before.before.before.before.args in
     let o = c.before.before.before.before.before.before.loop in
     let g = c.before.past.ensures in
-    (omega (arith, g.most, ids-length s.table.now s.n), (o.invariant.1.0, (g.behind (omega (arith, g.least)), o.invariant.1.1.1)))
+    (omega (arith, g.most, ids_length s.table.now s.n), (o.invariant.1.0, (g.behind (omega (arith, g.least)), o.invariant.1.1.1)))
 
 found-requires : tie.Need-found-requires invariant-loop decreases-loop
 found-requires c κs =

@@ -3,14 +3,14 @@ use Rattle.std.proofs.Common.{ℕ, ◌%◌, ◌^◌, sym, ◌∙◌, subst, ap�
 use Rattle.words.specs.Word.{Width}
 use Rattle.words.specs.Op.{op_of}
 use Rattle.words.specs.Model.Classes.{class_of}
-use Rattle.words.proofs.Bounds.{masked, result-width}
+use Rattle.words.proofs.Bounds.{masked, result_width}
 use Rattle.instructions.proofs.circ_word.Statement.{statement}
 use Rattle.instructions.proofs.circ_word.Tie as tie
 
 low-requires : tie.Need-low-requires
 low-requires c κs =
     let g = c.before in
-    let k : Width g.args.w = subst Width (sym g.requires.6) (result-width (class_of (op_of g.args.kind)) g.args.u g.args.v g.args.b g.args.c g.requires.1 g.requires.2) in
+    let k : Width g.args.w = subst Width (sym g.requires.6) (result_width (class_of (op_of g.args.kind)) g.args.u g.args.v g.args.b g.args.c g.requires.1 g.requires.2) in
     search rules
 
 returns : tie.Need-returns

@@ -6,7 +6,7 @@ use Rattle.words.specs.Op.{Op, op_of, mask, overflow}
 use Rattle.words.specs.Program.{prog}
 use Rattle.words.specs.Model.Classes.{class_of}
 use Rattle.words.specs.Model.Widths.{Widths}
-use Rattle.words.proofs.KindLaws.{detectorOf, detector-kind, mask-between, mask-past}
+use Rattle.words.proofs.KindLaws.{detector_of, detector_kind, mask_between, mask_past}
 use Rattle.instructions.proofs.prog_word.Statement.{statement}
 use Rattle.instructions.proofs.prog_word.Tie as tie
 
@@ -45,9 +45,9 @@ redand-arm c = rw c.before.before.match.keys5 (c.eq.ensures ∙ ap (λ (n : ℕ)
 -- the operands of a detector have one width, and it has no third one
 one_width : (k u v a b c : ℕ) → 57 ≤ k → k ≤ 63 → Widths (class_of (op_of k)) u v b c → prog (op_of k) u u a b 0 ≡ prog (op_of k) u v a b c
 one_width k u v a b c h l g =
-    let e = detector-kind k h l in
+    let e = detector_kind k h l in
     let q : u ≡ v = rw e at g in
-    ap (λ (op : Op). prog op u u a b 0) e ∙ ap (λ (n : ℕ). prog (overflow (detectorOf k)) u n a b c) q ∙ sym (ap (λ (op : Op). prog op u v a b c) e)
+    ap (λ (op : Op). prog op u u a b 0) e ∙ ap (λ (n : ℕ). prog (overflow (detector_of k)) u n a b c) q ∙ sym (ap (λ (op : Op). prog op u v a b c) e)
 
 detect-arm : tie.Need-returns-45
 detect-arm c =
@@ -58,7 +58,7 @@ mask-arm : tie.Need-returns-46
 mask-arm c =
     let g = c.before.before.before in
     let e : op_of g.args.kind ≡ mask =
-    ⊎_elim (λ w. mask-between g.args.kind (past 43 g.args.kind g.requires.0 c.before.before.match.rest) w.taken) (λ w. mask-past g.args.kind w.1.left) c.before.if2.branch
+    ⊎_elim (λ w. mask_between g.args.kind (past 43 g.args.kind g.requires.0 c.before.before.match.rest) w.taken) (λ w. mask_past g.args.kind w.1.left) c.before.if2.branch
     in
     c.low.ensures.0 ∙ sym (ap (λ (op : Op). prog op g.args.u g.args.v g.args.a g.args.b g.args.c) e)
 

@@ -6,23 +6,23 @@ use mathlib.Core.Bool.{Bool, not}
 use mathlib.Core.List.{List}
 use native.Mathlib.Omega.{arith}
 use lib.ListN.{length}
-use Rattle.tables.specs.Layout.{recordSize, held, placingIn, row_by, row_set, filledBy}
-use Rattle.tables.proofs.Layouts.{placed-in, words-in}
-use Rattle.tables.proofs.Putting.{length-row}
-use Rattle.layouts.specs.Conversion.{rowsIn}
-use Rattle.layouts.proofs.Copying.{Strided, stride-inside, copy-record, carry-next, carry-none}
+use Rattle.tables.specs.Layout.{record_size, held, placing_in, row_by, row_set, filled_by}
+use Rattle.tables.proofs.Layouts.{placed_in, words_in}
+use Rattle.tables.proofs.Putting.{length_row}
+use Rattle.layouts.specs.Conversion.{rows_in}
+use Rattle.layouts.proofs.Copying.{Strided, stride_inside, copy_record, carry_next, carry_none}
 use Rattle.layouts.proofs.carry.Statement.{statement}
 use Rattle.layouts.proofs.carry.Tie as tie
 
 abbrev invariant-loop : tie.invariant-loop
 invariant-loop columns program list count target₀ size a b i₀ target i =
-    (i ≤ count) × ((length target ≡ length target₀) × (target ≡ filledBy (placingIn columns program) (length target₀) (rowsIn (not columns) program list i)))
+    (i ≤ count) × ((length target ≡ length target₀) × (target ≡ filled_by (placing_in columns program) (length target₀) (rows_in (not columns) program list i)))
 
 abbrev decreases-loop : tie.decreases-loop
 decreases-loop columns program list count target₀ size a b i₀ target i = count - i
 
-first-inside : (columns p : Bool) (len s r m i : ℕ) → Strided (placingIn columns p) len s r → m ≡ recordSize p → i < held p len → r * i < len
-first-inside columns p len s r m i q e h = omega (arith, stride-inside (placed-in columns p) len s r m i q e h 0 (omega (arith, e, words-in p)))
+first_inside : (columns p : Bool) (len s r m i : ℕ) → Strided (placing_in columns p) len s r → m ≡ record_size p → i < held p len → r * i < len
+first_inside columns p len s r m i q e h = omega (arith, stride_inside (placed_in columns p) len s r m i q e h 0 (omega (arith, e, words_in p)))
 
 size-requires : tie.Need-size-requires invariant-loop decreases-loop
 size-requires c κs = tt
@@ -36,7 +36,7 @@ strides-of-requires-2 c κs = tt
 loop-holds : tie.Need-loop-init invariant-loop decreases-loop
 loop-holds c =
     let s = c.before.before.before.before.before in
-    (omega arith, (refl, carry-none (placingIn s.args.columns s.args.program) s.args.target.now s.requires.1.1))
+    (omega arith, (refl, carry_none (placing_in s.args.columns s.args.program) s.args.target.now s.requires.1.1))
 
 mul-copy : tie.Need-overflow-mul-copy invariant-loop decreases-loop
 mul-copy c =
@@ -45,7 +45,7 @@ mul-copy c =
     let z = c.before.before.before.before.before.size in
     let w = c.before.before.before.before.strides-of in
     let h : l.i < held s.args.program (length s.args.list.now) = omega (arith, c.before.loop-test.true, s.requires.0) in
-    omega (arith, first-inside (not s.args.columns) s.args.program (length s.args.list.now) w.result.word w.result.row z.result l.i w.ensures z.ensures h)
+    omega (arith, first_inside (not s.args.columns) s.args.program (length s.args.list.now) w.result.word w.result.row z.result l.i w.ensures z.ensures h)
 
 mul-copy-2 : tie.Need-overflow-mul-copy-2 invariant-loop decreases-loop
 mul-copy-2 c =
@@ -54,7 +54,7 @@ mul-copy-2 c =
     let z = c.before.before.before.before.before.before.before.size in
     let w = c.before.before.before.before.before.strides-of2 in
     let h : l.i < held s.args.program (length s.args.target.now) = omega (arith, c.before.before.before.loop-test.true, s.requires.1.0) in
-    omega (arith, first-inside s.args.columns s.args.program (length s.args.target.now) w.result.word w.result.row z.result l.i w.ensures z.ensures h)
+    omega (arith, first_inside s.args.columns s.args.program (length s.args.target.now) w.result.word w.result.row z.result l.i w.ensures z.ensures h)
 
 copy-requires : tie.Need-copy-requires invariant-loop decreases-loop
 copy-requires c κs =
@@ -65,12 +65,12 @@ copy-requires c κs =
     let v = c.before.before.before.before.before.strides-of2 in
     let t = c.before.before.before.loop-test.true in
     let e = z.ensures in (
-      stride-inside (placed-in (not s.args.columns) s.args.program) (length s.args.list.now) w.result.word w.result.row z.result l.i w.ensures e (omega (arith, t, s.requires.0)),
+      stride_inside (placed_in (not s.args.columns) s.args.program) (length s.args.list.now) w.result.word w.result.row z.result l.i w.ensures e (omega (arith, t, s.requires.0)),
       λ j a.
           omega (
             arith,
             l.invariant.1.0,
-            stride-inside (placed-in s.args.columns s.args.program) (length s.args.target.now) v.result.word v.result.row z.result l.i v.ensures e (omega (arith, t, s.requires.1.0)) j a,
+            stride_inside (placed_in s.args.columns s.args.program) (length s.args.target.now) v.result.word v.result.row z.result l.i v.ensures e (omega (arith, t, s.requires.1.0)) j a,
           ),
     )
 
@@ -88,16 +88,16 @@ loop-again c =
     let w = c.before.before.before.before.before.before.before.before.before.strides-of in
     let v = c.before.before.before.before.before.before.before.before.strides-of2 in
     let q = c.before.before.copy.ensures in
-    let f = placingIn (not s.args.columns) s.args.program in
-    let g = placingIn s.args.columns s.args.program in
+    let f = placing_in (not s.args.columns) s.args.program in
+    let g = placing_in s.args.columns s.args.program in
     let b : Strided g (length l.target) v.result.word v.result.row = subst (λ (n : ℕ). Strided g n v.result.word v.result.row) (sym l.invariant.1.0) v.ensures in
-    let r = recordSize s.args.program in
+    let r = record_size s.args.program in
     let list = s.args.list.now in
-    let e = q ∙ copy-record f g list l.target w.result.word w.result.row v.result.word v.result.row z.result r l.i w.ensures b z.ensures in (
+    let e = q ∙ copy_record f g list l.target w.result.word w.result.row v.result.word v.result.row z.result r l.i w.ensures b z.ensures in (
       omega (arith, c.before.before.before.before.before.before.loop-test.true),
       (
-        ap length e ∙ (length-row g l.target l.i (row_by f r list l.i) ∙ l.invariant.1.0),
-        e ∙ (ap (λ (t : List ℕ). row_set g t l.i (row_by f r list l.i)) l.invariant.1.1 ∙ carry-next f g (length s.args.target.now) r list l.i),
+        ap length e ∙ (length_row g l.target l.i (row_by f r list l.i) ∙ l.invariant.1.0),
+        e ∙ (ap (λ (t : List ℕ). row_set g t l.i (row_by f r list l.i)) l.invariant.1.1 ∙ carry_next f g (length s.args.target.now) r list l.i),
       ),
     )
 
@@ -109,7 +109,7 @@ returns c =
     let a = c.before.before.before.before.before.before.before.args in
     let l = c.before.loop in
     let past : l.i ≡ a.count = omega (arith, c.loop-test.false, l.invariant.0) in
-    l.invariant.1.1 ∙ ap (λ (k : ℕ). filledBy (placingIn a.columns a.program) (length a.target.now) (rowsIn (not a.columns) a.program a.list.now k)) past
+    l.invariant.1.1 ∙ ap (λ (k : ℕ). filled_by (placing_in a.columns a.program) (length a.target.now) (rows_in (not a.columns) a.program a.list.now k)) past
 
 pub carry-spec : {M : Type 1} → statement M
 carry-spec =

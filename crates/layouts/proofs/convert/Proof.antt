@@ -1,7 +1,7 @@
 -- By the answer: the records go over, or the target stays zero. Assumes nothing.
 use borrow.Author.Rules.{rules}
 use lib.ListN.{length}
-use Rattle.layouts.proofs.Converting.{carry-ready, convert-done, convert-refused}
+use Rattle.layouts.proofs.Converting.{carry_ready, convert_done, convert_refused}
 use Rattle.layouts.proofs.convert.Statement.{statement}
 use Rattle.layouts.proofs.convert.Tie as tie
 
@@ -19,7 +19,7 @@ carry-requires c κs =
     let s = c.before.before.before.before.before.before.before.before.before.before.before.args in
     let j = c.before.before.before.before.judge in
     let k = c.before.before.before.before.before.before.before.clear in
-    carry-ready s.columns s.program s.list.now s.count (length s.target.now) k.new.0 k.ensures j.result j.ensures _ c.before.before.n.given.1
+    carry_ready s.columns s.program s.list.now s.count (length s.target.now) k.new.0 k.ensures j.result j.ensures _ c.before.before.n.given.1
 
 enum-known-r : tie.Need-enum-known-r
 enum-known-r c = search rules
@@ -33,7 +33,7 @@ returns c =
     let j = c.before.before.before.before.before.before.before.judge in
     let k = c.before.before.before.before.before.before.before.before.before.before.clear in
     let v = c.before.before.carry in
-    convert-done s.columns s.program s.list.now s.count (length s.target.now) k.new.0 k.ensures j.result j.ensures _ c.before.before.before.before.before.n.given.1 _ v.ensures
+    convert_done s.columns s.program s.list.now s.count (length s.target.now) k.new.0 k.ensures j.result j.ensures _ c.before.before.before.before.before.n.given.1 _ v.ensures
 
 same-length-2 : tie.Need-same-length-2
 same-length-2 c = search rules
@@ -43,7 +43,7 @@ returns-2 c =
     let s = c.before.before.before.before.before.before.before.before.before.before.args in
     let j = c.before.before.before.judge in
     let k = c.before.before.before.before.before.before.clear in
-    convert-refused s.columns s.program s.list.now s.count (length s.target.now) k.new.0 k.ensures j.result j.ensures _ _ c.before.r.given.1
+    convert_refused s.columns s.program s.list.now s.count (length s.target.now) k.new.0 k.ensures j.result j.ensures _ _ c.before.r.given.1
 
 pub convert-spec : {M : Type 1} → statement M
 convert-spec =

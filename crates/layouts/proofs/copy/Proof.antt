@@ -5,14 +5,14 @@ use mathlib.Core.Path.{◌≡◌, refl, ap, ◌∙◌}
 use mathlib.Core.List.{List}
 use native.Mathlib.Omega.{arith}
 use lib.ListN.{length, get_or, set, length-set}
-use Rattle.tables.specs.Layout.{wordsFrom, setWords}
-use Rattle.layouts.proofs.Copying.{copy-next}
+use Rattle.tables.specs.Layout.{words_from, set_words}
+use Rattle.layouts.proofs.Copying.{copy_next}
 use Rattle.layouts.proofs.copy.Statement.{statement}
 use Rattle.layouts.proofs.copy.Tie as tie
 
 abbrev invariant-loop : tie.invariant-loop
 invariant-loop list x s target₀ y z m j₀ target j =
-    (j ≤ m) × ((length target ≡ length target₀) × (target ≡ setWords (λ (k : ℕ). z * k + y) target₀ 0 (wordsFrom (λ (k : ℕ). s * k + x) list 0 j)))
+    (j ≤ m) × ((length target ≡ length target₀) × (target ≡ set_words (λ (k : ℕ). z * k + y) target₀ 0 (words_from (λ (k : ℕ). s * k + x) list 0 j)))
 
 abbrev decreases-loop : tie.decreases-loop
 decreases-loop list x s target₀ y z m j₀ target j = m - j
@@ -59,7 +59,7 @@ loop-again c =
       omega (arith, c.before.loop-test.true),
       (
         simp length-set l.invariant.1.0,
-        ap (λ (t : List ℕ). set t (to l.j) (get_or a.list.now (from l.j) 0)) l.invariant.1.1 ∙ copy-next from to a.list.now a.target.now l.j,
+        ap (λ (t : List ℕ). set t (to l.j) (get_or a.list.now (from l.j) 0)) l.invariant.1.1 ∙ copy_next from to a.list.now a.target.now l.j,
       ),
     )
 
@@ -71,7 +71,7 @@ returns c =
     let a = c.before.before.args in
     let l = c.before.loop in
     let past : l.j ≡ a.m = omega (arith, c.loop-test.false, l.invariant.0) in
-    l.invariant.1.1 ∙ ap (λ (k : ℕ). setWords (λ (i : ℕ). a.z * i + a.y) a.target.now 0 (wordsFrom (λ (i : ℕ). a.s * i + a.x) a.list.now 0 k)) past
+    l.invariant.1.1 ∙ ap (λ (k : ℕ). set_words (λ (i : ℕ). a.z * i + a.y) a.target.now 0 (words_from (λ (i : ℕ). a.s * i + a.x) a.list.now 0 k)) past
 
 pub copy_spec : {M : Type 1} → statement M
 copy_spec =

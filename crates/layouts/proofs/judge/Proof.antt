@@ -5,7 +5,7 @@ use borrow.Author.Rules.{rules}
 use borrow.Author.Tests.{not-true, not-false}
 use Rattle.tables.specs.declared.Refusal.{Refusal}
 use Rattle.tables.specs.declared.Answer.TheVariants.{Refused}
-use Rattle.layouts.proofs.Answers.{no-list, no_target, too_many, too_small, done}
+use Rattle.layouts.proofs.Answers.{no_list, no_target, too_many, too_small, done}
 use Rattle.layouts.proofs.judge.Statement.{statement}
 use Rattle.layouts.proofs.judge.Tie as tie
 
@@ -13,7 +13,7 @@ is-table-requires : tie.Need-is-table-requires
 is-table-requires c κs = search rules
 
 returns : tie.Need-returns
-returns c = let s = c.before.before.args in no-list s.program s.words s.count s.len (sym c.before.is-table.ensures ∙ not-true _ c.if1.true)
+returns c = let s = c.before.before.args in no_list s.program s.words s.count s.len (sym c.before.is-table.ensures ∙ not-true _ c.if1.true)
 
 is-table-requires-2 : tie.Need-is-table-requires-2
 is-table-requires-2 c κs = search rules

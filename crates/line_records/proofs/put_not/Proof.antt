@@ -4,9 +4,9 @@ use mathlib.Core.Path.{ap}
 use native.Mathlib.Omega.{arith}
 use lib.ListN.{get_or}
 use borrow.Author.Rules.{rules}
-use Rattle.tables.specs.Lines.{kindIn}
+use Rattle.tables.specs.Lines.{kind_in}
 use Rattle.texts.specs.Model.Filling.{filling}
-use Rattle.texts.proofs.Filled.{not-put}
+use Rattle.texts.proofs.Filled.{not_put}
 use Rattle.line_records.proofs.put_not.Statement.{statement}
 use Rattle.line_records.proofs.put_not.Tie as tie
 
@@ -32,7 +32,7 @@ of-requires : tie.Need-of-requires
 of-requires c κs = search rules
 
 put-requires : tie.Need-put-requires
-put-requires c κs = (search rules, λ e. absurd (omega (arith, ap kindIn c.before.of.ensures, e)))
+put-requires c κs = (search rules, λ e. absurd (omega (arith, ap kind_in c.before.of.ensures, e)))
 
 same_length : tie.Need-same-length
 same_length c = search rules
@@ -44,7 +44,7 @@ returns : tie.Need-returns
 returns c =
     let s = c.before.before.before.before.before.before.before.before.before.before.before.args in
     let p = c.before.before.before.put in
-    not-put (filling s.table.now s.notes.now s.n) (get_or s.t3 s.j 0) {G = filling p.new.0 p.new.1.1.1.1.0 (s.n + 1)} p.ensures c.before.before.before.before.before.of.ensures c.before.before.before.before.before.before.before.«record».ensures
+    not_put (filling s.table.now s.notes.now s.n) (get_or s.t3 s.j 0) {G = filling p.new.0 p.new.1.1.1.1.0 (s.n + 1)} p.ensures c.before.before.before.before.before.of.ensures c.before.before.before.before.before.before.before.«record».ensures
 
 pub put-not-spec : {M : Type 1} → statement M
 put-not-spec =

@@ -1,7 +1,7 @@
 -- Width and operands, each as the kind asks. Assumes nothing.
 use mathlib.Core.Path.{◌∙◌}
 use Rattle.programs.specs.Model.Kinds.{entry_at}
-use Rattle.programs.proofs.Reading.{instruction-read}
+use Rattle.programs.proofs.Reading.{instruction_read}
 use borrow.Author.Rules.{rules}
 use Rattle.masks.proofs.instruction.Statement.{statement}
 use Rattle.masks.proofs.instruction.Tie as tie
@@ -46,7 +46,7 @@ of-requires : tie.Need-of-requires
 of-requires c κs = tt
 
 returns : tie.Need-returns
-returns c = c.of.ensures ∙ instruction-read (entry_at c.before.before.before.before.before.before.before.before.before.before.args.wd.now) (entry_at c.before.before.before.before.before.before.before.before.before.before.args.num.now) c.before.before.before.before.before.before.before.before.before.before.args.t1 c.before.before.before.before.before.before.before.entry.ensures c.before.before.before.before.before.before.first-line.ensures c.before.before.before.before.before.operand.ensures c.before.before.before.before.second-line.ensures c.before.before.before.operand2.ensures c.before.before.third-line.ensures c.before.operand3.ensures
+returns c = c.of.ensures ∙ instruction_read (entry_at c.before.before.before.before.before.before.before.before.before.before.args.wd.now) (entry_at c.before.before.before.before.before.before.before.before.before.before.args.num.now) c.before.before.before.before.before.before.before.before.before.before.args.t1 c.before.before.before.before.before.before.before.entry.ensures c.before.before.before.before.before.before.first-line.ensures c.before.before.before.before.before.operand.ensures c.before.before.before.before.second-line.ensures c.before.before.before.operand2.ensures c.before.before.third-line.ensures c.before.operand3.ensures
 
 pub instruction-spec : {M : Type 1} → statement M
 instruction-spec =

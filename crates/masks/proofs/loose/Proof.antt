@@ -1,7 +1,7 @@
 -- Width 64, or the row of the kind. Assumes nothing.
 use mathlib.Core.Path.{sym, ◌∙◌}
-use Rattle.programs.specs.Model.Kinds.{entry_at, flagAt}
-use Rattle.programs.proofs.Reading.{never-64, loose-read}
+use Rattle.programs.specs.Model.Kinds.{entry_at, flag_at}
+use Rattle.programs.proofs.Reading.{never_64, loose_read}
 use borrow.Author.Rules.{rules}
 use Rattle.masks.proofs.loose.Statement.{statement}
 use Rattle.masks.proofs.loose.Tie as tie
@@ -13,7 +13,7 @@ entry-requires : tie.Need-entry-requires
 entry-requires c κs = search rules
 
 returns : tie.Need-returns
-returns c = never-64 (entry_at c.before.before.before.before.args.wd.now) (flagAt c.before.before.before.before.args.lo.now) c.before.before.before.before.args.t1 (sym c.before.entry.ensures ∙ c.if1.true)
+returns c = never_64 (entry_at c.before.before.before.before.args.wd.now) (flag_at c.before.before.before.before.args.lo.now) c.before.before.before.before.args.t1 (sym c.before.entry.ensures ∙ c.if1.true)
 
 array-read-k : tie.Need-array-read-k
 array-read-k c = search rules
@@ -55,7 +55,7 @@ loose-how-requires : tie.Need-loose-how-requires
 loose-how-requires c κs = search rules
 
 returns-2 : tie.Need-returns-2
-returns-2 c = loose-read (entry_at c.before.before.before.before.before.before.before.before.before.before.before.before.args.wd.now) (flagAt c.before.before.before.before.before.before.before.before.before.before.before.before.args.lo.now) c.before.before.before.before.before.before.before.before.before.before.before.before.args.t1 (λ e. c.before.before.before.before.before.before.before.before.if1.false (c.before.before.before.before.before.before.before.before.before.entry.ensures ∙ e)) c.before.before.before.before.before.before.before.before.before.before.before.before.requires c.before.before.before.before.before.before.before.row.result c.before.before.before.before.before.before.before.row.ensures c.before.before.before.before.before.before.first-line.ensures c.before.before.before.before.before.used.ensures c.before.before.before.before.second-line.ensures c.before.before.before.used2.ensures c.before.before.third-line.ensures c.before.used3.ensures c.loose-how.ensures
+returns-2 c = loose_read (entry_at c.before.before.before.before.before.before.before.before.before.before.before.before.args.wd.now) (flag_at c.before.before.before.before.before.before.before.before.before.before.before.before.args.lo.now) c.before.before.before.before.before.before.before.before.before.before.before.before.args.t1 (λ e. c.before.before.before.before.before.before.before.before.if1.false (c.before.before.before.before.before.before.before.before.before.entry.ensures ∙ e)) c.before.before.before.before.before.before.before.before.before.before.before.before.requires c.before.before.before.before.before.before.before.row.result c.before.before.before.before.before.before.before.row.ensures c.before.before.before.before.before.before.first-line.ensures c.before.before.before.before.before.used.ensures c.before.before.before.before.second-line.ensures c.before.before.before.used2.ensures c.before.before.third-line.ensures c.before.used3.ensures c.loose-how.ensures
 
 pub loose-spec : {M : Type 1} → statement M
 loose-spec =

@@ -6,12 +6,12 @@ use native.Mathlib.Omega.{arith}
 use lib.ListN.{length, take, drop, get_or, set, length-set}
 use lib.Seq.{get_or-set_same, get_or-set_other}
 use borrow.Author.Rules.{rules}
-use Rattle.texts.specs.Model.Chains.{hashes, hashOf, countIn, link_of}
-use Rattle.texts.proofs.Chains.{Grown, grown-names, grown-chained}
+use Rattle.texts.specs.Model.Chains.{hashes, hash_of, count_in, link_of}
+use Rattle.texts.proofs.Chains.{Grown, grown_names, grown_chained}
 use Rattle.names.proofs.add.Statement.{statement}
 use Rattle.names.proofs.add.Tie as tie
 
-module _ (w : List ℕ) (h a z r : ℕ) (e : r ≡ countIn w) (l : h < hashes) (room : hashes + 4 + 3 * countIn w ≤ length w) where
+module _ (w : List ℕ) (h a z r : ℕ) (e : r ≡ count_in w) (l : h < hashes) (room : hashes + 4 + 3 * count_in w ≤ length w) where
   abbrev at : ℕ
   at = link_of (r + 1)
 
@@ -43,7 +43,7 @@ module _ (w : List ℕ) (h a z r : ℕ) (e : r ≡ countIn w) (l : h < hashes) (
       get_or-set_other two (at + 2) x z 0 (λ q. omega arith)
       ∙ (get_or-set_other one (at + 1) x a 0 (λ q. omega arith) ∙ get_or-set_other w at x (get_or w h 0) 0 (λ q. omega arith))
 
-  at_new : link_of (suc (countIn w)) ≡ at
+  at_new : link_of (suc (count_in w)) ≡ at
   at_new = omega arith
 
   grown : Grown w five h a z
@@ -149,9 +149,9 @@ returns c =
     let q : z + 1 - s.from ≡ s.to - s.from = omega arith in
     let g = grown w s.h s.from z c.before.wide.result c.before.wide.ensures p.4 p.6.1 in
     let v : List ℕ = five w s.h s.from z c.before.wide.result c.before.wide.ensures p.4 p.6.1 in
-    let e : hashOf (take (z + 1 - s.from) (drop s.from t)) ≡ s.h = rw q (sym p.3) in (
-      grown-chained t w v s.h s.from z g p.5 e p.4 p.6.1 (omega arith) (omega arith),
-      rw (← q) (grown-names t w v s.h s.from z g),
+    let e : hash_of (take (z + 1 - s.from) (drop s.from t)) ≡ s.h = rw q (sym p.3) in (
+      grown_chained t w v s.h s.from z g p.5 e p.4 p.6.1 (omega arith) (omega arith),
+      rw (← q) (grown_names t w v s.h s.from z g),
       g.count ∙ omega arith,
     )
 

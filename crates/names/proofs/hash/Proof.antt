@@ -5,8 +5,8 @@ use mathlib.Core.List.{List}
 use native.Mathlib.Nat.{mod-lt}
 use native.Mathlib.Omega.{arith}
 use lib.ListN.{length, get_or}
-use Rattle.texts.specs.Model.Chains.{hashes, mixedFour}
-use Rattle.texts.proofs.Hashing.{HashingFours, fours-start, fours-on, fours-end}
+use Rattle.texts.specs.Model.Chains.{hashes, mixed_four}
+use Rattle.texts.proofs.Hashing.{HashingFours, fours_start, fours_on, fours_end}
 use Rattle.names.proofs.hash.Statement.{statement}
 use Rattle.names.proofs.hash.Tie as tie
 
@@ -17,10 +17,10 @@ abbrev decreases-loop : tie.decreases-loop
 decreases-loop t step h₀ p₀ h p = p
 
 -- the bytes that were looked at are those of the definition
-same-four : (t : List ℕ) (step h p : ℕ) {a b c d : ℕ} → a ≡ get_or t (p - 1) 0 → b ≡ get_or t (p - step - 1) 0 → c ≡ get_or t (p - 2 * step - 1) 0 → d ≡ get_or t (p - 3 * step - 1) 0
-    → HashingFours t step (mixedFour h (get_or t (p - 1) 0) (get_or t (p - step - 1) 0) (get_or t (p - 2 * step - 1) 0) (get_or t (p - 3 * step - 1) 0)) (p - 4 * step)
-    → HashingFours t step (mixedFour h a b c d) (p - 4 * step)
-same-four t step h p ea eb ec ed k = rw (ea, eb, ec, ed) k
+same_four : (t : List ℕ) (step h p : ℕ) {a b c d : ℕ} → a ≡ get_or t (p - 1) 0 → b ≡ get_or t (p - step - 1) 0 → c ≡ get_or t (p - 2 * step - 1) 0 → d ≡ get_or t (p - 3 * step - 1) 0
+    → HashingFours t step (mixed_four h (get_or t (p - 1) 0) (get_or t (p - step - 1) 0) (get_or t (p - 2 * step - 1) 0) (get_or t (p - 3 * step - 1) 0)) (p - 4 * step)
+    → HashingFours t step (mixed_four h a b c d) (p - 4 * step)
+same_four t step h p ea eb ec ed k = rw (ea, eb, ec, ed) k
 
 add_step : tie.Need-overflow-add-step invariant-loop decreases-loop
 add_step c = omega (arith, c.before.requires)
@@ -28,7 +28,7 @@ add_step c = omega (arith, c.before.requires)
 loop-holds : tie.Need-loop-init invariant-loop decreases-loop
 loop-holds c =
     let t : List ℕ = c.before.args.t.now in
-    (omega arith, omega (arith, c.before.requires), mod-lt (length t) (omega arith), omega arith, fours-start t)
+    (omega arith, omega (arith, c.before.requires), mod-lt (length t) (omega arith), omega arith, fours_start t)
 
 mul-loop : tie.Need-overflow-mul-loop invariant-loop decreases-loop
 mul-loop c = omega (arith, c.loop.invariant.0, c.loop.invariant.1, c.loop.invariant.2, c.loop.invariant.3, c.before.before.requires)
@@ -118,7 +118,7 @@ loop-again c =
       o.invariant.1,
       mod-lt (o.h * 1874161 + u.result * 50653 + z.result * 1369 + y.result * 37 + x.result) (omega arith),
       omega (arith, o.invariant.3),
-      same-four t s o.h o.p u.ensures.0 z.ensures.0 y.ensures.0 x.ensures.0 (fours-on t s o.h o.p o.invariant.0 c.before.before.before.before.loop-test.true o.invariant.4),
+      same_four t s o.h o.p u.ensures.0 z.ensures.0 y.ensures.0 x.ensures.0 (fours_on t s o.h o.p o.invariant.0 c.before.before.before.before.loop-test.true o.invariant.4),
     )
 
 hash-rest-requires : tie.Need-hash-rest-requires invariant-loop decreases-loop
@@ -128,7 +128,7 @@ returns : tie.Need-returns invariant-loop decreases-loop
 returns c =
     let t : List ℕ = c.before.before.before.before.args.t.now in
     let o = c.before.before.loop in
-    (c.hash-rest.ensures.0 ∙ sym (fours-end t (length t / 32 + 1) o.h o.p (omega (arith, c.before.loop-test.false)) o.invariant.4), c.hash-rest.ensures.1)
+    (c.hash-rest.ensures.0 ∙ sym (fours_end t (length t / 32 + 1) o.h o.p (omega (arith, c.before.loop-test.false)) o.invariant.4), c.hash-rest.ensures.1)
 
 pub hash-spec : {M : Type 1} → statement M
 hash-spec =

@@ -3,13 +3,13 @@ use Prim.Native.Nat.{◌≤◌, ◌-◌}
 use mathlib.Core.Path.{◌≡◌, sym, ◌∙◌, refl}
 use native.Mathlib.Omega.{arith}
 use lib.ListN.{length, drop}
-use Rattle.texts.specs.Split.{sameBytes}
-use Rattle.texts.proofs.Words.{same_not, same_more, same-differ, same_end}
+use Rattle.texts.specs.Split.{same_bytes}
+use Rattle.texts.proofs.Words.{same_not, same_more, same_differ, same_end}
 use Rattle.names.proofs.same.Statement.{statement}
 use Rattle.names.proofs.same.Tie as tie
 
 abbrev invariant-loop : tie.invariant-loop
-invariant-loop t u i₀ i = (length t ≡ length u) × (sameBytes t u ≡ sameBytes (drop i t) (drop i u)) × (i ≤ length t)
+invariant-loop t u i₀ i = (length t ≡ length u) × (same_bytes t u ≡ same_bytes (drop i t) (drop i u)) × (i ≤ length t)
 
 abbrev decreases-loop : tie.decreases-loop
 decreases-loop t u i₀ i = length t - i
@@ -30,7 +30,7 @@ returns-2 : tie.Need-returns-2 invariant-loop decreases-loop
 returns-2 c =
     let s = c.before.before.before.before.before.before.args in
     let o = c.before.before.before.before.loop in
-    sym (o.invariant.1 ∙ same-differ s.t.now s.u.now o.i (omega arith) (omega arith) c.if2.true)
+    sym (o.invariant.1 ∙ same_differ s.t.now s.u.now o.i (omega arith) (omega arith) c.if2.true)
 
 add-i : tie.Need-overflow-add-i invariant-loop decreases-loop
 add-i c = omega arith

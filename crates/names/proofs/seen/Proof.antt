@@ -6,9 +6,9 @@ use mathlib.Core.List.{List}
 use native.Mathlib.Omega.{arith}
 use lib.ListN.{take, drop}
 use borrow.Author.Rules.{rules}
-use Rattle.texts.specs.Split.{sameBytes}
-use Rattle.texts.specs.Model.Chains.{firstByte, lastByte, name_at}
-use Rattle.texts.proofs.Chains.{Walk, walk_start, walk-on, walk-found, walk_end, link-less, name-ordered, name-within}
+use Rattle.texts.specs.Split.{same_bytes}
+use Rattle.texts.specs.Model.Chains.{first_byte, last_byte, name_at}
+use Rattle.texts.proofs.Chains.{Walk, walk_start, walk_on, walk_found, walk_end, link_less, name_ordered, name_within}
 use Rattle.names.proofs.seen.Statement.{statement}
 use Rattle.names.proofs.seen.Tie as tie
 
@@ -19,7 +19,7 @@ abbrev decreases-loop : tie.decreases-loop
 decreases-loop text from to h names i₀ i = i
 
 -- the bytes from a up to z are those of the name i
-compared : (s w t : List ℕ) (i a z : ℕ) (q : Bool) → a ≡ firstByte w i → z ≡ lastByte w i → q ≡ sameBytes t (take (z + 1 - a) (drop a s)) → sameBytes t (name_at s w i) ≡ q
+compared : (s w t : List ℕ) (i a z : ℕ) (q : Bool) → a ≡ first_byte w i → z ≡ last_byte w i → q ≡ same_bytes t (take (z + 1 - a) (drop a s)) → same_bytes t (name_at s w i) ≡ q
 compared s w t i a z q d e h = rw (← d, ← e) (sym h)
 
 mul_wide : tie.Need-overflow-mul-wide invariant-loop decreases-loop
@@ -85,28 +85,28 @@ add_same c =
     let k = c.before.before.before.before.before.before.before.before.before.before.before.requires.4 in
     let o = c.before.before.before.before.before.before.loop in
     let z = c.before.before.before.before.before.loop-test.true in
-    omega (arith, name-ordered k o.i z o.invariant.most, name-within k o.i z o.invariant.most)
+    omega (arith, name_ordered k o.i z o.invariant.most, name_within k o.i z o.invariant.most)
 
 sub-same-2 : tie.Need-overflow-sub-same-2 invariant-loop decreases-loop
 sub-same-2 c =
     let k = c.before.before.before.before.before.before.before.before.before.before.before.requires.4 in
     let o = c.before.before.before.before.before.before.loop in
     let z = c.before.before.before.before.before.loop-test.true in
-    omega (arith, name-ordered k o.i z o.invariant.most, name-within k o.i z o.invariant.most)
+    omega (arith, name_ordered k o.i z o.invariant.most, name_within k o.i z o.invariant.most)
 
 part-same-start-2 : tie.Need-slice-bounds-same-start-2 invariant-loop decreases-loop
 part-same-start-2 c =
     let k = c.before.before.before.before.before.before.before.before.before.before.before.requires.4 in
     let o = c.before.before.before.before.before.before.loop in
     let z = c.before.before.before.before.before.loop-test.true in
-    omega (arith, name-ordered k o.i z o.invariant.most, name-within k o.i z o.invariant.most)
+    omega (arith, name_ordered k o.i z o.invariant.most, name_within k o.i z o.invariant.most)
 
 part-same-end-2 : tie.Need-slice-bounds-same-end-2 invariant-loop decreases-loop
 part-same-end-2 c =
     let k = c.before.before.before.before.before.before.before.before.before.before.before.requires.4 in
     let o = c.before.before.before.before.before.before.loop in
     let z = c.before.before.before.before.before.loop-test.true in
-    omega (arith, name-ordered k o.i z o.invariant.most, name-within k o.i z o.invariant.most)
+    omega (arith, name_ordered k o.i z o.invariant.most, name_within k o.i z o.invariant.most)
 
 same-requires : tie.Need-same-requires invariant-loop decreases-loop
 same-requires c κs = search rules
@@ -117,7 +117,7 @@ returns c =
     let o = c.before.before.before.before.before.before.before.before.before.loop in
     let t : List ℕ = take (s.to - s.from) (drop s.from s.text.now) in
     let d = compared s.text.now s.names.now t o.i c.before.before.before.before.before.before.wide2.result c.before.before.before.before.wide3.result c.before.same.result c.before.before.before.before.before.before.wide2.ensures c.before.before.before.before.wide3.ensures c.before.same.ensures in
-    sym (walk-found t s.h o.i c.before.before.before.before.before.before.before.before.loop-test.true o.invariant (d ∙ c.if1.true))
+    sym (walk_found t s.h o.i c.before.before.before.before.before.before.before.before.loop-test.true o.invariant (d ∙ c.if1.true))
 
 mul-wide-4 : tie.Need-overflow-mul-wide-4 invariant-loop decreases-loop
 mul-wide-4 c = search rules
@@ -134,7 +134,7 @@ loop-less c =
     let p = c.before.before.before.before.before.before.before.before.before.before.before.before.before.before.before.before.requires in
     let o = c.before.before.before.before.before.before.before.before.before.before.before.loop in
     let t : List ℕ = take (s.to - s.from) (drop s.from s.text.now) in
-    omega (arith, link-less p.4 t s.h (sym p.2) o.i c.before.before.before.before.before.before.before.before.before.before.loop-test.true o.invariant)
+    omega (arith, link_less p.4 t s.h (sym p.2) o.i c.before.before.before.before.before.before.before.before.before.before.loop-test.true o.invariant)
 
 loop-again : tie.Need-loop-preserved invariant-loop decreases-loop
 loop-again c =
@@ -143,7 +143,7 @@ loop-again c =
     let o = c.before.before.before.before.before.before.before.before.before.before.before.loop in
     let t : List ℕ = take (s.to - s.from) (drop s.from s.text.now) in
     let d = compared s.text.now s.names.now t o.i c.before.before.before.before.before.before.before.before.wide2.result c.before.before.before.before.before.before.wide3.result c.before.before.before.same.result c.before.before.before.before.before.before.before.before.wide2.ensures c.before.before.before.before.before.before.wide3.ensures c.before.before.before.same.ensures in
-    walk-on p.4 t s.h (sym p.2) o.i c.wide4.result c.before.before.before.before.before.before.before.before.before.before.loop-test.true c.wide4.ensures o.invariant (d ∙ c.before.before.if1.false)
+    walk_on p.4 t s.h (sym p.2) o.i c.wide4.result c.before.before.before.before.before.before.before.before.before.before.loop-test.true c.wide4.ensures o.invariant (d ∙ c.before.before.if1.false)
 
 returns-2 : tie.Need-returns-2 invariant-loop decreases-loop
 returns-2 c =

@@ -6,14 +6,14 @@ use native.Mathlib.Omega.{arith}
 use mathlib.Core.Path.{◌≡◌, refl, sym, ap, ◌∙◌}
 use lib.ListN.{length, take, drop, length-take, length-drop}
 use Rattle.texts.specs.Split.{split}
-use Rattle.texts.specs.Naming.{lineFrom, lineWith}
-use Rattle.texts.proofs.Named.{part_of, line-past, line-found, line-next, name-missing, name-found}
+use Rattle.texts.specs.Naming.{line_from, line_with}
+use Rattle.texts.proofs.Named.{part_of, line_past, line_found, line_next, name_missing, name_found}
 use Rattle.texts.proofs.Ends.{place_found}
 use Rattle.naming.proofs.find.Statement.{statement}
 use Rattle.naming.proofs.find.Tie as tie
 
 abbrev invariant-loop : tie.invariant-loop
-invariant-loop text n i₀ i = (i ≤ length text) × (lineWith text n ≡ lineFrom n i (split 10 (drop i text)))
+invariant-loop text n i₀ i = (i ≤ length text) × (line_with text n ≡ line_from n i (split 10 (drop i text)))
 
 abbrev decreases-loop : tie.decreases-loop
 decreases-loop text n i₀ i = length text - i
@@ -65,8 +65,8 @@ returns c =
     let z = c.before.before.before.before.before.before.before.cut.result in
     let p = c.before.before.part.result in
     let h = c.before.before.part.ensures in
-    let line = c.before.before.before.before.before.before.before.before.before.before.loop.invariant.1 ∙ line-found c.before.before.before.before.before.before.before.before.before.before.before.before.args.n s i e z c.before.before.before.before.before.before.before.before.find-byte.ensures.1.1 c.before.before.before.before.before.before.before.cut.ensures.1.1 (sym c.before.before.before.before.before.leads.ensures ∙ c.before.before.before.before.if1.true) in
-    (omega (arith, h.0), (omega (arith, h.0, h.1.0, length-take (z - i) (drop i s), length-drop i s, c.before.before.before.before.before.before.before.cut.ensures.0, c.before.before.before.before.before.before.before.cut.ensures.1.0, c.before.before.before.before.before.before.before.before.find-byte.ensures.1.0), (part_of s i z p.from p.to c.before.before.before.before.before.before.before.cut.ensures.0 (omega (arith, c.before.before.before.before.before.before.before.cut.ensures.1.0, c.before.before.before.before.before.before.before.before.find-byte.ensures.1.0)) h.1.0 ∙ (h.1.1.0 ∙ sym (name-found s c.before.before.before.before.before.before.before.before.before.before.before.before.args.n i (take (e - i) (drop i s)) (take (z - i) (drop i s)) line c.before.before.before.before.before.before.before.cut.ensures.1.1)), place_found s c.before.before.before.before.before.before.before.before.before.before.before.before.args.n i (take (e - i) (drop i s)) (take (z - i) (drop i s)) p.from p.to line c.before.before.before.before.before.before.before.cut.ensures.1.1 h.1.0 h.1.1.0 h.1.1.1)))
+    let line = c.before.before.before.before.before.before.before.before.before.before.loop.invariant.1 ∙ line_found c.before.before.before.before.before.before.before.before.before.before.before.before.args.n s i e z c.before.before.before.before.before.before.before.before.find-byte.ensures.1.1 c.before.before.before.before.before.before.before.cut.ensures.1.1 (sym c.before.before.before.before.before.leads.ensures ∙ c.before.before.before.before.if1.true) in
+    (omega (arith, h.0), (omega (arith, h.0, h.1.0, length-take (z - i) (drop i s), length-drop i s, c.before.before.before.before.before.before.before.cut.ensures.0, c.before.before.before.before.before.before.before.cut.ensures.1.0, c.before.before.before.before.before.before.before.before.find-byte.ensures.1.0), (part_of s i z p.from p.to c.before.before.before.before.before.before.before.cut.ensures.0 (omega (arith, c.before.before.before.before.before.before.before.cut.ensures.1.0, c.before.before.before.before.before.before.before.before.find-byte.ensures.1.0)) h.1.0 ∙ (h.1.1.0 ∙ sym (name_found s c.before.before.before.before.before.before.before.before.before.before.before.before.args.n i (take (e - i) (drop i s)) (take (z - i) (drop i s)) line c.before.before.before.before.before.before.before.cut.ensures.1.1)), place_found s c.before.before.before.before.before.before.before.before.before.before.before.before.args.n i (take (e - i) (drop i s)) (take (z - i) (drop i s)) p.from p.to line c.before.before.before.before.before.before.before.cut.ensures.1.1 h.1.0 h.1.1.0 h.1.1.1)))
 
 after-requires : tie.Need-after-requires invariant-loop decreases-loop
 after-requires c κs = tt
@@ -75,11 +75,11 @@ loop-less : tie.Need-loop-smaller invariant-loop decreases-loop
 loop-less c = omega (arith, c.after.ensures, c.before.before.before.before.before.find-byte.ensures.0, c.before.before.before.before.before.before.loop-test.true)
 
 loop-again : tie.Need-loop-preserved invariant-loop decreases-loop
-loop-again c = (omega (arith, c.after.ensures), c.before.before.before.before.before.before.before.loop.invariant.1 ∙ line-next c.before.before.before.before.before.before.before.before.before.args.n c.before.before.before.before.before.before.before.before.before.args.text.now c.before.before.before.before.before.before.before.loop.i c.before.before.before.before.before.find-byte.result c.before.before.before.before.cut.result c.before.before.before.before.before.find-byte.ensures.1.1 c.before.before.before.before.cut.ensures.1.1 c.after.result c.before.before.before.before.before.find-byte.ensures.1.0 c.after.ensures (sym c.before.before.leads.ensures ∙ c.before.if1.false))
+loop-again c = (omega (arith, c.after.ensures), c.before.before.before.before.before.before.before.loop.invariant.1 ∙ line_next c.before.before.before.before.before.before.before.before.before.args.n c.before.before.before.before.before.before.before.before.before.args.text.now c.before.before.before.before.before.before.before.loop.i c.before.before.before.before.before.find-byte.result c.before.before.before.before.cut.result c.before.before.before.before.before.find-byte.ensures.1.1 c.before.before.before.before.cut.ensures.1.1 c.after.result c.before.before.before.before.before.find-byte.ensures.1.0 c.after.ensures (sym c.before.before.leads.ensures ∙ c.before.if1.false))
 
 returns-2 : tie.Need-returns-2 invariant-loop decreases-loop
 returns-2 c =
-    let e = name-missing c.before.before.before.args.text.now c.before.before.before.args.n (c.before.loop.invariant.1 ∙ line-past c.before.before.before.args.n c.before.before.before.args.text.now c.before.loop.i c.loop-test.false) in
+    let e = name_missing c.before.before.before.args.text.now c.before.before.before.args.n (c.before.loop.invariant.1 ∙ line_past c.before.before.before.args.n c.before.before.before.args.text.now c.before.loop.i c.loop-test.false) in
     (search rules, (search rules, (sym e, λ h. absurd (omega (arith, ap length e)))))
 
 pub find_spec : {M : Type 1} → statement M

@@ -3,7 +3,7 @@ use Prim.Native.Nat.{zero-le}
 use native.Mathlib.Omega.{arith}
 use mathlib.Core.Path.{sym, ap, ◌∙◌}
 use Rattle.texts.specs.Naming.{leads}
-use Rattle.texts.proofs.Places.{no-token, next-token}
+use Rattle.texts.proofs.Places.{no_token, next_token}
 use Rattle.naming.proofs.leads.Statement.{statement}
 use Rattle.naming.proofs.leads.Tie as tie
 
@@ -11,7 +11,7 @@ skip-requires : tie.Need-skip-requires
 skip-requires c κs = zero-le
 
 returns : tie.Need-returns
-returns c = sym (ap (leads c.before.before.before.args.n) (sym c.before.skip.ensures.1.1.0 ∙ no-token c.before.before.before.args.l.now c.before.skip.result (omega arith)))
+returns c = sym (ap (leads c.before.before.before.args.n) (sym c.before.skip.ensures.1.1.0 ∙ no_token c.before.before.before.args.l.now c.before.skip.result (omega arith)))
 
 find-byte-requires : tie.Need-find-byte-requires
 find-byte-requires c κs = c.before.skip.ensures.1.0
@@ -29,7 +29,7 @@ is-id-requires : tie.Need-is-id-requires
 is-id-requires c κs = tt
 
 returns-2 : tie.Need-returns-2
-returns-2 c = c.is-id.ensures ∙ sym (ap (leads c.before.before.before.before.before.before.args.n) (sym c.before.before.before.before.skip.ensures.1.1.0 ∙ next-token c.before.before.before.before.before.before.args.l.now c.before.before.before.before.skip.result c.before.before.find-byte.result (omega arith) (c.before.before.before.before.skip.ensures.1.1.1 (omega arith)) c.before.before.find-byte.ensures.1.1))
+returns-2 c = c.is-id.ensures ∙ sym (ap (leads c.before.before.before.before.before.before.args.n) (sym c.before.before.before.before.skip.ensures.1.1.0 ∙ next_token c.before.before.before.before.before.before.args.l.now c.before.before.before.before.skip.result c.before.before.find-byte.result (omega arith) (c.before.before.before.before.skip.ensures.1.1.1 (omega arith)) c.before.before.find-byte.ensures.1.1))
 
 pub leads-spec : {M : Type 1} → statement M
 leads-spec =

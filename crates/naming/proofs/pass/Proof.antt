@@ -7,8 +7,8 @@ use mathlib.Core.List.{List, []}
 use lib.ListN.{length, take, drop}
 use lib.Seq.{drop-nil}
 use Rattle.texts.specs.Split.{tokens}
-use Rattle.texts.proofs.Places.{no-token, next-token}
-use Rattle.texts.proofs.Named.{pass-more, pass-none}
+use Rattle.texts.proofs.Places.{no_token, next_token}
+use Rattle.texts.proofs.Named.{pass_more, pass_none}
 use Rattle.naming.proofs.pass.Statement.{statement}
 use Rattle.naming.proofs.pass.Tie as tie
 
@@ -25,7 +25,7 @@ skip-requires : tie.Need-skip-requires invariant-loop decreases-loop
 skip-requires c κs = c.before.loop.invariant.1.0
 
 returns : tie.Need-returns invariant-loop decreases-loop
-returns c = let n : tokens (drop c.before.skip.result c.before.before.before.before.before.args.l.now) ≡ [] = no-token c.before.before.before.before.before.args.l.now c.before.skip.result (omega arith) in
+returns c = let n : tokens (drop c.before.skip.result c.before.before.before.before.before.args.l.now) ≡ [] = no_token c.before.before.before.before.before.args.l.now c.before.skip.result (omega arith) in
     (search rules, n ∙ sym (c.before.before.before.loop.invariant.1.1 ∙ (ap (λ (ts : List (List ℕ)). drop (c.before.before.before.before.before.args.m - c.before.before.before.loop.p) ts) (sym c.before.skip.ensures.1.1.0 ∙ n) ∙ drop-nil (c.before.before.before.before.before.args.m - c.before.before.before.loop.p))))
 
 find-byte-requires : tie.Need-find-byte-requires invariant-loop decreases-loop
@@ -38,10 +38,10 @@ loop-less : tie.Need-loop-smaller invariant-loop decreases-loop
 loop-less c = omega (arith, c.before.before.before.loop-test.true)
 
 loop-again : tie.Need-loop-preserved invariant-loop decreases-loop
-loop-again c = (omega (arith, c.before.before.before.loop-test.true), (c.find-byte.ensures.1.0, c.before.before.before.before.loop.invariant.1.1 ∙ (ap (λ (ts : List (List ℕ)). drop (c.before.before.before.before.before.before.args.m - c.before.before.before.before.loop.p) ts) (sym c.before.before.skip.ensures.1.1.0 ∙ next-token c.before.before.before.before.before.before.args.l.now c.before.before.skip.result c.find-byte.result (omega arith) (c.before.before.skip.ensures.1.1.1 (omega arith)) c.find-byte.ensures.1.1) ∙ pass-more c.before.before.before.before.before.before.args.m c.before.before.before.before.loop.p (take (c.find-byte.result - c.before.before.skip.result) (drop c.before.before.skip.result c.before.before.before.before.before.before.args.l.now)) (tokens (drop c.find-byte.result c.before.before.before.before.before.before.args.l.now)) c.before.before.before.loop-test.true)))
+loop-again c = (omega (arith, c.before.before.before.loop-test.true), (c.find-byte.ensures.1.0, c.before.before.before.before.loop.invariant.1.1 ∙ (ap (λ (ts : List (List ℕ)). drop (c.before.before.before.before.before.before.args.m - c.before.before.before.before.loop.p) ts) (sym c.before.before.skip.ensures.1.1.0 ∙ next_token c.before.before.before.before.before.before.args.l.now c.before.before.skip.result c.find-byte.result (omega arith) (c.before.before.skip.ensures.1.1.1 (omega arith)) c.find-byte.ensures.1.1) ∙ pass_more c.before.before.before.before.before.before.args.m c.before.before.before.before.loop.p (take (c.find-byte.result - c.before.before.skip.result) (drop c.before.before.skip.result c.before.before.before.before.before.before.args.l.now)) (tokens (drop c.find-byte.result c.before.before.before.before.before.before.args.l.now)) c.before.before.before.loop-test.true)))
 
 returns-2 : tie.Need-returns-2 invariant-loop decreases-loop
-returns-2 c = (c.before.loop.invariant.1.0, sym (c.before.loop.invariant.1.1 ∙ pass-none c.before.before.before.args.m c.before.loop.p (tokens (drop c.before.loop.at c.before.before.before.args.l.now)) c.loop-test.false))
+returns-2 c = (c.before.loop.invariant.1.0, sym (c.before.loop.invariant.1.1 ∙ pass_none c.before.before.before.args.m c.before.loop.p (tokens (drop c.before.loop.at c.before.before.before.args.l.now)) c.loop-test.false))
 
 pub pass_spec : {M : Type 1} → statement M
 pass_spec =

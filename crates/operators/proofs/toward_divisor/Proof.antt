@@ -2,9 +2,9 @@
 use Rattle.std.proofs.Common.{◌≡◌, Bool, true, false, cond, ℤ, pos, ◌+ℤ◌, sym, ap, ◌∙◌, ap₂, to_z-of_z, w64, SFits, of_z}
 use lib.Signed.{le_z}
 use mir.Facts.{sfits_to_z, Fits-of_z}
-use Rattle.words.specs.Word.{towardDivisor}
+use Rattle.words.specs.Word.{toward_divisor}
 use Rattle.words.proofs.Signed.{back}
-use Rattle.words.proofs.Divide.{is, sum_fits, toward-same, toward-other}
+use Rattle.words.proofs.Divide.{is, sum_fits, toward_same, toward_other}
 use Rattle.operators.proofs.toward_divisor.Statement.{statement}
 use Rattle.operators.proofs.toward_divisor.Tie as tie
 
@@ -12,12 +12,12 @@ module _ (r d : ℤ) (fr : SFits w64 r) (fd : SFits w64 d) where
   fits : (t : Bool) → le_z (pos 0) (back r) ≡ t → le_z (pos 0) (back d) ≡ cond t false true → SFits w64 (back r +ℤ back d)
   fits t e f = sum_fits (back r) (back d) t (sfits_to_z (Fits-of_z fr)) (sfits_to_z (Fits-of_z fd)) e f
 
-  same : (t : Bool) → le_z (pos 0) (back r) ≡ t → le_z (pos 0) (back d) ≡ t → back r ≡ towardDivisor r d
-  same t e f = sym (toward-same (back r) (back d) t e f) ∙ ap₂ towardDivisor (to_z-of_z fr) (to_z-of_z fd)
+  same : (t : Bool) → le_z (pos 0) (back r) ≡ t → le_z (pos 0) (back d) ≡ t → back r ≡ toward_divisor r d
+  same t e f = sym (toward_same (back r) (back d) t e f) ∙ ap₂ toward_divisor (to_z-of_z fr) (to_z-of_z fd)
 
-  other : (t : Bool) → (of_z w64 r ≡ 0 → ⊥) → le_z (pos 0) (back r) ≡ t → le_z (pos 0) (back d) ≡ cond t false true → back (back r +ℤ back d) ≡ towardDivisor r d
+  other : (t : Bool) → (of_z w64 r ≡ 0 → ⊥) → le_z (pos 0) (back r) ≡ t → le_z (pos 0) (back d) ≡ cond t false true → back (back r +ℤ back d) ≡ toward_divisor r d
   other t g e f =
-      to_z-of_z (fits t e f) ∙ sym (toward-other (back r) (back d) t (λ p. g (ap (of_z w64) (sym (to_z-of_z fr) ∙ p))) e f) ∙ ap₂ towardDivisor (to_z-of_z fr) (to_z-of_z fd)
+      to_z-of_z (fits t e f) ∙ sym (toward_other (back r) (back d) t (λ p. g (ap (of_z w64) (sym (to_z-of_z fr) ∙ p))) e f) ∙ ap₂ toward_divisor (to_z-of_z fr) (to_z-of_z fd)
 
 add-result : tie.Need-overflow-add-result
 add-result c = fits c.before.before.before.args.r c.before.before.before.args.d c.before.before.before.ranges.r c.before.before.before.ranges.d true c.before.if2.true c.if3.false
@@ -26,7 +26,7 @@ add-result-2 : tie.Need-overflow-add-result-2
 add-result-2 c = fits c.before.before.before.args.r c.before.before.before.args.d c.before.before.before.ranges.r c.before.before.before.ranges.d false c.before.if2.false c.if4.true
 
 returns : tie.Need-returns
-returns c = to_z-of_z c.before.ranges.r ∙ is c.before.args.r 0 c.before.ranges.r c.if1.true ∙ sym (ap (λ (z : ℤ). towardDivisor z c.before.args.d) (is c.before.args.r 0 c.before.ranges.r c.if1.true))
+returns c = to_z-of_z c.before.ranges.r ∙ is c.before.args.r 0 c.before.ranges.r c.if1.true ∙ sym (ap (λ (z : ℤ). toward_divisor z c.before.args.d) (is c.before.args.r 0 c.before.ranges.r c.if1.true))
 
 returns-2 : tie.Need-returns-2
 returns-2 c = same c.before.before.before.args.r c.before.before.before.args.d c.before.before.before.ranges.r c.before.before.before.ranges.d true c.before.if2.true c.if3.true

@@ -4,8 +4,8 @@ use mathlib.Core.Path.{sym, subst}
 use mathlib.Core.Bool.{Bool}
 use mathlib.Core.Logic.{⊎_elim}
 use borrow.Author.Rules.{rules}
-use Rattle.programs.proofs.Keeping.{held-here}
-use Rattle.programs.proofs.Marking.{Looked, array-start, array-found, array-further, array-end}
+use Rattle.programs.proofs.Keeping.{held_here}
+use Rattle.programs.proofs.Marking.{Looked, array_start, array_found, array_further, array_end}
 use Rattle.passes.proofs.has_array.Statement.{statement}
 use Rattle.passes.proofs.has_array.Tie as tie
 
@@ -16,10 +16,10 @@ abbrev decreases-loop : tie.decreases-loop
 decreases-loop table count found₀ i₀ found i = count - i
 
 loop-holds : tie.Need-loop-init invariant-loop decreases-loop
-loop-holds c = array-start c.before.args.table.now c.before.args.count
+loop-holds c = array_start c.before.args.table.now c.before.args.count
 
 kind-requires : tie.Need-kind-requires invariant-loop decreases-loop
-kind-requires c κs = let p = c.before.before.before in held-here p.args.table.now p.args.count c.before.loop.i p.requires c.loop-test.true
+kind-requires c κs = let p = c.before.before.before in held_here p.args.table.now p.args.count c.before.loop.i p.requires c.loop-test.true
 
 add-i : tie.Need-overflow-add-i invariant-loop decreases-loop
 add-i c = search rules
@@ -35,12 +35,12 @@ loop-again c =
     let t = c.before.before.loop-test.true in
     let so : Bool → Type 0 = λ (b : Bool). Looked s.args.table.now s.args.count (l.i + 1) b in
     ⊎_elim
-    (λ w. subst so (sym w.1) (array-found l.invariant s.requires k.result t k.ensures w.0.taken))
-    (λ w. subst so (sym w.1) (array-further l.invariant s.requires k.result t k.ensures w.0.left))
+    (λ w. subst so (sym w.1) (array_found l.invariant s.requires k.result t k.ensures w.0.taken))
+    (λ w. subst so (sym w.1) (array_further l.invariant s.requires k.result t k.ensures w.0.left))
     c.if1.branch
 
 returns : tie.Need-returns invariant-loop decreases-loop
-returns c = array-end c.before.loop.invariant c.loop-test.false
+returns c = array_end c.before.loop.invariant c.loop-test.false
 
 pub has-array-spec : {M : Type 1} → statement M
 has-array-spec =

@@ -2,7 +2,7 @@
 use lib.ListN.{get_or}
 use mathlib.Core.Bool.{false}
 use mathlib.Core.Path.{refl}
-use Rattle.circuits.proofs.Fitting.{op-as, fit-as}
+use Rattle.circuits.proofs.Fitting.{op_as, fit_as}
 use borrow.Author.Rules.{rules}
 use Rattle.peek_values.proofs.binary.Statement.{statement}
 use Rattle.peek_values.proofs.binary.Tie as tie
@@ -26,10 +26,10 @@ array-read-word : tie.Need-array-read-word
 array-read-word c = search rules
 
 word-requires : tie.Need-word-requires
-word-requires c κs = fit-as c.before.before.width.ensures c.before.width2.ensures c.width3.ensures refl refl c.before.before.before.requires.1.1.1
+word-requires c κs = fit_as c.before.before.width.ensures c.before.width2.ensures c.width3.ensures refl refl c.before.before.before.requires.1.1.1
 
 returns : tie.Need-returns
-returns c = op-as false (get_or c.before.before.before.before.args.t1 0 0) 0 c.word.ensures c.before.before.width2.ensures c.before.width3.ensures refl refl
+returns c = op_as false (get_or c.before.before.before.before.args.t1 0 0) 0 c.word.ensures c.before.before.width2.ensures c.before.width3.ensures refl refl
 
 pub binary-spec : {M : Type 1} → statement M
 binary-spec =

@@ -2,7 +2,7 @@
 use mathlib.Core.Path.{sym, ◌∙◌}
 use native.Mathlib.Omega.{arith}
 use Rattle.tables.proofs.Checking.{fresh}
-use Rattle.peeks.proofs.Seen.{peek-refused, peek-lent}
+use Rattle.peeks.proofs.Seen.{peek_refused, peek_lent}
 use borrow.Author.Rules.{rules}
 use Rattle.peeking.proofs.peek.Statement.{statement}
 use Rattle.peeking.proofs.peek.Tie as tie
@@ -18,7 +18,7 @@ enum-known-r c = search rules
 
 returns : tie.Need-returns
 returns c = let a = c.before.before.before.before.before.before.before.before.before.args in
-    peek-refused a.table.now a.count a.line a.cell a.starts.now a.row.now (sym c.before.before.before.before.check.ensures.0 ∙ c.before.r.given.1)
+    peek_refused a.table.now a.count a.line a.cell a.starts.now a.row.now (sym c.before.before.before.before.check.ensures.0 ∙ c.before.r.given.1)
 
 enum_told : tie.Need-enum-told
 enum_told c = search rules
@@ -31,7 +31,7 @@ peek-checked-requires c κs = let e = c.before.enum_told.given.1 in record { acc
 
 returns-2 : tie.Need-returns-2
 returns-2 c = let a = c.before.before.before.before.before.before.before.before.before.before.args in
-    peek-lent a.table.now a.count a.line a.cell a.starts.now a.row.now (sym c.before.before.before.before.before.check.ensures.0 ∙ c.before.before.enum_told.given.1) c.peek-checked.ensures
+    peek_lent a.table.now a.count a.line a.cell a.starts.now a.row.now (sym c.before.before.before.before.before.check.ensures.0 ∙ c.before.before.enum_told.given.1) c.peek-checked.ensures
 
 pub peek_spec : {M : Type 1} → statement M
 peek_spec =

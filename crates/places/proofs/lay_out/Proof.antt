@@ -4,13 +4,13 @@ use mathlib.Core.Path.{refl, sym, ap, ◌∙◌}
 use native.Mathlib.Omega.{arith}
 use Rattle.tables.specs.declared.Ty.{Ty}
 use Rattle.tables.specs.Lines.{line_of}
-use Rattle.tables.specs.Layout.{recordAt}
-use Rattle.tables.proofs.Encoding.{fits-table}
+use Rattle.tables.specs.Layout.{record_at}
+use Rattle.tables.proofs.Encoding.{fits_table}
 use Rattle.circuits.specs.declared.Spot.{Spot}
 use Rattle.circuits.specs.declared.Totals.{Totals}
 use Rattle.circuits.specs.Layout.{size}
-use Rattle.circuits.specs.Model.Passes.{countsOf}
-use Rattle.circuits.proofs.Placing.{Sofar, begun, deep-here, small-here, free-small, further, laid, place-small}
+use Rattle.circuits.specs.Model.Passes.{counts_of}
+use Rattle.circuits.proofs.Placing.{Sofar, begun, deep_here, small_here, free_small, further, laid, place_small}
 use Rattle.places.proofs.lay_out.Statement.{statement}
 use Rattle.places.proofs.lay_out.Tie as tie
 
@@ -33,13 +33,13 @@ kind-requires : tie.Need-kind-requires invariant-loop decreases-loop
 kind-requires c κs =
     let s = c.before.before.before.before.before.before in
     let a = s.args in
-    omega (arith, (fits-table a.program a.table.now a.count s.requires.0.accepted).1, c.loop-test.true)
+    omega (arith, (fits_table a.program a.table.now a.count s.requires.0.accepted).1, c.loop-test.true)
 
 add-look : tie.Need-overflow-add-look invariant-loop decreases-loop
 add-look c =
     let s = c.before.before.before.before.before.before.before in
     let a = s.args in
-    omega (arith, (fits-table a.program a.table.now a.count s.requires.0.accepted).0, c.before.loop-test.true)
+    omega (arith, (fits_table a.program a.table.now a.count s.requires.0.accepted).0, c.before.loop-test.true)
 
 look-requires : tie.Need-look-requires invariant-loop decreases-loop
 look-requires c κs = tt
@@ -51,7 +51,7 @@ cells-of-requires c κs =
     omega (
       arith,
       ap (λ (y : Ty). y.iw) c.look.ensures,
-      deep-here a.program a.table.now a.count a.notes.now s.requires.0 c.before.before.before.loop.i c.before.before.loop-test.true,
+      deep_here a.program a.table.now a.count a.notes.now s.requires.0 c.before.before.before.loop.i c.before.before.loop-test.true,
     )
 
 find-spot-requires : tie.Need-find-spot-requires invariant-loop decreases-loop
@@ -61,7 +61,7 @@ add-put-line : tie.Need-overflow-add-put-line invariant-loop decreases-loop
 add-put-line c =
     let s = c.before.before.before.before.before.before.before.before.before.before.before in
     let a = s.args in
-    omega (arith, (fits-table a.program a.table.now a.count s.requires.0.accepted).0, c.before.before.before.before.before.loop-test.true)
+    omega (arith, (fits_table a.program a.table.now a.count s.requires.0.accepted).0, c.before.before.before.before.before.loop-test.true)
 
 put-line-requires-2 : tie.Need-put-line-requires-2 invariant-loop decreases-loop
 put-line-requires-2 c κs =
@@ -69,11 +69,11 @@ put-line-requires-2 c κs =
     let a = s.args in
     let l = c.before.before.before.before.before.before.loop in
     let t = c.before.before.before.before.before.loop-test.true in
-    let r = recordAt a.program a.table.now l.i in
+    let r = record_at a.program a.table.now l.i in
     let e = c.before.find-spot.ensures r c.before.before.before.before.kind.ensures in
-    let q = small-here a.program a.table.now a.count a.notes.now s.requires.0 l.i t l.invariant (c.before.before.cells-of.ensures ∙ ap size c.before.before.before.look.ensures) in
-    let b = place-small (countsOf l.t) _ (line_of r) q.0 in
-    let f = (fits-table a.program a.table.now a.count s.requires.0.accepted).0 in
+    let q = small_here a.program a.table.now a.count a.notes.now s.requires.0 l.i t l.invariant (c.before.before.cells-of.ensures ∙ ap size c.before.before.before.look.ensures) in
+    let b = place_small (counts_of l.t) _ (line_of r) q.0 in
+    let f = (fits_table a.program a.table.now a.count s.requires.0.accepted).0 in
     (omega (arith, l.invariant.long), (omega (arith, ap (λ (x : Spot). x.off) e, b.0), (omega (arith, ap (λ (x : Spot). x.at) e, b.1), omega (arith, q.1))))
 
 count-line-requires : tie.Need-count-line-requires invariant-loop decreases-loop
@@ -81,14 +81,14 @@ count-line-requires c κs =
     let s = c.before.before.before.before.before.before.before.before.before.before.before.before.before in
     let a = s.args in
     let l = c.before.before.before.before.before.before.before.before.loop in
-    (small-here a.program a.table.now a.count a.notes.now s.requires.0 l.i c.before.before.before.before.before.before.before.loop-test.true l.invariant
+    (small_here a.program a.table.now a.count a.notes.now s.requires.0 l.i c.before.before.before.before.before.before.before.loop-test.true l.invariant
     (c.before.before.before.before.cells-of.ensures ∙ ap size c.before.before.before.before.before.look.ensures)).0
 
 add-count-free : tie.Need-overflow-add-count-free invariant-loop decreases-loop
 add-count-free c =
     let s = c.before.before.before.before.before.before.before.before.before.before.before.before.before.before in
     let a = s.args in
-    omega (arith, (fits-table a.program a.table.now a.count s.requires.0.accepted).0, c.before.before.before.before.before.before.before.before.loop-test.true)
+    omega (arith, (fits_table a.program a.table.now a.count s.requires.0.accepted).0, c.before.before.before.before.before.before.before.before.loop-test.true)
 
 count-free-requires : tie.Need-count-free-requires invariant-loop decreases-loop
 count-free-requires c κs =
@@ -96,16 +96,16 @@ count-free-requires c κs =
     let a = s.args in
     let l = c.before.before.before.before.before.before.before.before.before.loop in
     let h = c.before.before.before.before.before.before.before.before.loop-test.true in
-    let r = recordAt a.program a.table.now l.i in
+    let r = record_at a.program a.table.now l.i in
     let e = ap (λ (x : Totals). x.free) (c.count-line.ensures r c.before.before.before.before.before.before.before.kind.ensures) in
-    let m = (small-here a.program a.table.now a.count a.notes.now s.requires.0 l.i h l.invariant (c.before.before.before.before.before.cells-of.ensures ∙ ap size c.before.before.before.before.before.before.look.ensures)).1 in
-    omega (arith, e, m, free-small a.program a.table.now a.count a.notes.now s.requires.0 l.i h l.invariant)
+    let m = (small_here a.program a.table.now a.count a.notes.now s.requires.0 l.i h l.invariant (c.before.before.before.before.before.cells-of.ensures ∙ ap size c.before.before.before.before.before.before.look.ensures)).1 in
+    omega (arith, e, m, free_small a.program a.table.now a.count a.notes.now s.requires.0 l.i h l.invariant)
 
 add-i : tie.Need-overflow-add-i invariant-loop decreases-loop
 add-i c =
     let s = c.before.before.before.before.before.before.before.before.before.before.before.before.before.before.before in
     let a = s.args in
-    omega (arith, (fits-table a.program a.table.now a.count s.requires.0.accepted).0, c.before.before.before.before.before.before.before.before.before.loop-test.true)
+    omega (arith, (fits_table a.program a.table.now a.count s.requires.0.accepted).0, c.before.before.before.before.before.before.before.before.before.loop-test.true)
 
 loop-less : tie.Need-loop-smaller invariant-loop decreases-loop
 loop-less c = let m = c.before.before.before.before.before.before.before.before.before.loop-test.true in omega arith
@@ -115,7 +115,7 @@ loop-again c =
     let s = c.before.before.before.before.before.before.before.before.before.before.before.before.before.before.before in
     let a = s.args in
     let l = c.before.before.before.before.before.before.before.before.before.before.loop in
-    let r = recordAt a.program a.table.now l.i in
+    let r = record_at a.program a.table.now l.i in
     let k = c.before.before.before.before.before.before.before.before.kind.ensures in
     further a.program a.table.now a.count a.notes.now s.requires.0 l.i c.before.before.before.before.before.before.before.before.before.loop-test.true {r = r} l.laid l.invariant refl
     c.before.before.before.before.before.before.before.look.ensures c.before.before.before.before.before.before.cells-of.ensures (c.before.before.before.before.before.find-spot.ensures r k) (c.before.count-line.ensures r k) c.before.before.before.put-line2.ensures

@@ -6,27 +6,27 @@ use Rattle.tables.specs.Pick.{pick}
 use Rattle.tables.specs.Lines.{Line, words_of}
 use Rattle.tables.specs.Layout.{held, lines_of, recorded, filled}
 use Rattle.tables.specs.Tables.{checked}
-use Rattle.tables.specs.Answers.{Outcome, told, fitting, leftBy}
-use Rattle.programs.specs.Uses.{hasNeedingUse}
+use Rattle.tables.specs.Answers.{Outcome, told, fitting, left_by}
+use Rattle.programs.specs.Uses.{has_needing_use}
 use Rattle.programs.specs.Answers.{program_of}
-use Rattle.programs.specs.Model.Kinds.{flagAt}
-use Rattle.programs.specs.Model.Records.{maskRecord}
+use Rattle.programs.specs.Model.Kinds.{flag_at}
+use Rattle.programs.specs.Model.Records.{mask_record}
 
 -- the marks are at the lines that have a needing use
 pub record Needing (F : List Line) (ms : List ℕ) : Type 0 where
   pub size : length ms ≡ 16385
-  pub at : (i : ℕ) → i < 16385 → flagAt ms i ≡ hasNeedingUse F i
+  pub at : (i : ℕ) → i < 16385 → flag_at ms i ≡ has_needing_use F i
 
 -- lists of zeros, with more entries than there are lines
 pub record Zeroed (n : ℕ) (wd num lo : List ℕ) : Type 0 where
   pub wide : n < length wd
-  pub no-wd : wd ≡ replicate (length wd) 0
-  pub no-num : num ≡ replicate (length wd) 0
-  pub no-lo : lo ≡ replicate (length wd) 0
+  pub no_wd : wd ≡ replicate (length wd) 0
+  pub no_num : num ≡ replicate (length wd) 0
+  pub no_lo : lo ≡ replicate (length wd) 0
 
 -- a target with the e instructions of a line in it: the instruction i, of width w, at the number b, and its mask
-abbrev pub emittedTo : (e : ℕ) (i : List ℕ) (w b : ℕ) → List ℕ → List ℕ
-emittedTo e i w b t = pick (eqb e 0) t (pick (eqb e 2) (recorded true (recorded true t (b - 1) i) b (maskRecord w b)) (recorded true t (b - 1) i))
+abbrev pub emitted_to : (e : ℕ) (i : List ℕ) (w b : ℕ) → List ℕ → List ℕ
+emitted_to e i w b t = pick (eqb e 0) t (pick (eqb e 2) (recorded true (recorded true t (b - 1) i) b (mask_record w b)) (recorded true t (b - 1) i))
 
 -- the table is accepted, and the marks are those of its lines
 pub record Prepared (t : List ℕ) (n : ℕ) (ms : List ℕ) : Type 0 where
@@ -40,13 +40,13 @@ pub record Fitted (t : List ℕ) (n : ℕ) (ms target : List ℕ) : Type 0 where
   pub fits : length (program_of t n) ≤ held true (length target)
 
 -- a list of len words that holds the program
-abbrev pub programIn : (t : List ℕ) (n len : ℕ) → List ℕ
-programIn t n len = filled true len (map words_of (program_of t n))
+abbrev pub program_in : (t : List ℕ) (n len : ℕ) → List ℕ
+program_in t n len = filled true len (map words_of (program_of t n))
 
 -- the outcome where a is answered
-abbrev pub outcomeFor : Answer → (t : List ℕ) (n len : ℕ) → Outcome
-outcomeFor a t n len = told a (leftBy a len (filled true len (map words_of (program_of t n))) ∷ [])
+abbrev pub outcome_for : Answer → (t : List ℕ) (n len : ℕ) → Outcome
+outcome_for a t n len = told a (left_by a len (filled true len (map words_of (program_of t n))) ∷ [])
 
 -- and where only the target's room is in question
 abbrev pub makes : (t : List ℕ) (n len : ℕ) → Outcome
-makes t n len = outcomeFor (fitting true (length (program_of t n)) len) t n len
+makes t n len = outcome_for (fitting true (length (program_of t n)) len) t n len

@@ -1,6 +1,6 @@
 -- A list with room for the names of the text. Assumes nothing.
 use native.Mathlib.Omega.{arith}
-use Rattle.texts.proofs.KeptNames.{clear-names}
+use Rattle.texts.proofs.KeptNames.{clear_names}
 use borrow.Author.Rules.{rules}
 use Rattle.reading.proofs.with_room.Statement.{statement}
 use Rattle.reading.proofs.with_room.Tie as tie
@@ -11,7 +11,7 @@ slice-aggregate-read-lines c = search rules
 read-lines-requires : tie.Need-read-lines-requires
 read-lines-requires c κs =
     let p = c.before.before.before.before.before.before.requires in
-    (p.0, (p.1.0, (p.1.1.0, (p.1.1.1.0, (p.1.1.1.1, clear-names 1409 c.before.before.before.before.before.before.args.text.now (omega (arith, c.before.before.before.if1.true)))))))
+    (p.0, (p.1.0, (p.1.1.0, (p.1.1.1.0, (p.1.1.1.1, clear_names 1409 c.before.before.before.before.before.before.args.text.now (omega (arith, c.before.before.before.if1.true)))))))
 
 same_length : tie.Need-same-length
 same_length c = search rules
@@ -28,7 +28,7 @@ slice-aggregate-read-lines-2 c = search rules
 read-lines-requires-2 : tie.Need-read-lines-requires-2
 read-lines-requires-2 c κs =
     let p = c.before.before.before.before.before.before.before.requires in
-    (p.0, (p.1.0, (p.1.1.0, (p.1.1.1.0, (p.1.1.1.1, clear-names 2561 c.before.before.before.before.before.before.before.args.text.now (omega (arith, c.before.before.before.if2.true)))))))
+    (p.0, (p.1.0, (p.1.1.0, (p.1.1.1.0, (p.1.1.1.1, clear_names 2561 c.before.before.before.before.before.before.before.args.text.now (omega (arith, c.before.before.before.if2.true)))))))
 
 same-length-3 : tie.Need-same-length-3
 same-length-3 c = search rules
@@ -45,7 +45,7 @@ slice-aggregate-read-lines-3 c = search rules
 read-lines-requires-3 : tie.Need-read-lines-requires-3
 read-lines-requires-3 c κs =
     let p = c.before.before.before.before.before.before.before.before.requires in
-    (p.0, (p.1.0, (p.1.1.0, (p.1.1.1.0, (p.1.1.1.1, clear-names 7169 c.before.before.before.before.before.before.before.before.args.text.now (omega (arith, c.before.before.before.if3.true)))))))
+    (p.0, (p.1.0, (p.1.1.0, (p.1.1.1.0, (p.1.1.1.1, clear_names 7169 c.before.before.before.before.before.before.before.before.args.text.now (omega (arith, c.before.before.before.if3.true)))))))
 
 same-length-5 : tie.Need-same-length-5
 same-length-5 c = search rules
@@ -62,7 +62,7 @@ slice-aggregate-read-lines-4 c = search rules
 read-lines-requires-4 : tie.Need-read-lines-requires-4
 read-lines-requires-4 c κs =
     let p = c.before.before.before.before.before.before.before.before.requires in
-    (p.0, (p.1.0, (p.1.1.0, (p.1.1.1.0, (p.1.1.1.1, clear-names 25602 c.before.before.before.before.before.before.before.before.args.text.now (omega (arith, p.0)))))))
+    (p.0, (p.1.0, (p.1.1.0, (p.1.1.1.0, (p.1.1.1.1, clear_names 25602 c.before.before.before.before.before.before.before.before.args.text.now (omega (arith, p.0)))))))
 
 same-length-7 : tie.Need-same-length-7
 same-length-7 c = search rules

@@ -3,7 +3,7 @@ use Prim.Native.Nat.{ℕ, ◌%◌}
 use mathlib.Core.Path.{ap}
 use native.Mathlib.Omega.{arith}
 use lib.Dec.{eqb}
-use Rattle.tables.proofs.Layouts.{words-in}
+use Rattle.tables.proofs.Layouts.{words_in}
 use borrow.Author.Rules.{rules}
 use Rattle.records.proofs.is_table.Statement.{statement}
 use Rattle.records.proofs.is_table.Tie as tie
@@ -12,7 +12,7 @@ size-requires : tie.Need-size-requires
 size-requires c κs = search rules
 
 rem-result : tie.Need-nonzero-rem-result
-rem-result c = omega (arith, c.size.ensures, words-in c.before.args.program)
+rem-result c = omega (arith, c.size.ensures, words_in c.before.args.program)
 
 returns : tie.Need-returns
 returns c = ap (λ (n : ℕ). eqb (c.before.args.len % n) 0) c.size.ensures

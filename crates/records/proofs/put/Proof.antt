@@ -6,20 +6,20 @@ use mathlib.Core.Bool.{Bool}
 use mathlib.Core.List.{List}
 use native.Mathlib.Omega.{arith}
 use lib.ListN.{length, get_or, set, take, length-set}
-use Rattle.tables.specs.Layout.{setWords}
-use Rattle.tables.proofs.Layouts.{words-in}
-use Rattle.records.proofs.Columns.{Stepped, word-inside, set_next, row_put}
+use Rattle.tables.specs.Layout.{set_words}
+use Rattle.tables.proofs.Layouts.{words_in}
+use Rattle.records.proofs.Columns.{Stepped, word_inside, set_next, row_put}
 use Rattle.records.proofs.put.Statement.{statement}
 use Rattle.records.proofs.put.Tie as tie
 
 abbrev invariant-loop : tie.invariant-loop
-invariant-loop program table₀ i rec h j₀ table j = (j ≤ 5) × ((length rec ≡ 5) × ((length table ≡ length table₀) × (table ≡ setWords (λ (k : ℕ). h * k + i) table₀ 0 (take j rec))))
+invariant-loop program table₀ i rec h j₀ table j = (j ≤ 5) × ((length rec ≡ 5) × ((length table ≡ length table₀) × (table ≡ set_words (λ (k : ℕ). h * k + i) table₀ 0 (take j rec))))
 
 abbrev decreases-loop : tie.decreases-loop
 decreases-loop program table₀ i rec h j₀ table j = 5 - j
 
 place : (p : Bool) (t : List ℕ) (h i j : ℕ) → Stepped p t h i → j < 5 → h * j + i < length t
-place p t h i j q a = word-inside p t h i j q (omega (arith, words-in p))
+place p t h i j q a = word_inside p t h i j q (omega (arith, words_in p))
 
 step-requires : tie.Need-step-requires invariant-loop decreases-loop
 step-requires c κs = tt
@@ -91,7 +91,7 @@ returns c =
     let l = c.before.loop in
     let z = c.before.before.step in
     let past : l.j ≡ 5 = omega arith in
-    l.invariant.1.1.1 ∙ ap (λ (k : ℕ). setWords (λ (m : ℕ). z.result * m + a.i) a.table.now 0 (take k a.t4)) past
+    l.invariant.1.1.1 ∙ ap (λ (k : ℕ). set_words (λ (m : ℕ). z.result * m + a.i) a.table.now 0 (take k a.t4)) past
     ∙ row_put a.program a.table.now a.t4 z.result a.i z.ensures l.invariant.1.0
 
 pub put_spec : {M : Type 1} → statement M

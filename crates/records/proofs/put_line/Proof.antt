@@ -6,8 +6,8 @@ use mathlib.Core.Bool.{false}
 use mathlib.Core.List.{List}
 use lib.ListN.{length, set}
 use Rattle.tables.specs.Layout.{step_of}
-use Rattle.tables.proofs.Places.{length-recorded}
-use Rattle.records.proofs.Columns.{row-id}
+use Rattle.tables.proofs.Places.{length_recorded}
+use Rattle.records.proofs.Columns.{row_id}
 use Rattle.records.proofs.put_line.Statement.{statement}
 use Rattle.records.proofs.put_line.Tie as tie
 
@@ -37,8 +37,8 @@ returns c =
     let a = c.before.before.before.before.before.before.args in
     let q = c.before.before.before.put.ensures in
     let h = c.step.result in
-    let e = c.step.ensures ∙ ap (λ (t : List ℕ). step_of false (length t)) q ∙ ap (step_of false) (length-recorded false a.table.now a.i a.rec) in
-    ap (λ (t : List ℕ). set t (5 * h + a.i) a.id) q ∙ row-id a.table.now a.rec h a.i a.id e (search rules)
+    let e = c.step.ensures ∙ ap (λ (t : List ℕ). step_of false (length t)) q ∙ ap (step_of false) (length_recorded false a.table.now a.i a.rec) in
+    ap (λ (t : List ℕ). set t (5 * h + a.i) a.id) q ∙ row_id a.table.now a.rec h a.i a.id e (search rules)
 
 pub put-line-spec : {M : Type 1} → statement M
 put-line-spec =

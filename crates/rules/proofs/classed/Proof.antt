@@ -1,6 +1,6 @@
 use mathlib.Core.Path.{sym, ◌∙◌}
 use borrow.Author.Tests.{not-true, not-false}
-use Rattle.tables.proofs.Laws.{and-true}
+use Rattle.tables.proofs.Laws.{and_true}
 use borrow.Author.Rules.{rules}
 use Rattle.rules.proofs.classed.Statement.{statement}
 use Rattle.rules.proofs.classed.Tie as tie
@@ -39,7 +39,7 @@ suits-requires-4 : tie.Need-suits-requires-4
 suits-requires-4 c κs = tt
 
 returns-4 : tie.Need-returns-4
-returns-4 c = simp (sym c.before.before.before.before.before.before.suits.ensures ∙ not-false _ c.before.before.before.before.before.if1.false, sym c.before.before.before.before.suits2.ensures ∙ not-false _ c.before.before.before.if2.false, sym c.before.before.suits3.ensures ∙ not-false _ c.before.if3.false, and-true) c.suits4.ensures
+returns-4 c = simp (sym c.before.before.before.before.before.before.suits.ensures ∙ not-false _ c.before.before.before.before.before.if1.false, sym c.before.before.before.before.suits2.ensures ∙ not-false _ c.before.before.before.if2.false, sym c.before.before.suits3.ensures ∙ not-false _ c.before.if3.false, and_true) c.suits4.ensures
 
 pub classed-spec : {M : Type 1} → statement M
 classed-spec =

@@ -1,7 +1,7 @@
 use mathlib.Core.Path.{sym, ◌∙◌}
 use borrow.Author.Tests.{not-true, not-false}
-use Rattle.tables.specs.Model.Notes.{lookIn, givenIn}
-use Rattle.tables.proofs.Answers.{is-eight, is-nine, is-ten, is_none}
+use Rattle.tables.specs.Model.Notes.{look_in, given_in}
+use Rattle.tables.proofs.Answers.{is_eight, is_nine, is_ten, is_none}
 use borrow.Author.Rules.{rules}
 use Rattle.rules.proofs.fault.Statement.{statement}
 use Rattle.rules.proofs.fault.Tie as tie
@@ -34,22 +34,22 @@ classed-requires : tie.Need-classed-requires
 classed-requires c κs = tt
 
 returns : tie.Need-returns
-returns c = let s = c.before.before.before.before.before.before.args in is-eight s.program (lookIn s.notes.now) (givenIn s.notes.now) s.t3 s.row c.before.before.before.before.before.before.requires c.before.before.before.before.before.sort-at.ensures c.before.before.before.before.look.ensures c.before.before.before.look2.ensures c.before.before.look3.ensures (sym c.before.classed.ensures ∙ not-true _ c.if1.true)
+returns c = let s = c.before.before.before.before.before.before.args in is_eight s.program (look_in s.notes.now) (given_in s.notes.now) s.t3 s.row c.before.before.before.before.before.before.requires c.before.before.before.before.before.sort-at.ensures c.before.before.before.before.look.ensures c.before.before.before.look2.ensures c.before.before.look3.ensures (sym c.before.classed.ensures ∙ not-true _ c.if1.true)
 
 fits-requires : tie.Need-fits-requires
 fits-requires c κs = tt
 
 returns-2 : tie.Need-returns-2
-returns-2 c = let s = c.before.before.before.before.before.before.before.before.args in is-nine s.program (lookIn s.notes.now) (givenIn s.notes.now) s.t3 s.row c.before.before.before.before.before.before.before.before.requires c.before.before.before.before.before.before.before.sort-at.ensures c.before.before.before.before.before.before.look.ensures c.before.before.before.before.before.look2.ensures c.before.before.before.before.look3.ensures (sym c.before.before.before.classed.ensures ∙ not-false _ c.before.before.if1.false) (sym c.before.fits2.ensures ∙ not-true _ c.if2.true)
+returns-2 c = let s = c.before.before.before.before.before.before.before.before.args in is_nine s.program (look_in s.notes.now) (given_in s.notes.now) s.t3 s.row c.before.before.before.before.before.before.before.before.requires c.before.before.before.before.before.before.before.sort-at.ensures c.before.before.before.before.before.before.look.ensures c.before.before.before.before.before.look2.ensures c.before.before.before.before.look3.ensures (sym c.before.before.before.classed.ensures ∙ not-false _ c.before.before.if1.false) (sym c.before.fits2.ensures ∙ not-true _ c.if2.true)
 
 once-requires : tie.Need-once-requires
 once-requires c κs = tt
 
 returns-3 : tie.Need-returns-3
-returns-3 c = let s = c.before.before.before.before.before.before.before.before.before.before.args in is-ten s.program (lookIn s.notes.now) (givenIn s.notes.now) s.t3 s.row c.before.before.before.before.before.before.before.before.before.before.requires c.before.before.before.before.before.before.before.before.before.sort-at.ensures c.before.before.before.before.before.before.before.before.look.ensures c.before.before.before.before.before.before.before.look2.ensures c.before.before.before.before.before.before.look3.ensures (sym c.before.before.before.before.before.classed.ensures ∙ not-false _ c.before.before.before.before.if1.false) (sym c.before.before.before.fits2.ensures ∙ not-false _ c.before.before.if2.false) (sym c.before.once.ensures ∙ not-true _ c.if3.true)
+returns-3 c = let s = c.before.before.before.before.before.before.before.before.before.before.args in is_ten s.program (look_in s.notes.now) (given_in s.notes.now) s.t3 s.row c.before.before.before.before.before.before.before.before.before.before.requires c.before.before.before.before.before.before.before.before.before.sort-at.ensures c.before.before.before.before.before.before.before.before.look.ensures c.before.before.before.before.before.before.before.look2.ensures c.before.before.before.before.before.before.look3.ensures (sym c.before.before.before.before.before.classed.ensures ∙ not-false _ c.before.before.before.before.if1.false) (sym c.before.before.before.fits2.ensures ∙ not-false _ c.before.before.if2.false) (sym c.before.once.ensures ∙ not-true _ c.if3.true)
 
 returns-4 : tie.Need-returns-4
-returns-4 c = let s = c.before.before.before.before.before.before.before.before.before.before.args in is_none s.program (lookIn s.notes.now) (givenIn s.notes.now) s.t3 s.row c.before.before.before.before.before.before.before.before.before.before.requires c.before.before.before.before.before.before.before.before.before.sort-at.ensures c.before.before.before.before.before.before.before.before.look.ensures c.before.before.before.before.before.before.before.look2.ensures c.before.before.before.before.before.before.look3.ensures (sym c.before.before.before.before.before.classed.ensures ∙ not-false _ c.before.before.before.before.if1.false) (sym c.before.before.before.fits2.ensures ∙ not-false _ c.before.before.if2.false) (sym c.before.once.ensures ∙ not-false _ c.if3.false)
+returns-4 c = let s = c.before.before.before.before.before.before.before.before.before.before.args in is_none s.program (look_in s.notes.now) (given_in s.notes.now) s.t3 s.row c.before.before.before.before.before.before.before.before.before.before.requires c.before.before.before.before.before.before.before.before.before.sort-at.ensures c.before.before.before.before.before.before.before.before.look.ensures c.before.before.before.before.before.before.before.look2.ensures c.before.before.before.before.before.before.look3.ensures (sym c.before.before.before.before.before.classed.ensures ∙ not-false _ c.before.before.before.before.if1.false) (sym c.before.before.before.fits2.ensures ∙ not-false _ c.before.before.if2.false) (sym c.before.once.ensures ∙ not-false _ c.if3.false)
 
 pub fault-spec : {M : Type 1} → statement M
 fault-spec =

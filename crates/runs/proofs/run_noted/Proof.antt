@@ -1,7 +1,7 @@
 -- `runs::run_noted` meets its contract. Assumes nothing.
 use mathlib.Core.Path.{sym, ◌∙◌}
 use lib.ListN.{length}
-use Rattle.circuits.proofs.Answering.{runs-refused, runs-lent}
+use Rattle.circuits.proofs.Answering.{runs_refused, runs_lent}
 use borrow.Author.Rules.{rules}
 use Rattle.runs.proofs.run_noted.Statement.{statement}
 use Rattle.runs.proofs.run_noted.Tie as tie
@@ -18,7 +18,7 @@ same_length c = search rules
 returns : tie.Need-returns
 returns c =
     let g = c.before.before.before.before.before.before.before.before.before.before.before in
-    runs-refused g.args.program g.args.table.now g.args.count g.args.k g.args.starts.now g.args.inputs.now (length g.args.signals.now) (length g.args.work.now) (sym c.before.before.before.before.check.ensures.0 ∙ c.before.r.given.1) g.requires.1.0 g.requires.1.1
+    runs_refused g.args.program g.args.table.now g.args.count g.args.k g.args.starts.now g.args.inputs.now (length g.args.signals.now) (length g.args.work.now) (sym c.before.before.before.before.check.ensures.0 ∙ c.before.r.given.1) g.requires.1.0 g.requires.1.1
 
 enum_told : tie.Need-enum-told
 enum_told c = search rules
@@ -42,7 +42,7 @@ same-length-4 c = search rules
 returns-2 : tie.Need-returns-2
 returns-2 c =
     let g = c.before.before.before.before.before.before.before.before.before.before.before.before.before.before.before.before.before.before in
-    c.before.before.before.before.run-checked.ensures ∙ runs-lent g.args.program g.args.table.now g.args.count g.args.k g.args.starts.now g.args.inputs.now (length g.args.signals.now) (length g.args.work.now) (sym c.before.before.before.before.before.before.before.before.before.before.before.check.ensures.0 ∙ c.before.before.before.before.before.before.before.before.enum_told.given.1)
+    c.before.before.before.before.run-checked.ensures ∙ runs_lent g.args.program g.args.table.now g.args.count g.args.k g.args.starts.now g.args.inputs.now (length g.args.signals.now) (length g.args.work.now) (sym c.before.before.before.before.before.before.before.before.before.before.before.check.ensures.0 ∙ c.before.before.before.before.before.before.before.before.enum_told.given.1)
 
 pub run-noted-spec : {M : Type 1} → statement M
 run-noted-spec =

@@ -3,9 +3,9 @@ use mathlib.Core.Path.{sym, ap, ◌∙◌}
 use mathlib.Core.Logic.{⊎_elim}
 use borrow.Author.Rules.{rules}
 use borrow.Author.Tests.{not-true, not-false}
-use Rattle.tables.specs.Model.Notes.{lookIn, givenIn}
-use Rattle.texts.specs.Model.Structs.{asRead}
-use Rattle.texts.proofs.Steps.{minus-8, minus-fits, no_minus, by-own-row}
+use Rattle.tables.specs.Model.Notes.{look_in, given_in}
+use Rattle.texts.specs.Model.Structs.{as_read}
+use Rattle.texts.proofs.Steps.{minus_8, minus_fits_lem, no_minus, by_own_row}
 use Rattle.stages.proofs.allow.Statement.{statement}
 use Rattle.stages.proofs.allow.Tie as tie
 
@@ -21,10 +21,10 @@ refuse-requires c κs = search rules
 returns : tie.Need-returns
 returns c =
     let s = c.before.before.before.before.before.args in
-    let L = lookIn s.notes.now in
-    let G = givenIn s.notes.now in
-    let e = by-own-row L G s.f s.rec s.minus s.len c.before.before.before.before.before.requires c.before.before.signs-fit.ensures in
-    c.refuse.ensures ∙ ap asRead (sym (minus-8 L G s.f s.rec s.minus s.len (sym e ∙ not-true _ c.before.if2.true)))
+    let L = look_in s.notes.now in
+    let G = given_in s.notes.now in
+    let e = by_own_row L G s.f s.rec s.minus s.len c.before.before.before.before.before.requires c.before.before.signs-fit.ensures in
+    c.refuse.ensures ∙ ap as_read (sym (minus_8 L G s.f s.rec s.minus s.len (sym e ∙ not-true _ c.before.if2.true)))
 
 judge-requires : tie.Need-judge-requires
 judge-requires c κs = search rules
@@ -32,13 +32,13 @@ judge-requires c κs = search rules
 returns-2 : tie.Need-returns-2
 returns-2 c =
     let s = c.before.before.before.args in
-    let L = lookIn s.notes.now in
-    let G = givenIn s.notes.now in
+    let L = look_in s.notes.now in
+    let G = given_in s.notes.now in
     c.judge.ensures
-    ∙ ap asRead
-    (sym (minus-fits L G s.f s.rec s.minus s.len
+    ∙ ap as_read
+    (sym (minus_fits_lem L G s.f s.rec s.minus s.len
     (⊎_elim
-    (λ w. sym (by-own-row L G s.f s.rec s.minus s.len c.before.before.before.requires w.1.ensures) ∙ not-false _ w.2.left)
+    (λ w. sym (by_own_row L G s.f s.rec s.minus s.len c.before.before.before.requires w.1.ensures) ∙ not-false _ w.2.left)
     (λ w. no_minus L G s.f s.rec s.minus s.len (sym c.before.before.has-signs.ensures ∙ w.left))
     c.before.if1.branch)))
 

@@ -1,5 +1,5 @@
 -- Place by place. Assumes nothing.
-use Rattle.texts.proofs.Steps.{at-sort, at_first, at_second, at-third}
+use Rattle.texts.proofs.Steps.{at_sort, at_first, at_second, at_third}
 use borrow.Author.Rules.{rules}
 use Rattle.stages.proofs.has_signs.Statement.{statement}
 use Rattle.stages.proofs.has_signs.Tie as tie
@@ -8,7 +8,7 @@ array-read-if1 : tie.Need-array-read-if1
 array-read-if1 c = search rules
 
 returns : tie.Need-returns
-returns c = at-sort c.before.args.t1 c.if1.true
+returns c = at_sort c.before.args.t1 c.if1.true
 
 array-read-if2 : tie.Need-array-read-if2
 array-read-if2 c = search rules
@@ -26,7 +26,7 @@ array-read-result : tie.Need-array-read-result
 array-read-result c = search rules
 
 returns-4 : tie.Need-returns-4
-returns-4 c = at-third c.before.before.before.args.t1 c.before.before.if1.false c.before.if2.false c.if3.false
+returns-4 c = at_third c.before.before.before.args.t1 c.before.before.if1.false c.before.if2.false c.if3.false
 
 pub has-signs-spec : {M : Type 1} → statement M
 has-signs-spec =

@@ -1,8 +1,8 @@
 -- The four places, one after the other. Assumes nothing.
 use mathlib.Core.Path.{sym, ◌∙◌}
 use borrow.Author.Tests.{not-true, not-false}
-use Rattle.tables.specs.Model.Notes.{lookIn}
-use Rattle.texts.proofs.Steps.{sort-stops, first_stops, second-stops, third-decides}
+use Rattle.tables.specs.Model.Notes.{look_in}
+use Rattle.texts.proofs.Steps.{sort_stops, first_stops, second_stops, third_decides}
 use borrow.Author.Rules.{rules}
 use Rattle.stages.proofs.signs_fit.Statement.{statement}
 use Rattle.stages.proofs.signs_fit.Tie as tie
@@ -25,7 +25,7 @@ sign-fits-requires c κs = search rules
 returns : tie.Need-returns
 returns c =
     let s = c.before.before.args in
-    sort-stops s.t1 (lookIn s.notes.now) s.t3 s.t2 (sym c.before.sign-fits.ensures ∙ not-true _ c.if1.true)
+    sort_stops s.t1 (look_in s.notes.now) s.t3 s.t2 (sym c.before.sign-fits.ensures ∙ not-true _ c.if1.true)
 
 array-read-sign-fits-4 : tie.Need-array-read-sign-fits-4
 array-read-sign-fits-4 c = search rules
@@ -42,7 +42,7 @@ sign-fits-requires-2 c κs = search rules
 returns-2 : tie.Need-returns-2
 returns-2 c =
     let s = c.before.before.before.before.args in
-    first_stops s.t1 (lookIn s.notes.now) s.t3 s.t2 (sym c.before.before.before.sign-fits.ensures ∙ not-false _ c.before.before.if1.false) (sym c.before.sign-fits2.ensures ∙ not-true _ c.if2.true)
+    first_stops s.t1 (look_in s.notes.now) s.t3 s.t2 (sym c.before.before.before.sign-fits.ensures ∙ not-false _ c.before.before.if1.false) (sym c.before.sign-fits2.ensures ∙ not-true _ c.if2.true)
 
 array-read-sign-fits-7 : tie.Need-array-read-sign-fits-7
 array-read-sign-fits-7 c = search rules
@@ -59,7 +59,7 @@ sign-fits-requires-3 c κs = search rules
 returns-3 : tie.Need-returns-3
 returns-3 c =
     let s = c.before.before.before.before.before.before.args in
-    second-stops s.t1 (lookIn s.notes.now) s.t3 s.t2 (sym c.before.before.before.before.before.sign-fits.ensures ∙ not-false _ c.before.before.before.before.if1.false) (sym c.before.before.before.sign-fits2.ensures ∙ not-false _ c.before.before.if2.false)
+    second_stops s.t1 (look_in s.notes.now) s.t3 s.t2 (sym c.before.before.before.before.before.sign-fits.ensures ∙ not-false _ c.before.before.before.before.if1.false) (sym c.before.before.before.sign-fits2.ensures ∙ not-false _ c.before.before.if2.false)
     (sym c.before.sign-fits3.ensures ∙ not-true _ c.if3.true)
 
 array-read-sign-fits-10 : tie.Need-array-read-sign-fits-10
@@ -77,7 +77,7 @@ sign-fits-requires-4 c κs = search rules
 returns-4 : tie.Need-returns-4
 returns-4 c =
     let s = c.before.before.before.before.before.before.before.args in
-    third-decides s.t1 (lookIn s.notes.now) s.t3 s.t2 (sym c.before.before.before.before.before.before.sign-fits.ensures ∙ not-false _ c.before.before.before.before.before.if1.false)
+    third_decides s.t1 (look_in s.notes.now) s.t3 s.t2 (sym c.before.before.before.before.before.before.sign-fits.ensures ∙ not-false _ c.before.before.before.before.before.if1.false)
     (sym c.before.before.before.before.sign-fits2.ensures ∙ not-false _ c.before.before.before.if2.false) (sym c.before.before.sign-fits3.ensures ∙ not-false _ c.before.if3.false) c.sign-fits4.ensures
 
 pub signs-fit-spec : {M : Type 1} → statement M

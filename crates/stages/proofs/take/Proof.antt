@@ -4,11 +4,11 @@ use native.Mathlib.Omega.{arith}
 use mathlib.Core.Path.{sym, ap, ◌∙◌, subst}
 use mathlib.Core.List.{List}
 use lib.ListN.{drop}
-use Rattle.tables.specs.Kinds.{operandCount}
-use Rattle.tables.specs.Lines.{kindIn}
+use Rattle.tables.specs.Kinds.{operand_count}
+use Rattle.tables.specs.Lines.{kind_in}
 use Rattle.texts.specs.Split.{tokens}
-use Rattle.texts.proofs.Words.{row-shape, sorted-most}
-use Rattle.texts.proofs.Steps.{taken-from}
+use Rattle.texts.proofs.Words.{row_shape, sorted_most}
+use Rattle.texts.proofs.Steps.{taken_from}
 use borrow.Author.Rules.{rules}
 use Rattle.stages.proofs.take.Statement.{statement}
 use Rattle.stages.proofs.take.Tie as tie
@@ -29,19 +29,19 @@ kind-of-requires : tie.Need-kind-of-requires
 kind-of-requires c κs = search rules
 
 add-operands : tie.Need-overflow-add-operands
-add-operands c = let g = subst (λ (r : List ℕ). operandCount r ≤ 3) (sym c.before.before.row.ensures) (row-shape c.before.before.before.before.args.f (omega arith) (omega arith)).1 in omega (arith, c.before.sorted.ensures, sorted-most c.before.before.row.result)
+add-operands c = let g = subst (λ (r : List ℕ). operand_count r ≤ 3) (sym c.before.before.row.ensures) (row_shape c.before.before.before.before.args.f (omega arith) (omega arith)).1 in omega (arith, c.before.sorted.ensures, sorted_most c.before.before.row.result)
 
 sub-operands : tie.Need-overflow-sub-operands
-sub-operands c = let g = subst (λ (r : List ℕ). operandCount r ≤ 3) (sym c.before.before.row.ensures) (row-shape c.before.before.before.before.args.f (omega arith) (omega arith)).1 in omega (arith, c.before.sorted.ensures, sorted-most c.before.before.row.result)
+sub-operands c = let g = subst (λ (r : List ℕ). operand_count r ≤ 3) (sym c.before.before.row.ensures) (row_shape c.before.before.before.before.args.f (omega arith) (omega arith)).1 in omega (arith, c.before.sorted.ensures, sorted_most c.before.before.row.result)
 
 of-requires : tie.Need-of-requires
 of-requires c κs = search rules
 
 operands-requires : tie.Need-operands-requires
 operands-requires c κs =
-    let g = subst (λ (r : List ℕ). operandCount r ≤ 3) (sym c.before.before.before.row.ensures) (row-shape c.before.before.before.before.before.args.f (omega arith) (omega arith)).1 in
+    let g = subst (λ (r : List ℕ). operand_count r ≤ 3) (sym c.before.before.before.row.ensures) (row_shape c.before.before.before.before.before.args.f (omega arith) (omega arith)).1 in
     let p = c.before.before.before.before.before.requires in
-    let h = sorted-most c.before.before.before.row.result in
+    let h = sorted_most c.before.before.before.row.result in
     (p.0, (p.1.1.0, (p.1.1.1, (p.1.0, (omega (arith, c.before.before.sorted.ensures), omega (arith, c.before.before.sorted.ensures))))))
 
 returns : tie.Need-returns
@@ -52,8 +52,8 @@ returns c =
     let r = c.before.before.before.before.row in (
       o.0,
       (
-        o.1.0 ∙ (ap kindIn c.before.of.ensures ∙ k.ensures),
-        taken-from s.f r.result c.before.of.result k.result c.before.before.before.sorted.result (tokens (drop s.at s.l.now)) o.1.1 c.before.of.ensures
+        o.1.0 ∙ (ap kind_in c.before.of.ensures ∙ k.ensures),
+        taken_from s.f r.result c.before.of.result k.result c.before.before.before.sorted.result (tokens (drop s.at s.l.now)) o.1.1 c.before.of.ensures
             c.before.before.before.sorted.ensures r.ensures k.ensures,
       ),
     )

@@ -7,8 +7,8 @@ use native.Mathlib.Omega.{arith}
 use lib.ListN.{length}
 use Rattle.tables.specs.Layout.{lines_of}
 use Rattle.circuits.specs.Meaning.{step}
-use Rattle.circuits.proofs.Repeated.{ready-as}
-use Rattle.starts.proofs.Masking.{no-inits}
+use Rattle.circuits.proofs.Repeated.{ready_as}
+use Rattle.starts.proofs.Masking.{no_inits}
 use borrow.Author.Rules.{rules}
 use Rattle.starts.proofs.begin.Statement.{statement}
 use Rattle.starts.proofs.begin.Tie as tie
@@ -23,13 +23,13 @@ walk-requires : tie.Need-walk-requires
 walk-requires c κs =
     let s = c.before.before.before.before.before.before.before.before.before.before.before.before.before in
     let d = c.before.before.before.before.before.before.load_at in
-    (omega (arith, d.kept.0, s.pre.0), ready-as (ap length (sym d.ensures)) refl refl s.pre.1)
+    (omega (arith, d.kept.0, s.pre.0), ready_as (ap length (sym d.ensures)) refl refl s.pre.1)
 
 mask-starts-requires : tie.Need-mask-starts-requires
 mask-starts-requires c κs =
     let s = c.before.before.before.before.before.before.before.before.before.before.before.before in
     let d = c.before.before.before.before.before.load_at in
-    (omega (arith, d.kept.0, s.pre.0), no-inits (ap length (sym d.ensures)) s.pre.1 (sym c.before.before.has-init.ensures ∙ c.before.if1.left))
+    (omega (arith, d.kept.0, s.pre.0), no_inits (ap length (sym d.ensures)) s.pre.1 (sym c.before.before.has-init.ensures ∙ c.before.if1.left))
 
 same_length : tie.Need-same-length
 same_length c = c.before.before.before.before.walk.kept.1.1.1.1.1.1.1.0

@@ -7,8 +7,8 @@ use native.Mathlib.Omega.{arith}
 use lib.ListN.{drop, length-drop}
 use borrow.Author.Rules.{rules}
 use Rattle.tables.specs.Layout.{lines_of}
-use Rattle.starts.proofs.Inits.{record-there}
-use Rattle.starts.proofs.Masking.{Masked, masked-none, masked-fit, masked-state, masked-other, masked-all}
+use Rattle.starts.proofs.Inits.{record_there}
+use Rattle.starts.proofs.Masking.{Masked, masked_none, masked_fit, masked_state, masked_other, masked_all}
 use Rattle.starts.proofs.mask_starts.Statement.{statement}
 use Rattle.starts.proofs.mask_starts.Tie as tie
 
@@ -22,12 +22,12 @@ loop-holds : tie.Need-loop-init invariant-loop decreases-loop
 loop-holds c =
     let s = c.before.before in
     let a = s.args in
-    (omega arith, masked-none a.program (lines_of a.program a.table.now a.count) a.all a.work.now s.requires.0)
+    (omega arith, masked_none a.program (lines_of a.program a.table.now a.count) a.all a.work.now s.requires.0)
 
 kind-requires : tie.Need-kind-requires invariant-loop decreases-loop
 kind-requires c κs =
     let s = c.before.before.before.before in
-    record-there s.args.program s.args.table.now s.args.count s.requires.1.accepted c.before.loop.i c.loop-test.true
+    record_there s.args.program s.args.table.now s.args.count s.requires.1.accepted c.before.loop.i c.loop-test.true
 
 add-mask-state : tie.Need-overflow-add-mask-state invariant-loop decreases-loop
 add-mask-state c = search rules
@@ -37,7 +37,7 @@ mask-state-requires c κs =
     let s = c.before.before.before.before.before.before.before in
     let l = c.before.before.before.before.loop in
     let k = c.before.before.kind in
-    masked-fit s.args.all (drop s.args.all s.args.work.now) s.requires.1 l.i c.before.before.before.loop-test.true l.invariant.1 k.result k.ensures c.before.if1.true
+    masked_fit s.args.all (drop s.args.all s.args.work.now) s.requires.1 l.i c.before.before.before.loop-test.true l.invariant.1 k.result k.ensures c.before.if1.true
 
 add-i : tie.Need-overflow-add-i invariant-loop decreases-loop
 add-i c = search rules
@@ -55,10 +55,10 @@ loop-again c =
     let σ = drop a.all a.work.now in (
       omega arith,
       ⊎_elim
-          (λ w. masked-state a.all σ s.requires.1 l.i t l.invariant.1 k.result k.ensures w.0.taken (w.5 ∙ w.2.ensures))
+          (λ w. masked_state a.all σ s.requires.1 l.i t l.invariant.1 k.result k.ensures w.0.taken (w.5 ∙ w.2.ensures))
           (λ w.
           subst (λ (x : List ℕ). Masked a.program (lines_of a.program a.table.now a.count) a.all σ x (l.i + 1)) (sym w.1)
-          (masked-other a.all σ s.requires.1 l.i t l.invariant.1 k.result k.ensures w.0.left))
+          (masked_other a.all σ s.requires.1 l.i t l.invariant.1 k.result k.ensures w.0.left))
           c.if1.branch,
     )
 
@@ -73,7 +73,7 @@ returns c =
     let a = s.args in
     let l = c.before.loop in
     let past : l.i ≡ a.count = omega arith in
-    masked-all a.all (drop a.all a.work.now) s.requires.1
+    masked_all a.all (drop a.all a.work.now) s.requires.1
     (subst (λ (m : ℕ). Masked a.program (lines_of a.program a.table.now a.count) a.all (drop a.all a.work.now) l.work m) past l.invariant.1)
 
 pub mask-starts-spec : {M : Type 1} → statement M

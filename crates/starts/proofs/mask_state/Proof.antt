@@ -1,8 +1,8 @@
 -- `starts::mask_state` meets its contract. Assumes nothing.
 use mathlib.Core.Path.{◌∙◌, ap, ap₂}
 use Prim.Native.Nat.{ℕ, ◌+◌}
-use Rattle.circuits.specs.Cells.{part, put, maskWords}
-use Rattle.circuits.specs.Model.Work.{numIn, posIn}
+use Rattle.circuits.specs.Cells.{part, put, mask_words}
+use Rattle.circuits.specs.Model.Work.{num_in, pos_in}
 use borrow.Author.Rules.{rules}
 use Rattle.starts.proofs.mask_state.Statement.{statement}
 use Rattle.starts.proofs.mask_state.Tie as tie
@@ -33,8 +33,8 @@ returns c =
     let q = c.before.before.before.before.before.place in
     let m = c.before.before.before.before.before.before.cells in
     c.before.before.settle.ensures
-    ∙ ap₂ (λ (x y : ℕ). put w (a.all + x) (maskWords d.result (part w (a.all + x) y))) q.ensures m.ensures
-    ∙ ap (λ (x : ℕ). put w (a.all + posIn a.laid.now a.n) (maskWords x (part w (a.all + posIn a.laid.now a.n) (numIn a.laid.now a.n)))) d.ensures
+    ∙ ap₂ (λ (x y : ℕ). put w (a.all + x) (mask_words d.result (part w (a.all + x) y))) q.ensures m.ensures
+    ∙ ap (λ (x : ℕ). put w (a.all + pos_in a.laid.now a.n) (mask_words x (part w (a.all + pos_in a.laid.now a.n) (num_in a.laid.now a.n)))) d.ensures
 
 pub mask-state-spec : {M : Type 1} → statement M
 mask-state-spec =

@@ -7,25 +7,25 @@ use Rattle.tables.specs.Tables.{checked}
 use Rattle.circuits.specs.Layout.{layout}
 use Rattle.circuits.specs.Model.Places.{ShowsAll}
 
-abbrev pub initLine : Line → Bool
-initLine (Line.bitvec w) = false
-initLine (Line.array i e) = false
-initLine (Line.input s) = false
-initLine (Line.state s) = false
-initLine (Line.value s e) = false
-initLine (Line.initOrNext m s q v) = m
-initLine (Line.signal m a) = false
-initLine (Line.output a) = false
-initLine Line.unknown = false
+abbrev pub init_line : Line → Bool
+init_line (Line.bitvec w) = false
+init_line (Line.array i e) = false
+init_line (Line.input s) = false
+init_line (Line.state s) = false
+init_line (Line.value s e) = false
+init_line (Line.init_or_next m s q v) = m
+init_line (Line.signal m a) = false
+init_line (Line.output a) = false
+init_line Line.unknown = false
 
 -- one of the lines is an init
-abbrev pub hasInit : List Line → Bool
-hasInit [] = false
-hasInit (l ∷ ls) = initLine l || hasInit ls
+abbrev pub has_init : List Line → Bool
+has_init [] = false
+has_init (l ∷ ls) = init_line l || has_init ls
 
 -- an accepted table without an init line, whose states have so many words, and a list that holds what is known of its lines
 pub record NoInit (p : Bool) (t : List ℕ) (n : ℕ) (P : List (List ℕ)) (words : ℕ) : Type 0 where
   pub accepted : checked p t n ≡ Accepted
   pub shows : ShowsAll P (layout p (lines_of p t n))
   pub states : (layout p (lines_of p t n)).counts.states ≡ words
-  pub none : hasInit (lines_of p t n) ≡ false
+  pub none : has_init (lines_of p t n) ≡ false

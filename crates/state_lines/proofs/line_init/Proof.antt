@@ -38,7 +38,7 @@ same_length c = c.before.before.fill-run.auto.0
 
 returns-2 : tie.Need-returns-2
 returns-2 c = let a = c.before.before.before.before.before.before.before.before.before.before.args in let w = a.work.now in
-    rw (not-false a.first c.before.before.before.before.before.before.before.before.if1.false) (c.before.before.fill-run.ensures ∙ ap₂ (put w) (ap (λ (n : ℕ). a.all + n) c.before.before.before.before.before.place.ensures) (ap₂ (replicate {A = ℕ}) c.before.before.before.cells.ensures (laws.word-as w c.before.before.before.before.before.before.before.off.ensures)))
+    rw (not-false a.first c.before.before.before.before.before.before.before.before.if1.false) (c.before.before.fill-run.ensures ∙ ap₂ (put w) (ap (λ (n : ℕ). a.all + n) c.before.before.before.before.before.place.ensures) (ap₂ (replicate {A = ℕ}) c.before.before.before.cells.ensures (laws.word_as w c.before.before.before.before.before.before.before.off.ensures)))
 
 pub line-init-spec : {M : Type 1} → statement M
 line-init-spec =

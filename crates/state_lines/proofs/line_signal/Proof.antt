@@ -32,13 +32,13 @@ same_length : tie.Need-same-length
 same_length c = search rules
 
 returns-2 : tie.Need-returns-2
-returns-2 c = rw c.before.before.before.before.if1.false (ap₂ (λ (p x : ℕ). set c.before.before.before.before.before.before.before.args.sig.now p x) c.before.before.place.ensures (sym (laws.picked-yes c.before.before.before.before.before.before.before.args.work.now 1 0 c.before.before.before.off.ensures c.if2.true)))
+returns-2 c = rw c.before.before.before.before.if1.false (ap₂ (λ (p x : ℕ). set c.before.before.before.before.before.before.before.args.sig.now p x) c.before.before.place.ensures (sym (laws.picked_yes c.before.before.before.before.before.before.before.args.work.now 1 0 c.before.before.before.off.ensures c.if2.true)))
 
 same-length-2 : tie.Need-same-length-2
 same-length-2 c = search rules
 
 returns-3 : tie.Need-returns-3
-returns-3 c = rw c.before.before.before.before.if1.false (ap₂ (λ (p x : ℕ). set c.before.before.before.before.before.before.before.args.sig.now p x) c.before.before.place.ensures (sym (laws.picked-no c.before.before.before.before.before.before.before.args.work.now 1 0 c.before.before.before.off.ensures c.if2.false)))
+returns-3 c = rw c.before.before.before.before.if1.false (ap₂ (λ (p x : ℕ). set c.before.before.before.before.before.before.before.args.sig.now p x) c.before.before.place.ensures (sym (laws.picked_no c.before.before.before.before.before.before.before.args.work.now 1 0 c.before.before.before.off.ensures c.if2.false)))
 
 pub line-signal-spec : {M : Type 1} → statement M
 line-signal-spec =

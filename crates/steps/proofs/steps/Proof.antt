@@ -5,7 +5,7 @@ use native.Mathlib.Omega.{arith}
 use lib.ListN.{length, drop}
 use borrow.Author.Rules.{rules}
 use Rattle.tables.specs.Layout.{lines_of}
-use Rattle.circuits.proofs.Stepping.{Stepped, stepped-none, stepped-all, running, rooms, enter-fits, walk-ready, stepped-more}
+use Rattle.circuits.proofs.Stepping.{Stepped, stepped_none, stepped_all, running, rooms, enter_fits, walk_ready, stepped_more}
 use Rattle.steps.proofs.steps.Statement.{statement}
 use Rattle.steps.proofs.steps.Tie as tie
 
@@ -20,7 +20,7 @@ loop-holds : tie.Need-loop-init invariant-loop decreases-loop
 loop-holds c =
     let s = c.before.before.before.before.before in
     let a = s.args in
-    stepped-none a.program (lines_of a.program a.table.now a.count) (a.ins + a.fed) a.sigs a.k a.all a.inputs.now a.signals.now a.work.now s.requires.1.1.1.1
+    stepped_none a.program (lines_of a.program a.table.now a.count) (a.ins + a.fed) a.sigs a.k a.all a.inputs.now a.signals.now a.work.now s.requires.1.1.1.1
 
 add-e : tie.Need-overflow-add-e invariant-loop decreases-loop
 add-e c =
@@ -77,7 +77,7 @@ enter-requires c κs =
     let l = c.before.before.before.loop in
     let u = running s.args.fed s.args.k s.args.inputs.now s.args.work.now s.requires.1.0 s.requires.1.1.0 s.requires.1.1.1.0 in
     let h = c.before.before.loop-test.true in
-    (omega (arith, s.requires.0, l.invariant.many), enter-fits u l.invariant h)
+    (omega (arith, s.requires.0, l.invariant.many), enter_fits u l.invariant h)
 
 mul-walk : tie.Need-overflow-mul-walk invariant-loop decreases-loop
 mul-walk c =
@@ -135,7 +135,7 @@ walk-requires c κs =
     let u = running s.args.fed s.args.k s.args.inputs.now s.args.work.now s.requires.1.0 s.requires.1.1.0 s.requires.1.1.1.0 in
     let h = c.before.before.before.before.before.before.before.before.loop-test.true in
     let e = c.before.before.before.before.before.enter in
-    walk-ready u l.invariant h e.new.1.1.1.1.1.0 e.auto.1.1.1.1.1.0 e.ensures (omega (arith, s.requires.0, l.invariant.many))
+    walk_ready u l.invariant h e.new.1.1.1.1.1.0 e.auto.1.1.1.1.1.0 e.ensures (omega (arith, s.requires.0, l.invariant.many))
 
 add-i : tie.Need-overflow-add-i invariant-loop decreases-loop
 add-i c = search rules
@@ -151,7 +151,7 @@ loop-again c =
     let h = c.before.before.before.before.before.before.before.before.before.before.before.before.before.loop-test.true in
     let e = c.before.before.before.before.before.before.before.before.before.before.enter in
     let w = c.before.before.before.before.walk in
-    stepped-more u l.invariant h e.new.1.1.1.1.1.0 e.auto.1.1.1.1.1.0 e.ensures w.new.1.1.1.1.1.1.1.0 w.auto.1.1.1.1.1.1.1.1.0 w.auto.1.1.1.1.1.1.1.0 w.ensures.0 (w.ensures.1 refl)
+    stepped_more u l.invariant h e.new.1.1.1.1.1.0 e.auto.1.1.1.1.1.0 e.ensures w.new.1.1.1.1.1.1.1.0 w.auto.1.1.1.1.1.1.1.1.0 w.auto.1.1.1.1.1.1.1.0 w.ensures.0 (w.ensures.1 refl)
 
 same_length : tie.Need-same-length invariant-loop decreases-loop
 same_length c = c.before.loop.invariant.long ∙ sym c.before.before.before.before.before.before.before.requires.1.1.1.1
@@ -163,7 +163,7 @@ returns : tie.Need-returns invariant-loop decreases-loop
 returns c =
     let a = c.before.before.before.before.before.before.before.args in
     let l = c.before.loop in
-    stepped-all a.program (lines_of a.program a.table.now a.count) (a.ins + a.fed) a.sigs a.k a.all (length a.work.now) (drop a.all a.work.now) a.inputs.now l.signals l.work l.i l.r l.g c.loop-test.false l.invariant
+    stepped_all a.program (lines_of a.program a.table.now a.count) (a.ins + a.fed) a.sigs a.k a.all (length a.work.now) (drop a.all a.work.now) a.inputs.now l.signals l.work l.i l.r l.g c.loop-test.false l.invariant
 
 pub steps-spec : {M : Type 1} → statement M
 steps-spec =

@@ -13,34 +13,34 @@ hashes = 1024
 abbrev pub mixed : (h b : ℕ) → ℕ
 mixed h b = (h * 37 + b) % hashes
 
-abbrev pub mixedFour : (h a b c d : ℕ) → ℕ
-mixedFour h a b c d = (h * 1874161 + a * 50653 + b * 1369 + c * 37 + d) % hashes
+abbrev pub mixed_four : (h a b c d : ℕ) → ℕ
+mixed_four h a b c d = (h * 1874161 + a * 50653 + b * 1369 + c * 37 + d) % hashes
 
 -- of the bytes before the place p, each step-th one from the last on, and at most m of them
-abbrev pub hashFrom : (m step : ℕ) (t : List ℕ) (h p : ℕ) → ℕ
-hashFrom zero step t h p = h
-hashFrom (suc m) step t h p = pick (leb step p) (hashFrom m step t (mixed h (get_or t (p - 1) 0)) (p - step)) h
+abbrev pub hash_from : (m step : ℕ) (t : List ℕ) (h p : ℕ) → ℕ
+hash_from zero step t h p = h
+hash_from (suc m) step t h p = pick (leb step p) (hash_from m step t (mixed h (get_or t (p - 1) 0)) (p - step)) h
 
 -- as many as there are four of, and then the others
-abbrev pub hashFours : (m step : ℕ) (t : List ℕ) (h p : ℕ) → ℕ
-hashFours zero step t h p = hashFrom p step t h p
-hashFours (suc m) step t h p =
+abbrev pub hash_fours : (m step : ℕ) (t : List ℕ) (h p : ℕ) → ℕ
+hash_fours zero step t h p = hash_from p step t h p
+hash_fours (suc m) step t h p =
     pick (leb (4 * step) p)
-    (hashFours m step t (mixedFour h (get_or t (p - 1) 0) (get_or t (p - step - 1) 0) (get_or t (p - 2 * step - 1) 0) (get_or t (p - 3 * step - 1) 0)) (p - 4 * step))
-    (hashFrom p step t h p)
+    (hash_fours m step t (mixed_four h (get_or t (p - 1) 0) (get_or t (p - step - 1) 0) (get_or t (p - 2 * step - 1) 0) (get_or t (p - 3 * step - 1) 0)) (p - 4 * step))
+    (hash_from p step t h p)
 
-unfoldable pub hashOf : List ℕ → ℕ
-hashOf t = hashFours (length t) (length t / 32 + 1) t (length t % hashes) (length t)
+unfoldable pub hash_of : List ℕ → ℕ
+hash_of t = hash_fours (length t) (length t / 32 + 1) t (length t % hashes) (length t)
 
 -- ---- the list
 
 -- the last name with the hash h, 0 where there is none
-abbrev pub headIn : (w : List ℕ) (h : ℕ) → ℕ
-headIn w h = get_or w h 0
+abbrev pub head_in : (w : List ℕ) (h : ℕ) → ℕ
+head_in w h = get_or w h 0
 
 -- how many names there are
-abbrev pub countIn : (w : List ℕ) → ℕ
-countIn w = get_or w hashes 0
+abbrev pub count_in : (w : List ℕ) → ℕ
+count_in w = get_or w hashes 0
 
 -- the name i: the one before it with the same hash, 0 where there is none; where its first and its last byte stand
 abbrev pub link_of : (i : ℕ) → ℕ
@@ -49,35 +49,35 @@ link_of i = hashes - 2 + 3 * i
 abbrev pub link_in : (w : List ℕ) (i : ℕ) → ℕ
 link_in w i = get_or w (link_of i) 0
 
-abbrev pub firstByte : (w : List ℕ) (i : ℕ) → ℕ
-firstByte w i = get_or w (link_of i + 1) 0
+abbrev pub first_byte : (w : List ℕ) (i : ℕ) → ℕ
+first_byte w i = get_or w (link_of i + 1) 0
 
-abbrev pub lastByte : (w : List ℕ) (i : ℕ) → ℕ
-lastByte w i = get_or w (link_of i + 2) 0
+abbrev pub last_byte : (w : List ℕ) (i : ℕ) → ℕ
+last_byte w i = get_or w (link_of i + 2) 0
 
 abbrev pub name_at : (s w : List ℕ) (i : ℕ) → List ℕ
-name_at s w i = take (lastByte w i + 1 - firstByte w i) (drop (firstByte w i) s)
+name_at s w i = take (last_byte w i + 1 - first_byte w i) (drop (first_byte w i) s)
 
 -- the first n names, the last one first; and all
-abbrev pub namesUpTo : (s w : List ℕ) (n : ℕ) → List (List ℕ)
-namesUpTo s w zero = []
-namesUpTo s w (suc n) = name_at s w (suc n) ∷ namesUpTo s w n
+abbrev pub names_up_to : (s w : List ℕ) (n : ℕ) → List (List ℕ)
+names_up_to s w zero = []
+names_up_to s w (suc n) = name_at s w (suc n) ∷ names_up_to s w n
 
-abbrev pub namesIn : (s w : List ℕ) → List (List ℕ)
-namesIn s w = namesUpTo s w (countIn w)
+abbrev pub names_in : (s w : List ℕ) → List (List ℕ)
+names_in s w = names_up_to s w (count_in w)
 
 -- of the first n names the last one with the hash h, 0 where there is none
-abbrev pub lastWith : (s w : List ℕ) (n h : ℕ) → ℕ
-lastWith s w zero h = 0
-lastWith s w (suc n) h = pick (eqb (hashOf (name_at s w (suc n))) h) (suc n) (lastWith s w n h)
+abbrev pub last_with : (s w : List ℕ) (n h : ℕ) → ℕ
+last_with s w zero h = 0
+last_with s w (suc n) h = pick (eqb (hash_of (name_at s w (suc n))) h) (suc n) (last_with s w n h)
 
 -- the list w chains names of the text s
 pub record Chained (s w : List ℕ) : Type 0 where
-  pub size : hashes + 1 + 3 * countIn w ≤ length w
-  pub heads : (h : ℕ) → h < hashes → headIn w h ≡ lastWith s w (countIn w) h
-  pub links : (n : ℕ) → n < countIn w → link_in w (suc n) ≡ lastWith s w n (hashOf (name_at s w (suc n)))
-  pub ordered : (n : ℕ) → n < countIn w → firstByte w (suc n) ≤ lastByte w (suc n)
-  pub within : (n : ℕ) → n < countIn w → lastByte w (suc n) < length s
+  pub size : hashes + 1 + 3 * count_in w ≤ length w
+  pub heads : (h : ℕ) → h < hashes → head_in w h ≡ last_with s w (count_in w) h
+  pub links : (n : ℕ) → n < count_in w → link_in w (suc n) ≡ last_with s w n (hash_of (name_at s w (suc n)))
+  pub ordered : (n : ℕ) → n < count_in w → first_byte w (suc n) ≤ last_byte w (suc n)
+  pub within : (n : ℕ) → n < count_in w → last_byte w (suc n) < length s
 
 -- there is room for the names of the text s: a line that has one takes 8 bytes at least
 abbrev pub Ample : (s w : List ℕ) → Type 0
@@ -85,4 +85,4 @@ Ample s w = 8 * (hashes + 1) + 3 * (length s + 1) ≤ 8 * length w
 
 -- there is room for a name more
 abbrev pub HasRoom : (w : List ℕ) → Type 0
-HasRoom w = (countIn w < 8192) × (hashes + 4 + 3 * countIn w ≤ length w)
+HasRoom w = (count_in w < 8192) × (hashes + 4 + 3 * count_in w ≤ length w)

@@ -9,71 +9,71 @@ use Rattle.texts.specs.declared.Form.{Form}
 use Rattle.texts.specs.declared.Taken.{Taken}
 use Rattle.texts.specs.declared.Readout.{Readout}
 use Rattle.texts.specs.Split.{tokens}
-use Rattle.texts.specs.Names.{used, withName}
-use Rattle.texts.specs.Minus.{noSigns, minusAt, minuses}
-use Rattle.texts.specs.Reading.{Word, word, unknown, isNext, value_of, lineId, lineName, Reply, skip, no, got}
-use Rattle.texts.specs.Model.Chains.{namesIn, Chained}
+use Rattle.texts.specs.Names.{used, with_name}
+use Rattle.texts.specs.Minus.{no_signs, minus_at, minuses}
+use Rattle.texts.specs.Reading.{Word, word, unknown, is_next, value_of, line_id, line_name, Reply, skip, no, got}
+use Rattle.texts.specs.Model.Chains.{names_in, Chained}
 use Rattle.texts.specs.Model.Stages.{Took, took, malformed}
 
 -- a form and the place behind its word; 0 for an unknown word
-abbrev pub wordWith : List ℕ → ℕ → ℕ → Word
-wordWith l zero i = unknown
-wordWith l (suc f) i = word (suc f) (tokens (drop i l))
+abbrev pub word_with : List ℕ → ℕ → ℕ → Word
+word_with l zero i = unknown
+word_with l (suc f) i = word (suc f) (tokens (drop i l))
 
-abbrev pub asWord : List ℕ → Form → Word
-asWord l w = wordWith l w.form w.at
+abbrev pub as_word : List ℕ → Form → Word
+as_word l w = word_with l w.form w.at
 
-abbrev pub tookAt : Bool → List ℕ → List Bool → Bool → ℕ → List (List ℕ) → Took
-tookAt true rec s big len ts = took rec s big len ts
-tookAt false rec s big len ts = malformed
+abbrev pub took_at : Bool → List ℕ → List Bool → Bool → ℕ → List (List ℕ) → Took
+took_at true rec s big len ts = took rec s big len ts
+took_at false rec s big len ts = malformed
 
-abbrev pub asTook : List ℕ → Taken → Took
-asTook l t = tookAt t.ok t.rec t.minus t.big t.len (tokens (drop t.at l))
+abbrev pub as_took : List ℕ → Taken → Took
+as_took l t = took_at t.ok t.rec t.minus t.big t.len (tokens (drop t.at l))
 
 -- 0, the record and its signs, 1 for a blank line, 2 and the refusal; d is what stands for the id, and the name from a to z
-abbrev pub asLine : (d a z : ℕ) → Reply → Readout
-asLine d a z skip = record { what = 1; code = NotATable; rec = fields 0 0 0 0 0; minus = noSigns; id = d; from = a; to = z }
-asLine d a z (no r) = record { what = 2; code = r; rec = fields 0 0 0 0 0; minus = noSigns; id = d; from = a; to = z }
-asLine d a z (got rec s) = record { what = 0; code = NotATable; rec = rec; minus = s; id = d; from = a; to = z }
+abbrev pub as_line : (d a z : ℕ) → Reply → Readout
+as_line d a z skip = record { what = 1; code = NotATable; rec = fields 0 0 0 0 0; minus = no_signs; id = d; from = a; to = z }
+as_line d a z (no r) = record { what = 2; code = r; rec = fields 0 0 0 0 0; minus = no_signs; id = d; from = a; to = z }
+as_line d a z (got rec s) = record { what = 0; code = NotATable; rec = rec; minus = s; id = d; from = a; to = z }
 
 -- with none of them
-abbrev pub asRead : Reply → Readout
-asRead x = asLine 0 0 0 x
+abbrev pub as_read : Reply → Readout
+as_read x = as_line 0 0 0 x
 
 -- the line's reply, of which r has the id and the name
 abbrev pub Tells : (r : Readout) (x : Reply) → Type 0
-Tells r x = r ≡ asLine r.id r.from r.to x
+Tells r x = r ≡ as_line r.id r.from r.to x
 
 -- the same with the id d and the name from a to z
-abbrev pub withLabels : (r : Readout) → (d a z : ℕ) → Readout
-withLabels r d a z = record { what = r.what; code = r.code; rec = r.rec; minus = r.minus; id = d; from = a; to = z }
+abbrev pub with_labels : (r : Readout) → (d a z : ℕ) → Readout
+with_labels r d a z = record { what = r.what; code = r.code; rec = r.rec; minus = r.minus; id = d; from = a; to = z }
 
 -- the same, or refused by q where the line gave a record and b holds
-abbrev pub stoppedRead : (q : Refusal) (b : Bool) → (r : Readout) → Readout
-stoppedRead q b r = pick (eqb r.what 0) (pick b (asRead (no q)) r) r
+abbrev pub stopped_read : (q : Refusal) (b : Bool) → (r : Readout) → Readout
+stopped_read q b r = pick (eqb r.what 0) (pick b (as_read (no q)) r) r
 
 -- by 22 after lines that have the names ns
-abbrev pub namedRead : (name : List ℕ) (ns : List (List ℕ)) → (r : Readout) → Readout
-namedRead name ns r = stoppedRead NameUsed (used name ns) r
+abbrev pub named_read : (name : List ℕ) (ns : List (List ℕ)) → (r : Readout) → Readout
+named_read name ns r = stopped_read NameUsed (used name ns) r
 
 -- by 4 where after n records there is no room, of m in all, for its record with its not records
-abbrev pub fittedRead : (n m : ℕ) → (r : Readout) → Readout
-fittedRead n m r = stoppedRead NoRecordLeft (not (ltb (n + minuses r.minus) m)) r
+abbrev pub fitted_read : (n m : ℕ) → (r : Readout) → Readout
+fitted_read n m r = stopped_read NoRecordLeft (not (ltb (n + minuses r.minus) m)) r
 
 -- the id and the name of a line that gives a record are those of its bytes l
 pub record Labelled (l : List ℕ) (r : Readout) : Type 0 where
-  pub number : r.id ≡ lineId (tokens l)
+  pub number : r.id ≡ line_id (tokens l)
   pub ordered : r.from ≤ r.to
   pub within : r.to ≤ length l
-  pub name : take (r.to - r.from) (drop r.from l) ≡ lineName (tokens l)
+  pub name : take (r.to - r.from) (drop r.from l) ≡ line_name (tokens l)
 
 -- r is the id that a token gives a line; 0 where it gives none
 abbrev pub NextId : Num → (last r : ℕ) → Type 0
-NextId n last r = (r ≡ 0 → isNext n last ≡ false) × ((r ≡ 0 → ⊥) → (isNext n last ≡ true) × (r ≡ value_of n))
+NextId n last r = (r ≡ 0 → is_next n last ≡ false) × ((r ≡ 0 → ⊥) → (is_next n last ≡ true) × (r ≡ value_of n))
 
 -- some place of a record has a minus
-abbrev pub anySign : List Bool → Bool
-anySign s = minusAt s 1 || (minusAt s 2 || (minusAt s 3 || minusAt s 4))
+abbrev pub any_sign : List Bool → Bool
+any_sign s = minus_at s 1 || (minus_at s 2 || (minus_at s 3 || minus_at s 4))
 
 -- two tokens or more
 abbrev pub several : List (List ℕ) → Bool
@@ -86,12 +86,12 @@ abbrev pub NextToken : (l : List ℕ) (i a z : ℕ) → Type 0
 NextToken l i a z = (a < z → tokens (drop i l) ≡ take (z - a) (drop a l) ∷ tokens (drop z l)) × (a ≡ z → (z ≡ length l) × (tokens (drop i l) ≡ []))
 
 -- The bytes of a name that stands from `from` to `to` in a line at the place i of the text s.
-abbrev pub nameFrom : (s : List ℕ) (i : ℕ) (r : Readout) → List ℕ
-nameFrom s i r = take (r.to - r.from) (drop (i + r.from) s)
+abbrev pub name_from : (s : List ℕ) (i : ℕ) (r : Readout) → List ℕ
+name_from s i r = take (r.to - r.from) (drop (i + r.from) s)
 
 -- x is what the line gives after the last two tests, and w' has its name behind those that w chains
 pub record Admits (s w w' : List ℕ) (i n m : ℕ) (r x : Readout) : Type 0 where
-  pub gives : x ≡ fittedRead n m (namedRead (nameFrom s i r) (namesIn s w) r)
+  pub gives : x ≡ fitted_read n m (named_read (name_from s i r) (names_in s w) r)
   pub kept : (r.what ≡ 0 → ⊥) → w' ≡ w
   pub chained : x.what ≡ 0 → Chained s w'
-  pub names : x.what ≡ 0 → namesIn s w' ≡ withName (nameFrom s i r) (namesIn s w)
+  pub names : x.what ≡ 0 → names_in s w' ≡ with_name (name_from s i r) (names_in s w)

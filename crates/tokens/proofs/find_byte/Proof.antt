@@ -5,7 +5,7 @@ use native.Mathlib.Omega.{arith}
 use mathlib.Core.Path.{◌≡◌, ap}
 use lib.ListN.{length, drop}
 use Rattle.texts.specs.Split.{up_to}
-use Rattle.texts.proofs.Scan.{upTo-hit, upTo-miss, upTo-end}
+use Rattle.texts.proofs.Scan.{up_to_hit, up_to_miss, up_to_end}
 use Rattle.tokens.proofs.find_byte.Statement.{statement}
 use Rattle.tokens.proofs.find_byte.Tie as tie
 
@@ -24,7 +24,7 @@ shared-slice-read-if1 c = search rules
 returns : tie.Need-returns invariant-loop decreases-loop
 returns c =
     let at-loop = c.before.before.before in
-    (omega arith, (omega arith, omega (arith, at-loop.loop.invariant.1.1, ap length (upTo-hit at-loop.before.args.b at-loop.before.args.s.now at-loop.loop.j c.before.before.loop-test.true c.if1.true))))
+    (omega arith, (omega arith, omega (arith, at-loop.loop.invariant.1.1, ap length (up_to_hit at-loop.before.args.b at-loop.before.args.s.now at-loop.loop.j c.before.before.loop-test.true c.if1.true))))
 
 add-j : tie.Need-overflow-add-j invariant-loop decreases-loop
 add-j c = search rules
@@ -35,12 +35,12 @@ loop-less c = search rules
 loop-again : tie.Need-loop-preserved invariant-loop decreases-loop
 loop-again c =
     let at-loop = c.before.before.before in
-    omega (arith, at-loop.loop.invariant.1.1, ap length (upTo-miss at-loop.before.args.b at-loop.before.args.s.now at-loop.loop.j c.before.before.loop-test.true c.if1.false))
+    omega (arith, at-loop.loop.invariant.1.1, ap length (up_to_miss at-loop.before.args.b at-loop.before.args.s.now at-loop.loop.j c.before.before.loop-test.true c.if1.false))
 
 returns-2 : tie.Need-returns-2 invariant-loop decreases-loop
 returns-2 c =
     let at-loop = c.before in
-    (omega arith, (omega arith, omega (arith, at-loop.loop.invariant.1.1, ap length (upTo-end at-loop.before.args.b at-loop.before.args.s.now at-loop.loop.j c.loop-test.false))))
+    (omega arith, (omega arith, omega (arith, at-loop.loop.invariant.1.1, ap length (up_to_end at-loop.before.args.b at-loop.before.args.s.now at-loop.loop.j c.loop-test.false))))
 
 pub find-byte-spec : {M : Type 1} → statement M
 find-byte-spec =

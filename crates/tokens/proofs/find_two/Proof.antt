@@ -6,7 +6,7 @@ use mathlib.Core.Path.{◌≡◌, ap}
 use mathlib.Core.List.{List}
 use lib.ListN.{length, drop}
 use Rattle.texts.specs.Split.{up_to}
-use Rattle.texts.proofs.Scan.{upTo-hit, upTo-miss, upTo-end}
+use Rattle.texts.proofs.Scan.{up_to_hit, up_to_miss, up_to_end}
 use Rattle.tokens.proofs.find_two.Statement.{statement}
 use Rattle.tokens.proofs.find_two.Tie as tie
 
@@ -19,7 +19,7 @@ decreases-loop s i b e j₀ j = length s - j
 returns : tie.Need-returns invariant-loop decreases-loop
 returns c =
     let start = c.before.before in
-    (omega arith, (start.requires, omega (arith, ap length (upTo-end start.args.b start.args.s.now start.args.i (omega arith)))))
+    (omega arith, (start.requires, omega (arith, ap length (up_to_end start.args.b start.args.s.now start.args.i (omega arith)))))
 
 sub-e : tie.Need-overflow-sub-e invariant-loop decreases-loop
 sub-e c = search rules
@@ -34,7 +34,7 @@ returns-2 : tie.Need-returns-2 invariant-loop decreases-loop
 returns-2 c =
     let at-loop = c.before.before.before in
     let start = at-loop.before.before.before in
-    (omega arith, (omega arith, omega (arith, at-loop.loop.invariant.1.1, ap length (upTo-hit start.args.b start.args.s.now at-loop.loop.j (omega arith) c.if2.true))))
+    (omega arith, (omega arith, omega (arith, at-loop.loop.invariant.1.1, ap length (up_to_hit start.args.b start.args.s.now at-loop.loop.j (omega arith) c.if2.true))))
 
 add-if3 : tie.Need-overflow-add-if3 invariant-loop decreases-loop
 add-if3 c = search rules
@@ -52,8 +52,8 @@ returns-3 c =
     let s : List ℕ = start.args.s.now in
     let b : ℕ = start.args.b in
     let j : ℕ = at-loop.loop.j in
-    let first = ap length (upTo-miss b s j (omega arith) c.before.before.if2.false) in
-    (omega arith, (omega arith, omega (arith, at-loop.loop.invariant.1.1, first, ap length (upTo-hit b s (j + 1) (omega arith) c.if3.true))))
+    let first = ap length (up_to_miss b s j (omega arith) c.before.before.if2.false) in
+    (omega arith, (omega arith, omega (arith, at-loop.loop.invariant.1.1, first, ap length (up_to_hit b s (j + 1) (omega arith) c.if3.true))))
 
 add-j : tie.Need-overflow-add-j invariant-loop decreases-loop
 add-j c = search rules
@@ -68,8 +68,8 @@ loop-again c =
     let s : List ℕ = start.args.s.now in
     let b : ℕ = start.args.b in
     let j : ℕ = at-loop.loop.j in
-    let first = ap length (upTo-miss b s j (omega arith) c.before.before.if2.false) in
-    let second = ap length (upTo-miss b s (j + 1) (omega arith) c.if3.false) in
+    let first = ap length (up_to_miss b s j (omega arith) c.before.before.if2.false) in
+    let second = ap length (up_to_miss b s (j + 1) (omega arith) c.if3.false) in
     let two : j + 1 + 1 ≡ j + 2 = omega arith in
     (omega arith, (omega arith, omega (arith, at-loop.loop.invariant.1.1, first, second, ap (λ (k : ℕ). length (up_to b (drop k s))) two)))
 

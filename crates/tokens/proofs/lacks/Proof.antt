@@ -8,7 +8,7 @@ use mathlib.Core.Logic.{⊎_elim}
 use native.Mathlib.Omega.{arith}
 use lib.ListN.{length, drop}
 use Rattle.texts.specs.Split.{up_to}
-use Rattle.texts.proofs.Scan.{upTo-miss}
+use Rattle.texts.proofs.Scan.{up_to_miss}
 use Rattle.tokens.proofs.lacks.Statement.{statement}
 use Rattle.tokens.proofs.lacks.Tie as tie
 
@@ -49,7 +49,7 @@ loop-again c =
       ⊎_elim (λ w e. let q : ◌≡◌ {A = ℕ} 0 1 = cc in absurd (omega arith))
           (λ w e.
           let h = l.invariant.1 (sym w.1 ∙ e) in
-          let m = ap length (upTo-miss b s (i + l.k) (omega arith) w.0.left) in
+          let m = ap length (up_to_miss b s (i + l.k) (omega arith) w.0.left) in
           omega (arith, h, m, ap (λ (k : ℕ). length (up_to b (drop k s))) z)) c.if1.branch,
     )
 

@@ -5,8 +5,8 @@ use mathlib.Core.Path.{◌≡◌, refl, sym, ap, ◌∙◌}
 use mathlib.Core.List.{List}
 use native.Mathlib.Omega.{arith}
 use lib.ListN.{length}
-use Rattle.texts.proofs.Scan.{upTo-miss}
-use Rattle.texts.proofs.Places.{no-token, next-token}
+use Rattle.texts.proofs.Scan.{up_to_miss}
+use Rattle.texts.proofs.Places.{no_token, next_token}
 use Rattle.tokens.proofs.next.Statement.{statement}
 use Rattle.tokens.proofs.next.Tie as tie
 
@@ -19,7 +19,7 @@ returns c =
     let a : ℕ = c.before.skip.result in
     let k = c.before.skip.ensures in
     let end : a ≡ length l = c.if1.true in
-    (omega arith, (k.1.0, (λ h. absurd (omega arith), λ e. (end, sym k.1.1.0 ∙ no-token l a (omega (arith, end))))))
+    (omega arith, (k.1.0, (λ h. absurd (omega arith), λ e. (end, sym k.1.1.0 ∙ no_token l a (omega (arith, end))))))
 
 find-rare-requires : tie.Need-find-rare-requires
 find-rare-requires c κs = search rules
@@ -36,8 +36,8 @@ returns-2 c =
       (
         f.1.0,
         (
-          λ h. sym k.1.1.0 ∙ next-token l a z on (k.1.1.1 on) f.1.1,
-          λ e. absurd (omega (arith, e, f.1.1, ap length (upTo-miss 32 l a on (k.1.1.1 on)))),
+          λ h. sym k.1.1.0 ∙ next_token l a z on (k.1.1.1 on) f.1.1,
+          λ e. absurd (omega (arith, e, f.1.1, ap length (up_to_miss 32 l a on (k.1.1.1 on)))),
         ),
       ),
     )

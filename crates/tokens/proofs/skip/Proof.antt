@@ -5,7 +5,7 @@ use native.Mathlib.Omega.{arith}
 use mathlib.Core.Path.{◌≡◌, ◌∙◌}
 use lib.ListN.{length, drop}
 use Rattle.texts.specs.Split.{tokens}
-use Rattle.texts.proofs.Scan.{space-skipped}
+use Rattle.texts.proofs.Scan.{space_skipped}
 use Rattle.tokens.proofs.skip.Statement.{statement}
 use Rattle.tokens.proofs.skip.Tie as tie
 
@@ -35,7 +35,7 @@ loop-less c = search rules
 loop-again : tie.Need-loop-preserved invariant-loop decreases-loop
 loop-again c =
     let at-loop = c.before.before.before in
-    (omega arith, (omega arith, space-skipped at-loop.before.args.s.now at-loop.loop.j c.before.before.loop-test.true c.if1.false ∙ at-loop.loop.invariant.1.1))
+    (omega arith, (omega arith, space_skipped at-loop.before.args.s.now at-loop.loop.j c.before.before.loop-test.true c.if1.false ∙ at-loop.loop.invariant.1.1))
 
 returns-2 : tie.Need-returns-2 invariant-loop decreases-loop
 returns-2 c =

@@ -3,7 +3,7 @@ use mathlib.Core.Path.{sym, ◌∙◌}
 use lib.ListN.{length}
 use borrow.Author.Rules.{rules}
 use borrow.Author.Tests.{not-true, not-false}
-use Rattle.programs.proofs.Answering.{no_table, no_target, not-accepted, array-there, made-is, zeros-self}
+use Rattle.programs.proofs.Answering.{no_table, no_target, not_accepted, array_there, made_is, zeros_self}
 use borrow.Author.Rules.{rules}
 use Rattle.translating.proofs.translate.Statement.{statement}
 use Rattle.translating.proofs.translate.Tie as tie
@@ -43,7 +43,7 @@ same-length-3 c = search rules
 
 returns-3 : tie.Need-returns-3
 returns-3 c = let a = c.before.before.before.before.before.before.before.before.before.before.before.before.before.before.args in
-    not-accepted a.table.now a.count (length a.target.now) c.before.before.before.before.before.before.before.before.before.before.clear.ensures (sym c.before.before.before.before.before.before.before.is-table.ensures ∙ not-false _ c.before.before.before.before.before.before.if1.false) (sym c.before.before.before.before.before.is-table2.ensures ∙ not-false _ c.before.before.before.before.if2.false) _
+    not_accepted a.table.now a.count (length a.target.now) c.before.before.before.before.before.before.before.before.before.before.clear.ensures (sym c.before.before.before.before.before.before.before.is-table.ensures ∙ not-false _ c.before.before.before.before.before.before.if1.false) (sym c.before.before.before.before.before.is-table2.ensures ∙ not-false _ c.before.before.before.before.if2.false) _
     (sym c.before.before.before.accept.ensures ∙ c.before.r.given.1)
 
 enum_told : tie.Need-enum-told
@@ -57,18 +57,18 @@ same-length-4 c = search rules
 
 returns-4 : tie.Need-returns-4
 returns-4 c = let a = c.before.before.before.before.before.before.before.before.before.before.before.before.before.before.before.args in
-    array-there a.table.now a.count (length a.target.now) c.before.before.before.before.before.before.before.before.before.before.before.clear.ensures (sym c.before.before.before.before.before.before.before.before.is-table.ensures ∙ not-false _ c.before.before.before.before.before.before.before.if1.false) (sym c.before.before.before.before.before.before.is-table2.ensures ∙ not-false _ c.before.before.before.before.before.if2.false)
+    array_there a.table.now a.count (length a.target.now) c.before.before.before.before.before.before.before.before.before.before.before.clear.ensures (sym c.before.before.before.before.before.before.before.before.is-table.ensures ∙ not-false _ c.before.before.before.before.before.before.before.if1.false) (sym c.before.before.before.before.before.before.is-table2.ensures ∙ not-false _ c.before.before.before.before.before.if2.false)
     (sym c.before.before.before.before.accept.ensures ∙ c.before.before.enum_told.given.1) (sym c.before.has-array.ensures ∙ c.if3.true)
 
 make-requires : tie.Need-make-requires
-make-requires c κs = (sym c.before.before.before.before.before.accept.ensures ∙ c.before.before.before.enum_told.given.1, zeros-self (length c.before.before.before.before.before.before.before.before.before.before.before.before.before.before.before.before.args.target.now) c.before.before.before.before.before.before.before.before.before.before.before.before.clear.ensures)
+make-requires c κs = (sym c.before.before.before.before.before.accept.ensures ∙ c.before.before.before.enum_told.given.1, zeros_self (length c.before.before.before.before.before.before.before.before.before.before.before.before.before.before.before.before.args.target.now) c.before.before.before.before.before.before.before.before.before.before.before.before.clear.ensures)
 
 same-length-5 : tie.Need-same-length-5
 same-length-5 c = search rules
 
 returns-5 : tie.Need-returns-5
 returns-5 c = let a = c.before.before.before.before.before.before.before.before.before.before.before.before.before.before.before.before.before.before.before.args in
-    made-is a.table.now a.count (length a.target.now) c.before.before.before.before.before.before.before.before.before.before.before.before.before.before.before.clear.ensures (sym c.before.before.before.before.before.before.before.before.before.before.before.before.is-table.ensures ∙ not-false _ c.before.before.before.before.before.before.before.before.before.before.before.if1.false) (sym c.before.before.before.before.before.before.before.before.before.before.is-table2.ensures ∙ not-false _ c.before.before.before.before.before.before.before.before.before.if2.false)
+    made_is a.table.now a.count (length a.target.now) c.before.before.before.before.before.before.before.before.before.before.before.before.before.before.before.clear.ensures (sym c.before.before.before.before.before.before.before.before.before.before.before.before.is-table.ensures ∙ not-false _ c.before.before.before.before.before.before.before.before.before.before.before.if1.false) (sym c.before.before.before.before.before.before.before.before.before.before.is-table2.ensures ∙ not-false _ c.before.before.before.before.before.before.before.before.before.if2.false)
     (sym c.before.before.before.before.before.before.before.before.accept.ensures ∙ c.before.before.before.before.before.before.enum_told.given.1) (sym c.before.before.before.before.before.has-array.ensures ∙ c.before.before.before.before.if3.false) c.before.before.make.ensures
 
 pub translate-spec : {M : Type 1} → statement M

@@ -3,8 +3,8 @@ use mathlib.Core.Path.{ap, ◌∙◌}
 use Prim.Native.Nat.{ℕ}
 use mathlib.Core.List.{List}
 use lib.ListN.{get_or}
-use Rattle.tables.specs.Lines.{firstIn, secondIn}
-use Rattle.programs.specs.Model.Kinds.{markIf}
+use Rattle.tables.specs.Lines.{first_in, second_in}
+use Rattle.programs.specs.Model.Kinds.{mark_if}
 use borrow.Author.Rules.{rules}
 use Rattle.uses.proofs.mark.Statement.{statement}
 use Rattle.uses.proofs.mark.Tie as tie
@@ -37,8 +37,8 @@ same_length : tie.Need-same-length
 same_length c = search rules
 
 returns : tie.Need-returns
-returns c = c.before.before.mark-if2.ensures ∙ ap (markIf (get_or c.before.before.before.before.before.before.before.before.row.result 1 0) (secondIn c.before.before.before.before.before.before.before.before.before.before.args.t1)) c.before.before.before.before.before.before.mark-if.ensures
-    ∙ ap (λ (r : List ℕ). markIf (get_or r 1 0) (secondIn c.before.before.before.before.before.before.before.before.before.before.args.t1) (markIf (get_or r 0 0) (firstIn c.before.before.before.before.before.before.before.before.before.before.args.t1) c.before.before.before.before.before.before.before.before.before.before.args.marks.now)) c.before.before.before.before.before.before.before.before.row.ensures
+returns c = c.before.before.mark-if2.ensures ∙ ap (mark_if (get_or c.before.before.before.before.before.before.before.before.row.result 1 0) (second_in c.before.before.before.before.before.before.before.before.before.before.args.t1)) c.before.before.before.before.before.before.mark-if.ensures
+    ∙ ap (λ (r : List ℕ). mark_if (get_or r 1 0) (second_in c.before.before.before.before.before.before.before.before.before.before.args.t1) (mark_if (get_or r 0 0) (first_in c.before.before.before.before.before.before.before.before.before.before.args.t1) c.before.before.before.before.before.before.before.before.before.before.args.marks.now)) c.before.before.before.before.before.before.before.before.row.ensures
 
 pub mark_spec : {M : Type 1} → statement M
 mark_spec =

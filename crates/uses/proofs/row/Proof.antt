@@ -1,4 +1,4 @@
-use Rattle.programs.proofs.Sets.{row-of}
+use Rattle.programs.proofs.Sets.{row_of_lem}
 use borrow.Author.Rules.{rules}
 use Rattle.uses.proofs.row.Statement.{statement}
 use Rattle.uses.proofs.row.Tie as tie
@@ -31,7 +31,7 @@ add-t10 : tie.Need-overflow-add-t10
 add-t10 c = search rules
 
 returns : tie.Need-returns
-returns c = row-of c.before.before.before.before.before.args.k c.before.before.before.before.before.requires c.before.member4.ensures.0 c.member5.ensures.0 c.before.before.before.before.member.ensures.0 c.before.before.before.member2.ensures.0 c.before.before.member3.ensures.0
+returns c = row_of_lem c.before.before.before.before.before.args.k c.before.before.before.before.before.requires c.before.member4.ensures.0 c.member5.ensures.0 c.before.before.before.before.member.ensures.0 c.before.before.before.member2.ensures.0 c.before.before.member3.ensures.0
 
 pub row-spec : {M : Type 1} → statement M
 row-spec =

@@ -5,7 +5,7 @@ use Prim.Native.Nat.{ℕ, ◌+◌}
 use lib.ListN.{length}
 use Rattle.tables.specs.Lines.{line_of}
 use Rattle.circuits.specs.Model.Fits.{FitL}
-use Rattle.word_dispatch.proofs.Tried.{tried-done, tried-left, fits-still, does-still}
+use Rattle.word_dispatch.proofs.Tried.{tried_done, tried_left, fits_still, does_still}
 use borrow.Author.Rules.{rules}
 use Rattle.walks.proofs.line.Statement.{statement}
 use Rattle.walks.proofs.line.Tie as tie
@@ -29,7 +29,7 @@ same-length-2 : tie.Need-same-length-2
 same-length-2 c = search rules
 
 returns : tie.Need-returns
-returns c = let g = c.before.before.before.before.before.before.before.before.before.before.before.before.before in tried-done g.args.program g.args.first g.args.laid.now g.args.all g.args.row.now g.args.work.now g.args.sig.now (g.args.i + 1) c.if1.true c.before.before.before.before.before.before.before.before.«record».ensures c.before.before.before.before.before.line.ensures
+returns c = let g = c.before.before.before.before.before.before.before.before.before.before.before.before.before in tried_done g.args.program g.args.first g.args.laid.now g.args.all g.args.row.now g.args.work.now g.args.sig.now (g.args.i + 1) c.if1.true c.before.before.before.before.before.before.before.before.«record».ensures c.before.before.before.before.before.line.ensures
 
 record-requires-2 : tie.Need-record-requires-2
 record-requires-2 c κs = search rules
@@ -40,7 +40,7 @@ add-line-2 c = search rules
 line-requires-2 : tie.Need-line-requires-2
 line-requires-2 c κs =
     let g = c.before.before.before.before.before.before.before.before.before.before.before.before.before.before.before.before.before in
-    fits-still g.args.program g.args.first g.args.laid.now g.args.all g.args.row.now g.args.work.now g.args.sig.now (g.args.i + 1) (tried-left g.args.program g.args.first g.args.laid.now g.args.all g.args.row.now g.args.work.now g.args.sig.now (g.args.i + 1) (line_of c.before.before.before.before.before.before.before.before.before.before.before.before.«record».result) c.before.before.before.before.if1.false c.before.before.before.before.before.before.before.before.before.line.ensures) c.before.before.before.record2.ensures g.requires.1.1
+    fits_still g.args.program g.args.first g.args.laid.now g.args.all g.args.row.now g.args.work.now g.args.sig.now (g.args.i + 1) (tried_left g.args.program g.args.first g.args.laid.now g.args.all g.args.row.now g.args.work.now g.args.sig.now (g.args.i + 1) (line_of c.before.before.before.before.before.before.before.before.before.before.before.before.«record».result) c.before.before.before.before.if1.false c.before.before.before.before.before.before.before.before.before.line.ensures) c.before.before.before.record2.ensures g.requires.1.1
 
 add-line-3 : tie.Need-overflow-add-line-3
 add-line-3 c = search rules
@@ -48,7 +48,7 @@ add-line-3 c = search rules
 line-requires-3 : tie.Need-line-requires-3
 line-requires-3 c κs =
     let g = c.before.before.before.before.before.before.before.before.before.before.before.before.before.before.before.before.before in
-    fits-still g.args.program g.args.first g.args.laid.now g.args.all g.args.row.now g.args.work.now g.args.sig.now (g.args.i + 1) (tried-left g.args.program g.args.first g.args.laid.now g.args.all g.args.row.now g.args.work.now g.args.sig.now (g.args.i + 1) (line_of c.before.before.before.before.before.before.before.before.before.before.before.before.«record».result) c.before.before.before.before.if1.false c.before.before.before.before.before.before.before.before.before.line.ensures) c.before.before.before.record2.ensures g.requires.1.1
+    fits_still g.args.program g.args.first g.args.laid.now g.args.all g.args.row.now g.args.work.now g.args.sig.now (g.args.i + 1) (tried_left g.args.program g.args.first g.args.laid.now g.args.all g.args.row.now g.args.work.now g.args.sig.now (g.args.i + 1) (line_of c.before.before.before.before.before.before.before.before.before.before.before.before.«record».result) c.before.before.before.before.if1.false c.before.before.before.before.before.before.before.before.before.line.ensures) c.before.before.before.record2.ensures g.requires.1.1
 
 same-length-3 : tie.Need-same-length-3
 same-length-3 c = search rules
@@ -60,7 +60,7 @@ returns-2 : tie.Need-returns-2
 returns-2 c =
     let g = c.before.before.before.before.before.before.before.before.before.before.before.before.before.before.before.before.before.before.before.before.before.before in
     let n = c.before.before.before.before.line2 in
-    does-still g.args.program g.args.first g.args.laid.now g.args.all g.args.row.now g.args.work.now g.args.sig.now (g.args.i + 1) (sym c.before.before.before.before.before.before.before.if2.true) (tried-left g.args.program g.args.first g.args.laid.now g.args.all g.args.row.now g.args.work.now g.args.sig.now (g.args.i + 1) (line_of c.before.before.before.before.before.before.before.before.before.before.before.before.before.before.before.before.before.«record».result) c.before.before.before.before.before.before.before.before.before.if1.false c.before.before.before.before.before.before.before.before.before.before.before.before.before.before.line.ensures) c.before.before.before.before.before.before.before.before.record2.ensures n.ensures.0 n.ensures.1
+    does_still g.args.program g.args.first g.args.laid.now g.args.all g.args.row.now g.args.work.now g.args.sig.now (g.args.i + 1) (sym c.before.before.before.before.before.before.before.if2.true) (tried_left g.args.program g.args.first g.args.laid.now g.args.all g.args.row.now g.args.work.now g.args.sig.now (g.args.i + 1) (line_of c.before.before.before.before.before.before.before.before.before.before.before.before.before.before.before.before.before.«record».result) c.before.before.before.before.before.before.before.before.before.if1.false c.before.before.before.before.before.before.before.before.before.before.before.before.before.before.line.ensures) c.before.before.before.before.before.before.before.before.record2.ensures n.ensures.0 n.ensures.1
 
 same-length-5 : tie.Need-same-length-5
 same-length-5 c = search rules
@@ -72,7 +72,7 @@ returns-3 : tie.Need-returns-3
 returns-3 c =
     let g = c.before.before.before.before.before.before.before.before.before.before.before.before.before.before.before.before.before.before.before.before.before.before in
     let n = c.before.before.before.before.line3 in
-    does-still g.args.program g.args.first g.args.laid.now g.args.all g.args.row.now g.args.work.now g.args.sig.now (g.args.i + 1) (sym c.before.before.before.before.before.before.before.if2.false) (tried-left g.args.program g.args.first g.args.laid.now g.args.all g.args.row.now g.args.work.now g.args.sig.now (g.args.i + 1) (line_of c.before.before.before.before.before.before.before.before.before.before.before.before.before.before.before.before.before.«record».result) c.before.before.before.before.before.before.before.before.before.if1.false c.before.before.before.before.before.before.before.before.before.before.before.before.before.before.line.ensures) c.before.before.before.before.before.before.before.before.record2.ensures n.ensures.0 n.ensures.1
+    does_still g.args.program g.args.first g.args.laid.now g.args.all g.args.row.now g.args.work.now g.args.sig.now (g.args.i + 1) (sym c.before.before.before.before.before.before.before.if2.false) (tried_left g.args.program g.args.first g.args.laid.now g.args.all g.args.row.now g.args.work.now g.args.sig.now (g.args.i + 1) (line_of c.before.before.before.before.before.before.before.before.before.before.before.before.before.before.before.before.before.«record».result) c.before.before.before.before.before.before.before.before.before.if1.false c.before.before.before.before.before.before.before.before.before.before.before.before.before.before.line.ensures) c.before.before.before.before.before.before.before.before.record2.ensures n.ensures.0 n.ensures.1
 
 pub line-spec : {M : Type 1} → statement M
 line-spec =

@@ -4,9 +4,9 @@ use mathlib.Core.Path.{◌≡◌, refl, ◌∙◌, subst}
 use native.Mathlib.Omega.{arith}
 use lib.ListN.{length, drop, length-drop}
 use borrow.Author.Rules.{rules}
-use Rattle.tables.proofs.Encoding.{fits-table}
+use Rattle.tables.proofs.Encoding.{fits_table}
 use Rattle.tables.specs.Layout.{lines_of}
-use Rattle.circuits.proofs.Walked.{Walked, walk_start, walk-fit, walk_step, walk_ends}
+use Rattle.circuits.proofs.Walked.{Walked, walk_start, walk_fit, walk_step, walk_ends}
 use Rattle.walks.proofs.walk.Statement.{statement}
 use Rattle.walks.proofs.walk.Tie as tie
 
@@ -30,12 +30,12 @@ line-requires c κs =
     let g = c.before.before.before.before.before.before.before.before.before in
     let s = g.args in
     let l = c.before.before.before.loop in
-    let f = fits-table s.program s.table.now s.count g.requires.1.accepted in
+    let f = fits_table s.program s.table.now s.count g.requires.1.accepted in
     let t = c.before.before.loop-test.true in
-    ((omega (arith, f.1, t), c.before.before.before.before.step.ensures), (omega (arith, f.0, t), walk-fit s.program s.first s.table.now s.count s.laid.now s.all s.row.now (drop s.all s.work.now) (length s.row.now) (length s.sig.now) g.requires.1 l.i t l.work l.sig refl l.invariant.1.1))
+    ((omega (arith, f.1, t), c.before.before.before.before.step.ensures), (omega (arith, f.0, t), walk_fit s.program s.first s.table.now s.count s.laid.now s.all s.row.now (drop s.all s.work.now) (length s.row.now) (length s.sig.now) g.requires.1 l.i t l.work l.sig refl l.invariant.1.1))
 
 add-i : tie.Need-overflow-add-i invariant-loop decreases-loop
-add-i c = let g = c.before.before.before.before.before.before.before.before.before.before.before.before.before.before in let s = g.args in omega (arith, (fits-table s.program s.table.now s.count g.requires.1.accepted).0, c.before.before.before.before.before.before.before.loop-test.true)
+add-i c = let g = c.before.before.before.before.before.before.before.before.before.before.before.before.before.before in let s = g.args in omega (arith, (fits_table s.program s.table.now s.count g.requires.1.accepted).0, c.before.before.before.before.before.before.before.loop-test.true)
 
 loop-less : tie.Need-loop-smaller invariant-loop decreases-loop
 loop-less c = let m = c.before.before.before.before.before.before.before.loop-test.true in omega arith

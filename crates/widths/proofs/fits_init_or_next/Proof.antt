@@ -1,6 +1,6 @@
 use mathlib.Core.Path.{sym, ◌∙◌}
 use borrow.Author.Tests.{eq-eqb, ne_eqb, not-true, not-false}
-use Rattle.tables.proofs.Laws.{and-true}
+use Rattle.tables.proofs.Laws.{and_true}
 use Rattle.widths.proofs.fits_init_or_next.Statement.{statement}
 use Rattle.widths.proofs.fits_init_or_next.Tie as tie
 
@@ -14,10 +14,10 @@ returns-2 : tie.Need-returns-2
 returns-2 c = simp (sym c.before.before.before.before.same.ensures ∙ not-false _ c.before.before.before.if1.false, ne_eqb _ _ c.if2.true)
 
 returns-3 : tie.Need-returns-3
-returns-3 c = simp (sym c.before.before.before.before.before.before.same.ensures ∙ not-false _ c.before.before.before.before.before.if1.false, eq-eqb _ _ c.before.before.if2.false, c.before.if3.true, and-true)
+returns-3 c = simp (sym c.before.before.before.before.before.before.same.ensures ∙ not-false _ c.before.before.before.before.before.if1.false, eq-eqb _ _ c.before.before.if2.false, c.before.if3.true, and_true)
 
 returns-4 : tie.Need-returns-4
-returns-4 c = simp (sym c.before.before.before.before.before.before.before.same.ensures ∙ not-false _ c.before.before.before.before.before.before.if1.false, eq-eqb _ _ c.before.before.before.if2.false, c.before.before.if3.false, and-true)
+returns-4 c = simp (sym c.before.before.before.before.before.before.before.same.ensures ∙ not-false _ c.before.before.before.before.before.before.if1.false, eq-eqb _ _ c.before.before.before.if2.false, c.before.before.if3.false, and_true)
 
 pub fits-init-or-next-spec : {M : Type 1} → statement M
 fits-init-or-next-spec = tie.close (tie.spec same-requires returns returns-2 returns-3 returns-4)

@@ -1,6 +1,6 @@
 use mathlib.Core.Path.{sym, ◌∙◌}
 use borrow.Author.Tests.{eq-eqb, ne_eqb, not-true, not-false}
-use Rattle.tables.proofs.Laws.{and-true}
+use Rattle.tables.proofs.Laws.{and_true}
 use Rattle.widths.proofs.fits_ite.Statement.{statement}
 use Rattle.widths.proofs.fits_ite.Tie as tie
 
@@ -17,7 +17,7 @@ same-requires-2 : tie.Need-same-requires-2
 same-requires-2 c κs = tt
 
 returns-3 : tie.Need-returns-3
-returns-3 c = simp (eq-eqb _ _ c.before.before.before.if1.false, sym c.before.before.same.ensures ∙ not-false _ c.before.if2.false, and-true) c.same2.ensures
+returns-3 c = simp (eq-eqb _ _ c.before.before.before.if1.false, sym c.before.before.same.ensures ∙ not-false _ c.before.if2.false, and_true) c.same2.ensures
 
 pub fits-ite-spec : {M : Type 1} → statement M
 fits-ite-spec = tie.close (tie.spec returns same-requires returns-2 same-requires-2 returns-3)

@@ -1,6 +1,6 @@
 -- `word_lines::binary` meets its contract. Assumes nothing.
 use Prim.Native.Nat.{ℕ}
-use Rattle.circuits.proofs.Fitting.{op-as, fit-as}
+use Rattle.circuits.proofs.Fitting.{op_as, fit_as}
 use Rattle.circuits.proofs.Puts as laws
 use borrow.Author.Rules.{rules}
 use Rattle.word_lines.proofs.binary.Statement.{statement}
@@ -36,15 +36,15 @@ width-requires-3 c κs = search rules
 word-requires : tie.Need-word-requires
 word-requires c κs =
     let g = c.before.before.before.before.before.before.before.before in
-    fit-as c.before.before.width.ensures c.before.width2.ensures c.width3.ensures
-    (laws.word-as g.args.work.now c.before.before.before.before.before.before.off.ensures) (laws.word-as g.args.work.now c.before.before.before.before.off2.ensures) g.requires.1.op
+    fit_as c.before.before.width.ensures c.before.width2.ensures c.width3.ensures
+    (laws.word_as g.args.work.now c.before.before.before.before.before.before.off.ensures) (laws.word_as g.args.work.now c.before.before.before.before.off2.ensures) g.requires.1.op
 
 returns : tie.Need-returns
 returns c =
     let z : ℕ = 0 in
     let g = c.before.before.before.before.before.before.before.before.before in
-    op-as g.args.program g.args.k z c.word.ensures c.before.before.width2.ensures c.before.width3.ensures
-    (laws.word-as g.args.work.now c.before.before.before.before.before.before.before.off.ensures) (laws.word-as g.args.work.now c.before.before.before.before.before.off2.ensures)
+    op_as g.args.program g.args.k z c.word.ensures c.before.before.width2.ensures c.before.width3.ensures
+    (laws.word_as g.args.work.now c.before.before.before.before.before.before.before.off.ensures) (laws.word_as g.args.work.now c.before.before.before.before.before.off2.ensures)
 
 pub binary-spec : {M : Type 1} → statement M
 binary-spec =

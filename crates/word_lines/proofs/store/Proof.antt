@@ -2,7 +2,7 @@
 use mathlib.Core.Path.{refl, sym, ap, ◌∙◌, subst}
 use borrow.Author.Rules.{rules}
 use Rattle.circuits.proofs.Puts as laws
-use Rattle.word_lines.specs.Model.Operators.{Room, isWord, leaves}
+use Rattle.word_lines.specs.Model.Operators.{Room, is_word, leaves}
 use Rattle.word_lines.proofs.store.Statement.{statement}
 use Rattle.word_lines.proofs.store.Tie as tie
 
@@ -28,7 +28,7 @@ returns : tie.Need-returns
 returns c =
     let g = c.before.before.before.before.before in
     let e = sym c.before.before.r.given.1 in
-    (ap isWord e, laws.stored g.args.work.now c.off.ensures refl (slice-write-work c) ∙ ap (leaves g.args.laid.now g.args.work.now g.args.n) e)
+    (ap is_word e, laws.stored g.args.work.now c.off.ensures refl (slice-write-work c) ∙ ap (leaves g.args.laid.now g.args.work.now g.args.n) e)
 
 returns-2 : tie.Need-returns-2
 returns-2 c = search rules

@@ -1,25 +1,25 @@
 -- A line whose kind k is a constant's or a word operator's, on the operands a, b and c: what it asks, and its word, in the work area w, where the list P says
 -- where the words lie. Of other kinds nothing is said. Assumes nothing.
 use Rattle.std.specs.Prelude.{ℕ, ◌≡◌, ◌⊎◌, Bool, true, false, List, [], ◌∷◌, length}
-use Rattle.tables.specs.Lines.{Expr, Shape, isConst, isUnary, isBinary, shape_of}
+use Rattle.tables.specs.Lines.{Expr, Shape, is_const, is_unary, is_binary, shape_of}
 use Rattle.circuits.specs.Cells.{put}
-use Rattle.circuits.specs.Model.Work.{offIn, exprIn}
+use Rattle.circuits.specs.Model.Work.{off_in, expr_in}
 use Rattle.circuits.specs.Model.Fits.{WordBelow, FitUnary, FitBinary}
 use Rattle.word_lines.specs.declared.Word.{Word}
 use Rattle.word_lines.specs.declared.Word.TheVariants.{Is, Other}
 
 pub record Asked (p : Bool) (P : List (List ℕ)) (w : List ℕ) (n k a b c : ℕ) : Type 0 where
-  pub const : shape_of k ≡ isConst → WordBelow P (length w) n
-  pub unary : shape_of k ≡ isUnary → WordBelow P (length w) n × FitUnary p P w n k a b c
-  pub binary : shape_of k ≡ isBinary → WordBelow P (length w) n × FitBinary p P w n k a b
+  pub const : shape_of k ≡ is_const → WordBelow P (length w) n
+  pub unary : shape_of k ≡ is_unary → WordBelow P (length w) n × FitUnary p P w n k a b c
+  pub binary : shape_of k ≡ is_binary → WordBelow P (length w) n × FitBinary p P w n k a b
 
 -- the line is the expression e, whose one cell is v
 pub record Computes (p : Bool) (P : List (List ℕ)) (w : List ℕ) (k : ℕ) (S : Shape) (e : Expr) (v : ℕ) : Type 0 where
   pub shape : shape_of k ≡ S
-  pub word : exprIn p P w e ≡ v ∷ []
+  pub word : expr_in p P w e ≡ v ∷ []
 
 abbrev pub Computed : (p : Bool) (P : List (List ℕ)) (w : List ℕ) (k a b c v : ℕ) → Type 0
-Computed p P w k a b c v = Computes p P w k isConst (Expr.const a) v ⊎ (Computes p P w k isUnary (Expr.unary k a b c) v ⊎ Computes p P w k isBinary (Expr.binary k a b) v)
+Computed p P w k a b c v = Computes p P w k is_const (Expr.const a) v ⊎ (Computes p P w k is_unary (Expr.unary k a b c) v ⊎ Computes p P w k is_binary (Expr.binary k a b) v)
 
 abbrev pub Given : (p : Bool) (P : List (List ℕ)) (w : List ℕ) (k a b c : ℕ) → Word → Type 0
 Given p P w k a b c (Is v) = Computed p P w k a b c v
@@ -31,10 +31,10 @@ abbrev pub Room : (P : List (List ℕ)) (w : List ℕ) (n : ℕ) → Word → Ty
 Room P w n (Is v) = WordBelow P (length w) n
 Room P w n Other = Unit {0}
 
-abbrev pub isWord : Word → Bool
-isWord (Is v) = true
-isWord Other = false
+abbrev pub is_word : Word → Bool
+is_word (Is v) = true
+is_word Other = false
 
 abbrev pub leaves : (P : List (List ℕ)) (w : List ℕ) (n : ℕ) → Word → List ℕ
-leaves P w n (Is v) = put w (offIn P n) (v ∷ [])
+leaves P w n (Is v) = put w (off_in P n) (v ∷ [])
 leaves P w n Other = w

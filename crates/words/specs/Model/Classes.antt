@@ -1,5 +1,5 @@
 -- The operators by class: operators of one class read their operands alike in a program, ask the same of the widths, and are loose by
--- the same rule. That a program's operators are what `progBy` says of their classes is `prog-by-class` of `proofs/Classes.antt`.
+-- the same rule. That a program's operators are what `prog_by` says of their classes is `prog_by_class` of `proofs/Classes.antt`.
 -- Assumes nothing.
 use Rattle.std.specs.Prelude.{ℕ, ◌*◌, ◌/◌, ◌%◌, ◌^◌, ltb}
 use Rattle.std.specs.Int.Bits.{bit_or}
@@ -72,19 +72,19 @@ class_of mask = clear
 class_of (overflow o) = compare
 
 -- an operator in a program, from its class and what it is in a circuit: at width 64, as it is, or on low bits
-abbrev pub progBy : Class → Op → (u v a b c : ℕ) → ℕ
-progBy turn op u v a b c = circ op 64 64 a b c
-progBy wrap op u v a b c = circ op 64 64 a b c
-progBy meet op u v a b c = circ op 64 64 a b c
-progBy merge op u v a b c = circ op 64 64 a b c
-progBy test op u v a b c = circ op u v a b c
-progBy plain op u v a b c = circ op u v a b c
-progBy copy op u v a extra c = circ op u v a extra c
-progBy compare op u v a b c = circ op u v (a % 2 ^ u) (b % 2 ^ v) c
-progBy low op u v a b c = circ op u v (a % 2 ^ u) (b % 2 ^ v) c
-progBy extend op u v a extra c = circ op u v (a % 2 ^ u) extra c
-progBy cut op u v a upper lower = a / 2 ^ lower
-progBy left op u v a b c = shl (ltb b u) 64 a b
-progBy join op u v a b c = bit_or (a * 2 ^ v % 2 ^ 64) b
-progBy pick op u v a b c = circ op u v a b c
-progBy clear op u v a b c = circ op u v a b c
+abbrev pub prog_by : Class → Op → (u v a b c : ℕ) → ℕ
+prog_by turn op u v a b c = circ op 64 64 a b c
+prog_by wrap op u v a b c = circ op 64 64 a b c
+prog_by meet op u v a b c = circ op 64 64 a b c
+prog_by merge op u v a b c = circ op 64 64 a b c
+prog_by test op u v a b c = circ op u v a b c
+prog_by plain op u v a b c = circ op u v a b c
+prog_by copy op u v a extra c = circ op u v a extra c
+prog_by compare op u v a b c = circ op u v (a % 2 ^ u) (b % 2 ^ v) c
+prog_by low op u v a b c = circ op u v (a % 2 ^ u) (b % 2 ^ v) c
+prog_by extend op u v a extra c = circ op u v (a % 2 ^ u) extra c
+prog_by cut op u v a upper lower = a / 2 ^ lower
+prog_by left op u v a b c = shl (ltb b u) 64 a b
+prog_by join op u v a b c = bit_or (a * 2 ^ v % 2 ^ 64) b
+prog_by pick op u v a b c = circ op u v a b c
+prog_by clear op u v a b c = circ op u v a b c

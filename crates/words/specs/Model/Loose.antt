@@ -76,6 +76,6 @@ need₃ pick = false
 need₃ clear = false
 
 -- an operand where it is used: clean if the use needs it so (a loose line has a mask then), else as its line is
-abbrev pub atUse : Bool → Bool → Bool
-atUse true l = false
-atUse false l = l
+abbrev pub at_use : Bool → Bool → Bool
+at_use true l = false
+at_use false l = l

@@ -2,7 +2,7 @@
 use Prim.Native.Nat.{◌-◌}
 use borrow.Author.Rules.{rules}
 use native.Mathlib.Omega.{arith}
-use Rattle.texts.proofs.Printed.{Before, before-all, after-all, this-kind, this-fits, next-record}
+use Rattle.texts.proofs.Printed.{Before, before_all, after_all, this_kind, this_fits, next_record}
 use Rattle.writing.proofs.put_lines.Statement.{statement}
 use Rattle.writing.proofs.put_lines.Tie as tie
 
@@ -19,7 +19,7 @@ step-requires : tie.Need-step-requires invariant-loop decreases-loop
 step-requires c κs = tt
 
 loop-holds : tie.Need-loop-init invariant-loop decreases-loop
-loop-holds c = before-all _ _ _ c.before.before.before.before.requires.0 c.before.before.before.before.requires.1
+loop-holds c = before_all _ _ _ c.before.before.before.before.requires.0 c.before.before.before.before.requires.1
 
 record-requires : tie.Need-record-requires invariant-loop decreases-loop
 record-requires c κs = (omega (arith, c.before.before.before.before.before.before.requires.0), c.before.before.step.ensures)
@@ -32,8 +32,8 @@ put-line-requires c κs =
     let law = c.before.before.before.before.before.before.before.before.before.requires.1 in
     let at-loop = c.before.before.before.before in
     let taken = c.before.before.before.loop-test.true in
-    let k = this-kind at-loop.loop.invariant law taken _ c.before.before.«record».ensures in
-    (at-loop.before.before.all.ensures, (k.0, (k.1, this-fits at-loop.loop.invariant law taken _ c.before.before.«record».ensures)))
+    let k = this_kind at-loop.loop.invariant law taken _ c.before.before.«record».ensures in
+    (at-loop.before.before.all.ensures, (k.0, (k.1, this_fits at-loop.loop.invariant law taken _ c.before.before.«record».ensures)))
 
 loop-less : tie.Need-loop-smaller invariant-loop decreases-loop
 loop-less c = omega (arith, c.before.before.before.before.before.before.loop-test.true)
@@ -41,13 +41,13 @@ loop-less c = omega (arith, c.before.before.before.before.before.before.loop-tes
 loop-again : tie.Need-loop-preserved invariant-loop decreases-loop
 loop-again c =
     let law = c.before.before.before.before.before.before.before.before.before.before.before.before.requires.1 in
-    next-record c.before.before.before.before.before.before.before.loop.invariant law c.before.before.before.before.before.before.loop-test.true _ c.before.before.before.before.before.«record».ensures _ _ c.before.before.put-line.ensures
+    next_record c.before.before.before.before.before.before.before.loop.invariant law c.before.before.before.before.before.before.loop-test.true _ c.before.before.before.before.before.«record».ensures _ _ c.before.before.put-line.ensures
 
 same_length : tie.Need-same-length invariant-loop decreases-loop
 same_length c = c.before.loop.invariant.size
 
 returns : tie.Need-returns invariant-loop decreases-loop
-returns c = after-all c.before.loop.invariant c.loop-test.false
+returns c = after_all c.before.loop.invariant c.loop-test.false
 
 pub put-lines-spec : {M : Type 1} → statement M
 put-lines-spec =

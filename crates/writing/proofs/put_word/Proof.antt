@@ -7,8 +7,8 @@ use mathlib.Core.List.{List}
 use lib.ListN.{length, drop, get_or, set, length-set, length-drop}
 use lib.Seq.{sets}
 use Rattle.tables.specs.Kinds.{word_of}
-use Rattle.texts.proofs.Words.{word-at, word-length}
-use Rattle.texts.proofs.Printed.{out-byte, out-less, out_none}
+use Rattle.texts.proofs.Words.{word_at_lem, word_length}
+use Rattle.texts.proofs.Printed.{out_byte, out_less, out_none}
 use Rattle.writing.proofs.put_word.Statement.{statement}
 use Rattle.writing.proofs.put_word.Tie as tie
 
@@ -25,7 +25,7 @@ cast-n : tie.Need-overflow-cast-n invariant-loop decreases-loop
 cast-n c = search rules
 
 loop-holds : tie.Need-loop-init invariant-loop decreases-loop
-loop-holds c = (search rules, (refl, (word-length c.before.args.t3 (search rules) c.before.requires.0, (refl, (c.before.requires.1, (refl, refl))))))
+loop-holds c = (search rules, (refl, (word_length c.before.args.t3 (search rules) c.before.requires.0, (refl, (c.before.requires.1, (refl, refl))))))
 
 add-b : tie.Need-overflow-add-b invariant-loop decreases-loop
 add-b c = search rules
@@ -52,7 +52,7 @@ loop-again c =
     let l : List ℕ = c.before.before.before.before.before.loop.out in
     let p : ℕ = c.before.before.before.before.before.loop.p in
     let h : i < length w = omega (arith, v.1.1.0, c.before.before.before.before.loop-test.true) in
-    let e : get_or w i 0 ≡ get_or c.before.before.before.before.before.before.before.args.t3 (i + 1) 0 = word-at c.before.before.before.before.before.before.before.args.t3 i (omega (arith, v.1.0, c.before.before.before.before.loop-test.true)) in
+    let e : get_or w i 0 ≡ get_or c.before.before.before.before.before.before.before.args.t3 (i + 1) 0 = word_at_lem c.before.before.before.before.before.before.before.args.t3 i (omega (arith, v.1.0, c.before.before.before.before.loop-test.true)) in
     let o = c.before.before.put.ensures in (
       omega (arith, c.before.before.before.before.loop-test.true),
       (
@@ -64,8 +64,8 @@ loop-again c =
             (
               v.1.1.1.1.0,
               (
-                omega (arith, v.1.1.1.1.1.0, out-less w i h l p, o.0),
-                v.1.1.1.1.1.1 ∙ (out-byte w i h l p ∙ (ap (λ (x : ℕ). sets (set l p x) (p + 1) (drop (i + 1) w)) e ∙ (ap (λ (x : List ℕ). sets x (p + 1) (drop (i + 1) w)) (sym o.1) ∙ ap (λ (k : ℕ). sets c.before.before.put.new.0 k (drop (i + 1) w)) (sym o.0)))),
+                omega (arith, v.1.1.1.1.1.0, out_less w i h l p, o.0),
+                v.1.1.1.1.1.1 ∙ (out_byte w i h l p ∙ (ap (λ (x : ℕ). sets (set l p x) (p + 1) (drop (i + 1) w)) e ∙ (ap (λ (x : List ℕ). sets x (p + 1) (drop (i + 1) w)) (sym o.1) ∙ ap (λ (k : ℕ). sets c.before.before.put.new.0 k (drop (i + 1) w)) (sym o.0)))),
               ),
             ),
           ),

@@ -2,13 +2,13 @@
 use Prim.Native.Nat.{ℕ, ◌<◌}
 use mathlib.Core.Path.{◌≡◌, refl, sym, ap, ◌∙◌, subst⁻¹}
 use native.Mathlib.Omega.{arith}
-use Rattle.flattening.specs.Model.Cells.{cellIn}
-use Rattle.flattening.proofs.Holding.{cell-own, cell-new, cell-old}
+use Rattle.flattening.specs.Model.Cells.{cell_in}
+use Rattle.flattening.proofs.Holding.{cell_own, cell_new, cell_old}
 use Rattle.flat_cells.proofs.cells.cell.Statement.{statement}
 use Rattle.flat_cells.proofs.cells.cell.Tie as tie
 
 abbrev invariant-loop : tie.invariant-loop
-invariant-loop kept a j m₀ m = cellIn kept m j ≡ cellIn kept a j
+invariant-loop kept a j m₀ m = cell_in kept m j ≡ cell_in kept a j
 
 abbrev decreases-loop : tie.decreases-loop
 decreases-loop kept a j m₀ m = m
@@ -30,7 +30,7 @@ returns c = let s = c.before.before.before.before.before.before.args in
     let H = s.kept.now in
     let m = c.before.before.before.before.before.loop.m in
     c.entry3.ensures
-    ∙ sym (cell-new H c.before.before.before.before.before.before.requires.0 m s.j (λ z. c.before.before.before.if1.true (c.before.before.before.before.entry.ensures ∙ z)) (sym c.before.before.entry2.ensures ∙ c.before.if2.true))
+    ∙ sym (cell_new H c.before.before.before.before.before.before.requires.0 m s.j (λ z. c.before.before.before.if1.true (c.before.before.before.before.entry.ensures ∙ z)) (sym c.before.before.entry2.ensures ∙ c.before.if2.true))
     ∙ c.before.before.before.before.before.loop.invariant
 
 entry-requires-4 : tie.Need-entry-requires-4 invariant-loop decreases-loop
@@ -44,8 +44,8 @@ loop-again : tie.Need-loop-preserved invariant-loop decreases-loop
 loop-again c = let s = c.before.before.before.before.before.before.args in
     let H = s.kept.now in
     let m = c.before.before.before.before.before.loop.m in
-    ap (λ (x : ℕ). cellIn H x s.j) c.entry4.ensures
-    ∙ sym (cell-old H c.before.before.before.before.before.before.requires.0 m s.j (λ z. c.before.before.before.if1.true (c.before.before.before.before.entry.ensures ∙ z)) (λ z. c.before.if2.false (c.before.before.entry2.ensures ∙ z)))
+    ap (λ (x : ℕ). cell_in H x s.j) c.entry4.ensures
+    ∙ sym (cell_old H c.before.before.before.before.before.before.requires.0 m s.j (λ z. c.before.before.before.if1.true (c.before.before.before.before.entry.ensures ∙ z)) (λ z. c.before.if2.false (c.before.before.entry2.ensures ∙ z)))
     ∙ c.before.before.before.before.before.loop.invariant
 
 own-requires : tie.Need-own-requires invariant-loop decreases-loop
@@ -55,7 +55,7 @@ returns-2 : tie.Need-returns-2 invariant-loop decreases-loop
 returns-2 c = let s = c.before.before.before.before.args in
     let H = s.kept.now in
     let m = c.before.before.before.loop.m in
-    c.own.ensures ∙ sym (cell-own H m s.j (sym c.before.before.entry.ensures ∙ c.before.if1.false)) ∙ c.before.before.before.loop.invariant
+    c.own.ensures ∙ sym (cell_own H m s.j (sym c.before.before.entry.ensures ∙ c.before.if1.false)) ∙ c.before.before.before.loop.invariant
 
 pub cell-spec : {M : Type 1} → statement M
 cell-spec =

@@ -2,8 +2,8 @@
 use Prim.Native.Nat.{ℕ, ◌+◌, ◌*◌, ◌%◌, ◌≤◌}
 use mathlib.Core.Path.{sym, ap, ap₂, ◌∙◌, subst⁻¹}
 use native.Mathlib.Omega.{arith}
-use Rattle.flattening.specs.Model.Cells.{writtenAt}
-use Rattle.flattening.proofs.Holding.{own-run, own_row, product}
+use Rattle.flattening.specs.Model.Cells.{written_at}
+use Rattle.flattening.proofs.Holding.{own_run, own_row, product}
 use borrow.Author.Rules.{rules}
 use Rattle.flat_cells.proofs.cells.own.Statement.{statement}
 use Rattle.flat_cells.proofs.cells.own.Tie as tie
@@ -23,7 +23,7 @@ entry-requires-3 c κs = search rules
 returns : tie.Need-returns
 returns c = let s = c.before.before.before.before.args in
     let H = s.kept.now in
-    ap (λ (x : ℕ). x % 131072) c.entry3.ensures ∙ ap (λ (x : ℕ). writtenAt H (x + s.j)) c.before.before.before.entry.ensures
+    ap (λ (x : ℕ). x % 131072) c.entry3.ensures ∙ ap (λ (x : ℕ). written_at H (x + s.j)) c.before.before.before.entry.ensures
     ∙ sym (own_row H s.m s.j (sym c.before.before.entry2.ensures ∙ c.before.if1.true))
 
 mul-result : tie.Need-overflow-mul-result
@@ -39,7 +39,7 @@ add-result c = let s = c.before.before.before in
 returns-2 : tie.Need-returns-2
 returns-2 c = let s = c.before.before.before.args in
     ap₂ (λ (x y : ℕ). x + y * s.j) c.before.before.entry.ensures c.before.entry2.ensures
-    ∙ sym (own-run s.kept.now s.m s.j (λ z. c.if1.false (c.before.entry2.ensures ∙ z)))
+    ∙ sym (own_run s.kept.now s.m s.j (λ z. c.if1.false (c.before.entry2.ensures ∙ z)))
 
 pub own-spec : {M : Type 1} → statement M
 own-spec =

@@ -5,20 +5,20 @@ use mathlib.Core.Path.{◌≡◌, refl, ap, ap₂, ◌∙◌}
 use mathlib.Core.List.{List, [], ◌∷◌}
 use native.Mathlib.Omega.{arith}
 use lib.ListN.{length}
-use Rattle.flattening.specs.Placed.{putFlat}
-use Rattle.flattening.specs.Model.Rows.{rowsFor, pair_at}
-use Rattle.flattening.proofs.Placing.{flat-none, length-flat, pair-more}
+use Rattle.flattening.specs.Placed.{put_flat}
+use Rattle.flattening.specs.Model.Rows.{rows_for, pair_at}
+use Rattle.flattening.proofs.Placing.{flat_none, length_flat, pair_more}
 use Rattle.flat_cells.proofs.rows.pairs.Statement.{statement}
 use Rattle.flat_cells.proofs.rows.pairs.Tie as tie
 
 abbrev invariant-loop : tie.invariant-loop
-invariant-loop kept target₀ p n o i s c x y j₀ target j = (j ≤ n) × ((length target ≡ length target₀) × (target ≡ putFlat target₀ p (rowsFor j (pair_at kept p o i s c x y))))
+invariant-loop kept target₀ p n o i s c x y j₀ target j = (j ≤ n) × ((length target ≡ length target₀) × (target ≡ put_flat target₀ p (rows_for j (pair_at kept p o i s c x y))))
 
 abbrev decreases-loop : tie.decreases-loop
 decreases-loop kept target₀ p n o i s c x y j₀ target j = n - j
 
 loop-holds : tie.Need-loop-init invariant-loop decreases-loop
-loop-holds c = let a = c.before.args in (search rules, (refl, flat-none a.target.now a.p))
+loop-holds c = let a = c.before.args in (search rules, (refl, flat_none a.target.now a.p))
 
 mul-q : tie.Need-overflow-mul-q invariant-loop decreases-loop
 mul-q c = search rules
@@ -66,9 +66,9 @@ loop-again c = let a = c.before.before.before.before.before.before.before.before
     let q = a.p + 2 * j in
     let e =
     c.before.before.put2.ensures
-    ∙ ap₂ (λ (t r : List ℕ). putFlat t (q + 1) (r ∷ [])) (c.before.before.before.before.before.before.put.ensures ∙ ap₂ (λ (t r : List ℕ). putFlat t q (r ∷ [])) c.before.before.before.before.before.before.before.before.before.before.before.before.before.before.loop.invariant.1.1 c.before.before.before.before.before.before.before.before.before.before.before.of.ensures) c.before.before.before.before.before.before.before.before.of2.ensures
-    ∙ pair-more a.target.now a.p j H a.o a.i a.s a.c a.x a.y c.before.before.before.before.before.before.before.before.before.before.before.before.source.result c.before.before.before.before.before.before.before.before.before.before.source2.result c.before.before.before.before.before.before.before.before.before.source3.result c.before.before.before.before.before.before.before.before.before.before.before.before.source.ensures c.before.before.before.before.before.before.before.before.before.before.source2.ensures c.before.before.before.before.before.before.before.before.before.source3.ensures in
-    (omega arith, (ap length e ∙ length-flat a.target.now a.p (rowsFor (j + 1) (pair_at H a.p a.o a.i a.s a.c a.x a.y)), e))
+    ∙ ap₂ (λ (t r : List ℕ). put_flat t (q + 1) (r ∷ [])) (c.before.before.before.before.before.before.put.ensures ∙ ap₂ (λ (t r : List ℕ). put_flat t q (r ∷ [])) c.before.before.before.before.before.before.before.before.before.before.before.before.before.before.loop.invariant.1.1 c.before.before.before.before.before.before.before.before.before.before.before.of.ensures) c.before.before.before.before.before.before.before.before.of2.ensures
+    ∙ pair_more a.target.now a.p j H a.o a.i a.s a.c a.x a.y c.before.before.before.before.before.before.before.before.before.before.before.before.source.result c.before.before.before.before.before.before.before.before.before.before.source2.result c.before.before.before.before.before.before.before.before.before.source3.result c.before.before.before.before.before.before.before.before.before.before.before.before.source.ensures c.before.before.before.before.before.before.before.before.before.before.source2.ensures c.before.before.before.before.before.before.before.before.before.source3.ensures in
+    (omega arith, (ap length e ∙ length_flat a.target.now a.p (rows_for (j + 1) (pair_at H a.p a.o a.i a.s a.c a.x a.y)), e))
 
 same_length : tie.Need-same-length invariant-loop decreases-loop
 same_length c = search rules
@@ -76,7 +76,7 @@ same_length c = search rules
 returns : tie.Need-returns invariant-loop decreases-loop
 returns c = let a = c.before.before.before.args in
     let q : c.before.loop.j ≡ a.n = omega arith in
-    c.before.loop.invariant.1.1 ∙ ap (λ (m : ℕ). putFlat a.target.now a.p (rowsFor m (pair_at a.kept.now a.p a.o a.i a.s a.c a.x a.y))) q
+    c.before.loop.invariant.1.1 ∙ ap (λ (m : ℕ). put_flat a.target.now a.p (rows_for m (pair_at a.kept.now a.p a.o a.i a.s a.c a.x a.y))) q
 
 pub pairs-spec : {M : Type 1} → statement M
 pairs-spec =

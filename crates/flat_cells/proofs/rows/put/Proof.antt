@@ -2,7 +2,7 @@
 use borrow.Author.Rules.{rules}
 use Prim.Native.Nat.{◌+◌}
 use mathlib.Core.Path.{refl, ◌∙◌}
-use Rattle.flattening.proofs.Placing.{flat-one}
+use Rattle.flattening.proofs.Placing.{flat_one}
 use Rattle.flat_cells.proofs.rows.put.Statement.{statement}
 use Rattle.flat_cells.proofs.rows.put.Tie as tie
 
@@ -18,7 +18,7 @@ same_length c = search rules
 returns : tie.Need-returns
 returns c =
     let a = c.before.before.before.before.before.args in
-    c.before.before.put-line.ensures ∙ flat-one a.target.now a.i a.rec (a.i + 1) refl
+    c.before.before.put-line.ensures ∙ flat_one a.target.now a.i a.rec (a.i + 1) refl
 
 pub put_spec : {M : Type 1} → statement M
 put_spec = tie.close (tie.spec add-put-line put-line-requires same_length returns)

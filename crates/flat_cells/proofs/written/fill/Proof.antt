@@ -5,8 +5,8 @@ use mathlib.Core.List.{List}
 use native.Mathlib.Omega.{arith}
 use lib.ListN.{length}
 use Rattle.flattening.specs.Model.Cells.{Filled}
-use Rattle.flattening.proofs.Holding.{cell-lt}
-use Rattle.flattening.proofs.Written.{from-none, filling, filled}
+use Rattle.flattening.proofs.Holding.{cell_lt}
+use Rattle.flattening.proofs.Written.{from_none, filling, filled}
 use borrow.Author.Rules.{rules}
 use Rattle.flat_cells.proofs.written.fill.Statement.{statement}
 use Rattle.flat_cells.proofs.written.fill.Tie as tie
@@ -18,7 +18,7 @@ abbrev decreases-loop : tie.decreases-loop
 decreases-loop kept₀ m u j₀ kept j = 256 - j
 
 loop-holds : tie.Need-loop-init invariant-loop decreases-loop
-loop-holds c = (omega arith, record { from = from-none; word = λ j l. absurd (omega arith) })
+loop-holds c = (omega arith, record { from = from_none; word = λ j l. absurd (omega arith) })
 
 cell-requires : tie.Need-cell-requires invariant-loop decreases-loop
 cell-requires c κs = let s = c.before.before.before in
@@ -38,7 +38,7 @@ put-word-requires c κs = let s = c.before.before.before.before.before.before.be
     let f = l.invariant.1 in
     let r : s.args.u + l.j < length s.args.kept.now = omega (arith, s.requires.1.1) in
     let z = f.from.len in
-    (omega arith, (omega arith, subst⁻¹ (λ (x : ℕ). x < 131072) c.before.before.before.cell.ensures (cell-lt l.auto (filling s.requires.0 s.requires.1.0 h r f) s.args.m l.j h)))
+    (omega arith, (omega arith, subst⁻¹ (λ (x : ℕ). x < 131072) c.before.before.before.cell.ensures (cell_lt l.auto (filling s.requires.0 s.requires.1.0 h r f) s.args.m l.j h)))
 
 add-j : tie.Need-overflow-add-j invariant-loop decreases-loop
 add-j c = search rules

@@ -1,6 +1,6 @@
 -- The other numbers stay. Assumes nothing.
 use Prim.Native.Nat.{◌+◌, ◌*◌}
-use Rattle.flattening.proofs.Written.{put-read}
+use Rattle.flattening.proofs.Written.{put_read}
 use borrow.Author.Rules.{rules}
 use Rattle.flat_cells.proofs.written.put_word.Statement.{statement}
 use Rattle.flat_cells.proofs.written.put_word.Tie as tie
@@ -45,7 +45,7 @@ same_length : tie.Need-same-length
 same_length c = search rules
 
 returns : tie.Need-returns
-returns c = let a = c.before.args in put-read a.kept.now a.i (a.d * 131072 + a.w) c.before.requires.0
+returns c = let a = c.before.args in put_read a.kept.now a.i (a.d * 131072 + a.w) c.before.requires.0
 
 pub put-word-spec : {M : Type 1} → statement M
 put-word-spec =

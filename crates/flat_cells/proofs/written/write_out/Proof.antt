@@ -4,7 +4,7 @@ use mathlib.Core.Path.{◌∙◌, subst⁻¹}
 use mathlib.Core.List.{List}
 use native.Mathlib.Omega.{arith}
 use Rattle.flattening.specs.Model.Cells.{Shortened}
-use Rattle.flattening.proofs.Written.{place-of, short-filled}
+use Rattle.flattening.proofs.Written.{place_of_lem, short_filled}
 use borrow.Author.Rules.{rules}
 use Rattle.flat_cells.proofs.written.write_out.Statement.{statement}
 use Rattle.flat_cells.proofs.written.write_out.Tie as tie
@@ -35,7 +35,7 @@ put-row-requires c κs = let s = c.before.before.before.before.before.before.bef
     let a = s.args in
     let w = s.requires.1.within in
     let l = s.requires.1.most in (
-      subst⁻¹ (λ (x : ℕ). a.m < x) c.before.before.fill.ensures.from.len (place-of a.kept.now a.m (λ z. c.before.before.before.before.before.if1.false (c.before.before.before.before.before.before.entry.ensures ∙ z))),
+      subst⁻¹ (λ (x : ℕ). a.m < x) c.before.before.fill.ensures.from.len (place_of_lem a.kept.now a.m (λ z. c.before.before.before.before.before.if1.false (c.before.before.before.before.before.before.entry.ensures ∙ z))),
       omega (arith, w, l),
     )
 
@@ -50,7 +50,7 @@ returns-3 c = let s = c.before.before.before.before.before.before.before.before.
     let a = s.args in
     let w = s.requires.1.within in
     subst⁻¹ (λ (K : List (List ℕ)). Shortened a.kept.now K (a.u + 256)) c.before.put-row.ensures
-    (short-filled s.requires.0 s.requires.1 (λ z. c.before.before.before.before.before.before.before.if1.false (c.before.before.before.before.before.before.before.before.entry.ensures ∙ z)) (omega (arith, w, c.before.before.before.before.before.before.if2.false)) c.before.before.before.before.fill.ensures)
+    (short_filled s.requires.0 s.requires.1 (λ z. c.before.before.before.before.before.before.before.if1.false (c.before.before.before.before.before.before.before.before.entry.ensures ∙ z)) (omega (arith, w, c.before.before.before.before.before.before.if2.false)) c.before.before.before.before.fill.ensures)
 
 pub write-out-spec : {M : Type 1} → statement M
 write-out-spec =

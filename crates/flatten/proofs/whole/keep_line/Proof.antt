@@ -3,8 +3,8 @@ use Prim.Native.Nat.{ℕ, ◌<◌}
 use mathlib.Core.Path.{◌∙◌, subst, subst⁻¹}
 use mathlib.Core.List.{List}
 use lib.ListN.{length, length-set}
-use Rattle.flattening.specs.Model.Cells.{Sound, keep, keptNow, Written, Shortened}
-use Rattle.flattening.proofs.Written.{keep-read, short_none}
+use Rattle.flattening.specs.Model.Cells.{Sound, keep, kept_now, Written, Shortened}
+use Rattle.flattening.proofs.Written.{keep_read, short_none}
 use borrow.Author.Rules.{rules}
 use Rattle.flatten.proofs.whole.keep_line.Statement.{statement}
 use Rattle.flatten.proofs.whole.keep_line.Tie as tie
@@ -46,14 +46,14 @@ returns : tie.Need-returns
 returns c = let s = c.before.before.before.before.before.before.before.before in
     let a = s.args in
     let H = a.kept.now in
-    subst⁻¹ (λ (K : List (List ℕ)). Shortened (keep H a.n a.m) K a.used) (keep-read H a.n a.m s.requires.1.1.1) (short_none s.requires.0 s.requires.1.0)
+    subst⁻¹ (λ (K : List (List ℕ)). Shortened (keep H a.n a.m) K a.used) (keep_read H a.n a.m s.requires.1.1.1) (short_none s.requires.0 s.requires.1.0)
 
 shorten-requires : tie.Need-shorten-requires
 shorten-requires c κs = let s = c.before.before.before.before.before.before.before.before.before in
     let a = s.args in
     let H = a.kept.now in
-    subst⁻¹ (λ (K : List (List ℕ)). Sound K × (Written K a.used × (a.n < length K))) (keep-read H a.n a.m s.requires.1.1.1)
-    (s.requires.0, (s.requires.1.0, subst⁻¹ (λ (x : ℕ). a.n < x) (length-set H a.n (keptNow H a.n a.m)) s.requires.1.1.1))
+    subst⁻¹ (λ (K : List (List ℕ)). Sound K × (Written K a.used × (a.n < length K))) (keep_read H a.n a.m s.requires.1.1.1)
+    (s.requires.0, (s.requires.1.0, subst⁻¹ (λ (x : ℕ). a.n < x) (length-set H a.n (kept_now H a.n a.m)) s.requires.1.1.1))
 
 same-length-2 : tie.Need-same-length-2
 same-length-2 c = c.before.shorten.ensures.same.len ∙ length-set c.before.before.before.before.before.before.before.before.before.before.before.args.kept.now c.before.before.before.before.before.before.before.before.before.before.before.args.n _
@@ -62,7 +62,7 @@ returns-2 : tie.Need-returns-2
 returns-2 c = let s = c.before.before.before.before.before.before.before.before.before.before.before in
     let a = s.args in
     let H = a.kept.now in
-    subst (λ (K : List (List ℕ)). Shortened K c.before.shorten.new.0 c.before.shorten.result) (keep-read H a.n a.m s.requires.1.1.1) c.before.shorten.ensures
+    subst (λ (K : List (List ℕ)). Shortened K c.before.shorten.new.0 c.before.shorten.result) (keep_read H a.n a.m s.requires.1.1.1) c.before.shorten.ensures
 
 pub keep-line-spec : {M : Type 1} → statement M
 keep-line-spec =

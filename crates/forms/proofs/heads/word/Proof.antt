@@ -5,9 +5,9 @@ use mathlib.Core.Path.{◌≡◌, sym, ap, ◌∙◌}
 use mathlib.Core.List.{List, [], ◌∷◌}
 use lib.ListN.{take, drop}
 use Rattle.texts.specs.Split.{tokens}
-use Rattle.texts.specs.Reading.{word_in, formWord, sortWords}
-use Rattle.texts.proofs.Places.{next-token, no-token}
-use Rattle.texts.proofs.Words.{word_none, word-sort, word-other, known_at, sort-form, word-form}
+use Rattle.texts.specs.Reading.{word_in, form_word, sort_words}
+use Rattle.texts.proofs.Places.{next_token, no_token}
+use Rattle.texts.proofs.Words.{word_none, word_sort_lem, word_other, known_at, sort_form, word_form}
 use borrow.Author.Rules.{rules}
 use Rattle.forms.proofs.heads.word.Statement.{statement}
 use Rattle.forms.proofs.heads.word.Tie as tie
@@ -18,7 +18,7 @@ skip-requires c κs = c.before.requires.1
 returns : tie.Need-returns
 returns c =
     let l : List ℕ = c.before.before.before.args.l.now in
-    let n : tokens (drop c.before.before.before.args.i l) ≡ [] = sym c.before.skip.ensures.1.1.0 ∙ no-token l c.before.skip.result (omega arith) in
+    let n : tokens (drop c.before.before.before.args.i l) ≡ [] = sym c.before.skip.ensures.1.1.0 ∙ no_token l c.before.skip.result (omega arith) in
     (search rules, (search rules, ap (λ (x : List (List ℕ)). word_in x) n ∙ word_none))
 
 find-byte-requires : tie.Need-find-byte-requires
@@ -45,9 +45,9 @@ returns-2 c =
     let a : ℕ = c.before.before.before.before.before.before.before.skip.result in
     let z : ℕ = c.before.before.before.before.before.find-byte.result in
     let n : tokens (drop c.before.before.before.before.before.before.before.before.before.args.i l) ≡ take (z - a) (drop a l) ∷ tokens (drop z l) =
-    sym c.before.before.before.before.before.before.before.skip.ensures.1.1.0 ∙ next-token l a z (omega arith) (c.before.before.before.before.before.before.before.skip.ensures.1.1.1 (omega arith)) c.before.before.before.before.before.find-byte.ensures.1.1 in
-    let k : tokens (drop z l) ≡ [] = sym c.before.skip2.ensures.1.1.0 ∙ no-token l c.before.skip2.result (omega arith) in
-    (search rules, (search rules, ap (λ (x : List (List ℕ)). word_in x) n ∙ (word-sort (take (z - a) (drop a l)) (tokens (drop z l)) (sym c.before.before.before.is-sort.ensures ∙ c.before.before.if2.true) ∙ ap (λ (x : List (List ℕ)). sortWords x) k)))
+    sym c.before.before.before.before.before.before.before.skip.ensures.1.1.0 ∙ next_token l a z (omega arith) (c.before.before.before.before.before.before.before.skip.ensures.1.1.1 (omega arith)) c.before.before.before.before.before.find-byte.ensures.1.1 in
+    let k : tokens (drop z l) ≡ [] = sym c.before.skip2.ensures.1.1.0 ∙ no_token l c.before.skip2.result (omega arith) in
+    (search rules, (search rules, ap (λ (x : List (List ℕ)). word_in x) n ∙ (word_sort_lem (take (z - a) (drop a l)) (tokens (drop z l)) (sym c.before.before.before.is-sort.ensures ∙ c.before.before.if2.true) ∙ ap (λ (x : List (List ℕ)). sort_words x) k)))
 
 find-byte-requires-2 : tie.Need-find-byte-requires-2
 find-byte-requires-2 c κs = c.before.skip2.ensures.1.0
@@ -70,16 +70,16 @@ returns-3 c =
     let a : ℕ = c.before.before.before.before.before.before.before.before.before.before.skip.result in
     let z : ℕ = c.before.before.before.before.before.before.before.before.find-byte.result in
     let n : tokens (drop c.before.before.before.before.before.before.before.before.before.before.before.before.args.i l) ≡ take (z - a) (drop a l) ∷ tokens (drop z l) =
-    sym c.before.before.before.before.before.before.before.before.before.before.skip.ensures.1.1.0 ∙ next-token l a z (omega arith) (c.before.before.before.before.before.before.before.before.before.before.skip.ensures.1.1.1 (omega arith)) c.before.before.before.before.before.before.before.before.find-byte.ensures.1.1 in
+    sym c.before.before.before.before.before.before.before.before.before.before.skip.ensures.1.1.0 ∙ next_token l a z (omega arith) (c.before.before.before.before.before.before.before.before.before.before.skip.ensures.1.1.1 (omega arith)) c.before.before.before.before.before.before.before.before.find-byte.ensures.1.1 in
     let b : ℕ = c.before.before.before.before.skip2.result in
     let y : ℕ = c.before.before.find-byte2.result in
     let k : tokens (drop z l) ≡ take (y - b) (drop b l) ∷ tokens (drop y l) =
-    sym c.before.before.before.before.skip2.ensures.1.1.0 ∙ next-token l b y (omega arith) (c.before.before.before.before.skip2.ensures.1.1.1 (omega arith)) c.before.before.find-byte2.ensures.1.1 in (
+    sym c.before.before.before.before.skip2.ensures.1.1.0 ∙ next_token l b y (omega arith) (c.before.before.before.before.skip2.ensures.1.1.1 (omega arith)) c.before.before.find-byte2.ensures.1.1 in (
       omega arith,
       (
-        omega (arith, c.find-kind.ensures, (sort-form (take (y - b) (drop b l))).0),
-        ap (λ (x : List (List ℕ)). word_in x) n ∙ (word-sort (take (z - a) (drop a l)) (tokens (drop z l)) (sym c.before.before.before.before.before.before.is-sort.ensures ∙ c.before.before.before.before.before.if2.true)
-            ∙ (ap (λ (x : List (List ℕ)). sortWords x) k ∙ (ap (λ (f : ℕ). formWord f (tokens (drop y l))) (sym c.find-kind.ensures) ∙ known_at l c.find-kind.result y))),
+        omega (arith, c.find-kind.ensures, (sort_form (take (y - b) (drop b l))).0),
+        ap (λ (x : List (List ℕ)). word_in x) n ∙ (word_sort_lem (take (z - a) (drop a l)) (tokens (drop z l)) (sym c.before.before.before.before.before.before.is-sort.ensures ∙ c.before.before.before.before.before.if2.true)
+            ∙ (ap (λ (x : List (List ℕ)). sort_words x) k ∙ (ap (λ (f : ℕ). form_word f (tokens (drop y l))) (sym c.find-kind.ensures) ∙ known_at l c.find-kind.result y))),
       ),
     )
 
@@ -101,12 +101,12 @@ returns-4 c =
     let a : ℕ = c.before.before.before.before.before.before.before.skip.result in
     let z : ℕ = c.before.before.before.before.before.find-byte.result in
     let n : tokens (drop c.before.before.before.before.before.before.before.before.before.args.i l) ≡ take (z - a) (drop a l) ∷ tokens (drop z l) =
-    sym c.before.before.before.before.before.before.before.skip.ensures.1.1.0 ∙ next-token l a z (omega arith) (c.before.before.before.before.before.before.before.skip.ensures.1.1.1 (omega arith)) c.before.before.before.before.before.find-byte.ensures.1.1 in (
+    sym c.before.before.before.before.before.before.before.skip.ensures.1.1.0 ∙ next_token l a z (omega arith) (c.before.before.before.before.before.before.before.skip.ensures.1.1.1 (omega arith)) c.before.before.before.before.before.find-byte.ensures.1.1 in (
       omega arith,
       (
-        omega (arith, c.find.ensures, (word-form (take (z - a) (drop a l))).0),
-        ap (λ (x : List (List ℕ)). word_in x) n ∙ (word-other (take (z - a) (drop a l)) (tokens (drop z l)) (sym c.before.before.before.is-sort.ensures ∙ c.before.before.if2.false)
-            ∙ (ap (λ (f : ℕ). formWord f (tokens (drop z l))) (sym c.find.ensures) ∙ known_at l c.find.result z)),
+        omega (arith, c.find.ensures, (word_form (take (z - a) (drop a l))).0),
+        ap (λ (x : List (List ℕ)). word_in x) n ∙ (word_other (take (z - a) (drop a l)) (tokens (drop z l)) (sym c.before.before.before.is-sort.ensures ∙ c.before.before.if2.false)
+            ∙ (ap (λ (f : ℕ). form_word f (tokens (drop z l))) (sym c.find.ensures) ∙ known_at l c.find.result z)),
       ),
     )
 

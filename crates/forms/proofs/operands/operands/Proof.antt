@@ -8,20 +8,20 @@ use mathlib.Core.List.{List, ◌∷◌}
 use lib.ListN.{length, take, drop, get_or, set, length-set, length-drop}
 use lib.Seq.{get_or-set_other, length-take-le}
 use lib.Arith.{lt_of_le-ne}
-use Rattle.tables.specs.Layout.{recordWords}
+use Rattle.tables.specs.Layout.{record_words}
 use Rattle.texts.specs.Split.{tokens}
-use Rattle.texts.specs.Minus.{noSigns}
+use Rattle.texts.specs.Minus.{no_signs}
 use Rattle.texts.specs.Model.Stages.{operands}
-use Rattle.texts.proofs.Places.{next-token, no-token}
-use Rattle.texts.proofs.Steps.{op-end, op-none, op-bad, op-big, op-is}
+use Rattle.texts.proofs.Places.{next_token, no_token}
+use Rattle.texts.proofs.Steps.{op_end, op_none, op_bad, op_big, op_is}
 use Rattle.forms.proofs.operands.operands.Statement.{statement}
 use Rattle.forms.proofs.operands.operands.Tie as tie
 
 abbrev invariant-loop : tie.invariant-loop
 invariant-loop l i row f m j e rec₀ minus₀ at₀ big₀ len₀ p₀ rec minus at big len p =
     (get_or rec 0 0 ≡ get_or rec₀ 0 0)
-    × ((j ≤ p) × ((p ≤ e) × ((e ≡ j + m) × ((e ≤ recordWords) × ((at ≤ length l) × ((length rec ≡ recordWords)
-    × (operands f m j rec₀ noSigns false 0 (tokens (drop i l)) ≡ operands f (e - p) p rec minus big len (tokens (drop at l)))))))))
+    × ((j ≤ p) × ((p ≤ e) × ((e ≡ j + m) × ((e ≤ record_words) × ((at ≤ length l) × ((length rec ≡ record_words)
+    × (operands f m j rec₀ no_signs false 0 (tokens (drop i l)) ≡ operands f (e - p) p rec minus big len (tokens (drop at l)))))))))
 
 abbrev decreases-loop : tie.decreases-loop
 decreases-loop l i row f m j e rec₀ minus₀ at₀ big₀ len₀ p₀ rec minus at big len p = e - p
@@ -31,7 +31,7 @@ add-e c = search rules
 
 loop-holds : tie.Need-loop-init invariant-loop decreases-loop
 loop-holds c = let q : c.before.args.m ≡ c.before.args.j + c.before.args.m - c.before.args.j = omega arith in
-    (refl, (search rules, (search rules, (refl, (search rules, (search rules, (search rules, ap (λ (m : ℕ). operands c.before.args.f m c.before.args.j c.before.args.start noSigns false 0 (tokens (drop c.before.args.i c.before.args.l.now))) q)))))))
+    (refl, (search rules, (search rules, (refl, (search rules, (search rules, (search rules, ap (λ (m : ℕ). operands c.before.args.f m c.before.args.j c.before.args.start no_signs false 0 (tokens (drop c.before.args.i c.before.args.l.now))) q)))))))
 
 skip-requires : tie.Need-skip-requires invariant-loop decreases-loop
 skip-requires c κs = c.before.loop.invariant.1.1.1.1.1.0
@@ -39,7 +39,7 @@ skip-requires c κs = c.before.loop.invariant.1.1.1.1.1.0
 returns : tie.Need-returns invariant-loop decreases-loop
 returns c = let s = c.before.before.before.before.before.args in let o = c.before.before.before.loop in let w = c.before.before.before.loop.invariant.1.1.1.1.1.1.1 in
     let e : ℕ = s.j + s.m in
-    (zero-le, (c.before.before.before.loop.invariant.0, w ∙ (ap (λ (ts : List (List ℕ)). operands s.f (e - o.p) o.p o.rec o.minus o.big o.len ts) (sym c.before.skip.ensures.1.1.0 ∙ no-token s.l.now c.before.skip.result (omega (arith, c.if1.true))) ∙ op-none s.f e o.p o.rec o.minus o.big o.len c.before.before.loop-test.true)))
+    (zero-le, (c.before.before.before.loop.invariant.0, w ∙ (ap (λ (ts : List (List ℕ)). operands s.f (e - o.p) o.p o.rec o.minus o.big o.len ts) (sym c.before.skip.ensures.1.1.0 ∙ no_token s.l.now c.before.skip.result (omega (arith, c.if1.true))) ∙ op_none s.f e o.p o.rec o.minus o.big o.len c.before.before.loop-test.true)))
 
 find-byte-requires : tie.Need-find-byte-requires invariant-loop decreases-loop
 find-byte-requires c κs = c.before.skip.ensures.1.0
@@ -75,9 +75,9 @@ returns-2 c = let s = c.before.before.before.before.before.before.before.before.
     let z : ℕ = c.before.before.before.before.find-byte.result in
     let t : List ℕ = take (z - a) (drop a l) in
     let on : a < length l = lt_of_le-ne c.before.before.before.before.before.before.skip.ensures.1.0 c.before.before.before.before.before.if1.false in
-    let n : tokens (drop o.at l) ≡ t ∷ tokens (drop z l) = sym c.before.before.before.before.before.before.skip.ensures.1.1.0 ∙ next-token l a z on (c.before.before.before.before.before.before.skip.ensures.1.1.1 on) c.before.before.before.before.find-byte.ensures.1.1 in
+    let n : tokens (drop o.at l) ≡ t ∷ tokens (drop z l) = sym c.before.before.before.before.before.before.skip.ensures.1.1.0 ∙ next_token l a z on (c.before.before.before.before.before.before.skip.ensures.1.1.1 on) c.before.before.before.before.find-byte.ensures.1.1 in
     let u = w ∙ ap (λ (ts : List (List ℕ)). operands s.f (e - o.p) o.p o.rec o.minus o.big o.len ts) n in
-    (zero-le, (c.before.before.before.before.before.before.before.before.loop.invariant.0, (u ∙ op-bad s.f e o.p o.rec o.minus o.big o.len t (tokens (drop z l)) c.before.before.before.before.before.before.before.loop-test.true (sym c.before.before.token.ensures.0 ∙ c.enum_told.given.1))))
+    (zero-le, (c.before.before.before.before.before.before.before.before.loop.invariant.0, (u ∙ op_bad s.f e o.p o.rec o.minus o.big o.len t (tokens (drop z l)) c.before.before.before.before.before.before.before.loop-test.true (sym c.before.before.token.ensures.0 ∙ c.enum_told.given.1))))
 
 enum-told-2 : tie.Need-enum-told-2 invariant-loop decreases-loop
 enum-told-2 c = search rules
@@ -96,7 +96,7 @@ loop-again c = let s = c.before.before.before.before.before.before.before.before
     let z : ℕ = c.before.before.before.before.find-byte.result in
     let t : List ℕ = take (z - a) (drop a l) in
     let on : a < length l = lt_of_le-ne c.before.before.before.before.before.before.skip.ensures.1.0 c.before.before.before.before.before.if1.false in
-    let n : tokens (drop o.at l) ≡ t ∷ tokens (drop z l) = sym c.before.before.before.before.before.before.skip.ensures.1.1.0 ∙ next-token l a z on (c.before.before.before.before.before.before.skip.ensures.1.1.1 on) c.before.before.before.before.find-byte.ensures.1.1 in
+    let n : tokens (drop o.at l) ≡ t ∷ tokens (drop z l) = sym c.before.before.before.before.before.before.skip.ensures.1.1.0 ∙ next_token l a z on (c.before.before.before.before.before.before.skip.ensures.1.1.1 on) c.before.before.before.before.find-byte.ensures.1.1 in
     let u = w ∙ ap (λ (ts : List (List ℕ)). operands s.f (e - o.p) o.p o.rec o.minus o.big o.len ts) n in
     let k : length t ≡ z - a = length-take-le (z - a) (drop a l) (omega (arith, length-drop a l)) in (
       c.before.before.before.before.before.before.before.before.loop.invariant.0,
@@ -112,7 +112,7 @@ loop-again c = let s = c.before.before.before.before.before.before.before.before
                 c.before.before.before.before.find-byte.ensures.1.0,
                 (
                   c.before.before.before.before.before.before.before.before.loop.invariant.1.1.1.1.1.1.0,
-                  u ∙ (op-big s.f e o.p o.rec o.minus o.big o.len t (tokens (drop z l)) c.before.before.before.before.before.before.before.loop-test.true (sym c.before.before.token.ensures.0 ∙ c.enum-told2.given.1)
+                  u ∙ (op_big s.f e o.p o.rec o.minus o.big o.len t (tokens (drop z l)) c.before.before.before.before.before.before.before.loop-test.true (sym c.before.before.token.ensures.0 ∙ c.enum-told2.given.1)
                       ∙ ap₂ (λ (k : ℕ) (b : Bool). operands s.f (e - (o.p + 1)) (o.p + 1) o.rec (set o.minus o.p b) true k (tokens (drop z l))) k (sym c.before.before.token.ensures.1)),
                 ),
               ),
@@ -145,7 +145,7 @@ loop-again-2 c = let s = c.before.before.before.before.before.before.before.befo
     let z : ℕ = c.before.before.before.before.before.find-byte.result in
     let t : List ℕ = take (z - a) (drop a l) in
     let on : a < length l = lt_of_le-ne c.before.before.before.before.before.before.before.skip.ensures.1.0 c.before.before.before.before.before.before.if1.false in
-    let n : tokens (drop o.at l) ≡ t ∷ tokens (drop z l) = sym c.before.before.before.before.before.before.before.skip.ensures.1.1.0 ∙ next-token l a z on (c.before.before.before.before.before.before.before.skip.ensures.1.1.1 on) c.before.before.before.before.before.find-byte.ensures.1.1 in
+    let n : tokens (drop o.at l) ≡ t ∷ tokens (drop z l) = sym c.before.before.before.before.before.before.before.skip.ensures.1.1.0 ∙ next_token l a z on (c.before.before.before.before.before.before.before.skip.ensures.1.1.1 on) c.before.before.before.before.before.find-byte.ensures.1.1 in
     let u = w ∙ ap (λ (ts : List (List ℕ)). operands s.f (e - o.p) o.p o.rec o.minus o.big o.len ts) n in
     let k : length t ≡ z - a = length-take-le (z - a) (drop a l) (omega (arith, length-drop a l)) in
     let x : ℕ = c.before.r.given.0.0 in (
@@ -162,7 +162,7 @@ loop-again-2 c = let s = c.before.before.before.before.before.before.before.befo
                 c.before.before.before.before.before.find-byte.ensures.1.0,
                 (
                   length-set o.rec o.p x ∙ c.before.before.before.before.before.before.before.before.before.loop.invariant.1.1.1.1.1.1.0,
-                  u ∙ (op-is s.f e o.p o.rec o.minus o.big o.len t (tokens (drop z l)) c.before.before.before.before.before.before.before.before.loop-test.true x (sym c.before.before.before.token.ensures.0 ∙ c.before.r.given.1)
+                  u ∙ (op_is s.f e o.p o.rec o.minus o.big o.len t (tokens (drop z l)) c.before.before.before.before.before.before.before.before.loop-test.true x (sym c.before.before.before.token.ensures.0 ∙ c.before.r.given.1)
                       ∙ ap₂ (λ (k : ℕ) (b : Bool). operands s.f (e - (o.p + 1)) (o.p + 1) (set o.rec o.p x) (set o.minus o.p b) o.big k (tokens (drop z l))) k (sym c.before.before.before.token.ensures.1)),
                 ),
               ),
@@ -175,7 +175,7 @@ loop-again-2 c = let s = c.before.before.before.before.before.before.before.befo
 returns-3 : tie.Need-returns-3 invariant-loop decreases-loop
 returns-3 c = let s = c.before.before.before.args in let o = c.before.loop in let w = c.before.loop.invariant.1.1.1.1.1.1.1 in
     let e : ℕ = s.j + s.m in
-    (c.before.loop.invariant.1.1.1.1.1.0, (c.before.loop.invariant.0, w ∙ op-end s.f e o.p o.rec o.minus o.big o.len (tokens (drop o.at s.l.now)) c.loop-test.false))
+    (c.before.loop.invariant.1.1.1.1.1.0, (c.before.loop.invariant.0, w ∙ op_end s.f e o.p o.rec o.minus o.big o.len (tokens (drop o.at s.l.now)) c.loop-test.false))
 
 pub operands-spec : {M : Type 1} → statement M
 operands-spec =

@@ -5,14 +5,14 @@ use mathlib.Core.Path.{◌≡◌, sym, ap, ◌∙◌, subst}
 use mathlib.Core.List.{List}
 use lib.ListN.{length, take, drop}
 use Rattle.tables.specs.Layout.{ids_of}
-use Rattle.tables.specs.Model.Notes.{lookIn, givenIn}
+use Rattle.tables.specs.Model.Notes.{look_in, given_in}
 use Rattle.texts.specs.declared.Readout.{Readout}
 use Rattle.texts.specs.Split.{tokens}
-use Rattle.texts.specs.Reading.{nameIn}
-use Rattle.texts.specs.Model.Stages.{ended, takenIn}
-use Rattle.texts.specs.Model.Structs.{asRead}
-use Rattle.texts.proofs.NameParts.{is-several, is_name}
-use Rattle.texts.proofs.Readouts.{tells-labels}
+use Rattle.texts.specs.Reading.{name_in}
+use Rattle.texts.specs.Model.Stages.{ended, taken_in}
+use Rattle.texts.specs.Model.Structs.{as_read}
+use Rattle.texts.proofs.NameParts.{is_several, is_name}
+use Rattle.texts.proofs.Readouts.{tells_labels}
 use Rattle.reading.proofs.line.behind_word.Statement.{statement}
 use Rattle.reading.proofs.line.behind_word.Tie as tie
 
@@ -39,7 +39,7 @@ finish-requires c κs =
           p.1.1.1.0,
           (
             t.ensures.1.0,
-            (is-several l t.result.at x.result.from x.result.to k.result x.ensures.0 x.ensures.1.1 k.ensures.1.1.0 k.ensures.0 k.ensures.1.0 k.ensures.1.1.1, p.1.1.1.1),
+            (is_several l t.result.at x.result.from x.result.to k.result x.ensures.0 x.ensures.1.1 k.ensures.1.1.0 k.ensures.0 k.ensures.1.0 k.ensures.1.1.1, p.1.1.1.1),
           ),
         ),
       ),
@@ -51,20 +51,20 @@ labelled-requires c κs = search rules
 returns : tie.Need-returns
 returns c =
     let s = c.before.before.before.before.before.before.before.args in
-    let L = lookIn s.notes.now in
-    let G = givenIn s.notes.now in
+    let L = look_in s.notes.now in
+    let G = given_in s.notes.now in
     let ids = ids_of s.table.now s.n in
     let l : List ℕ = s.l.now in
     let ts = tokens (drop s.at l) in
     let t = c.before.before.before.before.take in
     let x = c.before.before.before.next in
     let r = c.before.finish in
-    let e = r.ensures ∙ ap (λ y. asRead (ended L G ids s.f y)) (sym t.ensures.1.1) in
+    let e = r.ensures ∙ ap (λ y. as_read (ended L G ids s.f y)) (sym t.ensures.1.1) in
     let o = c.labelled.ensures in (
-      tells-labels (ended L G ids s.f (takenIn s.f ts)) s.id x.result.from x.result.to o e,
+      tells_labels (ended L G ids s.f (taken_in s.f ts)) s.id x.result.from x.result.to o e,
       λ h. (
         ap (λ (q : Readout). q.id) o,
-        subst (λ (q : Readout). (q.from ≤ q.to) × ((q.to ≤ length l) × (take (q.to - q.from) (drop q.from l) ≡ nameIn s.f ts))) (sym o) (
+        subst (λ (q : Readout). (q.from ≤ q.to) × ((q.to ≤ length l) × (take (q.to - q.from) (drop q.from l) ≡ name_in s.f ts))) (sym o) (
           x.ensures.0,
           (
             x.ensures.1.0,

@@ -4,13 +4,13 @@ use Prim.Native.Nat.{◌-◌, ◌≤◌}
 use native.Mathlib.Omega.{arith}
 use mathlib.Core.Path.{◌≡◌, sym, ◌∙◌}
 use lib.ListN.{length, drop}
-use Rattle.texts.specs.Decimal.{digit, allIn}
-use Rattle.texts.proofs.Scan.{in-more, in-not, in_end}
+use Rattle.texts.specs.Decimal.{digit, all_in}
+use Rattle.texts.proofs.Scan.{in_more, in_not, in_end}
 use Rattle.tokens.proofs.numbers.all_in.Statement.{statement}
 use Rattle.tokens.proofs.numbers.all_in.Tie as tie
 
 abbrev invariant-loop : tie.invariant-loop
-invariant-loop t base i₀ i = (i ≤ length t) × (allIn base t ≡ allIn base (drop i t))
+invariant-loop t base i₀ i = (i ≤ length t) × (all_in base t ≡ all_in base (drop i t))
 
 abbrev decreases-loop : tie.decreases-loop
 decreases-loop t base i₀ i = length t - i
@@ -28,7 +28,7 @@ returns : tie.Need-returns invariant-loop decreases-loop
 returns c =
     let at-loop = c.before.before.before.before in
     let start = at-loop.before.before in
-    sym (at-loop.loop.invariant.1 ∙ in-not start.args.base start.args.t.now at-loop.loop.i c.before.before.before.loop-test.true (omega (arith, c.before.digit.ensures)))
+    sym (at-loop.loop.invariant.1 ∙ in_not start.args.base start.args.t.now at-loop.loop.i c.before.before.before.loop-test.true (omega (arith, c.before.digit.ensures)))
 
 add-i : tie.Need-overflow-add-i invariant-loop decreases-loop
 add-i c = search rules
@@ -40,7 +40,7 @@ loop-again : tie.Need-loop-preserved invariant-loop decreases-loop
 loop-again c =
     let at-loop = c.before.before.before.before in
     let start = at-loop.before.before in
-    (omega arith, at-loop.loop.invariant.1 ∙ in-more start.args.base start.args.t.now at-loop.loop.i c.before.before.before.loop-test.true (omega (arith, c.before.digit.ensures)))
+    (omega arith, at-loop.loop.invariant.1 ∙ in_more start.args.base start.args.t.now at-loop.loop.i c.before.before.before.loop-test.true (omega (arith, c.before.digit.ensures)))
 
 returns-2 : tie.Need-returns-2 invariant-loop decreases-loop
 returns-2 c =

@@ -5,13 +5,13 @@ use native.Mathlib.Omega.{arith}
 use mathlib.Core.Path.{◌≡◌, sym, ap, ◌∙◌}
 use mathlib.Core.List.{List}
 use lib.ListN.{length, drop}
-use Rattle.texts.specs.Decimal.{allIn, valueFrom}
-use Rattle.texts.proofs.Scan.{in-more, in-not, in_end, value-more, value-end, value-small, scan-true, scan-false}
+use Rattle.texts.specs.Decimal.{all_in, value_from}
+use Rattle.texts.proofs.Scan.{in_more, in_not, in_end, value_more, value_end, value_small, scan_true, scan_false}
 use Rattle.tokens.proofs.numbers.tens.Statement.{statement}
 use Rattle.tokens.proofs.numbers.tens.Tie as tie
 
 abbrev invariant-loop : tie.invariant-loop
-invariant-loop t v₀ i₀ v i = (i ≤ length t) × ((v < 2 ^ 64) × ((allIn 10 t ≡ allIn 10 (drop i t)) × (valueFrom 10 0 t ≡ valueFrom 10 v (drop i t))))
+invariant-loop t v₀ i₀ v i = (i ≤ length t) × ((v < 2 ^ 64) × ((all_in 10 t ≡ all_in 10 (drop i t)) × (value_from 10 0 t ≡ value_from 10 v (drop i t))))
 
 abbrev decreases-loop : tie.decreases-loop
 decreases-loop t v₀ i₀ v i = length t - i
@@ -29,7 +29,7 @@ returns : tie.Need-returns invariant-loop decreases-loop
 returns c =
     let at-loop = c.before.before.before.before in
     let t : List ℕ = at-loop.before.before.args.t.now in
-    sym (scan-false 10 t (at-loop.loop.invariant.1.1.0 ∙ in-not 10 t at-loop.loop.i c.before.before.before.loop-test.true (omega (arith, c.before.digit.ensures))))
+    sym (scan_false 10 t (at-loop.loop.invariant.1.1.0 ∙ in_not 10 t at-loop.loop.i c.before.before.before.loop-test.true (omega (arith, c.before.digit.ensures))))
 
 scan-requires : tie.Need-scan-requires invariant-loop decreases-loop
 scan-requires c κs = search rules
@@ -61,8 +61,8 @@ loop-again c =
       (
         omega arith,
         (
-          at-loop.loop.invariant.1.1.0 ∙ in-more 10 t i l (omega (arith, d.ensures)),
-          at-loop.loop.invariant.1.1.1 ∙ (value-more 10 t i v l ∙ ap (λ (x : ℕ). valueFrom 10 (v * 10 + x) (drop (i + 1) t)) (sym d.ensures)),
+          at-loop.loop.invariant.1.1.0 ∙ in_more 10 t i l (omega (arith, d.ensures)),
+          at-loop.loop.invariant.1.1.1 ∙ (value_more 10 t i v l ∙ ap (λ (x : ℕ). value_from 10 (v * 10 + x) (drop (i + 1) t)) (sym d.ensures)),
         ),
       ),
     )
@@ -72,7 +72,7 @@ returns-3 c =
     let at-loop = c.before in
     let t : List ℕ = at-loop.before.before.args.t.now in
     let l = at-loop.loop in
-    sym (scan-true 10 t (l.invariant.1.1.0 ∙ in_end 10 t l.i c.loop-test.false) ∙ value-small 10 t l.v (l.invariant.1.1.1 ∙ value-end 10 t l.i l.v c.loop-test.false) l.invariant.1.0)
+    sym (scan_true 10 t (l.invariant.1.1.0 ∙ in_end 10 t l.i c.loop-test.false) ∙ value_small 10 t l.v (l.invariant.1.1.1 ∙ value_end 10 t l.i l.v c.loop-test.false) l.invariant.1.0)
 
 pub tens-spec : {M : Type 1} → statement M
 tens-spec =

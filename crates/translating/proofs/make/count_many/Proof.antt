@@ -1,6 +1,6 @@
 -- The lists are zero as they are made. Assumes nothing.
 use borrow.Author.Rules.{rules}
-use Rattle.programs.proofs.Keeping.{fresh-many}
+use Rattle.programs.proofs.Keeping.{fresh_many}
 use borrow.Author.Rules.{rules}
 use Rattle.translating.proofs.make.count_many.Statement.{statement}
 use Rattle.translating.proofs.make.count_many.Tie as tie
@@ -15,7 +15,7 @@ slice-aggregate-count-all-3 : tie.Need-slice-aggregate-count-all-3
 slice-aggregate-count-all-3 c = search rules
 
 count-all-requires : tie.Need-count-all-requires
-count-all-requires c κs = let p = c.before.before.before.before.before in (p.requires, fresh-many p.args.table.now p.args.count p.requires.accepted)
+count-all-requires c κs = let p = c.before.before.before.before.before in (p.requires, fresh_many p.args.table.now p.args.count p.requires.accepted)
 
 returns : tie.Need-returns
 returns c = search rules

@@ -2,7 +2,7 @@
 use native.Mathlib.Omega.{arith}
 use lib.ListN.{length}
 use borrow.Author.Rules.{rules}
-use Rattle.programs.proofs.Answering.{too_small, fits-target}
+use Rattle.programs.proofs.Answering.{too_small, fits_target}
 use borrow.Author.Rules.{rules}
 use Rattle.translating.proofs.make.make.Statement.{statement}
 use Rattle.translating.proofs.make.make.Tie as tie
@@ -38,7 +38,7 @@ same_length c = search rules
 returns-2 : tie.Need-returns-2
 returns-2 c = let p = c.before.before.before.before.before.before.before.before.before.before.before.before.before.before in
     let m = c.before.before.before.before.before.before.before.counting.ensures in
-    fits-target p.args.table.now p.args.count (length p.args.target.now) m (omega (arith, c.before.before.before.before.before.before.room_of.ensures, m, c.before.before.before.before.before.if1.false)) c.before.before.writing.ensures
+    fits_target p.args.table.now p.args.count (length p.args.target.now) m (omega (arith, c.before.before.before.before.before.before.room_of.ensures, m, c.before.before.before.before.before.if1.false)) c.before.before.writing.ensures
 
 pub make_spec : {M : Type 1} → statement M
 make_spec =
