@@ -5,7 +5,7 @@
 use tables::Refusal;
 
 // What a run answers: nothing counted, the step and the place of the first counted bad, or a refusal.
-#[derive(Drop)]
+#[derive(Clone, Copy)]
 pub enum Ran {
     Nothing,
     Bad(usize, usize),
@@ -13,7 +13,7 @@ pub enum Ran {
 }
 
 // How many there are: cells of value lines, state words, inputs, signals, and state words that are free.
-#[derive(Drop)]
+#[derive(Clone, Copy)]
 pub struct Totals {
     pub cells: usize,
     pub states: usize,
@@ -23,7 +23,7 @@ pub struct Totals {
 }
 
 // A line's first word among the cells, and its place.
-#[derive(Drop)]
+#[derive(Clone, Copy)]
 pub struct Spot {
     pub off: usize,
     pub at: usize,

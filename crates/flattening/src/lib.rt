@@ -3,7 +3,7 @@
 #![tactic(auto)]
 
 // Where the words of a row of records come from: the cells of a line, or base + step * j. A falling row counts j down from top.
-#[derive(Drop)]
+#[derive(Clone, Copy)]
 pub struct Source {
     pub line: u64,
     pub base: u64,
@@ -14,7 +14,7 @@ pub struct Source {
 
 // What a line leaves: the flat lines so far, and what is kept of it for later lines. Of a sort `at` is the flat sort line of a cell; of a value it is, with `old` and `key`,
 // where its cells are held; `bit` is the width-1 sort line of an array sort, and `con` a small constant's value plus one.
-#[derive(Drop)]
+#[derive(Clone, Copy)]
 pub struct Made {
     pub next: usize,
     pub at: u64,

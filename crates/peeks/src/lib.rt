@@ -4,7 +4,7 @@
 use tables::Refusal;
 
 // What a peek answers: a value, or a refusal.
-#[derive(Drop)]
+#[derive(Clone, Copy)]
 pub enum Peeked {
     Value(u64),
     Refused(Refusal),

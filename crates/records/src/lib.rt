@@ -109,7 +109,7 @@ pub fn put_line(table: &mut [u64], i: usize, rec: [u64; WORDS], id: u64)
 }
 
 // How far apart neighbouring records of a list stand, and neighbouring words of a record.
-#[derive(Drop)]
+#[derive(Clone, Copy)]
 pub struct Strides {
     pub row: usize,
     pub word: usize,

@@ -5,7 +5,7 @@
 pub const WORDS: usize = 5;
 
 // Why an operation refuses; `checks::number` has the numbers.
-#[derive(Drop)]
+#[derive(Clone, Copy)]
 pub enum Refusal {
     NotATable,
     TextTooLong,
@@ -32,21 +32,21 @@ pub enum Refusal {
 }
 
 // What an operation answers that counts what it leaves: how much, or the refusal with its text line, 0 where it has none.
-#[derive(Drop)]
+#[derive(Clone, Copy)]
 pub enum Answer {
     Done(usize),
     Refused(Refusal, usize),
 }
 
 // What the check of a table answers.
-#[derive(Drop)]
+#[derive(Clone, Copy)]
 pub enum Checked {
     Accepted,
     Refused(Refusal),
 }
 
 // What is known of a line: its role (none, sort, unmarked value, marked value, state), its index width and its width.
-#[derive(Drop)]
+#[derive(Clone, Copy)]
 pub struct Ty {
     pub role: u8,
     pub iw: u8,

@@ -4,7 +4,7 @@
 use tables::{Refusal, WORDS};
 
 // A token as a number: malformed, above 2^64 - 1, or its value.
-#[derive(Drop)]
+#[derive(Clone, Copy)]
 pub enum Num {
     Bad,
     Big,
@@ -12,14 +12,14 @@ pub enum Num {
 }
 
 // A line's form, 0 for an unknown word, and the place behind its word.
-#[derive(Drop)]
+#[derive(Clone, Copy)]
 pub struct Form {
     pub form: usize,
     pub at: usize,
 }
 
 // A token as a number and whether it has a minus.
-#[derive(Drop)]
+#[derive(Clone, Copy)]
 pub struct Signed {
     pub num: Num,
     pub minus: bool,
@@ -27,7 +27,7 @@ pub struct Signed {
 
 // A line's numbers in its record: whether all were there and well formed, whether one was too large, how long the last was, and the place behind it; and which places of
 // the record have a minus.
-#[derive(Drop)]
+#[derive(Clone, Copy)]
 pub struct Taken {
     pub ok: bool,
     pub big: bool,
@@ -38,7 +38,7 @@ pub struct Taken {
 }
 
 // What a line gives: 0, its record with the places that have a minus, its id and its name, a part of the line, 1 for a blank line, 2 and its refusal.
-#[derive(Drop)]
+#[derive(Clone, Copy)]
 pub struct Readout {
     pub what: u64,
     pub code: Refusal,
@@ -50,7 +50,7 @@ pub struct Readout {
 }
 
 // A part of a text: from a place up to another.
-#[derive(Drop)]
+#[derive(Clone, Copy)]
 pub struct Part {
     pub from: usize,
     pub to: usize,

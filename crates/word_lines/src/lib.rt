@@ -13,7 +13,7 @@ ghost use Rattle.word_lines.specs.Model.Operators.{Asked, Given, Room, is_word, 
 use area::LAID;
 
 // The word of a line whose kind is a constant's or a word operator's.
-#[derive(Drop)]
+#[derive(Clone, Copy)]
 pub enum Word {
     Is(u64),
     Other,

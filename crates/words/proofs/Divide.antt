@@ -243,7 +243,7 @@ module _ (w a b : ℕ) {n d : ℤ} (k : Width w) (en : n ≡ signed_value w (a %
   smod_minus e = sym (ap (λ (z : ℤ). twos_complement w (toward_divisor z (signed_value w y))) (rem_by_minus_one (signed_value w x) (signed_value w y) (minus_d e)) ∙ complement_zero w)
 
   pub smod_else : (r : ℤ) → mag r < 2 ^ 63 → r ≡ toward_divisor (to_z w64 (of_z w64 (rem_z yn yd))) yd → twos_complement w (to_z w64 (of_z w64 r)) ≡ twos_complement w (smod_z (signed_value w x) (signed_value w y))
-  smod_else r g e = ap (twos_complement w) (to_z-of_z (record { sfits = g }) ∙ e ∙ ap₂ toward_divisor rem_is d_is)
+  smod_else r g e = ap (twos_complement w) (to_z-of_z {w = w64} (record { sfits = g }) ∙ e ∙ ap₂ toward_divisor rem_is d_is)
 
 -- ---- shifts that copy the sign
 
@@ -264,7 +264,7 @@ shr_all (negsuc n) false m h e = ap negsuc (div-eq_of_lt h)
 -- m is the amount, the low bits of b
 module _ (w a b : ℕ) {n : ℤ} {m : ℕ} (k : Width w) (en : n ≡ signed_value w (a % 2 ^ w)) (gn : mag n < 2 ^ 63) (em : m ≡ b % 2 ^ w) where
   n_back : to_z w64 (of_z w64 n) ≡ signed_value w (a % 2 ^ w)
-  n_back = to_z-of_z (record { sfits = gn }) ∙ en
+  n_back = to_z-of_z {w = w64} (record { sfits = gn }) ∙ en
 
   -- by the test and the amount that the code has
   shifted : (t : Bool) → ltb m w ≡ t → sar t w (a % 2 ^ w) m ≡ sar (ltb (b % 2 ^ w) w) w (a % 2 ^ w) (b % 2 ^ w)

@@ -28,6 +28,7 @@ exactly false w x a t e = e
 -- an exact word may be taken for a loose one
 pub loosen : (l m : Bool) (w x : ℕ) {a : ℕ} → T (not l || m) → a < 2 ^ w → Stands l w x a → Stands m w x a
 loosen l true w x t h e = low_bits l w x h e
+loosen true false w x t h e = absurd t
 loosen false false w x t h e = e
 
 -- a clean word stands for itself at every use
