@@ -141,7 +141,7 @@ all_ok {Y} {Z} {J} N b (l ∷ ls) v o e k f =
     let g = neither (array_sort_line l) (has_array ls) f in
     ok_append true Z.ctx c.code (translate_from N (J ++ (c.info ∷ [])) (b + length c.code) ls) (line_ok v o N b l e k.0 g.0)
     (subst (λ (x : Ctx). AllOk true x (translate_from N (J ++ (c.info ∷ [])) (b + length c.code) ls)) (lay_ctx true Z c.code)
-    (all_ok N (b + length c.code) ls (laid_line v N b l e k.0 g.0) (once_line v o N b l e k.0 g.0) (omega (arith, lines_more true Z v.even_z c.code)) k.1 g.1))
+    (all_ok {Y = lay false Y l} N (b + length c.code) ls (laid_line v N b l e k.0 g.0) (once_line v o N b l e k.0 g.0) (omega (arith, lines_more true Z v.even_z c.code)) k.1 g.1))
 
 -- the program of an accepted flat circuit keeps the rules for programs
 pub translated_ok : (F : List Line) → AllOk false no_ctx F → has_array F ≡ false → AllOk true no_ctx (translate F)

@@ -135,7 +135,7 @@ cells_all {Y} {Z} {J} N b (l ∷ ls) v o e k f =
     let c = instructions_of N J b l in
     let P = translate_from N (J ++ (c.info ∷ [])) (b + length c.code) ls in
     let g = neither (array_sort_line l) (has_array ls) f in
-    let r = cells_all N (b + length c.code) ls (laid_line v N b l e k.0 g.0) (once_line v o N b l e k.0 g.0) (omega (arith, lines_more true Z v.even_z c.code)) k.1 g.1 in
+    let r = cells_all {Y = lay false Y l} N (b + length c.code) ls (laid_line v N b l e k.0 g.0) (once_line v o N b l e k.0 g.0) (omega (arith, lines_more true Z v.even_z c.code)) k.1 g.1 in
     let hY : (ℕ → Bool) = given (lay_all false Y (l ∷ ls)).ctx false in
     let hZ : (ℕ → Bool) = given (lay_all true (lay_all true Z c.code) P).ctx false in
     record {

@@ -168,7 +168,7 @@ laid_all N b [] v e k f = record { states = v.states; inputs = v.inputs; signals
 laid_all {Y} {Z} {J} N b (l ∷ ls) v e k f =
     let c = instructions_of N J b l in
     let g = neither (array_sort_line l) (has_array ls) f in
-    rw (lay_all_append true Z c.code) (laid_all N (b + length c.code) ls (laid_line v N b l e k.0 g.0) (omega (arith, lines_more true Z v.even_z c.code)) k.1 g.1)
+    rw (lay_all_append true Z c.code) (laid_all {Y = lay false Y l} N (b + length c.code) ls (laid_line v N b l e k.0 g.0) (omega (arith, lines_more true Z v.even_z c.code)) k.1 g.1)
 
 pub laid_start : Laid no_layout no_layout (none_known ∷ [])
 laid_start =

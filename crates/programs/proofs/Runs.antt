@@ -86,7 +86,7 @@ module _ (g : Bool) (σ ι Ws : List ℕ) (N : ℕ → Bool) (tame : g ≡ false
       let flat : ((s : ℕ) → (type_at A.lay s).iw ≡ 0) = λ s. (v.laid.rel s).flat in
       let r = reads A.lay pre l ls v.laid.even_y q n h flat in
       rw (eval_append true g σ ι B c.code)
-      (alike_all (b + length c.code) (pre ++ width_here A.lay l) ls (alike_line g σ ι W N tame words v b e l k.0 d.0 m.0 r)
+      (alike_all {A = eval_line false g σ ι A l} (b + length c.code) (pre ++ width_here A.lay l) ls (alike_line g σ ι W N tame words v b e l k.0 d.0 m.0 r)
       (omega (arith, ap lines (eval_lay true g σ ι B c.code), lines_more true B.lay v.laid.even_z c.code)) k.1 d.1 m.1
       (q ∙ sym (append_assoc pre (width_here A.lay l) (widths_from (lay false A.lay l) ls))) (counted A.lay pre l n flat d.0) h)
 
