@@ -9,15 +9,15 @@ use lib.ListN.{length, take, replicate, length-replicate}
 use Rattle.tables.specs.Lines.{Line, Expr, bitvec, array, input, state, value, init_or_next, signal, output, unknown, const, unary, binary, equality, ite, read, write}
 use Rattle.tables.specs.Types.{ty_at, given, no_ctx}
 use Rattle.tables.proofs.Facts.{Ok, AllOk}
-use Rattle.circuits.specs.Layout.{Layout, no_layout, layout}
-use Rattle.circuits.specs.Meaning.{Frame, no_frame, step}
+use Rattle.circuits.specs.Layout.{Layout, no_layout, layout, type_at, place_at}
+use Rattle.circuits.specs.Meaning.{Frame, no_frame, cells_at, step}
 use Rattle.circuits.specs.Free.{Source, sources_from, sources}
 use Rattle.circuits.specs.Run.{input_count, row_length, inputs_at, free_at, start, entered, step_from, words_before, run, step_at}
 use Rattle.circuits.proofs.Sources.{sources_append}
 use Rattle.circuits.proofs.SameRows.{row_same, inputs_same, entered_same, entered_long, run_same}
-use Rattle.flattening.specs.Flat.{Info, no_info, chunk, flatten_from, flatten}
+use Rattle.flattening.specs.Flat.{Info, no_info, info_at, chunk, flatten_from, flatten}
 use Rattle.flattening.proofs.Walk.{alike_refl, ev1, evs, evs_append, evs_lay, len_all, states_all, ok_append}
-use Rattle.flattening.proofs.Rel.{Inv, rel_none}
+use Rattle.flattening.proofs.Rel.{Rel, Inv, rel_none}
 use Rattle.flattening.proofs.SimWords.{Keeps, sim_bitvec, sim_array, sim_input, sim_const, sim_unary, sim_binary, sim_signal, sim_output}
 use Rattle.flattening.proofs.SimStates.{sim_state, sim_init_next}
 use Rattle.flattening.proofs.SimArrays.{sim_ite, sim_equality, sim_read, sim_write}
@@ -66,7 +66,7 @@ module _ (f : Bool) (σ ι : List ℕ) where
       let J = I ++ ((chunk I b l).info ∷ []) in
       let R = flatten_from J (b + length L) ls in
       let s = sim_line l v e k.0 (le_trans (states_all f σ ι (ev1 f σ ι A l) ls) h) in
-      let r = sim_all {b = b + length L} ls s.inv (omega (arith, len_all f σ ι B L)) k.1 h in
+      let r = sim_all {A = ev1 f σ ι A l} {b = b + length L} ls s.inv (omega (arith, len_all f σ ι B L)) k.1 h in
       let h' = given (evs f σ ι (evs f σ ι B L) R).lay.ctx false in
       record {
         inv = subst⁻¹ (λ (X : Frame). Inv (evs f σ ι A (l ∷ ls)) X (infos_from I b (l ∷ ls))) (evs_append f σ ι B L R) r.inv;
@@ -84,12 +84,20 @@ module _ (f : Bool) (σ ι : List ℕ) where
         len_i = refl;
         alike = alike_refl;
         many = refl;
-        rel = λ i. elim i [ zero ↦ rel_none | suc j ↦ rel_none ];
+        rel = start_rel;
         below = λ q s. absurd (no_state q s);
         same = λ m q s. absurd (no_state q s);
-        ahead_a = λ m p h. elim m [ true ↦ refl | false ↦ refl ];
-        ahead_b = λ m p h. elim m [ true ↦ refl | false ↦ refl ];
+        ahead_a = λ m p h. none_given m p;
+        ahead_b = λ m p h. none_given m p;
       }
+    where
+      start_rel : (i : ℕ) → Rel no_frame (type_at no_frame.lay i) (place_at no_frame.lay i) (cells_at no_frame i) (info_at (no_info ∷ []) i)
+      start_rel zero = rel_none
+      start_rel (suc i) = rel_none
+
+      none_given : (m : Bool) (p : ℕ) → given no_frame.lay.ctx m p ≡ false
+      none_given true p = refl
+      none_given false p = refl
 
 pub step_lay : (f : Bool) (C : List Line) (σ ι : List ℕ) → (step false f C σ ι).lay ≡ layout false C
 unfolding step layout

@@ -188,47 +188,47 @@ module _ (f : Bool) (σ ι : List ℕ) where
   pub run_consts : {u : Bool} {O A : Frame} {b s w : ℕ} → Ext O A → b ≡ length A.env → SortAt O s w → (ks : List ℕ) → Small w ks
       → Run A (const_lines s ks) u w (from b (length ks)) ks
   run_consts x e hs [] sm = run_none x.even
-  run_consts {s = s} x e hs (k ∷ ks) sm =
+  run_consts {A = A} {s = s} x e hs (k ∷ ks) sm =
       let l = value s (const k) in
       let y = ext_line f σ ι x.even l in
-      run_cell l x.even tt (const_ok (sort_ext x hs) sm.0) (const_word x.even e (sort_ext x hs)) (run_consts (ext_trans x y) (next_base l x.even e) hs ks sm.1)
+      run_cell l x.even tt (const_ok (sort_ext x hs) sm.0) (const_word x.even e (sort_ext x hs)) (run_consts {A = ev1 f σ ι A l} (ext_trans x y) (next_base l x.even e) hs ks sm.1)
 
-  pub run_ites : {u : Bool} {O A : Frame} {b s c w d : ℕ} {ps qs xs ys : List ℕ} → Ext O A → b ≡ length A.env → SortAt O s w → Word O u c 1 d → Holds O u w ps xs → Holds O u w qs ys
+  pub run_ites : {u : Bool} {O : Frame} {w : ℕ} {A : Frame} {b s c d : ℕ} {ps qs xs ys : List ℕ} → Ext O A → b ≡ length A.env → SortAt O s w → Word O u c 1 d → Holds O u w ps xs → Holds O u w qs ys
       → length xs ≡ length ys → Run A (ite_lines s c ps qs) u w (from b (length ps)) (chooses d xs ys)
   run_ites x e hs hc none hq n = run_none x.even
   run_ites x e hs hc (more hp ps) none n = absurd (omega arith)
-  run_ites {s = s} {c = c} x e hs hc (more {p = p} hp ps) (more {p = q} hq qs) n =
+  run_ites {A = A} {s = s} {c = c} x e hs hc (more {p = p} hp ps) (more {p = q} hq qs) n =
       let l = value s (ite c p q) in
       let y = ext_line f σ ι x.even l in
       run_cell l x.even tt (ite_ok (sort_ext x hs) (word_ext x hc) (word_ext x hp) (word_ext x hq)) (ite_word x.even e (sort_ext x hs) (word_ext x hc) (word_ext x hp) (word_ext x hq))
-      (run_ites (ext_trans x y) (next_base l x.even e) hs hc ps qs (omega arith))
+      (run_ites {A = ev1 f σ ι A l} (ext_trans x y) (next_base l x.even e) hs hc ps qs (omega arith))
 
-  pub run_cmps : {u : Bool} {O A : Frame} {b s w : ℕ} {ps qs xs ys : List ℕ} (t : Bool) → Ext O A → b ≡ length A.env → SortAt O s 1 → Holds O u w ps xs → Holds O u w qs ys
+  pub run_cmps : {u : Bool} {O : Frame} {w : ℕ} {A : Frame} {b s : ℕ} {ps qs xs ys : List ℕ} (t : Bool) → Ext O A → b ≡ length A.env → SortAt O s 1 → Holds O u w ps xs → Holds O u w qs ys
       → length xs ≡ length ys → Run A (equality_lines t s ps qs) u 1 (from b (length ps)) (equality_values t xs ys)
   run_cmps t x e hs none hq n = run_none x.even
   run_cmps t x e hs (more hp ps) none n = absurd (omega arith)
-  run_cmps {s = s} t x e hs (more {p = p} hp ps) (more {p = q} hq qs) n =
+  run_cmps {A = A} {s = s} t x e hs (more {p = p} hp ps) (more {p = q} hq qs) n =
       let l = value s (equality t p q) in
       let y = ext_line f σ ι x.even l in
       run_cell l x.even tt (equality_ok t (sort_ext x hs) (word_ext x hp) (word_ext x hq)) (equality_word t x.even e (sort_ext x hs) (word_ext x hp) (word_ext x hq))
-      (run_cmps t (ext_trans x y) (next_base l x.even e) hs ps qs (omega arith))
+      (run_cmps {A = ev1 f σ ι A l} t (ext_trans x y) (next_base l x.even e) hs ps qs (omega arith))
 
   pub run_joins : {u : Bool} {O A : Frame} {b s r v : ℕ} {ps xs : List ℕ} (t : Bool) → Ext O A → b ≡ length A.env → SortAt O s 1 → Word A u r 1 v → Holds O u 1 ps xs
       → Ends A (join_lines t s r b ps) u (last_line r b (length ps)) 1 (join_vals t v xs)
   run_joins t x e hs hr none = record { grew = grew_refl x.even; word = hr; ok = tt }
-  run_joins {b = b} {s = s} {r = r} t x e hs hr (more {p = p} {ps = qs} hp ps) =
+  run_joins {A = A} {b = b} {s = s} {r = r} t x e hs hr (more {p = p} {ps = qs} hp ps) =
       let l = value s (binary (join_kind t) r p) in
       let y = ext_line f σ ι x.even l in
-      let z = run_joins t (ext_trans x y) (next_base l x.even e) hs (join_word t x.even e (sort_ext x hs) hr (word_ext x hp)) ps in
+      let z = run_joins {A = ev1 f σ ι A l} t (ext_trans x y) (next_base l x.even e) hs (join_word t x.even e (sort_ext x hs) hr (word_ext x hp)) ps in
       record { grew = grew_trans (grew_line f σ ι x.even l tt) z.grew; word = word_as (last_next r b (length qs)) z.word; ok = (join_ok t (sort_ext x hs) hr (word_ext x hp), z.ok) }
 
-  pub run_writes : {u : Bool} {O A : Frame} {b one s i v w iw iv vv : ℕ} {ks ps kvs xs : List ℕ} → Ext O A → b ≡ length A.env → SortAt O one 1 → SortAt O s w
+  pub run_writes : {u : Bool} {O : Frame} {w iw : ℕ} {A : Frame} {b one s i v iv vv : ℕ} {ks ps kvs xs : List ℕ} → Ext O A → b ≡ length A.env → SortAt O one 1 → SortAt O s w
       → Word O u i iw iv → Word O u v w vv → Holds O u iw ks kvs → Holds O u w ps xs
       → length kvs ≡ length xs → Run A (write_lines one s i v b ks ps) u w (write_cells b (length ps)) (writes iv kvs vv xs)
   run_writes x e ho hs hi hv none none n = run_none x.even
   run_writes x e ho hs hi hv none (more hp ps) n = absurd (omega arith)
   run_writes x e ho hs hi hv (more hk ks) none n = absurd (omega arith)
-  run_writes {b = b} {one} {s} {i} {v} x e ho hs hi hv (more {p = k} hk ks) (more {p = p} hp ps) n =
+  run_writes {A = A} {b} {one} {s} {i} {v} x e ho hs hi hv (more {p = k} hk ks) (more {p = p} hp ps) n =
       let l = value one (equality true i k) in
       let m = value s (ite b v p) in
       let y = ext_line f σ ι x.even l in
@@ -238,14 +238,14 @@ module _ (f : Bool) (σ ι : List ℕ) where
       let hb = equality_word true x.even e (sort_ext x ho) (word_ext x hi) (word_ext x hk) in
       run_skip l x.even tt (equality_ok true (sort_ext x ho) (word_ext x hi) (word_ext x hk))
       (run_cell m y.even tt (ite_ok (sort_ext xy hs) hb (word_ext xy hv) (word_ext xy hp)) (ite_word y.even e' (sort_ext xy hs) hb (word_ext xy hv) (word_ext xy hp))
-      (run_writes (ext_trans xy z) (next_base m y.even e') ho hs hi hv ks ps (omega arith)))
+      (run_writes {A = ev1 f σ ι (ev1 f σ ι A l) m} (ext_trans xy z) (next_base m y.even e') ho hs hi hv ks ps (omega arith)))
 
   -- r is the line of the value so far, and the cells below k are left
   pub run_reads : {u : Bool} {O A : Frame} {b one s i r w iw iv v : ℕ} {ks ps kvs xs : List ℕ} → Ext O A → b ≡ length A.env → SortAt O one 1 → SortAt O s w → Word O u i iw iv
       → Holds O u iw ks kvs → Holds O u w ps xs → Word A u r w v → (k : ℕ) → k ≤ length kvs → k ≤ length xs
       → Ends A (read_chain one s i ks ps r b k) u (last_line r b (2 * k)) w (picks iv kvs xs v k)
   run_reads x e ho hs hi hk hp hr zero n m = record { grew = grew_refl x.even; word = hr; ok = tt }
-  run_reads {b = b} {one} {s} {i} {r} {ks = ks} {ps} x e ho hs hi hk hp hr (suc k) n m =
+  run_reads {A = A} {b} {one} {s} {i} {r} {ks = ks} {ps} x e ho hs hi hk hp hr (suc k) n m =
       let wk = holds_at k hk n in
       let wp = holds_at k hp m in
       let l = value one (equality true i (get_or ks k 0)) in
@@ -256,7 +256,7 @@ module _ (f : Bool) (σ ι : List ℕ) where
       let z = ext_line f σ ι y.even j in
       let hb = equality_word true x.even e (sort_ext x ho) (word_ext x hi) (word_ext x wk) in
       let hv = ite_word y.even e' (sort_ext xy hs) hb (word_ext xy wp) (word_ext y hr) in
-      let t = run_reads (ext_trans xy z) (next_base j y.even e') ho hs hi hk hp hv k (omega arith) (omega arith) in
+      let t = run_reads {A = ev1 f σ ι (ev1 f σ ι A l) j} (ext_trans xy z) (next_base j y.even e') ho hs hi hk hp hv k (omega arith) (omega arith) in
       record {
         grew = grew_trans (grew_line f σ ι x.even l tt) (grew_trans (grew_line f σ ι y.even j tt) t.grew);
         word = word_as (last_two r b k) t.word;

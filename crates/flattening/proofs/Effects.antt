@@ -181,7 +181,7 @@ module _ (f : Bool) (σ ι : List ℕ) where
   gave_init_next A m s q v true = refl
   gave_init_next A m s q v false = refl
 
-  pub run_gives : {O A : Frame} {lo a s w : ℕ} {u : Bool} {qs vs cs : List ℕ} (m : Bool) → Ext O A → SortAt O s w → States O lo w a qs → Holds O u w vs cs → length qs ≡ length vs
+  pub run_gives : {O : Frame} {lo w : ℕ} {u : Bool} {A : Frame} {a s : ℕ} {qs vs cs : List ℕ} (m : Bool) → Ext O A → SortAt O s w → States O lo w a qs → Holds O u w vs cs → length qs ≡ length vs
       → Inits m u lo vs → Fresh (given_by m A.lay.ctx) qs → a + length qs ≤ length A.sts
       → Gives A m (init_or_next_lines m s qs vs) qs (pick (alike f m) (put A.sts a cs) A.sts)
   run_gives {A = A} {a = a} m x hs none none n i g r =
@@ -192,7 +192,7 @@ module _ (f : Bool) (σ ι : List ℕ) where
       }
   run_gives m x hs none (more h t) n i g r = absurd (omega arith)
   run_gives m x hs (more p ps) none n i g r = absurd (omega arith)
-  run_gives {A = A} {lo} {a} {s} {w} {u} m x hs (more {p = q} {ps = qs} p ps) (more {p = v} {c = c} {ps = vs} {cs = cs} h t) n i g r =
+  run_gives {lo = lo} {w} {u} {A} {a} {s} m x hs (more {p = q} {ps = qs} p ps) (more {p = v} {c = c} {ps = vs} {cs = cs} h t) n i g r =
       let l = init_or_next m s q v in
       let y = ext_line f σ ι x.even l in
       let h_a = sort_ext x hs in

@@ -75,10 +75,10 @@ module _ (f : Bool) (σ ι : List ℕ) where
       states_sources (given Z.lay.ctx false) (d (length A.env)) (info_at I s).size v.even_b e rs.elem (at_end s ls v e z)
       ∙ ap₂ (λ (x y : ℕ). replicate x (source_of (d y) (type_at A.lay s).w)) rs.size (sym v.even_a.places)
   line_sources (Line.bitvec w) ls v e ok k z = refl
-  line_sources (Line.array i x) ls v e ok k z = no_sources _ v k refl
+  line_sources {Z = Z} (Line.array i x) ls v e ok k z = no_sources (given Z.lay.ctx false) v k refl
   line_sources (Line.input s) ls v e ok k z = refl
-  line_sources (Line.value s x) ls v e ok k z = no_sources _ v k refl
-  line_sources (Line.init_or_next m s q x) ls v e ok k z = no_sources _ v k refl
+  line_sources {Z = Z} (Line.value s x) ls v e ok k z = no_sources (given Z.lay.ctx false) v k refl
+  line_sources {Z = Z} (Line.init_or_next m s q x) ls v e ok k z = no_sources (given Z.lay.ctx false) v k refl
   line_sources (Line.signal m x) ls v e ok k z = refl
   line_sources (Line.output x) ls v e ok k z = refl
   line_sources Line.unknown ls v e ok k z = refl

@@ -290,7 +290,7 @@ module _ (f : Bool) (σ ι : List ℕ) where
 
   pub ext_all : {A : Frame} → Even A → (ls : List Line) → Ext A (evs A ls)
   ext_all ev [] = ext_refl ev
-  ext_all ev (l ∷ ls) = ext_trans (ext_line ev l) (ext_all (ext_line ev l).even ls)
+  ext_all {A} ev (l ∷ ls) = ext_trans (ext_line ev l) (ext_all {A = ev1 A l} (ext_line ev l).even ls)
 
   -- the places of lines depend on no value
   pub evs_lay : (A : Frame) (ls : List Line) → (evs A ls).lay ≡ lay_all false A.lay ls
