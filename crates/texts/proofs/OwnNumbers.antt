@@ -240,8 +240,8 @@ module _ (f n : ℕ) (ds : List ℕ) (ln : n < 2 ^ 32) (ld : length ds < 2 ^ 32)
         signs = o.signs false false;
         out = λ e q. o.out q 0 ∙ fields_eq refl (none_out f 1 ds 0) refl refl refl;
         plain = λ e. o.plain false false;
-        nots = λ e ss A x y w. aligned_nots f ds _ A 3 2 n ss us (o.aligned false false A x y w);
-        sorts = λ e ss A x y w. aligned_sorts f ds _ A 3 2 ss us (o.aligned false false A x y w);
+        nots = λ e ss A x y w. aligned_nots f ds (false ∷ false ∷ o.s₂ ∷ o.s₃ ∷ o.s₄ ∷ []) A 3 2 n ss us (o.aligned false false A x y w);
+        sorts = λ e ss A x y w. aligned_sorts f ds (false ∷ false ∷ o.s₂ ∷ o.s₃ ∷ o.s₄ ∷ []) A 3 2 ss us (o.aligned false false A x y w);
         place = rw z refl;
       }
 
@@ -268,8 +268,8 @@ module _ (f n : ℕ) (ds : List ℕ) (ln : n < 2 ^ 32) (ld : length ds < 2 ^ 32)
         plain = λ e.
             ap₂ (λ (x : Bool) (i : ℕ). signs_from f 2 (out_tokens f 2 i ds us) (false ∷ x ∷ false ∷ false ∷ false ∷ [])) (sign_out f 1 (suc n) ds t v.v v.is (omega arith) ld) (step e)
             ∙ o.plain false false;
-        nots = λ e ss A x y w. rw e (aligned_nots f ds _ A 3 2 n ss us (o.aligned false false A x y w));
-        sorts = λ e ss A x y w. rw e (aligned_sorts f ds _ A 3 2 ss us (o.aligned false false A x y w));
+        nots = λ e ss A x y w. rw e (aligned_nots f ds (false ∷ false ∷ o.s₂ ∷ o.s₃ ∷ o.s₄ ∷ []) A 3 2 n ss us (o.aligned false false A x y w));
+        sorts = λ e ss A x y w. rw e (aligned_sorts f ds (false ∷ false ∷ o.s₂ ∷ o.s₃ ∷ o.s₄ ∷ []) A 3 2 ss us (o.aligned false false A x y w));
         place = rw z (named_is f 1 (suc n) ds t v.v v.is (omega arith) ld);
       }
     where
