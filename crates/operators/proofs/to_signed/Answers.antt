@@ -1,0 +1,8 @@
+use Rattle.std.proofs.Common.{ap, ◌∙◌, rules}
+use Rattle.words.specs.Word.{signed_value}
+use Rattle.words.proofs.Signed.{clear_fits, clear_law, set_fits, set_neg, set_down, set_law}
+use Rattle.operators.proofs.to_signed.Goals as goal
+
+pub returns-else-x-w-eq0 : goal.returns-else-x-w-eq0
+returns-else-x-w-eq0 c = set_law c.args.w c.low-x.result c.mask.result c.requires c.low-x.ensures.1 c.mask.ensures c.if-x-w-eq0.false
+    ∙ ap (signed_value c.args.w) c.low-x.ensures.0

@@ -1,0 +1,7 @@
+use Rattle.std.proofs.Common.{◌/◌, ◌^◌, shr_lt, rules}
+use lib.Bits.{bit_and, mask_lt}
+use Rattle.words.proofs.Words.{product_fits, mul_law}
+use Rattle.operators.proofs.wrapping_mul.Goals as goal
+
+pub returns : goal.returns
+returns c = mul_law c.args.a c.args.b c.wrapping_add_u64-middle.result c.wrapping_add_u64.result c.wrapping_add_u64-middle.ensures c.wrapping_add_u64.ensures
