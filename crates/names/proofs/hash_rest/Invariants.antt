@@ -1,0 +1,15 @@
+use Prim.Native.Nat.{ℕ, ◌+◌, ◌-◌, ◌*◌, ◌≤◌, ◌<◌}
+use mathlib.Core.Path.{◌≡◌, sym, ap, subst}
+use mathlib.Core.List.{List}
+use native.Mathlib.Nat.{mod-lt}
+use native.Mathlib.Omega.{arith}
+use lib.ListN.{length, get_or}
+use Rattle.texts.specs.Model.Chains.{hashes, mixed, hash_from}
+use Rattle.texts.proofs.Hashing.{Hashing, hash_start, hash_on, hash_end}
+use Rattle.names.proofs.hash_rest.Given as goal
+
+abbrev pub invariant-loop-p : goal.invariant-loop-p
+invariant-loop-p l = (l.h < hashes) × (l.p ≤ length l.t) × Hashing l.t l.step (hash_from l.from l.step l.t l.start l.from) l.h l.p
+
+abbrev pub decreases-loop-p : goal.decreases-loop-p
+decreases-loop-p l = l.p

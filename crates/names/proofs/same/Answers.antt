@@ -1,0 +1,10 @@
+use Prim.Native.Nat.{◌≤◌, ◌-◌}
+use mathlib.Core.Path.{◌≡◌, sym, ◌∙◌, refl}
+use native.Mathlib.Omega.{arith}
+use lib.ListN.{length, drop}
+use Rattle.texts.specs.Split.{same_bytes}
+use Rattle.texts.proofs.Words.{same_not, same_more, same_differ, same_end}
+use Rattle.names.proofs.same.Goals as goal
+
+pub returns-then-t-u : goal.returns-then-t-u
+returns-then-t-u c = let s = c.args in sym (same_not s.t.now s.u.now c.if-t-u.true)

@@ -1,0 +1,13 @@
+use Prim.Native.Nat.{◌≤◌, ◌-◌}
+use mathlib.Core.Path.{◌≡◌, sym, ◌∙◌, refl}
+use native.Mathlib.Omega.{arith}
+use lib.ListN.{length, drop}
+use Rattle.texts.specs.Split.{same_bytes}
+use Rattle.texts.proofs.Words.{same_not, same_more, same_differ, same_end}
+use Rattle.names.proofs.same.Given as goal
+
+abbrev pub invariant-loop-i : goal.invariant-loop-i
+invariant-loop-i l = (length l.t ≡ length l.u) × (same_bytes l.t l.u ≡ same_bytes (drop l.i l.t) (drop l.i l.u)) × (l.i ≤ length l.t)
+
+abbrev pub decreases-loop-i : goal.decreases-loop-i
+decreases-loop-i l = length l.t - l.i

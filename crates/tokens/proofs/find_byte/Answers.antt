@@ -1,0 +1,17 @@
+use borrow.Author.Rules.{rules}
+use Prim.Native.Nat.{◌+◌, ◌-◌, ◌≤◌}
+use native.Mathlib.Omega.{arith}
+use mathlib.Core.Path.{◌≡◌, ap}
+use lib.ListN.{length, drop}
+use Rattle.texts.specs.Split.{up_to}
+use Rattle.texts.proofs.Scan.{up_to_hit, up_to_miss, up_to_end}
+use Rattle.tokens.proofs.find_byte.Goals as goal
+
+pub returns-then-s-j : goal.returns-then-s-j
+returns-then-s-j c = (omega arith, (omega arith, omega (arith, c.loop-j.invariant.1.1, ap length (up_to_hit c.args.b c.args.s.now c.loop-j.j c.loop-j-test.true c.if-s-j.true))))
+
+pub loop-j-preserved : goal.loop-j-preserved
+loop-j-preserved c = omega (arith, c.loop-j.invariant.1.1, ap length (up_to_miss c.args.b c.args.s.now c.loop-j.j c.loop-j-test.true c.if-s-j.false))
+
+pub returns : goal.returns
+returns c = (omega arith, (omega arith, omega (arith, c.loop-j.invariant.1.1, ap length (up_to_end c.args.b c.args.s.now c.loop-j.j c.loop-j-test.false))))
