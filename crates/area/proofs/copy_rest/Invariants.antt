@@ -1,0 +1,15 @@
+use borrow.Author.Rules.{rules}
+use mathlib.Core.Path.{◌≡◌, refl, sym, ap, ◌∙◌}
+use Prim.Native.Nat.{ℕ, ◌+◌, ◌-◌, ◌≤◌}
+use native.Mathlib.Omega.{arith}
+use lib.ListN.{length}
+use Rattle.circuits.specs.Cells.{part, put}
+use Rattle.circuits.proofs.Puts as laws
+use Rattle.area.proofs.copy_rest.Given as goal
+
+abbrev pub invariant-loop-i : goal.invariant-loop-i
+invariant-loop-i l =
+    ((l.from ≤ l.i) × (l.i ≤ l.m)) × ((length l.work ≡ length l.initial.work) × (l.work ≡ put l.initial.work (l.o + l.from) (part l.initial.work (l.x + l.from) (l.i - l.from))))
+
+abbrev pub decreases-loop-i : goal.decreases-loop-i
+decreases-loop-i l = l.m - l.i

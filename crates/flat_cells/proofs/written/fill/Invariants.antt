@@ -1,0 +1,16 @@
+use Prim.Native.Nat.{ℕ, ◌+◌, ◌-◌, ◌/◌, ◌%◌, ◌≤◌, ◌<◌}
+use mathlib.Core.Path.{◌≡◌, subst, subst⁻¹}
+use mathlib.Core.List.{List}
+use native.Mathlib.Omega.{arith}
+use lib.ListN.{length}
+use Rattle.flattening.specs.Model.Cells.{Filled}
+use Rattle.flattening.proofs.Holding.{cell_lt}
+use Rattle.flattening.proofs.Written.{from_none, filling, filled}
+use borrow.Author.Rules.{rules}
+use Rattle.flat_cells.proofs.written.fill.Given as goal
+
+abbrev pub invariant-loop-j : goal.invariant-loop-j
+invariant-loop-j l = (l.j ≤ 256) × Filled l.initial.kept l.kept l.m l.u l.j
+
+abbrev pub decreases-loop-j : goal.decreases-loop-j
+decreases-loop-j l = 256 - l.j

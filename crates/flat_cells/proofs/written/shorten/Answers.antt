@@ -1,0 +1,21 @@
+use Prim.Native.Nat.{ℕ, ◌%◌, ◌/◌, ◌+◌}
+use mathlib.Core.Path.{ap, subst⁻¹}
+use mathlib.Core.List.{List}
+use Rattle.flattening.specs.Model.Cells.{Shortened}
+use Rattle.flattening.proofs.Written.{short_word, short_trans}
+use borrow.Author.Rules.{rules}
+use Rattle.flat_cells.proofs.written.shorten.Goals as goal
+
+pub returns-then-d-lt-LONG : goal.returns-then-d-lt-LONG
+returns-then-d-lt-LONG c = let s = c.BEFORE.before.before in 
+    let a = s.args in
+    subst⁻¹ (λ (K : List (List ℕ)). Shortened a.kept.now K a.u) c.put_word.ensures
+    (short_word s.requires.0 s.requires.1.0 a.n s.requires.1.1 (c.entry-2.result / 131072 + 1) (c.entry.result % 131072) (ap (λ (x : ℕ). x % 131072) c.entry.ensures))
+
+pub returns : goal.returns
+returns c = let s = c.BEFORE.before.before.before in 
+    let a = s.args in
+    short_trans
+    (subst⁻¹ (λ (K : List (List ℕ)). Shortened a.kept.now K a.u) c.put-word2.ensures
+    (short_word s.requires.0 s.requires.1.0 a.n s.requires.1.1 256 (c.BEFORE.before.entry.result % 131072) (ap (λ (x : ℕ). x % 131072) c.BEFORE.before.entry.ensures)))
+    c.write_out.ensures

@@ -1,0 +1,39 @@
+use Rattle.std.proofs.Common.{◌≡◌, ℕ, zero, suc, ◌+◌, ◌<◌, ◌≤◌, eqb, sym, refl, ap, ◌∙◌, ⊎_elim, arith, rules}
+use lib.Arith.{lt_of_le-ne}
+use Rattle.words.specs.Word.{bit, choose}
+use Rattle.words.specs.Op.{Op, op_of, mask, overflow}
+use Rattle.words.specs.Program.{prog}
+use Rattle.words.specs.Model.Classes.{class_of}
+use Rattle.words.specs.Model.Widths.{Widths}
+use Rattle.words.proofs.KindLaws.{detector_of, detector_kind, mask_between, mask_past}
+use Rattle.instructions.proofs.prog_word.Goals as goal
+
+abbrev NoneOf : ℕ → ℕ → Type 0
+NoneOf zero k = Unit {0}
+NoneOf (suc d) k = NoneOf d k × (k ≡ 11 + d → ⊥)
+
+past : (d k : ℕ) → 11 ≤ k → NoneOf d k → 11 + d ≤ k
+past zero k h n = h
+past (suc d) k h n = let l : 11 + d < k = lt_of_le-ne (past d k h n.0) (λ e. n.1 (sym e)) in omega arith
+
+chosen : (a b c : ℕ) → (a ≡ 0 → ⊥) → b ≡ choose a b c
+chosen zero b c f = absurd (f refl)
+chosen (suc a) b c f = refl
+
+other : (a b c : ℕ) → a ≡ 0 → c ≡ choose a b c
+other a b c e = sym (ap (λ (n : ℕ). choose n b c) e)
+
+one_width : (k u v a b c : ℕ) → 57 ≤ k → k ≤ 63 → Widths (class_of (op_of k)) u v b c → prog (op_of k) u u a b 0 ≡ prog (op_of k) u v a b c
+one_width k u v a b c h l g =
+    let e = detector_kind k h l in
+    let q : u ≡ v = rw e at g in
+    ap (λ (op : Op). prog op u u a b 0) e ∙ ap (λ (n : ℕ). prog (overflow (detector_of k)) u n a b c) q ∙ sym (ap (λ (op : Op). prog op u v a b c) e)
+
+pub returns-in-57-to-63 : goal.returns-in-57-to-63
+returns-in-57-to-63 c = c.detect.ensures ∙ one_width c.args.kind c.args.u c.args.v c.args.a c.args.b c.args.c c.if-kind-lt57.false (omega (arith, c.if-kind-lt64.true)) c.requires.2
+
+pub returns-in_default : goal.returns-in_default
+returns-in_default c = let e : op_of c.args.kind ≡ mask =
+    ⊎_elim (λ w. mask_between c.args.kind (past 43 c.args.kind c.requires.0 c.in_default-1.rest) w.taken) (λ w. mask_past c.args.kind w.1.left) c.in_default.branch
+    in
+    c.low.ensures.0 ∙ sym (ap (λ (op : Op). prog op c.args.u c.args.v c.args.a c.args.b c.args.c) e)
