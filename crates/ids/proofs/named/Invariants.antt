@@ -1,0 +1,16 @@
+use Prim.Native.Nat.{ℕ, ◌-◌, ◌≤◌}
+use mathlib.Core.Path.{◌≡◌, sym, ◌∙◌}
+use mathlib.Core.List.{List}
+use native.Mathlib.Omega.{arith}
+use lib.ListN.{get_or}
+use borrow.Author.Count.{below_more}
+use Rattle.tables.specs.Layout.{ids_of}
+use Rattle.texts.specs.Model.Searching.{AllZero}
+use Rattle.texts.proofs.Resolving.{ids_length, ids_at}
+use Rattle.ids.proofs.named.Given as goal
+
+abbrev pub invariant-loop-o : goal.invariant-loop-o
+invariant-loop-o l = (l.i ≤ l.o) × ((l.o ≤ l.n) × AllZero (ids_of l.table l.n) l.i l.o)
+
+abbrev pub decreases-loop-o : goal.decreases-loop-o
+decreases-loop-o l = l.n - l.o
