@@ -23,7 +23,7 @@ returns-then-is_word c = let v = c.loop-j.invariant in
     let j : ℕ = c.loop-j.j in
     let e : ℕ = c.args.k + c.args.n in
     let r = listed_kind _ j c.requires.0 (omega arith) in
-    let h : same_bytes t (word_of (form_row j)) ≡ true = ap (λ (r : List ℕ). same_bytes t (word_of r)) (sym r) ∙ (sym c.is_IsWord.ensures ∙ c.if-is_word.true) in
+    let h : same_bytes t (word_of (form_row j)) ≡ true = ap (λ (r : List ℕ). same_bytes t (word_of r)) (sym r) ∙ (sym c.is_word.ensures ∙ c.if-is_word.true) in
     sym (v.1.1.1 ∙ find_hit j e t c.loop-j-test.true h)
 
 pub loop-j-preserved : goal.loop-j-preserved

@@ -30,7 +30,7 @@ returns-in-Bad c = let s = c.args in let o = c.loop-p in let w = c.loop-p.invari
     let on : a < length l = lt_of_le-ne c.skip-a.ensures.1.0 c.if-a-l.false in
     let n : tokens (drop o.at l) ≡ t ∷ tokens (drop z l) = sym c.skip-a.ensures.1.1.0 ∙ next_token l a z on (c.skip-a.ensures.1.1.1 on) c.find_byte-z.ensures.1.1 in
     let u = w ∙ ap (λ (ts : List (List ℕ)). operands s.f (e - o.p) o.p o.rec o.minus o.big o.len ts) n in
-    (zero-le, (c.loop-p.invariant.0, (u ∙ op_bad s.f e o.p o.rec o.minus o.big o.len t (tokens (drop z l)) c.loop-p-test.true (sym c.token-t.ensures.0 ∙ c.enum_told-1.given.1))))
+    (zero-le, (c.loop-p.invariant.0, (u ∙ op_bad s.f e o.p o.rec o.minus o.big o.len t (tokens (drop z l)) c.loop-p-test.true (sym c.token-t.ensures.0 ∙ c.in-Bad.is))))
 
 pub loop-p-preserved-in-Big : goal.loop-p-preserved-in-Big
 loop-p-preserved-in-Big c = let s = c.args in let o = c.loop-p in let w = c.loop-p.invariant.1.1.1.1.1.1.1 in 
@@ -77,7 +77,7 @@ loop-p-preserved c = let s = c.args in let o = c.loop-p in let w = c.loop-p.inva
     let n : tokens (drop o.at l) ≡ t ∷ tokens (drop z l) = sym c.skip-a.ensures.1.1.0 ∙ next_token l a z on (c.skip-a.ensures.1.1.1 on) c.find_byte-z.ensures.1.1 in
     let u = w ∙ ap (λ (ts : List (List ℕ)). operands s.f (e - o.p) o.p o.rec o.minus o.big o.len ts) n in
     let k : length t ≡ z - a = length-take-le (z - a) (drop a l) (omega (arith, length-drop a l)) in
-    let x : ℕ = c.r-1.given.0.0 in (
+    let x : ℕ = c.in-Is.v in (
       get_or-set_other o.rec o.p 0 x 0 (λ q. omega arith) ∙ c.loop-p.invariant.0,
       (
         omega arith,
@@ -91,7 +91,7 @@ loop-p-preserved c = let s = c.args in let o = c.loop-p in let w = c.loop-p.inva
                 c.find_byte-z.ensures.1.0,
                 (
                   length-set o.rec o.p x ∙ c.loop-p.invariant.1.1.1.1.1.1.0,
-                  u ∙ (op_is s.f e o.p o.rec o.minus o.big o.len t (tokens (drop z l)) c.loop-p-test.true x (sym c.token-t.ensures.0 ∙ c.r-1.given.1)
+                  u ∙ (op_is s.f e o.p o.rec o.minus o.big o.len t (tokens (drop z l)) c.loop-p-test.true x (sym c.token-t.ensures.0 ∙ c.in-Is.is)
                       ∙ ap₂ (λ (k : ℕ) (b : Bool). operands s.f (e - (o.p + 1)) (o.p + 1) (set o.rec o.p x) (set o.minus o.p b) o.big k (tokens (drop z l))) k (sym c.token-t.ensures.1)),
                 ),
               ),

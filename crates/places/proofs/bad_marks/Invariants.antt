@@ -1,0 +1,13 @@
+use Prim.Native.Nat.{◌-◌}
+use mathlib.Core.Path.{refl, sym, ◌∙◌}
+use native.Mathlib.Omega.{arith}
+use Rattle.tables.proofs.Encoding.{fits_table}
+use Rattle.tables.specs.Layout.{record_at, lines_of}
+use Rattle.circuits.proofs.Placing.{MarksSoFar, marks_more, marks_end}
+use Rattle.places.proofs.bad_marks.Given as goal
+
+abbrev pub invariant-loop-i : goal.invariant-loop-i
+invariant-loop-i l = MarksSoFar (lines_of l.program l.table l.count) l.count l.i l.g l.bad
+
+abbrev pub decreases-loop-i : goal.decreases-loop-i
+decreases-loop-i l = l.count - l.i
