@@ -7,17 +7,17 @@ pub carry-requires : goal.carry-requires
 carry-requires c = let s = c.args in 
     let j = c.judge in 
     let k = c.clear in 
-    carry_ready s.columns s.program s.list.now s.count (length s.target.now) k.new.table k.ensures j.result j.ensures _ c.n-1.given.1
+    carry_ready s.columns s.program s.list.now s.count (length s.target.now) k.new.table k.ensures j.result j.ensures _ c.in-Done.is
 
 pub returns-in-Done : goal.returns-in-Done
 returns-in-Done c = let s = c.args in 
     let j = c.judge in 
     let k = c.clear in 
     let v = c.carry in 
-    convert_done s.columns s.program s.list.now s.count (length s.target.now) k.new.table k.ensures j.result j.ensures _ c.n-1.given.1 _ v.ensures
+    convert_done s.columns s.program s.list.now s.count (length s.target.now) k.new.table k.ensures j.result j.ensures _ c.in-Done.is _ v.ensures
 
 pub returns-in-Refused : goal.returns-in-Refused
 returns-in-Refused c = let s = c.args in 
     let j = c.judge in 
     let k = c.clear in 
-    convert_refused s.columns s.program s.list.now s.count (length s.target.now) k.new.table k.ensures j.result j.ensures _ _ c.r-1.given.1
+    convert_refused s.columns s.program s.list.now s.count (length s.target.now) k.new.table k.ensures j.result j.ensures _ _ c.in-Refused.is
