@@ -19,7 +19,7 @@ loop-i-preserved c = let l = c.loop-i in
     let v = c.note_mark-g in 
     let r = record_at c.args.program c.args.table.now l.i in
     let e = v.ensures r k.ensures in
-    marks_more c.args.program c.args.table.now c.args.count c.requires.0 l.i l.g _ l.bad _ c.loop-i-test.true l.invariant refl v.auto.1.1.0 e.0 e.1
+    marks_more c.args.program c.args.table.now c.args.count c.requires.0 l.i l.g _ l.bad _ c.loop-i-test.true l.invariant refl v.auto.bad e.0 e.1
 
 pub returns : goal.returns
 returns c = let l = c.loop-i in 
