@@ -7,15 +7,13 @@ use borrow.Author.Rules.{rules}
 use Rattle.flat_cells.proofs.written.shorten.Goals as goal
 
 pub returns-then-d-lt-LONG : goal.returns-then-d-lt-LONG
-returns-then-d-lt-LONG c = let s = c.BEFORE.before.before in 
-    let a = s.args in
+returns-then-d-lt-LONG c = let a = c.args in 
     subst⁻¹ (λ (K : List (List ℕ)). Shortened a.kept.now K a.u) c.put_word.ensures
-    (short_word s.requires.0 s.requires.1.0 a.n s.requires.1.1 (c.entry-2.result / 131072 + 1) (c.entry.result % 131072) (ap (λ (x : ℕ). x % 131072) c.entry.ensures))
+    (short_word c.requires.0 c.requires.1.0 a.n c.requires.1.1 (c.entry-2.result / 131072 + 1) (c.entry-w.result % 131072) (ap (λ (x : ℕ). x % 131072) c.entry-w.ensures))
 
 pub returns : goal.returns
-returns c = let s = c.BEFORE.before.before.before in 
-    let a = s.args in
+returns c = let a = c.args in 
     short_trans
-    (subst⁻¹ (λ (K : List (List ℕ)). Shortened a.kept.now K a.u) c.put-word2.ensures
-    (short_word s.requires.0 s.requires.1.0 a.n s.requires.1.1 256 (c.BEFORE.before.entry.result % 131072) (ap (λ (x : ℕ). x % 131072) c.BEFORE.before.entry.ensures)))
+    (subst⁻¹ (λ (K : List (List ℕ)). Shortened a.kept.now K a.u) c.put_word-2.ensures
+    (short_word c.requires.0 c.requires.1.0 a.n c.requires.1.1 256 (c.entry-w.result % 131072) (ap (λ (x : ℕ). x % 131072) c.entry-w.ensures)))
     c.write_out.ensures
