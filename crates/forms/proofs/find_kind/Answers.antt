@@ -12,6 +12,7 @@ use Rattle.texts.specs.Forms.{form_row}
 use Rattle.texts.specs.Reading.{find_in}
 use Rattle.texts.proofs.Words.{find_hit, find_miss, find_done, listed_kind, row_shape}
 use Rattle.forms.proofs.find_kind.Goals as goal
+use Rattle.forms.proofs.find_kind.Goals.{then-begins+else-is_word, else-begins}
 
 pub is_word-requires : goal.is_word-requires
 is_word-requires c = let j = c.loop-j.j in 
@@ -33,10 +34,10 @@ loop-j-preserved c = let v = c.loop-j.invariant in
     let e : ℕ = c.args.k + c.args.n in
     let r = listed_kind _ j c.requires.0 (omega arith) in
     let h : same_bytes t (word_of (form_row j)) ≡ false =
-    ⊎_elim
-    (λ w. ap (λ (r : List ℕ). same_bytes t (word_of r)) (sym r) ∙ (sym w.2.ensures ∙ w.3.left))
-    (λ w. c.begins.ensures w.left)
-    c.if-begins.branch
+      elim c.if-begins.branch [
+        then-begins+else-is_word w ↦ ap (λ (r : List ℕ). same_bytes t (word_of r)) (sym r) ∙ (sym w.is_word.ensures ∙ w.if-is_word.false)
+        | else-begins w ↦ c.begins.ensures w.if-begins.false
+      ]
     in
     (omega arith, (omega arith, (refl, v.1.1.1 ∙ find_miss j e t c.loop-j-test.true h)))
 

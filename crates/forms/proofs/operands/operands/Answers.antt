@@ -56,7 +56,7 @@ loop-p-preserved-in-Big c = let s = c.args in let o = c.loop-p in let w = c.loop
                 c.find_byte-z.ensures.1.0,
                 (
                   c.loop-p.invariant.1.1.1.1.1.1.0,
-                  u ∙ (op_big s.f e o.p o.rec o.minus o.big o.len t (tokens (drop z l)) c.loop-p-test.true (sym c.token-t.ensures.0 ∙ c.enum_told-in-Big-1.given.1)
+                  u ∙ (op_big s.f e o.p o.rec o.minus o.big o.len t (tokens (drop z l)) c.loop-p-test.true (sym c.token-t.ensures.0 ∙ c.in-Big.is)
                       ∙ ap₂ (λ (k : ℕ) (b : Bool). operands s.f (e - (o.p + 1)) (o.p + 1) o.rec (set o.minus o.p b) true k (tokens (drop z l))) k (sym c.token-t.ensures.1)),
                 ),
               ),
