@@ -1,0 +1,14 @@
+use Rattle.tables.proofs.Kept.{no_yes}
+use Prim.Native.Nat.{◌-◌}
+use lib.ListN.{length}
+use mathlib.Core.Path.{◌≡◌, refl, sym, ◌∙◌}
+use borrow.Author.Rules.{rules}
+use borrow.Author.Tests.{not-true, not-false}
+use Rattle.tables.proofs.Sofar.{Sofar, begun, stopped, further, all_lawful, all_shown}
+use Rattle.checks.proofs.lines.Given as goal
+
+abbrev pub invariant-loop-i : goal.invariant-loop-i
+invariant-loop-i l = Sofar l.program l.table l.count l.i l.notes × (length l.notes ≡ length l.initial.notes)
+
+abbrev pub decreases-loop-i : goal.decreases-loop-i
+decreases-loop-i l = l.count - l.i
