@@ -1,0 +1,11 @@
+use Prim.Native.Nat.{◌-◌}
+use borrow.Author.Rules.{rules}
+use Rattle.programs.proofs.Keeping.{zeros_length, held_here, kind_here}
+use Rattle.programs.proofs.Marking.{Marking, marking_start, marking_more, marking_end}
+use Rattle.passes.proofs.needing.Given as goal
+
+abbrev pub invariant-loop-i : goal.invariant-loop-i
+invariant-loop-i l = Marking l.table l.count l.i l.marks
+
+abbrev pub decreases-loop-i : goal.decreases-loop-i
+decreases-loop-i l = l.count - l.i
