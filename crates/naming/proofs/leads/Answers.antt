@@ -1,0 +1,12 @@
+use Prim.Native.Nat.{zero-le}
+use native.Mathlib.Omega.{arith}
+use mathlib.Core.Path.{sym, ap, ◌∙◌}
+use Rattle.texts.specs.Naming.{leads}
+use Rattle.texts.proofs.Places.{no_token, next_token}
+use Rattle.naming.proofs.leads.Goals as goal
+
+pub returns-then-a-l : goal.returns-then-a-l
+returns-then-a-l c = sym (ap (leads c.args.n) (sym c.skip-a.ensures.1.1.0 ∙ no_token c.args.l.now c.skip-a.result (omega arith)))
+
+pub returns : goal.returns
+returns c = c.is_id.ensures ∙ sym (ap (leads c.args.n) (sym c.skip-a.ensures.1.1.0 ∙ next_token c.args.l.now c.skip-a.result c.find_byte-z.result (omega arith) (c.skip-a.ensures.1.1.1 (omega arith)) c.find_byte-z.ensures.1.1))

@@ -1,0 +1,27 @@
+use mathlib.Core.Path.{sym, ap, ◌∙◌}
+use mathlib.Core.Logic.{⊎_elim}
+use borrow.Author.Rules.{rules}
+use borrow.Author.Tests.{not-true, not-false}
+use Rattle.tables.specs.Model.Notes.{look_in, given_in}
+use Rattle.texts.specs.Model.Structs.{as_read}
+use Rattle.texts.proofs.Steps.{minus_8, minus_fits_lem, no_minus, by_own_row}
+use Rattle.stages.proofs.allow.Goals as goal
+
+pub returns-then-not-signs_fit : goal.returns-then-not-signs_fit
+returns-then-not-signs_fit c = let s = c.args in 
+    let L = look_in s.notes.now in
+    let G = given_in s.notes.now in
+    let e = by_own_row L G s.f s.rec s.minus s.len c.requires c.signs_fit.ensures in
+    c.refuse.ensures ∙ ap as_read (sym (minus_8 L G s.f s.rec s.minus s.len (sym e ∙ not-true _ c.if-not-signs_fit.true-raw)))
+
+pub returns : goal.returns
+returns c = let s = c.args in 
+    let L = look_in s.notes.now in
+    let G = given_in s.notes.now in
+    c.judge.ensures
+    ∙ ap as_read
+    (sym (minus_fits_lem L G s.f s.rec s.minus s.len
+    (⊎_elim
+    (λ w. sym (by_own_row L G s.f s.rec s.minus s.len c.requires w.1.ensures) ∙ not-false _ w.2.left)
+    (λ w. no_minus L G s.f s.rec s.minus s.len (sym c.has_signs.ensures ∙ w.left))
+    c.if-has_signs.branch)))
