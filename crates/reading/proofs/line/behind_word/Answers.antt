@@ -1,4 +1,3 @@
--- What stands behind the word, with the id and the name. Assumes nothing.
 use borrow.Author.Rules.{rules}
 use Prim.Native.Nat.{ℕ, ◌-◌, ◌≤◌}
 use mathlib.Core.Path.{◌≡◌, sym, ap, ◌∙◌, subst}
@@ -13,24 +12,13 @@ use Rattle.texts.specs.Model.Stages.{ended, taken_in}
 use Rattle.texts.specs.Model.Structs.{as_read}
 use Rattle.texts.proofs.NameParts.{is_several, is_name}
 use Rattle.texts.proofs.Readouts.{tells_labels}
-use Rattle.reading.proofs.line.behind_word.Statement.{statement}
-use Rattle.reading.proofs.line.behind_word.Tie as tie
+use Rattle.reading.proofs.line.behind_word.Goals as goal
 
-take-requires : tie.Need-take-requires
-take-requires c κs = search rules
-
-next-requires : tie.Need-next-requires
-next-requires c κs = search rules
-
-skip-requires : tie.Need-skip-requires
-skip-requires c κs = search rules
-
-finish-requires : tie.Need-finish-requires
-finish-requires c κs =
-    let p = c.before.before.before.before.before.requires in
-    let l = c.before.before.before.before.before.args.l.now in
-    let t = c.before.before.take in
-    let x = c.before.next in
+pub finish-r-requires : goal.finish-r-requires
+finish-r-requires c = let p = c.requires in 
+    let l = c.args.l.now in 
+    let t = c.take-t in 
+    let x = c.next-p in 
     let k = c.skip in (
       p.0,
       (
@@ -45,20 +33,16 @@ finish-requires c κs =
       ),
     )
 
-labelled-requires : tie.Need-labelled-requires
-labelled-requires c κs = search rules
-
-returns : tie.Need-returns
-returns c =
-    let s = c.before.before.before.before.before.before.before.args in
+pub returns : goal.returns
+returns c = let s = c.args in 
     let L = look_in s.notes.now in
     let G = given_in s.notes.now in
     let ids = ids_of s.table.now s.n in
     let l : List ℕ = s.l.now in
     let ts = tokens (drop s.at l) in
-    let t = c.before.before.before.before.take in
-    let x = c.before.before.before.next in
-    let r = c.before.finish in
+    let t = c.take-t in 
+    let x = c.next-p in 
+    let r = c.finish-r in 
     let e = r.ensures ∙ ap (λ y. as_read (ended L G ids s.f y)) (sym t.ensures.1.1) in
     let o = c.labelled.ensures in (
       tells_labels (ended L G ids s.f (taken_in s.f ts)) s.id x.result.from x.result.to o e,
@@ -74,8 +58,3 @@ returns c =
         ),
       ),
     )
-
-pub behind-word-spec : {M : Type 1} → statement M
-behind-word-spec =
-    tie.close
-    (tie.spec take-requires next-requires skip-requires finish-requires labelled-requires returns)
