@@ -7,6 +7,7 @@ use Rattle.texts.specs.Model.Structs.{as_read}
 use Rattle.texts.proofs.Steps.{large_big, large_wide, large_fits, large_other}
 use borrow.Author.Rules.{rules}
 use Rattle.stages.proofs.large.Goals as goal
+use Rattle.stages.proofs.large.Goals.{then-f-eq1+else-not-is_width, else-f-eq1}
 
 pub returns-then-big : goal.returns-then-big
 returns-then-big c = c.refuse.ensures ∙ ap as_read (sym (large_big _ _ _ _ _ _ _ _ c.if-big.true))
@@ -23,7 +24,7 @@ returns c = let s = c.args in
     c.conclude.ensures
     ∙ ap as_read
     (sym
-    (⊎_elim
-    (λ w. large_fits L G s.f s.rec s.minus s.len ds s.big h w.0.taken (sym w.1.ensures ∙ not-false _ w.2.left))
-    (λ w. large_other L G s.f s.rec s.minus s.len ds s.big h w.left)
-    c.if-f-eq1.branch))
+    (elim c.if-f-eq1.branch [
+      then-f-eq1+else-not-is_width w ↦ large_fits L G s.f s.rec s.minus s.len ds s.big h w.if-f-eq1.true (sym w.is_width.ensures ∙ not-false _ w.if-not-is_width.false-raw)
+      | else-f-eq1 w ↦ large_other L G s.f s.rec s.minus s.len ds s.big h w.if-f-eq1.false
+    ]))
