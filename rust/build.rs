@@ -13,10 +13,7 @@ fn main() {
     let archive = folder.join("libexports.a");
     println!("cargo:rerun-if-changed={}", archive.display());
     if !archive.exists() {
-        println!(
-            "cargo:warning={} is missing: run `rt lib` in crates/exports, or set GOFESHAN_LIB",
-            archive.display()
-        );
+        println!("cargo:warning={} is missing: run `rt lib` in crates/exports, or set GOFESHAN_LIB", archive.display());
     }
     println!("cargo:rustc-link-search=native={}", folder.display());
     println!("cargo:rustc-link-lib=static=exports");
