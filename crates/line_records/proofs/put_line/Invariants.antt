@@ -1,0 +1,16 @@
+use Prim.Native.Nat.{◌+◌, ◌-◌}
+use mathlib.Core.Path.{◌≡◌, refl, ap, ◌∙◌}
+use mathlib.Core.Logic.{⊎_elim}
+use native.Mathlib.Omega.{arith}
+use lib.ListN.{length}
+use borrow.Author.Rules.{rules}
+use Rattle.texts.specs.Model.Filling.{filling, added_from}
+use Rattle.texts.proofs.Filled.{Passed, none_passed, can_put_not, with_not, without, can_put_own, all_passed}
+use Rattle.line_records.proofs.put_line.Given as goal
+
+abbrev pub invariant-loop-j : goal.invariant-loop-j
+invariant-loop-j l =
+    Passed l.minus l.id (added_from l.minus 3 2 (filling l.initial.table l.initial.notes l.n) l.initial.own l.id) (length l.initial.table) l.j (filling l.table l.notes l.k) l.own × (length l.notes ≡ length l.initial.notes)
+
+abbrev pub decreases-loop-j : goal.decreases-loop-j
+decreases-loop-j l = 5 - l.j

@@ -1,0 +1,15 @@
+use Prim.Native.Nat.{ℕ, ◌-◌, ◌≤◌}
+use mathlib.Core.Path.{◌≡◌, refl, ◌∙◌, subst}
+use native.Mathlib.Omega.{arith}
+use lib.ListN.{length, drop, length-drop}
+use borrow.Author.Rules.{rules}
+use Rattle.tables.proofs.Encoding.{fits_table}
+use Rattle.tables.specs.Layout.{lines_of}
+use Rattle.circuits.proofs.Walked.{Walked, walk_start, walk_fit, walk_step, walk_ends}
+use Rattle.walks.proofs.walk.Given as goal
+
+abbrev pub invariant-loop-i : goal.invariant-loop-i
+invariant-loop-i l = (l.i ≤ l.count) × ((length l.work ≡ length l.initial.work) × Walked l.program l.first (lines_of l.program l.table l.count) l.all l.row (drop l.all l.initial.work) (length l.initial.sig) l.work l.sig l.i)
+
+abbrev pub decreases-loop-i : goal.decreases-loop-i
+decreases-loop-i l = l.count - l.i
