@@ -36,8 +36,8 @@ first_bad-requires c = let a = c.args in
     let f = lent_facts (counts_of a.t) (a.t.inputs + a.t.free) a.k (length a.starts.now) (length a.inputs.now) (length a.signals.now) (length a.work.now) c.requires.1.1.1.0 in
     let lm : length c.bad_marks.new.bad ≡ 16385 = c.bad_marks.auto.bad ∙ length-replicate {A = ℕ} 16385 0 in
     let few : a.t.signals ≤ 16384 = omega (arith, signals_few a.program a.table.now a.count c.requires.1.0.accepted, c.requires.1.0.signals) in
-    let l : length (take a.t.signals c.bad_marks.new.bad) ≡ a.t.signals = length-take-le a.t.signals c.bad_marks.new.1.1.1.0 (omega arith) in
-    (f.steps, (omega arith, omega (arith, ap (λ (n : ℕ). a.k * n) l, c.run_steps.auto.1.1.1.1.1.1.1.1.1.0, f.signals)))
+    let l : length (take a.t.signals c.bad_marks.new.bad) ≡ a.t.signals = length-take-le a.t.signals c.bad_marks.new.bad (omega arith) in
+    (f.steps, (omega arith, omega (arith, ap (λ (n : ℕ). a.k * n) l, c.run_steps.auto.signals, f.signals)))
 
 pub returns : goal.returns
 returns c = let a = c.args in 
@@ -45,4 +45,4 @@ returns c = let a = c.args in
     let lm : length c.bad_marks.new.bad ≡ 16385 = c.bad_marks.auto.bad ∙ length-replicate {A = ℕ} 16385 0 in
     let few : a.t.signals ≤ 16384 = omega (arith, signals_few a.program a.table.now a.count c.requires.1.0.accepted, c.requires.1.0.signals) in
     let eq : a.t.signals ≡ length (marks (lines_of a.program a.table.now a.count)) = sym c.requires.1.0.signals ∙ signals_many a.program (lines_of a.program a.table.now a.count) in
-    told_run_lem (c.first_bad.ensures ∙ bad_found a.program (lines_of a.program a.table.now a.count) a.k a.starts.now a.inputs.now (ap (λ (n : ℕ). take n c.bad_marks.new.bad) eq ∙ c.bad_marks.ensures) c.run_steps.ensures.0) c.run_steps.ensures.0 (zero_front a.work.now c.run_steps.new.1.1.1.1.1.1.1.1.1.1.0 (a.t.cells + a.t.states) c.requires.1.1.1.1 f.work (c.run_steps.ensures.1 ∙ ap (λ (n : ℕ). replicate n 0) (length-take-le (a.t.cells + a.t.states) a.work.now f.work)))
+    told_run_lem (c.first_bad.ensures ∙ bad_found a.program (lines_of a.program a.table.now a.count) a.k a.starts.now a.inputs.now (ap (λ (n : ℕ). take n c.bad_marks.new.bad) eq ∙ c.bad_marks.ensures) c.run_steps.ensures.0) c.run_steps.ensures.0 (zero_front a.work.now c.run_steps.new.work (a.t.cells + a.t.states) c.requires.1.1.1.1 f.work (c.run_steps.ensures.1 ∙ ap (λ (n : ℕ). replicate n 0) (length-take-le (a.t.cells + a.t.states) a.work.now f.work)))
