@@ -9,9 +9,9 @@ use Rattle.circuits.proofs.Puts as laws
 use Rattle.area.proofs.alike.Goals as goal
 
 pub returns-then-words-x : goal.returns-then-words-x
-returns-then-words-x c = let l = c.loop-i in 
-    let a = c.args in 
-    let p = c.requires in 
+returns-then-words-x c = let l = c.loop-i in
+    let a = c.args in
+    let p = c.requires in
     let xs : List ℕ = part a.words.now a.x a.n in
     let ys : List ℕ = part a.words.now a.y a.n in
     let lx : length xs ≡ a.n = laws.length_part a.words.now a.x a.n p.0 in
@@ -20,9 +20,9 @@ returns-then-words-x c = let l = c.loop-i in
     (λ e. c.if-words-x.true (sym (laws.part_get_or a.words.now a.x a.n l.i (omega arith)) ∙ e ∙ laws.part_get_or a.words.now a.y a.n l.i (omega arith))))
 
 pub loop-i-preserved : goal.loop-i-preserved
-loop-i-preserved c = let l = c.loop-i in 
-    let a = c.args in 
-    let p = c.requires in 
+loop-i-preserved c = let l = c.loop-i in
+    let a = c.args in
+    let p = c.requires in
     let xs : List ℕ = part a.words.now a.x a.n in
     let ys : List ℕ = part a.words.now a.y a.n in
     let lx : length xs ≡ a.n = laws.length_part a.words.now a.x a.n p.0 in

@@ -11,8 +11,8 @@ pub loop-i-init : goal.loop-i-init
 loop-i-init c = let a = c.args in (search rules, (refl, sym (laws.put_none a.work.now a.o)))
 
 pub loop-i-preserved : goal.loop-i-preserved
-loop-i-preserved c = let a = c.args in 
-    let l = c.loop-i in 
+loop-i-preserved c = let a = c.args in
+    let l = c.loop-i in
     let taken = c.take_run in (
       omega arith,
       (
@@ -23,8 +23,8 @@ loop-i-preserved c = let a = c.args in
     )
 
 pub returns : goal.returns
-returns c = let a = c.args in 
-    let l = c.loop-i in 
+returns c = let a = c.args in
+    let l = c.loop-i in
     let past : l.i + (a.m - l.i) ≡ a.m = omega arith in
     c.copy_rest.ensures
     ∙ laws.copy_more l.work a.work.now a.x a.o a.m l.i (a.m - l.i) c.requires.0 c.requires.1.0 c.requires.1.1 (omega arith) l.invariant.1.1

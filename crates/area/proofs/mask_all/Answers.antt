@@ -10,9 +10,9 @@ use Rattle.circuits.proofs.Puts as laws
 use Rattle.area.proofs.mask_all.Goals as goal
 
 pub loop-i-preserved : goal.loop-i-preserved
-loop-i-preserved c = let l = c.loop-i in 
+loop-i-preserved c = let l = c.loop-i in
     let i = l.i in
-    let w = c.args.w in 
-    let d₀ = c.args.cells.now in 
+    let w = c.args.w in
+    let d₀ = c.args.cells.now in
     let e : c.low.result ≡ get_or d₀ i 0 % 2 ^ w = c.low.ensures.0 ∙ ap (λ (v : ℕ). v % 2 ^ w) (ap (λ (u : List ℕ). get_or u i 0) l.invariant.1.1 ∙ laws.lows_rest w d₀ i (omega arith)) in
     (omega arith, (simp length-set l.invariant.1.0, ap₂ (λ (u : List ℕ) (v : ℕ). set u i v) l.invariant.1.1 e ∙ laws.lows_more w d₀ i (omega arith)))

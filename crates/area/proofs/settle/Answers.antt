@@ -1,3 +1,4 @@
+-- Words that are put back where they were stay.
 use borrow.Author.Rules.{rules}
 use mathlib.Core.Path.{sym}
 use borrow.Author.Tests.{not-true, not-false}

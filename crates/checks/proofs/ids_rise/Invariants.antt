@@ -1,3 +1,4 @@
+-- The answer from the start is the answer from here on, behind the last id that is not 0.
 use Prim.Native.Nat.{ℕ, ◌+◌, ◌-◌, ◌≤◌}
 use mathlib.Core.Path.{◌≡◌, sym, ap, ◌∙◌}
 use mathlib.Core.Bool.{Bool, false}

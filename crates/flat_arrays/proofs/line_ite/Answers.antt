@@ -1,3 +1,4 @@
+-- One ite for each cell.
 use Prim.Native.Nat.{ℕ, ◌+◌, ◌≤◌}
 use mathlib.Core.Path.{ap, ◌∙◌, subst⁻¹}
 use mathlib.Core.Bool.{false}

@@ -1,3 +1,4 @@
+-- A record and a row.
 use Prim.Native.Nat.{◌+◌}
 use mathlib.Core.Path.{ap, ◌∙◌, subst⁻¹}
 use mathlib.Core.Bool.{false}

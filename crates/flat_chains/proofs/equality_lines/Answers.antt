@@ -1,3 +1,4 @@
+-- A test for each cell, then their joins.
 use Prim.Native.Nat.{ℕ, ◌+◌}
 use mathlib.Core.Path.{ap, ◌∙◌, subst⁻¹}
 use mathlib.Core.Bool.{false}

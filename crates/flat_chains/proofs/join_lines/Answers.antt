@@ -1,3 +1,4 @@
+-- The first two tests, then each of the others.
 use Prim.Native.Nat.{◌+◌, ◌-◌, ◌≤◌}
 use mathlib.Core.Path.{sym, ap, ◌∙◌, subst⁻¹}
 use mathlib.Core.Bool.{false}

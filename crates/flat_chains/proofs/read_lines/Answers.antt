@@ -1,3 +1,4 @@
+-- The pair for the last cell but one, then the others, falling.
 use Prim.Native.Nat.{ℕ, ◌+◌, ◌-◌, ◌≤◌}
 use mathlib.Core.Path.{ap, ◌∙◌, subst⁻¹}
 use mathlib.Core.Bool.{false}

@@ -1,3 +1,4 @@
+-- The parts of the line, one after the other.
 use native.Mathlib.Omega.{arith}
 use Rattle.flat_text.proofs.Outputs.{numbers_short, refusal_put}
 use borrow.Author.Rules.{rules}
@@ -10,5 +11,5 @@ pub put-requires : goal.put-requires
 put-requires c = omega (arith, c.put_word-a.ensures.0, c.put_numbers-b.ensures.0, numbers_short c.args.number c.args.line c.ranges.number.fits c.ranges.line.fits)
 
 pub returns : goal.returns
-returns c = let s = c.args in 
+returns c = let s = c.args in
     refusal_put s.out.now s.number s.line c.put_word-a.ensures c.put_numbers-b.ensures c.put.ensures

@@ -1,3 +1,4 @@
+-- The pass starts from what the check has noted.
 use mathlib.Core.Path.{sym, ◌∙◌}
 use Rattle.flattening.proofs.Refusing.{refused, begin}
 use borrow.Author.Rules.{rules}

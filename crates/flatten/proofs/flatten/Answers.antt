@@ -1,3 +1,4 @@
+-- The target is cleared, then the tests come in their order, then the lines.
 use mathlib.Core.Path.{sym, ap, ◌∙◌}
 use mathlib.Core.Bool.{false}
 use lib.ListN.{length}

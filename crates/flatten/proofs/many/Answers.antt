@@ -1,3 +1,4 @@
+-- Lists of zeros.
 use native.Mathlib.Omega.{arith}
 use Rattle.flattening.proofs.Refusing.{blank_lists}
 use borrow.Author.Rules.{rules}

@@ -15,11 +15,11 @@ use Rattle.forms.proofs.find_kind.Goals as goal
 use Rattle.forms.proofs.find_kind.Goals.{then-begins+else-is_word, else-begins}
 
 pub is_word-requires : goal.is_word-requires
-is_word-requires c = let j = c.loop-j.j in 
+is_word-requires c = let j = c.loop-j.j in
     subst (λ (r : List ℕ). get_or r 0 0 ≤ 10) (sym (listed_kind _ j c.requires.0 (omega arith))) (row_shape j (omega arith) (omega arith)).0
 
 pub returns-then-is_word : goal.returns-then-is_word
-returns-then-is_word c = let v = c.loop-j.invariant in 
+returns-then-is_word c = let v = c.loop-j.invariant in
     let t : List ℕ = c.args.t.now in
     let j : ℕ = c.loop-j.j in
     let e : ℕ = c.args.k + c.args.n in
@@ -28,16 +28,16 @@ returns-then-is_word c = let v = c.loop-j.invariant in
     sym (v.1.1.1 ∙ find_hit j e t c.loop-j-test.true h)
 
 pub loop-j-preserved : goal.loop-j-preserved
-loop-j-preserved c = let v = c.loop-j.invariant in 
+loop-j-preserved c = let v = c.loop-j.invariant in
     let t : List ℕ = c.args.t.now in
     let j : ℕ = c.loop-j.j in
     let e : ℕ = c.args.k + c.args.n in
     let r = listed_kind _ j c.requires.0 (omega arith) in
     let h : same_bytes t (word_of (form_row j)) ≡ false =
-      elim c.if-begins.branch [
-        then-begins+else-is_word w ↦ ap (λ (r : List ℕ). same_bytes t (word_of r)) (sym r) ∙ (sym w.is_word.ensures ∙ w.if-is_word.false)
-        | else-begins w ↦ c.begins.ensures w.if-begins.false
-      ]
+    elim c.if-begins.branch [
+      | then-begins+else-is_word w ↦ ap (λ (r : List ℕ). same_bytes t (word_of r)) (sym r) ∙ (sym w.is_word.ensures ∙ w.if-is_word.false)
+      | else-begins w ↦ c.begins.ensures w.if-begins.false
+    ]
     in
     (omega arith, (omega arith, (refl, v.1.1.1 ∙ find_miss j e t c.loop-j-test.true h)))
 

@@ -1,3 +1,4 @@
+-- Letter by letter.
 use native.Mathlib.Omega.{arith}
 use mathlib.Core.Path.{sym}
 use Rattle.texts.proofs.Words.{sort_length, sort_differs, sort_last}

@@ -22,5 +22,5 @@ pub loop-i-preserved : goal.loop-i-preserved
 loop-i-preserved c = let s : List ℕ = c.args.t.now in
     let r : List ℕ = c.args.r in
     let i : ℕ = c.loop-i.i in
-    let v = c.loop-i.invariant in 
+    let v = c.loop-i.invariant in
     (omega arith, (v.1.0, (v.1.1.0, (v.1.1.1.0, (v.1.1.1.1.0, v.1.1.1.1.1 ∙ same_more s (word_of r) i (omega arith) (omega arith) (c.if-t-i.false ∙ sym (word_at_lem r i (omega arith))))))))

@@ -13,15 +13,15 @@ pub kind-requires : goal.kind-requires
 kind-requires c = let a = c.args in omega (arith, (fits_table a.program a.table.now a.count c.requires.0.accepted).1, c.loop-i-test.true)
 
 pub note_line-m-requires : goal.note_line-m-requires
-note_line-m-requires c = let a = c.args in 
-    let l = c.loop-i in 
+note_line-m-requires c = let a = c.args in
+    let l = c.loop-i in
     let f = (fits_table a.program a.table.now a.count c.requires.0.accepted).0 in
     (omega (arith, f, l.invariant.few, l.invariant.long, c.loop-i-test.true), omega (arith, f, c.loop-i-test.true))
 
 pub loop-i-preserved : goal.loop-i-preserved
-loop-i-preserved c = let a = c.args in 
-    let l = c.loop-i in 
-    let v = c.note_line-m in 
+loop-i-preserved c = let a = c.args in
+    let l = c.loop-i in
+    let v = c.note_line-m in
     let r = record_at a.program a.table.now l.i in
     found_more a.program a.table.now a.count a.notes.now c.requires.0 {r = r} l.i l.m _ l.lines _ c.loop-i-test.true l.invariant refl v.auto.lines
     (v.ensures.0 r c.kind.ensures) v.ensures.1

@@ -1,3 +1,4 @@
+-- The lines found so far, and those of the lines to come, are all.
 use Prim.Native.Nat.{◌-◌}
 use mathlib.Core.Path.{refl, sym, ◌∙◌}
 use native.Mathlib.Omega.{arith}

@@ -11,10 +11,10 @@ use Rattle.circuits.proofs.Puts.{lows_append}
 use Rattle.free_states.proofs.load_masked.Goals as goal
 
 pub loop-i-preserved : goal.loop-i-preserved
-loop-i-preserved c = let l = c.loop-i in 
-    let a = c.args in 
+loop-i-preserved c = let l = c.loop-i in
+    let a = c.args in
     let f = a.from.now in
-    let v = c.low-v.result in 
+    let v = c.low-v.result in
     let e : v ≡ get_or f l.i 0 % 2 ^ a.w = c.low-v.ensures.0 in
     let n : l.i < length l.to = omega arith in (
       omega arith,

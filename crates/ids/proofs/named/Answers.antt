@@ -10,8 +10,8 @@ use Rattle.texts.proofs.Resolving.{ids_length, ids_at}
 use Rattle.ids.proofs.named.Goals as goal
 
 pub returns-then-id-ne0 : goal.returns-then-id-ne0
-returns-then-id-ne0 c = let s = c.args in 
-    let l = c.loop-o in 
+returns-then-id-ne0 c = let s = c.args in
+    let l = c.loop-o in
     let t : List ℕ = s.table.now in
     record {
       least = l.invariant.0;
@@ -21,15 +21,15 @@ returns-then-id-ne0 c = let s = c.args in
     }
 
 pub loop-o-preserved : goal.loop-o-preserved
-loop-o-preserved c = let s = c.args in 
-    let l = c.loop-o in 
+loop-o-preserved c = let s = c.args in
+    let l = c.loop-o in
     let t : List ℕ = s.table.now in
     let z : get_or (ids_of t s.n) l.o 0 ≡ 0 = ids_at t s.n l.o (omega arith) ∙ sym c.id.ensures ∙ c.if-id-ne0.false in
     (omega arith, (omega arith, λ j k h. below_more (λ (m : ℕ). s.i ≤ m → get_or (ids_of t s.n) m 0 ≡ 0) _ (λ m q p. l.invariant.1.1 m p q) (λ p. z) j h k))
 
 pub returns : goal.returns
-returns c = let s = c.args in 
-    let l = c.loop-o in 
+returns c = let s = c.args in
+    let l = c.loop-o in
     let e = ids_length s.table.now s.n in
     record {
       least = l.invariant.0;

@@ -1,3 +1,4 @@
+-- The ids from i up to o are 0. Where the id at o is below d, so are all before it; else those from i on are not, but for zeros.
 use Prim.Native.Nat.{ℕ}
 use mathlib.Core.List.{List}
 use native.Mathlib.Omega.{arith}
@@ -7,8 +8,8 @@ use Rattle.texts.proofs.Resolving.{ids_length, ids_at, below_on, not_below_on}
 use Rattle.ids.proofs.past.Goals as goal
 
 pub returns-then-o-n : goal.returns-then-o-n
-returns-then-o-n c = let s = c.args in 
-    let p = c.requires.1 in 
+returns-then-o-n c = let s = c.args in
+    let p = c.requires.1 in
     let ds : List ℕ = ids_of s.table.now s.n in
     let e = ids_length s.table.now s.n in
     record {
@@ -19,17 +20,17 @@ returns-then-o-n c = let s = c.args in
     }
 
 pub id-requires : goal.id-requires
-id-requires c = let s = c.args in 
+id-requires c = let s = c.args in
     (omega (arith, ids_length s.table.now s.n, c.named-o.ensures.most, c.requires.1.1.1.there), c.requires.0)
 
 pub overflow_add-result : goal.overflow_add-result
-overflow_add-result c = let s = c.args in 
+overflow_add-result c = let s = c.args in
     omega (arith, ids_length s.table.now s.n, c.named-o.ensures.most)
 
 pub returns-then-id-d : goal.returns-then-id-d
-returns-then-id-d c = let s = c.args in 
-    let p = c.requires.1 in 
-    let f = c.named-o.ensures in 
+returns-then-id-d c = let s = c.args in
+    let p = c.requires.1 in
+    let f = c.named-o.ensures in
     let o : ℕ = c.named-o.result in
     let t : List ℕ = s.table.now in
     let e = ids_length t s.n in
@@ -43,9 +44,9 @@ returns-then-id-d c = let s = c.args in
     }
 
 pub returns : goal.returns
-returns c = let s = c.args in 
-    let p = c.requires.1 in 
-    let f = c.named-o.ensures in 
+returns c = let s = c.args in
+    let p = c.requires.1 in
+    let f = c.named-o.ensures in
     let o : ℕ = c.named-o.result in
     let t : List ℕ = s.table.now in
     let e = ids_length t s.n in

@@ -1,3 +1,4 @@
+-- No record for 0; else the record at the place d, or the search.
 use Prim.Native.Nat.{ℕ, ◌-◌}
 use mathlib.Core.Path.{sym, ◌∙◌}
 use mathlib.Core.List.{List}
@@ -8,6 +9,6 @@ use borrow.Author.Rules.{rules}
 use Rattle.ids.proofs.place_of.Goals as goal
 
 pub returns-then-id-d : goal.returns-then-id-d
-returns-then-id-d c = let s = c.args in 
+returns-then-id-d c = let s = c.args in
     let t : List ℕ = s.table.now in
     omega (arith, place_at_lem (ids_of t s.n) c.requires.1.rise s.d (omega arith) (s.d - 1) (omega (arith, ids_length t s.n)) (ids_at t s.n (s.d - 1) (omega arith) ∙ sym c.id.ensures ∙ c.if-id-d.true))

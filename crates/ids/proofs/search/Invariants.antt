@@ -1,3 +1,4 @@
+-- The ids before lo are below d; those from hi on are not, but for zeros.
 use Prim.Native.Nat.{ℕ, ◌+◌, ◌-◌, ◌/◌, ◌≤◌}
 use mathlib.Core.Path.{sym, ◌∙◌}
 use mathlib.Core.List.{List}

@@ -1,3 +1,4 @@
+-- No line is named, or the one at its own place.
 use Prim.Native.Nat.{ℕ, ◌-◌}
 use mathlib.Core.Path.{sym, ◌∙◌}
 use mathlib.Core.List.{List}
@@ -10,7 +11,7 @@ use borrow.Author.Rules.{rules}
 use Rattle.ids.proofs.stays.Goals as goal
 
 pub returns-then-i-n : goal.returns-then-i-n
-returns-then-i-n c = let s = c.args in 
+returns-then-i-n c = let s = c.args in
     let t : List ℕ = s.table.now in
     λ z.
     let e = ids_at t s.n (s.v - 1) (omega arith) ∙ (sym c.id.ensures ∙ eqb-true c.id.result s.v z) in

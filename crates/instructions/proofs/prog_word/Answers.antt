@@ -36,9 +36,9 @@ returns-in-57-to-63 c = c.detect.ensures ∙ one_width c.args.kind c.args.u c.ar
 pub returns-in_default : goal.returns-in_default
 returns-in_default c =
     let e : op_of c.args.kind ≡ mask =
-      elim c.in_default.branch [
-        in_default-via-then-kind-lt57 w ↦ mask_between c.args.kind (past 43 c.args.kind c.requires.0 c.in_default-1.rest) (omega arith)
-        | in_default-via-else-kind-lt57+else-kind-lt64 w ↦ mask_past c.args.kind (omega arith)
-      ]
+    elim c.in_default.branch [
+      | in_default-via-then-kind-lt57 w ↦ mask_between c.args.kind (past 43 c.args.kind c.requires.0 c.in_default-1.rest) (omega arith)
+      | in_default-via-else-kind-lt57+else-kind-lt64 w ↦ mask_past c.args.kind (omega arith)
+    ]
     in
     c.low.ensures.0 ∙ sym (ap (λ (op : Op). prog op c.args.u c.args.v c.args.a c.args.b c.args.c) e)

@@ -9,8 +9,8 @@ use Rattle.layouts.proofs.Copying.{copy_next}
 use Rattle.layouts.proofs.copy.Goals as goal
 
 pub loop-j-preserved : goal.loop-j-preserved
-loop-j-preserved c = let a = c.args in 
-    let l = c.loop-j in 
+loop-j-preserved c = let a = c.args in
+    let l = c.loop-j in
     let from : ℕ → ℕ = λ (k : ℕ). a.s * k + a.x in
     let to : ℕ → ℕ = λ (k : ℕ). a.z * k + a.y in (
       omega (arith, c.loop-j-test.true),

@@ -1,3 +1,4 @@
+-- Width 64, or the row of the kind.
 use mathlib.Core.Path.{sym, ◌∙◌}
 use Rattle.programs.specs.Model.Kinds.{entry_at, flag_at}
 use Rattle.programs.proofs.Reading.{never_64, loose_read}

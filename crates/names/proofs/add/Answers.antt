@@ -1,3 +1,4 @@
+-- The five words that are written are those of one name more.
 use Prim.Native.Nat.{ℕ, suc, ◌+◌, ◌-◌, ◌*◌, ◌≤◌, ◌<◌}
 use mathlib.Core.Path.{◌≡◌, sym, ap, ◌∙◌}
 use mathlib.Core.List.{List}
@@ -63,8 +64,8 @@ module _ (w : List ℕ) (h a z r : ℕ) (e : r ≡ count_in w) (l : h < hashes) 
       }
 
 pub returns : goal.returns
-returns c = let s = c.args in 
-    let p = c.requires in 
+returns c = let s = c.args in
+    let p = c.requires in
     let t : List ℕ = s.text.now in
     let w : List ℕ = s.names.now in
     let z : ℕ = s.to - 1 in

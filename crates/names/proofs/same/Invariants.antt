@@ -1,3 +1,4 @@
+-- Both are of one length, and the bytes before i are the same.
 use Prim.Native.Nat.{◌≤◌, ◌-◌}
 use mathlib.Core.Path.{◌≡◌, sym, ◌∙◌, refl}
 use native.Mathlib.Omega.{arith}

@@ -11,12 +11,12 @@ use Rattle.texts.proofs.Ends.{place_found}
 use Rattle.naming.proofs.find.Goals as goal
 
 pub returns-then-leads : goal.returns-then-leads
-returns-then-leads c = let s = c.args.text.now in 
-    let i = c.loop-i.i in 
-    let e = c.find_byte-e.result in 
-    let z = c.cut-z.result in 
-    let p = c.part-p.result in 
-    let h = c.part-p.ensures in 
+returns-then-leads c = let s = c.args.text.now in
+    let i = c.loop-i.i in
+    let e = c.find_byte-e.result in
+    let z = c.cut-z.result in
+    let p = c.part-p.result in
+    let h = c.part-p.ensures in
     let line = c.loop-i.invariant.1 ∙ line_found c.args.n s i e z c.find_byte-e.ensures.1.1 c.cut-z.ensures.1.1 (sym c.leads.ensures ∙ c.if-leads.true) in
     (omega (arith, h.0), (omega (arith, h.0, h.1.0, length-take (z - i) (drop i s), length-drop i s, c.cut-z.ensures.0, c.cut-z.ensures.1.0, c.find_byte-e.ensures.1.0), (part_of s i z p.from p.to c.cut-z.ensures.0 (omega (arith, c.cut-z.ensures.1.0, c.find_byte-e.ensures.1.0)) h.1.0 ∙ (h.1.1.0 ∙ sym (name_found s c.args.n i (take (e - i) (drop i s)) (take (z - i) (drop i s)) line c.cut-z.ensures.1.1)), place_found s c.args.n i (take (e - i) (drop i s)) (take (z - i) (drop i s)) p.from p.to line c.cut-z.ensures.1.1 h.1.0 h.1.1.0 h.1.1.1)))
 

@@ -1,3 +1,4 @@
+-- `operators::to_signed` meets its contract; x is the low bits.
 use Rattle.std.proofs.Common.{ap, ◌∙◌, rules}
 use Rattle.words.specs.Word.{signed_value}
 use Rattle.words.proofs.Signed.{clear_fits, clear_law, set_fits, set_neg, set_down, set_law}

@@ -17,8 +17,8 @@ pub take-m-requires : goal.take-m-requires
 take-m-requires c = (kind_here c.args.table.now c.args.count c.loop-i.i c.requires.0.accepted c.loop-i-test.true c.record-rec.ensures, small_here c.loop-i.invariant c.requires.0.accepted c.loop-i-test.true)
 
 pub loop-i-preserved : goal.loop-i-preserved
-loop-i-preserved c = let P = c.requires.0 in 
-    let l = c.loop-i-test.true in 
+loop-i-preserved c = let P = c.requires.0 in
+    let l = c.loop-i-test.true in
     rw c.emitted-b.ensures (walk_more c.loop-i.invariant P.accepted l c.used-need.result (need_here P c.loop-i.i l c.used-need.ensures) c.record-rec.ensures c.take-m.ensures)
 
 pub returns : goal.returns

@@ -1,3 +1,4 @@
+-- The instructions so far and those ahead are the program's.
 use Prim.Native.Nat.{◌-◌}
 use native.Mathlib.Omega.{arith}
 use lib.ListN.{length}

@@ -1,3 +1,4 @@
+-- The marks so far and the lines ahead name the lines with a needing use.
 use Prim.Native.Nat.{◌-◌}
 use borrow.Author.Rules.{rules}
 use Rattle.programs.proofs.Keeping.{zeros_length, held_here, kind_here}

@@ -15,20 +15,20 @@ pub record-rec-requires : goal.record-rec-requires
 record-rec-requires c = (held_here c.args.table.now c.args.count c.loop-i.i c.requires.0.prepared.accepted c.loop-i-test.true, c.step-h.ensures)
 
 pub take-m-requires : goal.take-m-requires
-take-m-requires c = let l = c.loop-i-test.true in 
+take-m-requires c = let l = c.loop-i-test.true in
     (kind_here c.args.table.now c.args.count c.loop-i.i c.requires.0.prepared.accepted l c.record-rec.ensures, small_here c.loop-i.invariant.walk c.requires.0.prepared.accepted l)
 
 pub emit-requires : goal.emit-requires
-emit-requires c = let R = c.requires.0 in 
-    let l = c.loop-i-test.true in 
-    let m = c.take-m in 
+emit-requires c = let R = c.requires.0 in
+    let l = c.loop-i-test.true in
+    let m = c.take-m in
     let P = R.prepared in
-    let e = c.emitted-e.ensures in 
+    let e = c.emitted-e.ensures in
     (c.loop-i.invariant.walk.least, (small_here c.loop-i.invariant.walk P.accepted l, (rw e (few_emitted (kind_in c.record-rec.result) m.result), fits_here c.loop-i.invariant P.accepted l c.used-need.result (need_here P c.loop-i.i l c.used-need.ensures) c.record-rec.ensures m.ensures e R.fits)))
 
 pub loop-i-preserved : goal.loop-i-preserved
-loop-i-preserved c = let P = c.requires.0.prepared in 
-    let l = c.loop-i-test.true in 
+loop-i-preserved c = let P = c.requires.0.prepared in
+    let l = c.loop-i-test.true in
     writes_more c.loop-i.invariant P.accepted l c.used-need.result (need_here P c.loop-i.i l c.used-need.ensures) c.record-rec.ensures c.take-m.ensures c.emitted-e.ensures c.instruction-ins.ensures c.entry-w.ensures c.emit.ensures
 
 pub returns : goal.returns

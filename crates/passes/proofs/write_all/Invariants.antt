@@ -1,3 +1,4 @@
+-- The target holds the instructions so far, and zeros.
 use Prim.Native.Nat.{◌-◌}
 use native.Mathlib.Omega.{arith}
 use lib.ListN.{length}

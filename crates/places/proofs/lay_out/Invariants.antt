@@ -1,3 +1,4 @@
+-- The list holds what is known of the lines so far.
 use Prim.Native.Nat.{◌-◌}
 use mathlib.Core.Path.{refl, sym, ap, ◌∙◌}
 use native.Mathlib.Omega.{arith}

@@ -1,3 +1,4 @@
+-- The entries passed are 0, and those ahead are as they were.
 use borrow.Author.Rules.{rules}
 use Prim.Native.Nat.{ℕ, ◌-◌, ◌≤◌}
 use native.Mathlib.Omega.{arith}

@@ -1,3 +1,4 @@
+-- The rules 8, but for minuses, 9 and 10.
 use mathlib.Core.Path.{sym, ap, ◌∙◌}
 use Rattle.tables.specs.declared.Ty.{Ty}
 use Prim.Native.Nat.{ℕ}

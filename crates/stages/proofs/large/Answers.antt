@@ -1,3 +1,4 @@
+-- Rule 7, and then the others.
 use mathlib.Core.Path.{sym, ap, ◌∙◌}
 use mathlib.Core.Logic.{⊎_elim}
 use borrow.Author.Tests.{not-true, not-false}
@@ -16,15 +17,15 @@ pub returns-then-not-is_width : goal.returns-then-not-is_width
 returns-then-not-is_width c = c.refuse-then-not-is_width.ensures ∙ ap as_read (sym (large_wide _ _ _ _ _ _ _ _ c.if-big.false c.if-f-eq1.true (sym c.is_width.ensures ∙ not-true _ c.if-not-is_width.true-raw)))
 
 pub returns : goal.returns
-returns c = let s = c.args in 
+returns c = let s = c.args in
     let L = look_in s.notes.now in
     let G = given_in s.notes.now in
     let ds = ids_of s.table.now s.n in
-    let h = c.if-big.false in 
+    let h = c.if-big.false in
     c.conclude.ensures
     ∙ ap as_read
     (sym
     (elim c.if-f-eq1.branch [
-      then-f-eq1+else-not-is_width w ↦ large_fits L G s.f s.rec s.minus s.len ds s.big h w.if-f-eq1.true (sym w.is_width.ensures ∙ not-false _ w.if-not-is_width.false-raw)
+      | then-f-eq1+else-not-is_width w ↦ large_fits L G s.f s.rec s.minus s.len ds s.big h w.if-f-eq1.true (sym w.is_width.ensures ∙ not-false _ w.if-not-is_width.false-raw)
       | else-f-eq1 w ↦ large_other L G s.f s.rec s.minus s.len ds s.big h w.if-f-eq1.false
     ]))

@@ -1,3 +1,4 @@
+-- The record, or what the rules say.
 use mathlib.Core.Path.{sym, ap, ◌∙◌}
 use Rattle.texts.specs.Model.Structs.{as_read}
 use Rattle.texts.proofs.Steps.{ruled_got, ruled_9, ruled_10}

@@ -1,3 +1,4 @@
+-- What the kinds so far say, or what the lines ahead say, is the answer.
 use Prim.Native.Nat.{◌+◌, ◌-◌}
 use mathlib.Core.Path.{sym, subst}
 use mathlib.Core.Bool.{Bool}

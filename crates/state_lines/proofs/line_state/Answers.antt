@@ -1,3 +1,4 @@
+-- The state words, masked or not, are copied to the state's cells.
 use mathlib.Core.Path.{◌∙◌, ap}
 use mathlib.Core.Logic.{inr}
 use Prim.Native.Nat.{ℕ, ◌+◌}

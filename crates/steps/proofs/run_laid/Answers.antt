@@ -10,9 +10,9 @@ use borrow.Author.Rules.{rules}
 use Rattle.steps.proofs.run_laid.Goals as goal
 
 pub returns : goal.returns
-returns c = let a = c.args in 
+returns c = let a = c.args in
     let C = lines_of a.program a.table.now a.count in
-    let g = c.begin in 
+    let g = c.begin in
     let t = c.steps in (
       t.ensures
           ∙ run_as a.program C a.k a.starts.now a.inputs.now _

@@ -1,3 +1,4 @@
+-- Before each step the state words are those of the definition, and the signal bytes hold those of the steps done.
 use Prim.Native.Nat.{◌+◌, ◌-◌}
 use mathlib.Core.Path.{refl, sym, ◌∙◌}
 use native.Mathlib.Omega.{arith}

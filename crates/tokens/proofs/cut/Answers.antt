@@ -1,3 +1,4 @@
+-- A line without its comment.
 use Prim.Native.Nat.{ℕ, ◌+◌, ◌-◌, ◌≤◌}
 use native.Mathlib.Omega.{arith}
 use mathlib.Core.Path.{◌≡◌, refl, ap, ◌∙◌}
@@ -26,7 +27,7 @@ pub returns-then-e-j : goal.returns-then-e-j
 returns-then-e-j c = let s : List ℕ = c.args.s.now in
     let i : ℕ = c.args.i in
     let e : ℕ = c.args.e in
-    let p = c.pass_blocks-j in 
+    let p = c.pass_blocks-j in
     let h = from_there s i e p.result e (omega arith) (omega arith) c.if-e-j.true p.ensures.1.1 in
     let z : e - e ≡ 0 = omega arith in
     let n = ap (λ (k : ℕ). length (up_to 59 (take k (drop e s)))) z in
@@ -36,9 +37,9 @@ pub returns : goal.returns
 returns c = let s : List ℕ = c.args.s.now in
     let i : ℕ = c.args.i in
     let e : ℕ = c.args.e in
-    let p = c.pass_blocks-j in 
+    let p = c.pass_blocks-j in
     let j : ℕ = p.result in
-    let f = c.find_two-c in 
+    let f = c.find_two-c in
     let l : j ≤ e = omega (arith, c.if-e-j.false) in
     let m : length (take (e - j) (drop j s)) ≡ e - j = length-take-le (e - j) (drop j s) (omega (arith, length-drop j s)) in
     let h = from_there s i e j j p.ensures.0 l (omega arith) p.ensures.1.1 in

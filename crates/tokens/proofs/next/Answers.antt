@@ -1,3 +1,4 @@
+-- A token stands from the first place that holds no space up to the next space.
 use borrow.Author.Rules.{rules}
 use Prim.Native.Nat.{ℕ, ◌<◌}
 use mathlib.Core.Path.{◌≡◌, refl, sym, ap, ◌∙◌}
@@ -11,7 +12,7 @@ use Rattle.tokens.proofs.next.Goals as goal
 pub returns-then-a-l : goal.returns-then-a-l
 returns-then-a-l c = let l : List ℕ = c.args.l.now in
     let a : ℕ = c.skip-a.result in
-    let k = c.skip-a.ensures in 
+    let k = c.skip-a.ensures in
     let end : a ≡ length l = c.if-a-l.true in
     (omega arith, (k.1.0, (λ h. absurd (omega arith), λ e. (end, sym k.1.1.0 ∙ no_token l a (omega (arith, end))))))
 
@@ -19,8 +20,8 @@ pub returns : goal.returns
 returns c = let l : List ℕ = c.args.l.now in
     let a : ℕ = c.skip-a.result in
     let z : ℕ = c.find_rare-z.result in
-    let k = c.skip-a.ensures in 
-    let f = c.find_rare-z.ensures in 
+    let k = c.skip-a.ensures in
+    let f = c.find_rare-z.ensures in
     let on : a < length l = omega (arith, k.1.0, c.if-a-l.false) in (
       f.0,
       (

@@ -1,3 +1,4 @@
+-- Sixteen bytes at a time, as long as all are others.
 use borrow.Author.Rules.{rules}
 use borrow.Author.Tests.{not-false}
 use Prim.Native.Nat.{ℕ, ◌+◌, ◌-◌, ◌≤◌}

@@ -1,3 +1,4 @@
+-- Line after line; what is left to store is from the next record on.
 use Prim.Native.Nat.{◌-◌}
 use borrow.Author.Rules.{rules}
 use native.Mathlib.Omega.{arith}

@@ -13,7 +13,7 @@ use Rattle.texts.proofs.Printed.{numbers_none, number_less, number_out}
 use Rattle.writing.proofs.put_numbers.Goals as goal
 
 pub loop-i-preserved : goal.loop-i-preserved
-loop-i-preserved c = let v = c.loop-i.invariant in 
+loop-i-preserved c = let v = c.loop-i.invariant in
     let r : List ℕ = c.args.rec in
     let e : ℕ = c.args.j + c.args.m in
     let i : ℕ = c.loop-i.i in
@@ -22,7 +22,7 @@ loop-i-preserved c = let v = c.loop-i.invariant in
     let h : i < e = c.loop-i-test.true in
     let D : List ℕ = digits (get_or r i 0) in
     let R : List ℕ = spaced (numbers (e - (i + 1)) (i + 1) r) in
-    let o = c.put-p.ensures in 
+    let o = c.put-p.ensures in
     let d = c.put_number-p.ensures in (
       omega (arith, v.0),
       (

@@ -11,7 +11,7 @@ use Rattle.texts.proofs.Printed.{out_byte, out_less, out_none}
 use Rattle.writing.proofs.put_word.Goals as goal
 
 pub loop-i-preserved : goal.loop-i-preserved
-loop-i-preserved c = let v = c.loop-i.invariant in 
+loop-i-preserved c = let v = c.loop-i.invariant in
     let w : List ℕ = word_of c.args.r in
     let i : ℕ = c.loop-i.i in
     let l : List ℕ = c.loop-i.out in

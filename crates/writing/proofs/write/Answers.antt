@@ -1,3 +1,4 @@
+-- Zero first, then the check, then the lines.
 use Prim.Native.Nat.{ℕ}
 use native.Mathlib.Omega.{arith}
 use mathlib.Core.Path.{sym, ap, ◌∙◌}

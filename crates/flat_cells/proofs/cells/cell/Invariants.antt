@@ -1,3 +1,4 @@
+-- The loop keeps the cell's flat line: from one line to the line it writes over.
 use Prim.Native.Nat.{ℕ, ◌<◌}
 use mathlib.Core.Path.{◌≡◌, refl, sym, ap, ◌∙◌, subst⁻¹}
 use native.Mathlib.Omega.{arith}

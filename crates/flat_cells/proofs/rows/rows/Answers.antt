@@ -13,9 +13,9 @@ pub loop-j-init : goal.loop-j-init
 loop-j-init c = let a = c.args in (search rules, (refl, flat_none a.target.now a.p))
 
 pub loop-j-preserved : goal.loop-j-preserved
-loop-j-preserved c = let a = c.args in 
+loop-j-preserved c = let a = c.args in
     let H = a.kept.now in
-    let j = c.loop-j.j in 
+    let j = c.loop-j.j in
     let e =
     c.put.ensures
     ∙ ap₂ (λ (t r : List ℕ). put_flat t (a.p + j) (r ∷ [])) c.loop-j.invariant.1.1 c.of-rec.ensures

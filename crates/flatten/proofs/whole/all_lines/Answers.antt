@@ -30,9 +30,9 @@ keep_line-used-requires c = let r = rec_ready c.requires (rec_next c.requires c.
     (r.0, (r.1, (rec_low c.requires c.loop-i.invariant c.loop-i-test.true _ c.record-rec.ensures c.count_line-c.result c.room_of-room.result c.count_line-c.ensures c.room_of-room.ensures c.if-room-p.false c.line-m.result c.line-m.ensures, omega (arith, w.1, s.of_kept))))
 
 pub loop-i-preserved : goal.loop-i-preserved
-loop-i-preserved c = let made = c.line-m in 
-    let count = c.count_line-c in 
-    let room = c.room_of-room in 
+loop-i-preserved c = let made = c.line-m in
+    let count = c.count_line-c in
+    let room = c.room_of-room in
     rec_short c.requires
     (rec_next c.requires c.loop-i.invariant c.loop-i-test.true _ c.record-rec.ensures count.result room.result count.ensures room.ensures c.if-room-p.false made.result made.ensures)
     c.keep_line-used.ensures

@@ -1,3 +1,4 @@
+-- Each turn takes one line: it is counted, and then laid.
 use Prim.Native.Nat.{ℕ, ◌-◌}
 use mathlib.Core.Path.{ap, ◌∙◌}
 use native.Mathlib.Omega.{arith}

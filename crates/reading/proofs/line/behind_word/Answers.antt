@@ -1,3 +1,4 @@
+-- What stands behind the word, with the id and the name.
 use borrow.Author.Rules.{rules}
 use Prim.Native.Nat.{ℕ, ◌-◌, ◌≤◌}
 use mathlib.Core.Path.{◌≡◌, sym, ap, ◌∙◌, subst}
@@ -15,10 +16,10 @@ use Rattle.texts.proofs.Readouts.{tells_labels}
 use Rattle.reading.proofs.line.behind_word.Goals as goal
 
 pub finish-r-requires : goal.finish-r-requires
-finish-r-requires c = let p = c.requires in 
-    let l = c.args.l.now in 
-    let t = c.take-t in 
-    let x = c.next-p in 
+finish-r-requires c = let p = c.requires in
+    let l = c.args.l.now in
+    let t = c.take-t in
+    let x = c.next-p in
     let k = c.skip in (
       p.0,
       (
@@ -34,15 +35,15 @@ finish-r-requires c = let p = c.requires in
     )
 
 pub returns : goal.returns
-returns c = let s = c.args in 
+returns c = let s = c.args in
     let L = look_in s.notes.now in
     let G = given_in s.notes.now in
     let ids = ids_of s.table.now s.n in
     let l : List ℕ = s.l.now in
     let ts = tokens (drop s.at l) in
-    let t = c.take-t in 
-    let x = c.next-p in 
-    let r = c.finish-r in 
+    let t = c.take-t in
+    let x = c.next-p in
+    let r = c.finish-r in
     let e = r.ensures ∙ ap (λ y. as_read (ended L G ids s.f y)) (sym t.ensures.1.1) in
     let o = c.labelled.ensures in (
       tells_labels (ended L G ids s.f (taken_in s.f ts)) s.id x.result.from x.result.to o e,

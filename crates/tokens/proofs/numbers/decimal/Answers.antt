@@ -1,3 +1,4 @@
+-- A decimal number, by its length and first digit.
 use Prim.Native.Nat.{ℕ}
 use native.Mathlib.Omega.{arith}
 use mathlib.Core.Path.{sym, ◌∙◌}

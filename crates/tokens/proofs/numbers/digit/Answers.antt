@@ -1,3 +1,4 @@
+-- A digit, by its range.
 use native.Mathlib.Omega.{arith}
 use Rattle.texts.proofs.Scan.{digit_1, digit_2, digit_3, digit_4, digit_5, digit_6, digit_7}
 use borrow.Author.Rules.{rules}

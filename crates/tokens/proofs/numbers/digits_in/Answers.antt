@@ -1,3 +1,4 @@
+-- Digits of another base, at most so many.
 use native.Mathlib.Omega.{arith}
 use borrow.Author.Tests.{not-true, not-false}
 use mathlib.Core.Path.{sym, ◌∙◌}

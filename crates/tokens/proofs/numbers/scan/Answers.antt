@@ -1,3 +1,4 @@
+-- Digits only, and their value.
 use mathlib.Core.Path.{sym, ◌∙◌}
 use Rattle.texts.proofs.Scan.{scan_true, scan_false}
 use borrow.Author.Rules.{rules}

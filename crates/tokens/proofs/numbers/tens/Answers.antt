@@ -16,7 +16,7 @@ pub loop-i-preserved : goal.loop-i-preserved
 loop-i-preserved c = let t : List ℕ = c.args.t.now in
     let v : ℕ = c.loop-i.v in
     let i : ℕ = c.loop-i.i in
-    let l = c.loop-i-test.true in 
+    let l = c.loop-i-test.true in
     let d = c.digit-d in (
       omega arith,
       (
@@ -30,5 +30,5 @@ loop-i-preserved c = let t : List ℕ = c.args.t.now in
 
 pub returns : goal.returns
 returns c = let t : List ℕ = c.args.t.now in
-    let l = c.loop-i in 
+    let l = c.loop-i in
     sym (scan_true 10 t (l.invariant.1.1.0 ∙ in_end 10 t l.i c.loop-i-test.false) ∙ value_small 10 t l.v (l.invariant.1.1.1 ∙ value_end 10 t l.i l.v c.loop-i-test.false) l.invariant.1.0)

@@ -1,3 +1,4 @@
+-- The lists are zero as they are made.
 use borrow.Author.Rules.{rules}
 use Rattle.programs.proofs.Keeping.{fresh_many}
 use borrow.Author.Rules.{rules}
