@@ -14,7 +14,7 @@ use Rattle.tables.specs.Kinds.{row_of, sort_class, first_class, second_class, th
 use Rattle.tables.specs.Lines.{Line, Expr, is_unary, is_binary, shape_of, fields, line_of, words_of, kind_in}
 use Rattle.tables.specs.Layout.{record_words}
 use Rattle.tables.specs.Types.{is_sort, is_value, is_word, is_array, is_word_sort, is_array_sort, sort_at, Ctx, ty_at, given, grow}
-use Rattle.tables.specs.Rules.{suits, fits, same_sort}
+use Rattle.tables.specs.Rules.{suits, same_sort}
 use Rattle.tables.specs.Tables.{known, unused, tidy, keeps, lawful}
 use Rattle.tables.proofs.Every.{at_each, from_to}
 use Rattle.tables.proofs.Shapes.{BinaryKind, each_binary, line_as, shape_unary, shape_binary, fits_as, once_as}

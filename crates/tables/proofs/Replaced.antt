@@ -1,6 +1,6 @@
 -- A record in which operands give way to others of the same widths goes on keeping the rules: these read the widths of lines and the plain numbers, never a line's number.
 -- Inits are left out, whose value has to stand before the state. Assumes nothing.
-use Prim.Native.Nat.{ℕ, zero, suc, ◌-◌, ◌≤◌}
+use Prim.Native.Nat.{ℕ, zero, suc, ◌≤◌}
 use mathlib.Core.Path.{◌≡◌, refl, sym, ap, ◌∙◌, subst}
 use mathlib.Core.Bool.{Bool, true, false, not, ◌&&◌}
 use mathlib.Core.List.{List}

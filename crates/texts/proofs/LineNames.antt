@@ -1,7 +1,5 @@
 -- The name of a line, from its tokens. Assumes nothing.
-use Prim.Native.Nat.{ℕ}
 use mathlib.Core.Path.{◌≡◌, refl}
-use mathlib.Core.List.{List}
 use Rattle.tables.specs.Kinds.{row_of}
 use Rattle.texts.specs.Forms.{form_row}
 use Rattle.texts.specs.Reading.{Word, word, unknown, form_of, behind, name_in, name_behind}

@@ -1,6 +1,6 @@
 -- In an accepted text the name that `name` gives of a line's id is the line's: ids rise, so no earlier line has it. Assumes nothing.
 use Prim.Native.Nat.{ℕ, zero, suc, ◌+◌, ◌<◌}
-use mathlib.Core.Path.{◌≡◌, refl, sym, ap, ◌∙◌, subst}
+use mathlib.Core.Path.{◌≡◌, refl, sym, ap, ◌∙◌}
 use mathlib.Core.Bool.{Bool, true, false}
 use mathlib.Core.List.{List, [], ◌∷◌}
 use native.Mathlib.Omega.{arith}
@@ -16,7 +16,7 @@ use Rattle.texts.specs.Split.{split, up_to, tokens}
 use Rattle.texts.specs.Decimal.{decimal}
 use Rattle.texts.specs.Minus.{minuses}
 use Rattle.texts.specs.Reading.{line_id, line_name, value_of, last_of, Reply, skip, no, got, line_tokens, done, refused, Sofar, no_lines, with_line, reply_after, read_lines, read_text}
-use Rattle.texts.specs.Naming.{Located, located, is_id, leads, line_from, text_line, name_of}
+use Rattle.texts.specs.Naming.{Located, is_id, leads, line_from, text_line, name_of}
 use Rattle.texts.proofs.Kept.{gives_after}
 use Rattle.texts.proofs.NextIds.{follows_some, last_line_lem}
 use Rattle.texts.proofs.Reached.{step_got, step_skip, step_no}

@@ -1,21 +1,21 @@
 -- Where the name of a line stands: it is the token behind the numbers, where there is one and no other. Assumes nothing.
 use Prim.Native.Nat.{ℕ, ◌-◌, ◌≤◌, ◌<◌}
 use mathlib.Core.Path.{◌≡◌, refl, sym, ap, ◌∙◌}
-use mathlib.Core.Bool.{Bool, true, false, not, ◌||◌}
+use mathlib.Core.Bool.{Bool, true, false}
 use mathlib.Core.List.{List, [], ◌∷◌}
 use native.Mathlib.Omega.{arith}
 use lib.Dec.{eqb, ltb}
 use lib.ListN.{length, take, drop, get_or}
-use borrow.Author.Tests.{ltb-true, ltb-false, lt-ltb, le-ltb, eqb-true, eqb-false}
+use borrow.Author.Tests.{ltb-true, ltb-false, le-ltb, eqb-true, eqb-false}
 use Rattle.tables.specs.declared.Ty.{Ty}
 use Rattle.tables.proofs.Kept.{no_yes}
 use Rattle.texts.specs.declared.Taken.{Taken}
 use Rattle.texts.specs.declared.Readout.{Readout}
 use Rattle.texts.specs.Split.{tokens}
 use Rattle.texts.specs.Names.{only}
-use Rattle.texts.specs.Reading.{extra_tokens, name_in}
-use Rattle.texts.specs.Model.Stages.{Took, took, malformed, taken_in, ended}
-use Rattle.texts.specs.Model.Structs.{as_took, as_read, several, NextToken, took_at}
+use Rattle.texts.specs.Reading.{name_in}
+use Rattle.texts.specs.Model.Stages.{taken_in, ended}
+use Rattle.texts.specs.Model.Structs.{as_took, as_read, several, NextToken}
 use Rattle.texts.proofs.Places.{no_token, several_more}
 use Rattle.texts.proofs.Readouts.{refused_what}
 use Rattle.texts.proofs.Steps.{ended_bad, ended_many}

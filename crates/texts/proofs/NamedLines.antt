@@ -1,6 +1,6 @@
 -- A line that has a name takes 8 bytes at least, with the byte behind it: an id, a word, a number and a name. Assumes nothing.
 use Prim.Native.Nat.{ℕ, zero, suc, ◌+◌, ◌*◌, ◌≤◌, ◌<◌}
-use mathlib.Core.Path.{◌≡◌, refl, sym, ap, ◌∙◌, subst}
+use mathlib.Core.Path.{◌≡◌, refl}
 use mathlib.Core.Bool.{Bool, true, false}
 use mathlib.Core.List.{List, [], ◌∷◌}
 use native.Mathlib.Omega.{arith}
@@ -13,7 +13,7 @@ use Rattle.tables.proofs.Every.{every, at_each}
 use Rattle.texts.specs.Forms.{form_row, numbers_of, sort_word}
 use Rattle.texts.specs.Split.{glue, split, non_empty, tokens, same_bytes}
 use Rattle.texts.specs.Names.{only}
-use Rattle.texts.specs.Reading.{find_in, find_word, Word, word, unknown, form_word, sort_words, word_in, form_of, behind, name_in, name_behind, line_name}
+use Rattle.texts.specs.Reading.{find_in, find_word, Word, word, unknown, form_word, sort_words, word_in, behind, name_behind, line_name}
 use Rattle.texts.proofs.Words.{InForms, word_forms}
 
 -- ---- tokens take two bytes each, but the last

@@ -19,7 +19,7 @@ use Rattle.texts.specs.Naming.{text_line}
 use Rattle.texts.proofs.Reached.{text_1, text_2, text_lines}
 use Rattle.texts.proofs.SameRecords.{lines_done}
 use Rattle.texts.proofs.NewNames.{all_new, names_differ}
-use Rattle.texts.proofs.UsedNames.{Twice, lines_twice}
+use Rattle.texts.proofs.UsedNames.{lines_twice}
 
 -- ---- no two equal names
 

@@ -25,7 +25,7 @@ use Rattle.texts.specs.Decimal.{decimal}
 use Rattle.texts.specs.Operands.{resolved}
 use Rattle.texts.specs.Names.{used}
 use Rattle.texts.specs.Minus.{no_signs, minuses_fit, minuses}
-use Rattle.texts.specs.Reading.{Word, word, unknown, word_in, form_of, behind, number_at, numbers_from, any_bad, any_big, placed, last_of, number_tokens, extra_tokens, numbers_in, sign_at, signs_from, signs_in, fresh, written_record, settled, record_in, name_in, line_name, is_next, Reply, got, lowest, reply_in, read_line}
+use Rattle.texts.specs.Reading.{Word, word, unknown, word_in, form_of, behind, number_at, numbers_from, any_bad, any_big, placed, last_of, number_tokens, extra_tokens, numbers_in, sign_at, signs_from, signs_in, fresh, written_record, settled, record_in, name_in, is_next, Reply, got, lowest, reply_in, read_line}
 use Rattle.texts.specs.Model.Stages.{Took, took, operands, taken_in, judged, allowed, concluded, large, ended, worded, stopped, named, fitted, judged_line, staged_line}
 use Rattle.texts.specs.Model.Structs.{took_at, as_took, several}
 use Rattle.texts.proofs.Words.{InForms, word_forms}

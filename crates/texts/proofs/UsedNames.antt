@@ -1,5 +1,5 @@
 -- A line that is refused by 22 has a name that stands on an earlier line. Assumes nothing.
-use Prim.Native.Nat.{ℕ, zero, suc, ◌+◌, ◌<◌}
+use Prim.Native.Nat.{ℕ, suc, ◌+◌, ◌<◌}
 use mathlib.Core.Path.{◌≡◌, refl, sym, ap, ◌∙◌, subst}
 use mathlib.Core.Bool.{Bool, true, false}
 use mathlib.Core.List.{List, [], ◌∷◌}
@@ -13,7 +13,7 @@ use Rattle.tables.specs.Types.{ty_at, given}
 use Rattle.tables.proofs.Kept.{either, no_yes}
 use Rattle.texts.specs.Split.{same_bytes}
 use Rattle.texts.specs.Names.{among, used, with_name}
-use Rattle.texts.specs.Reading.{word_in, form_of, behind, record_in, signs_in, line_name, refusals, Reply, skip, no, got, lowest, line_tokens, read_line, done, refused, Sofar, with_line, read_lines_by, reply_after, read_lines}
+use Rattle.texts.specs.Reading.{word_in, form_of, behind, record_in, signs_in, line_name, refusals, Reply, skip, no, got, lowest, line_tokens, read_line, refused, Sofar, with_line, read_lines_by, reply_after, read_lines}
 use Rattle.texts.proofs.Chains.{same_equal}
 use Rattle.texts.proofs.LineNames.{name_behind_lem}
 use Rattle.texts.proofs.Lowest.{holds, passes}

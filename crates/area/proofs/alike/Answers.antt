@@ -1,15 +1,15 @@
-use borrow.Author.Rules.{rules}
-use mathlib.Core.Path.{◌≡◌, refl, sym, ap, ◌∙◌}
+use mathlib.Core.Path.{◌≡◌, sym, ◌∙◌}
 use mathlib.Core.List.{List}
-use Prim.Native.Nat.{ℕ, ◌-◌, ◌≤◌}
+use Prim.Native.Nat.{ℕ, ◌-◌}
 use native.Mathlib.Omega.{arith}
-use lib.ListN.{length, drop, drop_of_length-le}
-use Rattle.circuits.specs.Cells.{part, same_cells}
+use lib.ListN.{length}
+use Rattle.circuits.specs.Cells.{part}
 use Rattle.circuits.proofs.Puts as laws
 use Rattle.area.proofs.alike.Goals as goal
 
 pub returns-then-words-x : goal.returns-then-words-x
-returns-then-words-x c = let l = c.loop-i in
+returns-then-words-x c =
+    let l = c.loop-i in
     let a = c.args in
     let p = c.requires in
     let xs : List ℕ = part a.words.now a.x a.n in
@@ -20,7 +20,8 @@ returns-then-words-x c = let l = c.loop-i in
     (λ e. c.if-words-x.true (sym (laws.part_get_or a.words.now a.x a.n l.i (omega arith)) ∙ e ∙ laws.part_get_or a.words.now a.y a.n l.i (omega arith))))
 
 pub loop-i-preserved : goal.loop-i-preserved
-loop-i-preserved c = let l = c.loop-i in
+loop-i-preserved c =
+    let l = c.loop-i in
     let a = c.args in
     let p = c.requires in
     let xs : List ℕ = part a.words.now a.x a.n in

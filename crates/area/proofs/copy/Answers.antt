@@ -1,4 +1,3 @@
-use borrow.Author.Rules.{rules}
 use native.Mathlib.Omega.{arith}
 use Rattle.circuits.proofs.Puts as laws
 use Rattle.area.proofs.copy.Goals as goal

@@ -1,8 +1,7 @@
 use borrow.Author.Rules.{rules}
 use mathlib.Core.Path.{◌≡◌, refl, sym, ap, ◌∙◌}
-use Prim.Native.Nat.{ℕ, ◌+◌, ◌-◌, ◌≤◌}
+use Prim.Native.Nat.{ℕ, ◌+◌, ◌-◌}
 use native.Mathlib.Omega.{arith}
-use lib.ListN.{length}
 use Rattle.circuits.specs.Cells.{part, put}
 use Rattle.circuits.proofs.Puts as laws
 use Rattle.area.proofs.copy_cells.Goals as goal
@@ -11,7 +10,8 @@ pub loop-i-init : goal.loop-i-init
 loop-i-init c = let a = c.args in (search rules, (refl, sym (laws.put_none a.work.now a.o)))
 
 pub loop-i-preserved : goal.loop-i-preserved
-loop-i-preserved c = let a = c.args in
+loop-i-preserved c =
+    let a = c.args in
     let l = c.loop-i in
     let taken = c.take_run in (
       omega arith,
@@ -23,7 +23,8 @@ loop-i-preserved c = let a = c.args in
     )
 
 pub returns : goal.returns
-returns c = let a = c.args in
+returns c =
+    let a = c.args in
     let l = c.loop-i in
     let past : l.i + (a.m - l.i) ≡ a.m = omega arith in
     c.copy_rest.ensures

@@ -1,19 +1,19 @@
-use borrow.Author.Rules.{rules}
 use mathlib.Core.Path.{◌≡◌, refl, sym, ap, ◌∙◌}
-use Prim.Native.Nat.{ℕ, ◌+◌, ◌-◌, ◌≤◌}
+use Prim.Native.Nat.{ℕ, ◌+◌, ◌-◌}
 use native.Mathlib.Omega.{arith}
-use lib.ListN.{length}
 use Rattle.circuits.specs.Cells.{part, put}
 use Rattle.circuits.proofs.Puts as laws
 use Rattle.area.proofs.copy_rest.Goals as goal
 
 pub loop-i-init : goal.loop-i-init
-loop-i-init c = let a = c.args in
+loop-i-init c =
+    let a = c.args in
     let none : a.from - a.from ≡ 0 = omega arith in
     ((omega arith, omega arith), (refl, sym (ap (λ (n : ℕ). put a.work.now (a.o + a.from) (part a.work.now (a.x + a.from) n)) none ∙ laws.put_none a.work.now (a.o + a.from))))
 
 pub loop-i-preserved : goal.loop-i-preserved
-loop-i-preserved c = let a = c.args in
+loop-i-preserved c =
+    let a = c.args in
     let l = c.loop-i in
     let given = c.store_run in (
       (omega arith, omega arith),

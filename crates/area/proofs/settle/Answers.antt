@@ -1,7 +1,6 @@
 -- Words that are put back where they were stay.
-use borrow.Author.Rules.{rules}
 use mathlib.Core.Path.{sym}
-use borrow.Author.Tests.{not-true, not-false}
+use borrow.Author.Tests.{not-true}
 use Rattle.circuits.proofs.Puts as laws
 use Rattle.area.proofs.settle.Goals as goal
 

@@ -1,12 +1,10 @@
-use borrow.Author.Rules.{rules}
-use mathlib.Core.Path.{◌≡◌}
 use mathlib.Core.List.{List}
-use Prim.Native.Nat.{ℕ, ◌+◌, ◌-◌}
-use native.Mathlib.Omega.{arith}
+use Prim.Native.Nat.{ℕ, ◌-◌}
 use lib.ListN.{set, length-set}
 use Rattle.circuits.proofs.Puts as laws
 use Rattle.area.proofs.store_run.Goals as goal
 
 pub returns : goal.returns
-returns c = let a = c.args in
+returns c =
+    let a = c.args in
     laws.lent (λ (xs : List ℕ). set xs a.i a.v) (λ xs. length-set xs a.i a.v) a.work.now a.a a.m c.store.new.cells c.requires.0 c.store.ensures

@@ -1,17 +1,10 @@
 -- The answer from the start is the answer from here, for both loops.
-use Prim.Native.Nat.{ℕ, ◌+◌, ◌-◌, ◌*◌, ◌≤◌, ◌<◌}
-use mathlib.Core.Path.{◌≡◌, refl, sym, ◌∙◌, ap, subst}
-use native.Mathlib.Omega.{arith}
-use lib.Dec.{eqb}
-use lib.ListN.{length, drop, get_or, length-drop}
-use lib.Seq.{length-take-le}
-use borrow.Author.Rules.{rules}
-use borrow.Author.Tests.{not-true, not-false}
+use Prim.Native.Nat.{◌+◌, ◌-◌, ◌*◌, ◌≤◌}
+use mathlib.Core.Path.{◌≡◌}
+use lib.ListN.{length, drop}
 use Rattle.circuits.specs.declared.Ran.TheVariants.{Nothing}
 use Rattle.circuits.specs.Run.{bad_at, bad_or, first_bad}
 use Rattle.circuits.specs.Model.Signals.{zip_sig, sig_rows}
-use Rattle.circuits.proofs.Repeated.{fewer}
-use Rattle.circuits.proofs.Rows.{step_stops, step_met, steps_end, counted_hit, steps_begin, bad_ends, hit_row, pass_row, met_row, place_next}
 use Rattle.bad.proofs.first_bad.Given as goal
 
 abbrev pub invariant-loop-j : goal.invariant-loop-j

@@ -1,11 +1,8 @@
 use Prim.Native.Nat.{◌-◌, ◌≤◌}
-use mathlib.Core.Path.{◌≡◌, refl, sym, ◌∙◌}
-use native.Mathlib.Omega.{arith}
+use mathlib.Core.Path.{◌≡◌}
 use lib.ListN.{length, drop}
-use borrow.Author.Rules.{rules}
 use Rattle.circuits.specs.Run.{met}
 use Rattle.circuits.specs.Model.Signals.{zip_sig}
-use Rattle.circuits.proofs.Rows.{row_stops, row_passes, row_ends}
 use Rattle.bad.proofs.met.Given as goal
 
 abbrev pub invariant-loop-j : goal.invariant-loop-j

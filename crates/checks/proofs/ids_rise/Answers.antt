@@ -1,23 +1,22 @@
-use Prim.Native.Nat.{ℕ, ◌+◌, ◌-◌, ◌≤◌}
-use mathlib.Core.Path.{◌≡◌, sym, ap, ◌∙◌}
+use Prim.Native.Nat.{ℕ, ◌+◌, ◌-◌}
+use mathlib.Core.Path.{sym, ap, ◌∙◌}
 use mathlib.Core.Bool.{Bool, false}
-use mathlib.Core.Logic.{⊎_elim}
 use native.Mathlib.Omega.{arith}
-use borrow.Author.Rules.{rules}
 use borrow.Author.Tests.{not-true, not-false}
-use Rattle.tables.specs.Ids.{ids_right}
-use Rattle.tables.proofs.Ids.{right_from, id_stops, id_follows, zero_stops, zero_follows, ids_end}
+use Rattle.tables.proofs.Ids.{right_from, id_stops, id_follows, zero_follows}
 use Rattle.checks.proofs.ids_rise.Goals as goal
 use Rattle.checks.proofs.ids_rise.Goals.{then-d-ne0+else-not-follows, else-d-ne0+else-kind-ne-NOT}
 
 pub returns-then-not-follows : goal.returns-then-not-follows
-returns-then-not-follows c = let s = c.args in
+returns-then-not-follows c =
+    let s = c.args in
     let l = c.loop-i in
     let d = c.id-d in
     sym (l.invariant.1 ∙ id_stops s.table.now s.count l.i l.last d.result c.loop-i-test.true d.ensures c.if-d-ne0.true (sym (not-true _ c.if-not-follows.true-raw) ∙ c.follows.ensures))
 
 pub loop-i-preserved : goal.loop-i-preserved
-loop-i-preserved c = let s = c.args in
+loop-i-preserved c =
+    let s = c.args in
     let l = c.loop-i in
     let d = c.id-d in
     let t = c.loop-i-test.true in

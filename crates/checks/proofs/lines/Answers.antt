@@ -1,17 +1,16 @@
 use Rattle.tables.proofs.Kept.{no_yes}
 use Prim.Native.Nat.{◌-◌}
-use lib.ListN.{length}
-use mathlib.Core.Path.{◌≡◌, refl, sym, ◌∙◌}
-use borrow.Author.Rules.{rules}
+use mathlib.Core.Path.{sym, ◌∙◌}
 use borrow.Author.Tests.{not-true, not-false}
-use Rattle.tables.proofs.Sofar.{Sofar, begun, stopped, further, all_lawful, all_shown}
+use Rattle.tables.proofs.Sofar.{stopped, further, all_lawful, all_shown}
 use Rattle.checks.proofs.lines.Goals as goal
 
 pub returns-then-not-take_record : goal.returns-then-not-take_record
 returns-then-not-take_record c = (stopped c.loop-i.invariant.0 c.loop-i-test.true c.record-rec.ensures (sym c.take_record.ensures.0 ∙ not-true _ c.if-not-take_record.true-raw), λ e. absurd (no_yes e))
 
 pub loop-i-preserved : goal.loop-i-preserved
-loop-i-preserved c = let yes = not-false _ c.if-not-take_record.false-raw in
+loop-i-preserved c =
+    let yes = not-false _ c.if-not-take_record.false-raw in
     (further c.loop-i.invariant.0 c.loop-i-test.true c.record-rec.ensures (sym c.take_record.ensures.0 ∙ yes) (c.take_record.ensures.1 yes), c.take_record.auto.notes ∙ c.loop-i.invariant.1)
 
 pub returns : goal.returns

@@ -1,10 +1,7 @@
-use Rattle.tables.proofs.Kept.{no_yes}
 use Prim.Native.Nat.{◌-◌}
 use lib.ListN.{length}
-use mathlib.Core.Path.{◌≡◌, refl, sym, ◌∙◌}
-use borrow.Author.Rules.{rules}
-use borrow.Author.Tests.{not-true, not-false}
-use Rattle.tables.proofs.Sofar.{Sofar, begun, stopped, further, all_lawful, all_shown}
+use mathlib.Core.Path.{◌≡◌}
+use Rattle.tables.proofs.Sofar.{Sofar}
 use Rattle.checks.proofs.lines.Given as goal
 
 abbrev pub invariant-loop-i : goal.invariant-loop-i

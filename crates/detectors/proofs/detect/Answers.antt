@@ -2,9 +2,8 @@ use Prim.Native.Nat.{ℕ, ◌%◌, ◌^◌, ◌≤◌}
 use mathlib.Core.Path.{◌≡◌, sym, ap, ap₂, ◌∙◌}
 use mathlib.Core.Bool.{Bool}
 use native.Mathlib.Omega.{arith}
-use borrow.Author.Rules.{rules}
 use Rattle.words.specs.Word.{bit}
-use Rattle.words.specs.Op.{Op, op_of, Detector, uaddo, saddo, usubo, ssubo, umulo, smulo, sdivo, overflow}
+use Rattle.words.specs.Op.{Op, op_of, Detector, sdivo, overflow}
 use Rattle.words.specs.Overflow.{overflows}
 use Rattle.words.specs.Program.{prog}
 use Rattle.detectors.proofs.detect.Goals as goal

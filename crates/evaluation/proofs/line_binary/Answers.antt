@@ -1,6 +1,5 @@
-use lib.ListN.{length-set}
 use Prim.Native.Nat.{ℕ}
-use Rattle.circuits.proofs.Fitting.{op_as, fit_as}
+use Rattle.circuits.proofs.Fitting.{op_as}
 use Rattle.circuits.proofs.Puts as laws
 use borrow.Author.Rules.{rules}
 use Rattle.evaluation.proofs.line_binary.Goals as goal

@@ -1,9 +1,5 @@
 use borrow.Author.Rules.{rules}
-use mathlib.Core.Path.{◌≡◌, ap}
-use Prim.Native.Nat.{ℕ}
-use native.Mathlib.Omega.{arith}
-use lib.ListN.{get_or}
-use Rattle.circuits.specs.Model.Work.{off_in, num_in}
+use Rattle.circuits.specs.Model.Work.{num_in}
 use Rattle.circuits.proofs.Puts as laws
 use Rattle.evaluation.proofs.line_read.Goals as goal
 

@@ -1,5 +1,4 @@
-use lib.ListN.{length-set}
-use Rattle.circuits.proofs.Fitting.{op_as, fit_as}
+use Rattle.circuits.proofs.Fitting.{op_as}
 use mathlib.Core.Path.{refl}
 use Rattle.circuits.proofs.Puts as laws
 use borrow.Author.Rules.{rules}

@@ -1,14 +1,11 @@
 -- One line for each cell.
 use Prim.Native.Nat.{ℕ, ◌+◌, ◌≤◌}
-use mathlib.Core.Path.{sym, ap, ◌∙◌, subst⁻¹}
+use mathlib.Core.Path.{subst⁻¹}
 use mathlib.Core.Bool.{false}
 use native.Mathlib.Omega.{arith}
 use lib.ListN.{length}
-use Rattle.tables.specs.Lines.{Line}
 use Rattle.tables.specs.Layout.{held}
-use Rattle.flattening.specs.Placed.{put_flat}
-use Rattle.flattening.specs.Model.Rows.{Tame, rows_for, row_at, still, of}
-use Rattle.flattening.specs.Model.Lines.{notes, made_as, line_records}
+use Rattle.flattening.specs.Model.Rows.{Tame, of}
 use Rattle.flattening.proofs.Holding.{cell_bound}
 use Rattle.flattening.proofs.Holding.{tame_run, tame_of}
 use Rattle.flattening.proofs.Laying.{size_le}

@@ -3,17 +3,14 @@ use Prim.Native.Nat.{ℕ, ◌+◌, ◌-◌, ◌*◌, ◌≤◌}
 use mathlib.Core.Path.{sym, ap, ◌∙◌, subst, subst⁻¹}
 use mathlib.Core.Logic.{◌≢◌}
 use mathlib.Core.Bool.{false}
-use native.Mathlib.Omega.{arith}
 use lib.ListN.{length}
 use Rattle.tables.specs.Layout.{held}
 use Rattle.flattening.specs.Placed.{put_flat}
 use Rattle.flattening.specs.Model.Cells.{cell_in}
-use Rattle.flattening.specs.Model.Rows.{read_records}
 use Rattle.flattening.specs.Model.Lines.{notes, con_in, made_as}
 use Rattle.flattening.proofs.Placing.{flat_none}
-use Rattle.flattening.proofs.Laying.{size_le, size_two, read_con, read_con_records, read_any, read_any_count, read_any_records}
+use Rattle.flattening.proofs.Laying.{size_le, size_two, read_con, read_con_records, read_any_count}
 use Rattle.tables.specs.Model.Notes.{look_in}
-use borrow.Author.Rules.{rules}
 use Rattle.flat_arrays.proofs.line_read.Goals as goal
 
 pub returns-then-c-ne0 : goal.returns-then-c-ne0

@@ -7,14 +7,13 @@ use native.Mathlib.Omega.{arith}
 use lib.ListN.{length}
 use Rattle.tables.specs.Layout.{held}
 use Rattle.flattening.specs.Placed.{put_flat}
-use Rattle.flattening.specs.Model.Rows.{Tame, rows_for, pair_at, stepping, still, of}
+use Rattle.flattening.specs.Model.Rows.{Tame, of}
 use Rattle.flattening.specs.Model.Lines.{notes, con_in, made_as}
 use Rattle.flattening.proofs.Placing.{flat_none}
 use Rattle.flattening.proofs.Holding.{cell_bound}
 use Rattle.flattening.proofs.Holding.{tame_run, tame_of}
-use Rattle.flattening.proofs.Laying.{size_le, write_con, write_con_records, write_any, write_any_count, write_any_records}
+use Rattle.flattening.proofs.Laying.{size_le, write_con, write_con_records, write_any_count}
 use Rattle.tables.specs.Model.Notes.{look_in}
-use borrow.Author.Rules.{rules}
 use Rattle.flat_arrays.proofs.line_write.Goals as goal
 
 pub returns-then-c-ne0 : goal.returns-then-c-ne0

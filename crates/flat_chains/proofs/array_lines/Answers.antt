@@ -1,16 +1,12 @@
 -- A record and a row.
 use Prim.Native.Nat.{◌+◌}
-use mathlib.Core.Path.{ap, ◌∙◌, subst⁻¹}
-use mathlib.Core.Bool.{false}
+use mathlib.Core.Path.{◌∙◌}
 use mathlib.Core.List.{[], ◌∷◌}
 use native.Mathlib.Omega.{arith}
 use Rattle.tables.specs.Lines.{fields}
-use Rattle.tables.specs.Layout.{held}
 use Rattle.flattening.specs.Placed.{put_flat}
-use Rattle.flattening.specs.Model.Rows.{Tame, rows_for, row_at, stepping, still}
-use Rattle.flattening.proofs.Holding.{tame_run}
+use Rattle.flattening.specs.Model.Rows.{rows_for, row_at, stepping, still}
 use Rattle.flattening.proofs.Placing.{flat_append}
-use borrow.Author.Rules.{rules}
 use Rattle.flat_chains.proofs.array_lines.Goals as goal
 
 pub returns : goal.returns

@@ -1,13 +1,10 @@
 -- A test for each cell, then their joins.
 use Prim.Native.Nat.{ℕ, ◌+◌}
-use mathlib.Core.Path.{ap, ◌∙◌, subst⁻¹}
-use mathlib.Core.Bool.{false}
+use mathlib.Core.Path.{ap, ◌∙◌}
 use mathlib.Core.List.{List}
 use native.Mathlib.Omega.{arith}
-use Rattle.tables.specs.Layout.{held}
 use Rattle.flattening.specs.Placed.{put_flat}
-use Rattle.flattening.specs.Model.Rows.{Tame, rows_for, row_at, still, of, join_records}
-use Rattle.flattening.proofs.Holding.{tame_run, tame_of}
+use Rattle.flattening.specs.Model.Rows.{rows_for, row_at, still, of, join_records}
 use Rattle.flattening.proofs.Placing.{flat_append, length_row}
 use Rattle.flat_chains.proofs.equality_lines.Goals as goal
 

@@ -1,17 +1,14 @@
 -- The first two tests, then each of the others.
 use Prim.Native.Nat.{◌+◌, ◌-◌, ◌≤◌}
-use mathlib.Core.Path.{sym, ap, ◌∙◌, subst⁻¹}
+use mathlib.Core.Path.{sym, ap, ◌∙◌}
 use mathlib.Core.Bool.{false}
 use mathlib.Core.List.{[], ◌∷◌}
 use native.Mathlib.Omega.{arith}
 use Rattle.tables.specs.Lines.{fields}
-use Rattle.tables.specs.Layout.{held}
 use Rattle.flattening.specs.Placed.{put_flat}
-use Rattle.flattening.specs.Model.Rows.{Tame, rows_for, row_at, stepping, still}
-use Rattle.flattening.proofs.Holding.{tame_run}
+use Rattle.flattening.specs.Model.Rows.{rows_for, row_at, stepping, still}
 use Rattle.flattening.proofs.Laying.{join_none, join_some}
 use Rattle.flattening.proofs.Placing.{flat_none, flat_append}
-use borrow.Author.Rules.{rules}
 use Rattle.flat_chains.proofs.join_lines.Goals as goal
 
 pub returns-then-n-lt2 : goal.returns-then-n-lt2

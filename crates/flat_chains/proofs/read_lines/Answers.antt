@@ -1,16 +1,13 @@
 -- The pair for the last cell but one, then the others, falling.
 use Prim.Native.Nat.{ℕ, ◌+◌, ◌-◌, ◌≤◌}
 use mathlib.Core.Path.{ap, ◌∙◌, subst⁻¹}
-use mathlib.Core.Bool.{false}
 use mathlib.Core.List.{List}
 use native.Mathlib.Omega.{arith}
-use Rattle.tables.specs.Layout.{held}
 use Rattle.flattening.specs.Placed.{put_flat}
 use Rattle.flattening.specs.Model.Cells.{cell_in}
 use Rattle.flattening.specs.Model.Rows.{Tame, rows_for, pair_at, stepping, still, run_down, of_down}
 use Rattle.flattening.proofs.Holding.{cell_bound, tame_run, tame_run_down, tame_of_down}
 use Rattle.flattening.proofs.Placing.{flat_append, length_pairs}
-use borrow.Author.Rules.{rules}
 use Rattle.flat_chains.proofs.read_lines.Goals as goal
 
 pub pairs-requires : goal.pairs-requires

@@ -11,5 +11,6 @@ pub put-requires : goal.put-requires
 put-requires c = omega (arith, c.put_word-a.ensures.0, c.put_numbers-b.ensures.0, numbers_short c.args.number c.args.line c.ranges.number.fits c.ranges.line.fits)
 
 pub returns : goal.returns
-returns c = let s = c.args in
+returns c =
+    let s = c.args in
     refusal_put s.out.now s.number s.line c.put_word-a.ensures c.put_numbers-b.ensures c.put.ensures

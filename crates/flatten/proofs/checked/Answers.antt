@@ -1,7 +1,6 @@
 -- The pass starts from what the check has noted.
 use mathlib.Core.Path.{sym, ◌∙◌}
 use Rattle.flattening.proofs.Refusing.{refused, begin}
-use borrow.Author.Rules.{rules}
 use Rattle.flatten.proofs.checked.Goals as goal
 
 pub all_lines-requires : goal.all_lines-requires

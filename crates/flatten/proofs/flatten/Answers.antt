@@ -4,7 +4,7 @@ use mathlib.Core.Bool.{false}
 use lib.ListN.{length}
 use borrow.Author.Tests.{not-true, not-false}
 use Rattle.tables.specs.Layout.{whole}
-use Rattle.flattening.proofs.Refusing.{first_refused, second_refused, cleared_length, is_clear, as_cleared}
+use Rattle.flattening.proofs.Refusing.{first_refused, second_refused, cleared_length}
 use Rattle.flatten.proofs.flatten.Goals as goal
 
 pub returns-then-not-is_table : goal.returns-then-not-is_table

@@ -1,7 +1,6 @@
 -- Lists of zeros.
 use native.Mathlib.Omega.{arith}
 use Rattle.flattening.proofs.Refusing.{blank_lists}
-use borrow.Author.Rules.{rules}
 use Rattle.flatten.proofs.many.Goals as goal
 
 pub checked-requires : goal.checked-requires

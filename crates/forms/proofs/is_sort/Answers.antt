@@ -1,8 +1,6 @@
 -- Letter by letter.
-use native.Mathlib.Omega.{arith}
 use mathlib.Core.Path.{sym}
-use Rattle.texts.proofs.Words.{sort_length, sort_differs, sort_last}
-use borrow.Author.Rules.{rules}
+use Rattle.texts.proofs.Words.{sort_length}
 use Rattle.forms.proofs.is_sort.Goals as goal
 
 pub returns-then-t-ne4 : goal.returns-then-t-ne4

@@ -1,13 +1,9 @@
 -- The letters passed are the word's.
-use borrow.Author.Rules.{rules}
-use Prim.Native.Nat.{ℕ, ◌-◌, ◌≤◌}
-use native.Mathlib.Omega.{arith}
-use mathlib.Core.Path.{◌≡◌, refl, sym, ◌∙◌}
-use mathlib.Core.List.{List}
+use Prim.Native.Nat.{◌-◌, ◌≤◌}
+use mathlib.Core.Path.{◌≡◌}
 use lib.ListN.{length, drop, get_or}
 use Rattle.tables.specs.Kinds.{word_of}
 use Rattle.texts.specs.Split.{same_bytes}
-use Rattle.texts.proofs.Words.{same_not, same_more, same_differ, same_end, word_length, word_at_lem}
 use Rattle.forms.proofs.is_word.Given as goal
 
 abbrev pub invariant-loop-i : goal.invariant-loop-i

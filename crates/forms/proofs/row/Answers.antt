@@ -4,7 +4,6 @@ use Prim.Native.Nat.{ℕ, ◌-◌}
 use mathlib.Core.List.{List, []}
 use lib.ListN.{get_or}
 use Rattle.texts.proofs.Words.{row_kind, row_extra}
-use borrow.Author.Rules.{rules}
 use Rattle.forms.proofs.row.Goals as goal
 
 pub returns-then-f-gt63 : goal.returns-then-f-gt63

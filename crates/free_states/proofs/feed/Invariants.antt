@@ -1,13 +1,8 @@
 -- The lines to come, with the words that are left, give what all lines give.
-use Prim.Native.Nat.{ℕ, ◌+◌, ◌-◌, ◌≤◌}
-use mathlib.Core.Path.{◌≡◌, refl, sym, ap, ◌∙◌, subst}
-use mathlib.Core.List.{List}
-use native.Mathlib.Omega.{arith}
-use lib.ListN.{length, drop, get_or, drop_of_length-le}
-use borrow.Author.Rules.{rules}
-use Rattle.circuits.specs.Model.Work.{num_in}
-use Rattle.circuits.specs.Model.Feeding.{cells_in, fed_lines, FitFed, AllFed}
-use Rattle.circuits.proofs.Feeding.{fed_more, fits_more, cells_more}
+use Prim.Native.Nat.{◌+◌, ◌-◌, ◌≤◌}
+use mathlib.Core.Path.{◌≡◌}
+use lib.ListN.{length, drop}
+use Rattle.circuits.specs.Model.Feeding.{cells_in, fed_lines, AllFed}
 use Rattle.free_states.proofs.feed.Given as goal
 
 abbrev pub invariant-loop-j : goal.invariant-loop-j

@@ -1,10 +1,10 @@
 use native.Mathlib.Omega.{arith}
-use borrow.Author.Rules.{rules}
 use Rattle.circuits.proofs.Feeding.{fed_part}
 use Rattle.free_states.proofs.feed_line.Goals as goal
 
 pub returns : goal.returns
-returns c = let a = c.args in
+returns c =
+    let a = c.args in
     let m = c.cells-m in
     let o = c.place-a in
     let w = c.width in

@@ -1,6 +1,5 @@
 -- Each word by its class.
 use Rattle.texts.proofs.Resolving.{is_resolved}
-use borrow.Author.Rules.{rules}
 use Rattle.ids.proofs.look_up.Goals as goal
 
 pub returns : goal.returns

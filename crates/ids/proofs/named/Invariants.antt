@@ -1,13 +1,7 @@
 -- The ids from i up to o are 0.
-use Prim.Native.Nat.{ℕ, ◌-◌, ◌≤◌}
-use mathlib.Core.Path.{◌≡◌, sym, ◌∙◌}
-use mathlib.Core.List.{List}
-use native.Mathlib.Omega.{arith}
-use lib.ListN.{get_or}
-use borrow.Author.Count.{below_more}
+use Prim.Native.Nat.{◌-◌, ◌≤◌}
 use Rattle.tables.specs.Layout.{ids_of}
 use Rattle.texts.specs.Model.Searching.{AllZero}
-use Rattle.texts.proofs.Resolving.{ids_length, ids_at}
 use Rattle.ids.proofs.named.Given as goal
 
 abbrev pub invariant-loop-o : goal.invariant-loop-o

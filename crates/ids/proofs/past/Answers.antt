@@ -2,13 +2,13 @@
 use Prim.Native.Nat.{ℕ}
 use mathlib.Core.List.{List}
 use native.Mathlib.Omega.{arith}
-use borrow.Author.Rules.{rules}
 use Rattle.tables.specs.Layout.{ids_of}
 use Rattle.texts.proofs.Resolving.{ids_length, ids_at, below_on, not_below_on}
 use Rattle.ids.proofs.past.Goals as goal
 
 pub returns-then-o-n : goal.returns-then-o-n
-returns-then-o-n c = let s = c.args in
+returns-then-o-n c =
+    let s = c.args in
     let p = c.requires.1 in
     let ds : List ℕ = ids_of s.table.now s.n in
     let e = ids_length s.table.now s.n in
@@ -20,15 +20,18 @@ returns-then-o-n c = let s = c.args in
     }
 
 pub id-requires : goal.id-requires
-id-requires c = let s = c.args in
+id-requires c =
+    let s = c.args in
     (omega (arith, ids_length s.table.now s.n, c.named-o.ensures.most, c.requires.1.1.1.there), c.requires.0)
 
 pub overflow_add-result : goal.overflow_add-result
-overflow_add-result c = let s = c.args in
+overflow_add-result c =
+    let s = c.args in
     omega (arith, ids_length s.table.now s.n, c.named-o.ensures.most)
 
 pub returns-then-id-d : goal.returns-then-id-d
-returns-then-id-d c = let s = c.args in
+returns-then-id-d c =
+    let s = c.args in
     let p = c.requires.1 in
     let f = c.named-o.ensures in
     let o : ℕ = c.named-o.result in
@@ -44,7 +47,8 @@ returns-then-id-d c = let s = c.args in
     }
 
 pub returns : goal.returns
-returns c = let s = c.args in
+returns c =
+    let s = c.args in
     let p = c.requires.1 in
     let f = c.named-o.ensures in
     let o : ℕ = c.named-o.result in

@@ -1,11 +1,7 @@
 -- The ids before lo are below d; those from hi on are not, but for zeros.
-use Prim.Native.Nat.{ℕ, ◌+◌, ◌-◌, ◌/◌, ◌≤◌}
-use mathlib.Core.Path.{sym, ◌∙◌}
-use mathlib.Core.List.{List}
-use native.Mathlib.Omega.{arith}
+use Prim.Native.Nat.{◌-◌, ◌≤◌}
 use Rattle.tables.specs.Layout.{ids_of}
 use Rattle.texts.specs.Model.Searching.{AllBelow, NoneBelow}
-use Rattle.texts.proofs.Resolving.{ids_length, ids_at, below_on, not_below_on}
 use Rattle.ids.proofs.search.Given as goal
 
 abbrev pub invariant-loop-lo : goal.invariant-loop-lo

@@ -5,13 +5,12 @@ use mathlib.Core.List.{List}
 use native.Mathlib.Omega.{arith}
 use borrow.Author.Tests.{eqb-true}
 use Rattle.tables.specs.Layout.{ids_of}
-use Rattle.tables.proofs.Kept.{no_yes}
-use Rattle.texts.proofs.Resolving.{ids_length, ids_at, place_at_lem, meant_none, meant_number, meant_line}
-use borrow.Author.Rules.{rules}
+use Rattle.texts.proofs.Resolving.{ids_length, ids_at, place_at_lem, meant_line}
 use Rattle.ids.proofs.stays.Goals as goal
 
 pub returns-then-i-n : goal.returns-then-i-n
-returns-then-i-n c = let s = c.args in
+returns-then-i-n c =
+    let s = c.args in
     let t : List ℕ = s.table.now in
     λ z.
     let e = ids_at t s.n (s.v - 1) (omega arith) ∙ (sym c.id.ensures ∙ eqb-true c.id.result s.v z) in

@@ -1,8 +1,6 @@
-use Rattle.std.proofs.Common.{ℕ, ◌%◌, ◌^◌, sym, ◌∙◌, subst, ap₂, rules}
-use Rattle.words.specs.Word.{Width}
+use Rattle.std.proofs.Common.{ℕ, ◌%◌, ◌^◌, ◌∙◌, ap₂}
 use Rattle.words.specs.Op.{op_of}
-use Rattle.words.specs.Model.Classes.{class_of}
-use Rattle.words.proofs.Bounds.{masked, result_width}
+use Rattle.words.proofs.Bounds.{masked}
 use Rattle.instructions.proofs.circ_word.Goals as goal
 
 pub returns : goal.returns

@@ -1,6 +1,6 @@
-use Rattle.std.proofs.Common.{◌≡◌, ℕ, zero, suc, ◌+◌, ◌<◌, ◌≤◌, eqb, sym, refl, ap, ◌∙◌, ⊎_elim, arith, rules}
+use Rattle.std.proofs.Common.{◌≡◌, ℕ, zero, suc, ◌+◌, ◌<◌, ◌≤◌, sym, refl, ap, ◌∙◌, arith}
 use lib.Arith.{lt_of_le-ne}
-use Rattle.words.specs.Word.{bit, choose}
+use Rattle.words.specs.Word.{choose}
 use Rattle.words.specs.Op.{Op, op_of, mask, overflow}
 use Rattle.words.specs.Program.{prog}
 use Rattle.words.specs.Model.Classes.{class_of}
@@ -20,9 +20,6 @@ past (suc d) k h n = let l : 11 + d < k = lt_of_le-ne (past d k h n.0) (λ e. n.
 chosen : (a b c : ℕ) → (a ≡ 0 → ⊥) → b ≡ choose a b c
 chosen zero b c f = absurd (f refl)
 chosen (suc a) b c f = refl
-
-other : (a b c : ℕ) → a ≡ 0 → c ≡ choose a b c
-other a b c e = sym (ap (λ (n : ℕ). choose n b c) e)
 
 one_width : (k u v a b c : ℕ) → 57 ≤ k → k ≤ 63 → Widths (class_of (op_of k)) u v b c → prog (op_of k) u u a b 0 ≡ prog (op_of k) u v a b c
 one_width k u v a b c h l g =

@@ -1,14 +1,12 @@
-use borrow.Author.Rules.{rules}
-use Prim.Native.Nat.{ℕ, ◌-◌, ◌*◌, ◌≤◌, ◌<◌}
+use Prim.Native.Nat.{ℕ, ◌-◌, ◌*◌, ◌<◌}
 use mathlib.Core.Path.{◌≡◌, refl, sym, ap, ◌∙◌, subst}
 use mathlib.Core.Bool.{Bool, not}
 use mathlib.Core.List.{List}
 use native.Mathlib.Omega.{arith}
 use lib.ListN.{length}
-use Rattle.tables.specs.Layout.{record_size, held, placing_in, row_by, row_set, filled_by}
+use Rattle.tables.specs.Layout.{record_size, held, placing_in, row_by, row_set}
 use Rattle.tables.proofs.Layouts.{placed_in, words_in}
 use Rattle.tables.proofs.Putting.{length_row}
-use Rattle.layouts.specs.Conversion.{rows_in}
 use Rattle.layouts.proofs.Copying.{Strided, stride_inside, copy_record, carry_next, carry_none}
 use Rattle.layouts.proofs.carry.Goals as goal
 
@@ -19,21 +17,24 @@ pub loop-i-init : goal.loop-i-init
 loop-i-init c = (omega arith, (refl, carry_none (placing_in c.args.columns c.args.program) c.args.target.now c.requires.1.1))
 
 pub overflow_mul-a : goal.overflow_mul-a
-overflow_mul-a c = let l = c.loop-i in
+overflow_mul-a c =
+    let l = c.loop-i in
     let z = c.size-size in
     let w = c.strides_of-a in
     let h : l.i < held c.args.program (length c.args.list.now) = omega (arith, c.loop-i-test.true, c.requires.0) in
     omega (arith, first_inside (not c.args.columns) c.args.program (length c.args.list.now) w.result.word w.result.row z.result l.i w.ensures z.ensures h)
 
 pub overflow_mul-b : goal.overflow_mul-b
-overflow_mul-b c = let l = c.loop-i in
+overflow_mul-b c =
+    let l = c.loop-i in
     let z = c.size-size in
     let w = c.strides_of-b in
     let h : l.i < held c.args.program (length c.args.target.now) = omega (arith, c.loop-i-test.true, c.requires.1.0) in
     omega (arith, first_inside c.args.columns c.args.program (length c.args.target.now) w.result.word w.result.row z.result l.i w.ensures z.ensures h)
 
 pub copy-requires : goal.copy-requires
-copy-requires c = let l = c.loop-i in
+copy-requires c =
+    let l = c.loop-i in
     let z = c.size-size in
     let w = c.strides_of-a in
     let v = c.strides_of-b in
@@ -49,7 +50,8 @@ copy-requires c = let l = c.loop-i in
     )
 
 pub loop-i-preserved : goal.loop-i-preserved
-loop-i-preserved c = let l = c.loop-i in
+loop-i-preserved c =
+    let l = c.loop-i in
     let z = c.size-size in
     let w = c.strides_of-a in
     let v = c.strides_of-b in

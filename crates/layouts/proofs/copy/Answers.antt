@@ -1,15 +1,14 @@
-use borrow.Author.Rules.{rules}
-use Prim.Native.Nat.{ℕ, ◌+◌, ◌-◌, ◌*◌, ◌≤◌}
-use mathlib.Core.Path.{◌≡◌, refl, ap, ◌∙◌}
+use Prim.Native.Nat.{ℕ, ◌+◌, ◌-◌, ◌*◌}
+use mathlib.Core.Path.{ap, ◌∙◌}
 use mathlib.Core.List.{List}
 use native.Mathlib.Omega.{arith}
-use lib.ListN.{length, get_or, set, length-set}
-use Rattle.tables.specs.Layout.{words_from, set_words}
+use lib.ListN.{get_or, set, length-set}
 use Rattle.layouts.proofs.Copying.{copy_next}
 use Rattle.layouts.proofs.copy.Goals as goal
 
 pub loop-j-preserved : goal.loop-j-preserved
-loop-j-preserved c = let a = c.args in
+loop-j-preserved c =
+    let a = c.args in
     let l = c.loop-j in
     let from : ℕ → ℕ = λ (k : ℕ). a.s * k + a.x in
     let to : ℕ → ℕ = λ (k : ℕ). a.z * k + a.y in (

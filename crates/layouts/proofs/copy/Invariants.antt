@@ -1,12 +1,8 @@
 -- The words passed are in the target.
-use borrow.Author.Rules.{rules}
 use Prim.Native.Nat.{ℕ, ◌+◌, ◌-◌, ◌*◌, ◌≤◌}
-use mathlib.Core.Path.{◌≡◌, refl, ap, ◌∙◌}
-use mathlib.Core.List.{List}
-use native.Mathlib.Omega.{arith}
-use lib.ListN.{length, get_or, set, length-set}
+use mathlib.Core.Path.{◌≡◌}
+use lib.ListN.{length}
 use Rattle.tables.specs.Layout.{words_from, set_words}
-use Rattle.layouts.proofs.Copying.{copy_next}
 use Rattle.layouts.proofs.copy.Given as goal
 
 abbrev pub invariant-loop-j : goal.invariant-loop-j

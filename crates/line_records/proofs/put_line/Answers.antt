@@ -1,16 +1,14 @@
-use Prim.Native.Nat.{◌+◌, ◌-◌}
-use mathlib.Core.Path.{◌≡◌, refl, ap, ◌∙◌}
-use mathlib.Core.Logic.{⊎_elim}
-use native.Mathlib.Omega.{arith}
+use Prim.Native.Nat.{◌-◌}
+use mathlib.Core.Path.{ap, ◌∙◌}
 use lib.ListN.{length}
-use borrow.Author.Rules.{rules}
-use Rattle.texts.specs.Model.Filling.{filling, added_from}
-use Rattle.texts.proofs.Filled.{Passed, none_passed, can_put_not, with_not, without, can_put_own, all_passed}
+use Rattle.texts.specs.Model.Filling.{filling}
+use Rattle.texts.proofs.Filled.{with_not, without}
 use Rattle.line_records.proofs.put_line.Goals as goal
 use Rattle.line_records.proofs.put_line.Goals.{then-minus-j, else-minus-j}
 
 pub loop-j-preserved : goal.loop-j-preserved
-loop-j-preserved c = let l = c.loop-j in
+loop-j-preserved c =
+    let l = c.loop-j in
     let t = c.loop-j-test.true in
     elim c.if-minus-j.branch [
       | then-minus-j w ↦ (

@@ -1,12 +1,9 @@
 -- The operands passed have their not records.
-use Prim.Native.Nat.{◌+◌, ◌-◌}
-use mathlib.Core.Path.{◌≡◌, refl, ap, ◌∙◌}
-use mathlib.Core.Logic.{⊎_elim}
-use native.Mathlib.Omega.{arith}
+use Prim.Native.Nat.{◌-◌}
+use mathlib.Core.Path.{◌≡◌}
 use lib.ListN.{length}
-use borrow.Author.Rules.{rules}
 use Rattle.texts.specs.Model.Filling.{filling, added_from}
-use Rattle.texts.proofs.Filled.{Passed, none_passed, can_put_not, with_not, without, can_put_own, all_passed}
+use Rattle.texts.proofs.Filled.{Passed}
 use Rattle.line_records.proofs.put_line.Given as goal
 
 abbrev pub invariant-loop-j : goal.invariant-loop-j

@@ -1,8 +1,7 @@
 -- Width 64, or the row of the kind.
-use mathlib.Core.Path.{sym, ◌∙◌}
+use mathlib.Core.Path.{◌∙◌}
 use Rattle.programs.specs.Model.Kinds.{entry_at, flag_at}
-use Rattle.programs.proofs.Reading.{never_64, loose_read}
-use borrow.Author.Rules.{rules}
+use Rattle.programs.proofs.Reading.{loose_read}
 use Rattle.masks.proofs.loose.Goals as goal
 
 pub returns : goal.returns

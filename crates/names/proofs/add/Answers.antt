@@ -5,7 +5,6 @@ use mathlib.Core.List.{List}
 use native.Mathlib.Omega.{arith}
 use lib.ListN.{length, take, drop, get_or, set, length-set}
 use lib.Seq.{get_or-set_same, get_or-set_other}
-use borrow.Author.Rules.{rules}
 use Rattle.texts.specs.Model.Chains.{hashes, hash_of, count_in, link_of}
 use Rattle.texts.proofs.Chains.{Grown, grown_names, grown_chained}
 use Rattle.names.proofs.add.Goals as goal
@@ -64,7 +63,8 @@ module _ (w : List ℕ) (h a z r : ℕ) (e : r ≡ count_in w) (l : h < hashes) 
       }
 
 pub returns : goal.returns
-returns c = let s = c.args in
+returns c =
+    let s = c.args in
     let p = c.requires in
     let t : List ℕ = s.text.now in
     let w : List ℕ = s.names.now in

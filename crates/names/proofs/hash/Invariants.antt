@@ -1,12 +1,8 @@
 -- Four bytes at a time, and then the others.
-use Prim.Native.Nat.{ℕ, ◌+◌, ◌-◌, ◌*◌, ◌/◌, ◌≤◌, ◌<◌}
-use mathlib.Core.Path.{◌≡◌, sym, ◌∙◌}
-use mathlib.Core.List.{List}
-use native.Mathlib.Nat.{mod-lt}
-use native.Mathlib.Omega.{arith}
-use lib.ListN.{length, get_or}
-use Rattle.texts.specs.Model.Chains.{hashes, mixed_four}
-use Rattle.texts.proofs.Hashing.{HashingFours, fours_start, fours_on, fours_end}
+use Prim.Native.Nat.{◌-◌, ◌≤◌, ◌<◌}
+use lib.ListN.{length}
+use Rattle.texts.specs.Model.Chains.{hashes}
+use Rattle.texts.proofs.Hashing.{HashingFours}
 use Rattle.names.proofs.hash.Given as goal
 
 abbrev pub invariant-loop-p : goal.invariant-loop-p

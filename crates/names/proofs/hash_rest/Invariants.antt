@@ -1,12 +1,8 @@
 -- The hash of the bytes passed so far.
-use Prim.Native.Nat.{ℕ, ◌+◌, ◌-◌, ◌*◌, ◌≤◌, ◌<◌}
-use mathlib.Core.Path.{◌≡◌, sym, ap, subst}
-use mathlib.Core.List.{List}
-use native.Mathlib.Nat.{mod-lt}
-use native.Mathlib.Omega.{arith}
-use lib.ListN.{length, get_or}
-use Rattle.texts.specs.Model.Chains.{hashes, mixed, hash_from}
-use Rattle.texts.proofs.Hashing.{Hashing, hash_start, hash_on, hash_end}
+use Prim.Native.Nat.{◌-◌, ◌≤◌, ◌<◌}
+use lib.ListN.{length}
+use Rattle.texts.specs.Model.Chains.{hashes, hash_from}
+use Rattle.texts.proofs.Hashing.{Hashing}
 use Rattle.names.proofs.hash_rest.Given as goal
 
 abbrev pub invariant-loop-p : goal.invariant-loop-p

@@ -1,9 +1,6 @@
-use Prim.Native.Nat.{◌≤◌, ◌-◌}
-use mathlib.Core.Path.{◌≡◌, sym, ◌∙◌, refl}
-use native.Mathlib.Omega.{arith}
-use lib.ListN.{length, drop}
-use Rattle.texts.specs.Split.{same_bytes}
-use Rattle.texts.proofs.Words.{same_not, same_more, same_differ, same_end}
+use Prim.Native.Nat.{◌-◌}
+use mathlib.Core.Path.{sym}
+use Rattle.texts.proofs.Words.{same_not}
 use Rattle.names.proofs.same.Goals as goal
 
 pub returns-then-t-u : goal.returns-then-t-u

@@ -1,10 +1,8 @@
 -- Both are of one length, and the bytes before i are the same.
 use Prim.Native.Nat.{◌≤◌, ◌-◌}
-use mathlib.Core.Path.{◌≡◌, sym, ◌∙◌, refl}
-use native.Mathlib.Omega.{arith}
+use mathlib.Core.Path.{◌≡◌}
 use lib.ListN.{length, drop}
 use Rattle.texts.specs.Split.{same_bytes}
-use Rattle.texts.proofs.Words.{same_not, same_more, same_differ, same_end}
 use Rattle.names.proofs.same.Given as goal
 
 abbrev pub invariant-loop-i : goal.invariant-loop-i

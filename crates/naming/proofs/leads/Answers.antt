@@ -1,4 +1,3 @@
-use Prim.Native.Nat.{zero-le}
 use native.Mathlib.Omega.{arith}
 use mathlib.Core.Path.{sym, ap, ◌∙◌}
 use Rattle.texts.specs.Naming.{leads}

@@ -1,17 +1,18 @@
 use borrow.Author.Rules.{rules}
-use Prim.Native.Nat.{ℕ, ◌-◌, ◌≤◌}
+use Prim.Native.Nat.{ℕ, ◌-◌}
 use native.Mathlib.Omega.{arith}
 use mathlib.Core.Path.{◌≡◌, sym, ap, ◌∙◌}
 use mathlib.Core.List.{List, []}
-use lib.ListN.{length, take, drop}
+use lib.ListN.{take, drop}
 use lib.Seq.{drop-nil}
 use Rattle.texts.specs.Split.{tokens}
 use Rattle.texts.proofs.Places.{no_token, next_token}
-use Rattle.texts.proofs.Named.{pass_more, pass_none}
+use Rattle.texts.proofs.Named.{pass_more}
 use Rattle.naming.proofs.pass.Goals as goal
 
 pub returns-then-a-l : goal.returns-then-a-l
-returns-then-a-l c = let n : tokens (drop c.skip-a.result c.args.l.now) ≡ [] = no_token c.args.l.now c.skip-a.result (omega arith) in
+returns-then-a-l c =
+    let n : tokens (drop c.skip-a.result c.args.l.now) ≡ [] = no_token c.args.l.now c.skip-a.result (omega arith) in
     (search rules, n ∙ sym (c.loop-p.invariant.1.1 ∙ (ap (λ (ts : List (List ℕ)). drop (c.args.m - c.loop-p.p) ts) (sym c.skip-a.ensures.1.1.0 ∙ n) ∙ drop-nil (c.args.m - c.loop-p.p))))
 
 pub loop-p-preserved : goal.loop-p-preserved

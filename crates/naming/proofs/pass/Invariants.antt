@@ -1,14 +1,8 @@
 -- The tokens passed are dropped.
-use borrow.Author.Rules.{rules}
-use Prim.Native.Nat.{ℕ, ◌-◌, ◌≤◌}
-use native.Mathlib.Omega.{arith}
-use mathlib.Core.Path.{◌≡◌, sym, ap, ◌∙◌}
-use mathlib.Core.List.{List, []}
-use lib.ListN.{length, take, drop}
-use lib.Seq.{drop-nil}
+use Prim.Native.Nat.{◌-◌, ◌≤◌}
+use mathlib.Core.Path.{◌≡◌}
+use lib.ListN.{length, drop}
 use Rattle.texts.specs.Split.{tokens}
-use Rattle.texts.proofs.Places.{no_token, next_token}
-use Rattle.texts.proofs.Named.{pass_more, pass_none}
 use Rattle.naming.proofs.pass.Given as goal
 
 abbrev pub invariant-loop-p : goal.invariant-loop-p

@@ -1,4 +1,3 @@
-use Rattle.std.proofs.Common.{rules}
 use Rattle.words.proofs.Words.{mask_law}
 use Rattle.operators.proofs.mask.Goals as goal
 

@@ -1,7 +1,6 @@
 use Rattle.std.proofs.Common.{ℕ, ◌%◌, sym, ap, ◌∙◌}
 use lib.Bits.{and_mask}
 use lib.Count.{ones}
-use mir.Facts.{Fits-mask}
 use Rattle.words.proofs.Shift.{ones_in_lem}
 use Rattle.operators.proofs.redxor.Goals as goal
 

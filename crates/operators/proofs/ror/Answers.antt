@@ -1,10 +1,11 @@
-use Rattle.std.proofs.Common.{ℕ, ◌%◌, ◌∙◌, ap₂, lt_of_lt_of_le, le_of_lt, rules}
+use Rattle.std.proofs.Common.{ℕ, ◌%◌, ◌∙◌, ap₂}
 use Rattle.words.specs.Word.{rotr}
-use Rattle.words.proofs.Shift.{amount, rotr_zero, rotr_law}
+use Rattle.words.proofs.Shift.{amount, rotr_law}
 use Rattle.operators.proofs.ror.Goals as goal
 
 pub returns-else-r-eq0 : goal.returns-else-r-eq0
-returns-else-r-eq0 c = let y = c.low in
+returns-else-r-eq0 c =
+    let y = c.low in
     let w = c.args.w in
     rotr_law w c.low-x.result (y.result % w) c.low-else-r-eq0.result c.requires c.low-x.ensures.1 (amount w y.result c.requires) c.low-else-r-eq0.ensures.0
     ∙ ap₂ (λ (p q : ℕ). rotr w p (q % w)) c.low-x.ensures.0 y.ensures.0

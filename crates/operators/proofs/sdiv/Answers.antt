@@ -1,5 +1,5 @@
-use Rattle.std.proofs.Common.{true, false, ◌∙◌, rules}
-use Rattle.words.proofs.Divide.{div_ok, sdiv_zero, sdiv_minus, sdiv_else}
+use Rattle.std.proofs.Common.{true, false, ◌∙◌}
+use Rattle.words.proofs.Divide.{sdiv_zero, sdiv_minus, sdiv_else}
 use Rattle.operators.proofs.sdiv.Goals as goal
 
 pub returns-else-n-ge0 : goal.returns-else-n-ge0

@@ -1,5 +1,5 @@
-use Rattle.std.proofs.Common.{◌∙◌, rules}
-use Rattle.words.proofs.Divide.{div_ok, smod_zero, smod_minus, smod_else}
+use Rattle.std.proofs.Common.{◌∙◌}
+use Rattle.words.proofs.Divide.{smod_zero, smod_else}
 use Rattle.operators.proofs.smod.Goals as goal
 
 pub returns-then-d-eq0 : goal.returns-then-d-eq0

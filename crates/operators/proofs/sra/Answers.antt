@@ -1,5 +1,5 @@
-use Rattle.std.proofs.Common.{true, false, ◌∙◌, rules}
-use Rattle.words.proofs.Divide.{sra_less, sra_more}
+use Rattle.std.proofs.Common.{true, false, ◌∙◌}
+use Rattle.words.proofs.Divide.{sra_more}
 use Rattle.operators.proofs.sra.Goals as goal
 
 pub returns-then-n-ge0 : goal.returns-then-n-ge0

@@ -1,5 +1,5 @@
-use Rattle.std.proofs.Common.{◌∙◌, rules}
-use Rattle.words.proofs.Divide.{div_ok, srem_zero, srem_minus, srem_else}
+use Rattle.std.proofs.Common.{◌∙◌}
+use Rattle.words.proofs.Divide.{srem_zero, srem_else}
 use Rattle.operators.proofs.srem.Goals as goal
 
 pub returns-then-d-eq0 : goal.returns-then-d-eq0

@@ -1,7 +1,7 @@
 -- `operators::to_signed` meets its contract; x is the low bits.
-use Rattle.std.proofs.Common.{ap, ◌∙◌, rules}
+use Rattle.std.proofs.Common.{ap, ◌∙◌}
 use Rattle.words.specs.Word.{signed_value}
-use Rattle.words.proofs.Signed.{clear_fits, clear_law, set_fits, set_neg, set_down, set_law}
+use Rattle.words.proofs.Signed.{set_law}
 use Rattle.operators.proofs.to_signed.Goals as goal
 
 pub returns-else-x-w-eq0 : goal.returns-else-x-w-eq0

@@ -1,6 +1,4 @@
-use Rattle.std.proofs.Common.{◌/◌, ◌^◌, shr_lt, rules}
-use lib.Bits.{bit_and, mask_lt}
-use Rattle.words.proofs.Words.{product_fits, mul_law}
+use Rattle.words.proofs.Words.{mul_law}
 use Rattle.operators.proofs.wrapping_mul.Goals as goal
 
 pub returns : goal.returns

@@ -1,10 +1,7 @@
 use Prim.Native.Nat.{◌-◌}
 use native.Mathlib.Omega.{arith}
-use lib.ListN.{length}
-use borrow.Author.Rules.{rules}
-use Rattle.tables.specs.Lines.{kind_in}
-use Rattle.programs.proofs.Keeping.{zeros_length, held_here, kind_here}
-use Rattle.programs.proofs.Counting.{Walk, walk_start, small_here, small_next, walk_more, walk_end, need_here}
+use Rattle.programs.proofs.Keeping.{held_here, kind_here}
+use Rattle.programs.proofs.Counting.{walk_start, small_here, walk_more, walk_end, need_here}
 use Rattle.passes.proofs.count_all.Goals as goal
 
 pub loop-i-init : goal.loop-i-init
@@ -17,7 +14,8 @@ pub take-m-requires : goal.take-m-requires
 take-m-requires c = (kind_here c.args.table.now c.args.count c.loop-i.i c.requires.0.accepted c.loop-i-test.true c.record-rec.ensures, small_here c.loop-i.invariant c.requires.0.accepted c.loop-i-test.true)
 
 pub loop-i-preserved : goal.loop-i-preserved
-loop-i-preserved c = let P = c.requires.0 in
+loop-i-preserved c =
+    let P = c.requires.0 in
     let l = c.loop-i-test.true in
     rw c.emitted-b.ensures (walk_more c.loop-i.invariant P.accepted l c.used-need.result (need_here P c.loop-i.i l c.used-need.ensures) c.record-rec.ensures c.take-m.ensures)
 

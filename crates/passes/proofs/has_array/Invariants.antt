@@ -1,11 +1,6 @@
 -- What the kinds so far say, or what the lines ahead say, is the answer.
-use Prim.Native.Nat.{◌+◌, ◌-◌}
-use mathlib.Core.Path.{sym, subst}
-use mathlib.Core.Bool.{Bool}
-use mathlib.Core.Logic.{⊎_elim}
-use borrow.Author.Rules.{rules}
-use Rattle.programs.proofs.Keeping.{held_here}
-use Rattle.programs.proofs.Marking.{Looked, array_start, array_found, array_further, array_end}
+use Prim.Native.Nat.{◌-◌}
+use Rattle.programs.proofs.Marking.{Looked}
 use Rattle.passes.proofs.has_array.Given as goal
 
 abbrev pub invariant-loop-i : goal.invariant-loop-i

@@ -1,7 +1,6 @@
 use Prim.Native.Nat.{◌-◌}
-use borrow.Author.Rules.{rules}
-use Rattle.programs.proofs.Keeping.{zeros_length, held_here, kind_here}
-use Rattle.programs.proofs.Marking.{Marking, marking_start, marking_more, marking_end}
+use Rattle.programs.proofs.Keeping.{held_here, kind_here}
+use Rattle.programs.proofs.Marking.{marking_start, marking_more, marking_end}
 use Rattle.passes.proofs.needing.Goals as goal
 
 pub loop-i-init : goal.loop-i-init

@@ -1,8 +1,6 @@
 -- The marks so far and the lines ahead name the lines with a needing use.
 use Prim.Native.Nat.{◌-◌}
-use borrow.Author.Rules.{rules}
-use Rattle.programs.proofs.Keeping.{zeros_length, held_here, kind_here}
-use Rattle.programs.proofs.Marking.{Marking, marking_start, marking_more, marking_end}
+use Rattle.programs.proofs.Marking.{Marking}
 use Rattle.passes.proofs.needing.Given as goal
 
 abbrev pub invariant-loop-i : goal.invariant-loop-i

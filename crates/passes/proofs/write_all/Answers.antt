@@ -1,11 +1,9 @@
 use Prim.Native.Nat.{◌-◌}
-use native.Mathlib.Omega.{arith}
 use lib.ListN.{length}
-use borrow.Author.Rules.{rules}
 use Rattle.tables.specs.Lines.{kind_in}
-use Rattle.programs.proofs.Keeping.{zeros_length, held_here, few_here, kind_here, few_emitted}
-use Rattle.programs.proofs.Counting.{small_here, small_next, need_here}
-use Rattle.programs.proofs.Writing.{Writes, writes_start, writes_size, fits_here, writes_more, writes_end}
+use Rattle.programs.proofs.Keeping.{held_here, kind_here, few_emitted}
+use Rattle.programs.proofs.Counting.{small_here, need_here}
+use Rattle.programs.proofs.Writing.{writes_start, fits_here, writes_more, writes_end}
 use Rattle.passes.proofs.write_all.Goals as goal
 
 pub loop-i-init : goal.loop-i-init
@@ -15,11 +13,13 @@ pub record-rec-requires : goal.record-rec-requires
 record-rec-requires c = (held_here c.args.table.now c.args.count c.loop-i.i c.requires.0.prepared.accepted c.loop-i-test.true, c.step-h.ensures)
 
 pub take-m-requires : goal.take-m-requires
-take-m-requires c = let l = c.loop-i-test.true in
+take-m-requires c =
+    let l = c.loop-i-test.true in
     (kind_here c.args.table.now c.args.count c.loop-i.i c.requires.0.prepared.accepted l c.record-rec.ensures, small_here c.loop-i.invariant.walk c.requires.0.prepared.accepted l)
 
 pub emit-requires : goal.emit-requires
-emit-requires c = let R = c.requires.0 in
+emit-requires c =
+    let R = c.requires.0 in
     let l = c.loop-i-test.true in
     let m = c.take-m in
     let P = R.prepared in
@@ -27,7 +27,8 @@ emit-requires c = let R = c.requires.0 in
     (c.loop-i.invariant.walk.least, (small_here c.loop-i.invariant.walk P.accepted l, (rw e (few_emitted (kind_in c.record-rec.result) m.result), fits_here c.loop-i.invariant P.accepted l c.used-need.result (need_here P c.loop-i.i l c.used-need.ensures) c.record-rec.ensures m.ensures e R.fits)))
 
 pub loop-i-preserved : goal.loop-i-preserved
-loop-i-preserved c = let P = c.requires.0.prepared in
+loop-i-preserved c =
+    let P = c.requires.0.prepared in
     let l = c.loop-i-test.true in
     writes_more c.loop-i.invariant P.accepted l c.used-need.result (need_here P c.loop-i.i l c.used-need.ensures) c.record-rec.ensures c.take-m.ensures c.emitted-e.ensures c.instruction-ins.ensures c.entry-w.ensures c.emit.ensures
 

@@ -1,12 +1,7 @@
 -- The target holds the instructions so far, and zeros.
 use Prim.Native.Nat.{◌-◌}
-use native.Mathlib.Omega.{arith}
 use lib.ListN.{length}
-use borrow.Author.Rules.{rules}
-use Rattle.tables.specs.Lines.{kind_in}
-use Rattle.programs.proofs.Keeping.{zeros_length, held_here, few_here, kind_here, few_emitted}
-use Rattle.programs.proofs.Counting.{small_here, small_next, need_here}
-use Rattle.programs.proofs.Writing.{Writes, writes_start, writes_size, fits_here, writes_more, writes_end}
+use Rattle.programs.proofs.Writing.{Writes}
 use Rattle.passes.proofs.write_all.Given as goal
 
 abbrev pub invariant-loop-i : goal.invariant-loop-i

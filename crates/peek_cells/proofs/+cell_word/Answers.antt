@@ -1,28 +1,15 @@
 -- The measure of both is the line's number, which falls at each call.
-use Prim.Native.Nat.{ℕ, ◌+◌, ◌-◌, ◌^◌, ◌≤◌, ◌<◌}
-use mathlib.Core.Path.{◌≡◌, subst, ◌∙◌}
+use Prim.Native.Nat.{ℕ, ◌+◌, ◌-◌, ◌≤◌, ◌<◌}
+use mathlib.Core.Path.{subst, ◌∙◌}
 use mathlib.Core.Bool.{true, false}
-use mathlib.Core.Logic.{inl, inr, ⊎_elim}
+use mathlib.Core.Logic.{inl, inr}
 use native.Mathlib.Omega.{arith}
-use lib.Dec.{ltb}
-use lib.ListN.{get_or}
-use mir.Syntax.{w64}
-use mir.Val.{Fits}
-use borrow.Author.Rules.{rules}
-use borrow.Author.Tests.{ltb-true, ltb-false}
-use Rattle.tables.specs.Layout.{lines_of}
-use Rattle.peeks.specs.Peek.{step_zero}
+use borrow.Author.Tests.{ltb-true}
 use Rattle.peeks.proofs.Peeking.{word_kept_lem, cell_through, cell_through_word, not_none, number, word_most, start_asks, start_is, init_is, word_first, first_equality, first_word, second_word, read_through, cell_first, cell_word_lem, cell_start, ite_through, write_hit, write_miss}
 use Rattle.peeks.proofs.Valued.{value_asks, value_is}
-use Rattle.peeks.proofs.Compared.{Alike, left_cell, right_cell, alike_none, alike_more, alike_all}
+use Rattle.peeks.proofs.Compared.{left_cell, right_cell, alike_more, alike_all}
 use Rattle.peek_cells.proofs.+cell_word.Goals as goal
 use Rattle.peek_cells.proofs.+cell_word.Goals.{word-then-loop-same-test+else-k-m, word-else-loop-same-test}
-
-more_fits : (k m : ℕ) → ltb k m ≡ true → m < 2 ^ 64 → Fits w64 (k + 1)
-more_fits k m e h = omega (arith, ltb-true k m e)
-
-fewer : (k m : ℕ) → ltb k m ≡ true → m - (k + 1) < m - k
-fewer k m e = omega (arith, ltb-true k m e)
 
 pub cell-overflow_sub-n : goal.cell-overflow_sub-n
 cell-overflow_sub-n t c = let a = c.args in let p = c.requires in let lk = p.looks in let ln = p.line in omega (arith, (number lk a.n ln.array.value).least)

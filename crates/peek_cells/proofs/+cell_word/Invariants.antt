@@ -1,6 +1,6 @@
 -- The measure of both is the line's number, which falls at each call.
 use Prim.Native.Nat.{◌-◌}
-use mathlib.Core.Bool.{true, false}
+use mathlib.Core.Bool.{false}
 use lib.ListN.{get_or}
 use Rattle.tables.specs.Layout.{lines_of}
 use Rattle.peeks.specs.Peek.{step_zero}

@@ -1,11 +1,7 @@
 use Prim.Native.Nat.{◌-◌}
 use mathlib.Core.Bool.{false}
-use mathlib.Core.Path.{sym, ◌∙◌}
-use mathlib.Core.List.{[]}
-use native.Mathlib.Omega.{arith}
-use Rattle.tables.proofs.Encoding.{fits_table}
 use Rattle.tables.specs.Layout.{lines_of}
-use Rattle.peeks.proofs.Inits.{Noting, noting_none, noting_more, noting_ends}
+use Rattle.peeks.proofs.Inits.{Noting}
 use Rattle.peek_values.proofs.find_inits.Given as goal
 
 abbrev pub invariant-loop-i : goal.invariant-loop-i

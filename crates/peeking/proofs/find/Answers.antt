@@ -1,7 +1,6 @@
 use mathlib.Core.Path.{refl, sym, ◌∙◌}
 use native.Mathlib.Omega.{arith}
 use Rattle.peeks.proofs.Seen.{looks_all, line_few, word_here, word_seen, cell_here, cell_seen, kept_none}
-use borrow.Author.Rules.{rules}
 use Rattle.peeking.proofs.find.Goals as goal
 
 pub cells-requires : goal.cells-requires

@@ -1,9 +1,6 @@
 use Prim.Native.Nat.{◌-◌}
-use mathlib.Core.Path.{refl, sym, ◌∙◌}
-use native.Mathlib.Omega.{arith}
-use Rattle.tables.proofs.Encoding.{fits_table}
-use Rattle.tables.specs.Layout.{record_at, lines_of}
-use Rattle.circuits.proofs.Placing.{MarksSoFar, marks_more, marks_end}
+use Rattle.tables.specs.Layout.{lines_of}
+use Rattle.circuits.proofs.Placing.{MarksSoFar}
 use Rattle.places.proofs.bad_marks.Given as goal
 
 abbrev pub invariant-loop-i : goal.invariant-loop-i

@@ -1,14 +1,8 @@
 -- The words passed are the record's.
-use borrow.Author.Rules.{rules}
-use Prim.Native.Nat.{ℕ, ◌+◌, ◌-◌, ◌*◌, ◌≤◌, ◌<◌}
-use mathlib.Core.Path.{◌≡◌, refl, ap, ◌∙◌}
-use mathlib.Core.Bool.{Bool}
-use mathlib.Core.List.{List}
-use native.Mathlib.Omega.{arith}
-use lib.ListN.{length, get_or, set, take, length-set}
+use Prim.Native.Nat.{ℕ, ◌+◌, ◌-◌, ◌*◌, ◌≤◌}
+use mathlib.Core.Path.{◌≡◌}
+use lib.ListN.{length, take}
 use Rattle.tables.specs.Layout.{set_words}
-use Rattle.tables.proofs.Layouts.{words_in}
-use Rattle.records.proofs.Columns.{Stepped, word_inside, set_next, row_put}
 use Rattle.records.proofs.put.Given as goal
 
 abbrev pub invariant-loop-j : goal.invariant-loop-j

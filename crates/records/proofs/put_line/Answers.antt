@@ -11,7 +11,8 @@ use Rattle.records.proofs.Columns.{row_id}
 use Rattle.records.proofs.put_line.Goals as goal
 
 pub returns : goal.returns
-returns c = let a = c.args in
+returns c =
+    let a = c.args in
     let q = c.put.ensures in
     let h = c.step-h.result in
     let e = c.step-h.ensures ∙ ap (λ (t : List ℕ). step_of false (length t)) q ∙ ap (step_of false) (length_recorded false a.table.now a.i a.rec) in

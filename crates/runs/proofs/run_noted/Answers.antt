@@ -1,7 +1,6 @@
 use mathlib.Core.Path.{sym, ◌∙◌}
 use lib.ListN.{length}
 use Rattle.circuits.proofs.Answering.{runs_refused, runs_lent}
-use borrow.Author.Rules.{rules}
 use Rattle.runs.proofs.run_noted.Goals as goal
 
 pub returns-in-Refused : goal.returns-in-Refused

@@ -1,7 +1,5 @@
 -- Rule 8 for minuses, and then the others.
 use mathlib.Core.Path.{sym, ap, ◌∙◌}
-use mathlib.Core.Logic.{⊎_elim}
-use borrow.Author.Rules.{rules}
 use borrow.Author.Tests.{not-true, not-false}
 use Rattle.tables.specs.Model.Notes.{look_in, given_in}
 use Rattle.texts.specs.Model.Structs.{as_read}
@@ -10,14 +8,16 @@ use Rattle.stages.proofs.allow.Goals as goal
 use Rattle.stages.proofs.allow.Goals.{then-has_signs+else-not-signs_fit, else-has_signs}
 
 pub returns-then-not-signs_fit : goal.returns-then-not-signs_fit
-returns-then-not-signs_fit c = let s = c.args in
+returns-then-not-signs_fit c =
+    let s = c.args in
     let L = look_in s.notes.now in
     let G = given_in s.notes.now in
     let e = by_own_row L G s.f s.rec s.minus s.len c.requires c.signs_fit.ensures in
     c.refuse.ensures ∙ ap as_read (sym (minus_8 L G s.f s.rec s.minus s.len (sym e ∙ not-true _ c.if-not-signs_fit.true-raw)))
 
 pub returns : goal.returns
-returns c = let s = c.args in
+returns c =
+    let s = c.args in
     let L = look_in s.notes.now in
     let G = given_in s.notes.now in
     c.judge.ensures

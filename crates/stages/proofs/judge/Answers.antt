@@ -5,7 +5,6 @@ use Prim.Native.Nat.{ℕ}
 use Rattle.texts.specs.Model.Stages.{ruled}
 use Rattle.texts.specs.Model.Structs.{as_read}
 use Rattle.texts.proofs.Steps.{judged_8, judged_9, judged_const, judged_other}
-use borrow.Author.Rules.{rules}
 use Rattle.stages.proofs.judge.Goals as goal
 
 pub returns-then-a-eq8 : goal.returns-then-a-eq8

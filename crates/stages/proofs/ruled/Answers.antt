@@ -2,7 +2,6 @@
 use mathlib.Core.Path.{sym, ap, ◌∙◌}
 use Rattle.texts.specs.Model.Structs.{as_read}
 use Rattle.texts.proofs.Steps.{ruled_got, ruled_9, ruled_10}
-use borrow.Author.Rules.{rules}
 use Rattle.stages.proofs.ruled.Goals as goal
 
 pub returns-then-a-eq0 : goal.returns-then-a-eq0

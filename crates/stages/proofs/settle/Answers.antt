@@ -3,7 +3,6 @@ use mathlib.Core.Path.{sym, ap, ◌∙◌}
 use Prim.Native.Nat.{ℕ}
 use lib.ListN.{set}
 use Rattle.texts.proofs.Steps.{settled_one, settled_ones, settled_other}
-use borrow.Author.Rules.{rules}
 use Rattle.stages.proofs.settle.Goals as goal
 
 pub returns-then-f-eq67 : goal.returns-then-f-eq67

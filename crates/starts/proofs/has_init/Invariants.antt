@@ -1,10 +1,6 @@
 -- What the kinds so far say, or what the lines ahead say, is the answer.
-use Prim.Native.Nat.{◌+◌, ◌-◌}
-use mathlib.Core.Path.{sym, subst}
-use mathlib.Core.Bool.{Bool}
-use mathlib.Core.Logic.{⊎_elim}
-use borrow.Author.Rules.{rules}
-use Rattle.starts.proofs.Inits.{record_there, Looked, init_start, init_found, init_further, init_end}
+use Prim.Native.Nat.{◌-◌}
+use Rattle.starts.proofs.Inits.{Looked}
 use Rattle.starts.proofs.has_init.Given as goal
 
 abbrev pub invariant-loop-i : goal.invariant-loop-i

@@ -1,14 +1,8 @@
 -- The words of the states so far are masked, whatever the row.
-use Prim.Native.Nat.{ℕ, ◌+◌, ◌-◌, ◌≤◌}
-use mathlib.Core.Path.{◌≡◌, sym, ◌∙◌, subst}
-use mathlib.Core.Logic.{⊎_elim}
-use mathlib.Core.List.{List, []}
-use native.Mathlib.Omega.{arith}
-use lib.ListN.{drop, length-drop}
-use borrow.Author.Rules.{rules}
+use Prim.Native.Nat.{◌-◌, ◌≤◌}
+use lib.ListN.{drop}
 use Rattle.tables.specs.Layout.{lines_of}
-use Rattle.starts.proofs.Inits.{record_there}
-use Rattle.starts.proofs.Masking.{Masked, masked_none, masked_fit, masked_state, masked_other, masked_all}
+use Rattle.starts.proofs.Masking.{Masked}
 use Rattle.starts.proofs.mask_starts.Given as goal
 
 abbrev pub invariant-loop-i : goal.invariant-loop-i

@@ -1,10 +1,8 @@
 -- The state words, masked or not, are copied to the state's cells.
-use mathlib.Core.Path.{◌∙◌, ap}
-use mathlib.Core.Logic.{inr}
+use mathlib.Core.Path.{ap}
 use Prim.Native.Nat.{ℕ, ◌+◌}
 use native.Mathlib.Omega.{arith}
 use Rattle.circuits.proofs.Puts as laws
-use borrow.Author.Rules.{rules}
 use Rattle.state_lines.proofs.line_state.Goals as goal
 
 pub returns : goal.returns

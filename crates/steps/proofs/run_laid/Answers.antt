@@ -1,16 +1,13 @@
-use mathlib.Core.Path.{◌∙◌, ◌≡◌, refl, sym, ap}
-use Prim.Native.Nat.{ℕ, ◌≤◌}
-use native.Mathlib.Omega.{arith}
-use lib.ListN.{length, take, replicate, length-drop}
-use lib.Seq.{length-take-le, length_front}
+use mathlib.Core.Path.{◌∙◌, sym, ap}
+use Prim.Native.Nat.{ℕ}
+use lib.ListN.{take, replicate}
 use Rattle.tables.specs.Layout.{lines_of}
-use Rattle.circuits.proofs.Repeated.{once, ready_as, start_as, run_as}
-use Rattle.circuits.proofs.Stepping.{first_inputs}
-use borrow.Author.Rules.{rules}
+use Rattle.circuits.proofs.Repeated.{start_as, run_as}
 use Rattle.steps.proofs.run_laid.Goals as goal
 
 pub returns : goal.returns
-returns c = let a = c.args in
+returns c =
+    let a = c.args in
     let C = lines_of a.program a.table.now a.count in
     let g = c.begin in
     let t = c.steps in (

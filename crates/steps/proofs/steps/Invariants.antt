@@ -1,11 +1,8 @@
 -- Before each step the state words are those of the definition, and the signal bytes hold those of the steps done.
 use Prim.Native.Nat.{◌+◌, ◌-◌}
-use mathlib.Core.Path.{refl, sym, ◌∙◌}
-use native.Mathlib.Omega.{arith}
 use lib.ListN.{length, drop}
-use borrow.Author.Rules.{rules}
 use Rattle.tables.specs.Layout.{lines_of}
-use Rattle.circuits.proofs.Stepping.{Stepped, stepped_none, stepped_all, running, rooms, enter_fits, walk_ready, stepped_more}
+use Rattle.circuits.proofs.Stepping.{Stepped}
 use Rattle.steps.proofs.steps.Given as goal
 
 abbrev pub invariant-loop-i : goal.invariant-loop-i

@@ -7,7 +7,6 @@ use lib.ListN.{length, take, drop, length-drop}
 use lib.Seq.{length-take-le, drop-drop}
 use Rattle.texts.specs.Split.{up_to}
 use Rattle.texts.proofs.Places.{up_to_take, cut_at}
-use borrow.Author.Rules.{rules}
 use Rattle.tokens.proofs.cut.Goals as goal
 
 from_there : (s : List ℕ) (i e j k : ℕ) → i ≤ k → k ≤ e → k ≤ j → i + length (up_to 59 (drop i s)) ≡ j + length (up_to 59 (drop j s))
@@ -24,7 +23,8 @@ unfolding up_to
 none x = refl
 
 pub returns-then-e-j : goal.returns-then-e-j
-returns-then-e-j c = let s : List ℕ = c.args.s.now in
+returns-then-e-j c =
+    let s : List ℕ = c.args.s.now in
     let i : ℕ = c.args.i in
     let e : ℕ = c.args.e in
     let p = c.pass_blocks-j in
@@ -34,7 +34,8 @@ returns-then-e-j c = let s : List ℕ = c.args.s.now in
     (omega arith, (omega arith, cut_at (drop i s) (e - i) (e - i) (omega arith) (omega (arith, h, n, none (drop e s)))))
 
 pub returns : goal.returns
-returns c = let s : List ℕ = c.args.s.now in
+returns c =
+    let s : List ℕ = c.args.s.now in
     let i : ℕ = c.args.i in
     let e : ℕ = c.args.e in
     let p = c.pass_blocks-j in

@@ -1,9 +1,7 @@
-use borrow.Author.Rules.{rules}
-use Prim.Native.Nat.{◌+◌, ◌-◌, ◌≤◌}
+use Prim.Native.Nat.{◌-◌}
 use native.Mathlib.Omega.{arith}
-use mathlib.Core.Path.{◌≡◌, ap}
-use lib.ListN.{length, drop}
-use Rattle.texts.specs.Split.{up_to}
+use mathlib.Core.Path.{ap}
+use lib.ListN.{length}
 use Rattle.texts.proofs.Scan.{up_to_hit, up_to_miss, up_to_end}
 use Rattle.tokens.proofs.find_byte.Goals as goal
 

@@ -1,5 +1,4 @@
-use borrow.Author.Rules.{rules}
-use Prim.Native.Nat.{ℕ, ◌+◌, ◌-◌, ◌≤◌}
+use Prim.Native.Nat.{ℕ, ◌+◌, ◌-◌}
 use native.Mathlib.Omega.{arith}
 use mathlib.Core.Path.{◌≡◌, ap}
 use mathlib.Core.List.{List}
@@ -15,14 +14,16 @@ pub returns-then-s-j : goal.returns-then-s-j
 returns-then-s-j c = (omega arith, (omega arith, omega (arith, c.loop-j.invariant.1.1, ap length (up_to_hit c.args.b c.args.s.now c.loop-j.j (omega arith) c.if-s-j.true))))
 
 pub returns-then-s-j-2 : goal.returns-then-s-j-2
-returns-then-s-j-2 c = let s : List ℕ = c.args.s.now in
+returns-then-s-j-2 c =
+    let s : List ℕ = c.args.s.now in
     let b : ℕ = c.args.b in
     let j : ℕ = c.loop-j.j in
     let first = ap length (up_to_miss b s j (omega arith) c.if-s-j.false) in
     (omega arith, (omega arith, omega (arith, c.loop-j.invariant.1.1, first, ap length (up_to_hit b s (j + 1) (omega arith) c.if-s-j-2.true))))
 
 pub loop-j-preserved : goal.loop-j-preserved
-loop-j-preserved c = let s : List ℕ = c.args.s.now in
+loop-j-preserved c =
+    let s : List ℕ = c.args.s.now in
     let b : ℕ = c.args.b in
     let j : ℕ = c.loop-j.j in
     let first = ap length (up_to_miss b s j (omega arith) c.if-s-j.false) in

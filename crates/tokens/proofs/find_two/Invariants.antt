@@ -1,12 +1,8 @@
 -- The bytes passed are others.
-use borrow.Author.Rules.{rules}
-use Prim.Native.Nat.{ℕ, ◌+◌, ◌-◌, ◌≤◌}
-use native.Mathlib.Omega.{arith}
-use mathlib.Core.Path.{◌≡◌, ap}
-use mathlib.Core.List.{List}
+use Prim.Native.Nat.{◌+◌, ◌-◌, ◌≤◌}
+use mathlib.Core.Path.{◌≡◌}
 use lib.ListN.{length, drop}
 use Rattle.texts.specs.Split.{up_to}
-use Rattle.texts.proofs.Scan.{up_to_hit, up_to_miss, up_to_end}
 use Rattle.tokens.proofs.find_two.Given as goal
 
 abbrev pub invariant-loop-j : goal.invariant-loop-j

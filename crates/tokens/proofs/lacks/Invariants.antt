@@ -1,14 +1,9 @@
 -- As long as no byte was b, those passed are others.
-use borrow.Author.Rules.{rules}
-use Prim.Native.Nat.{ℕ, ◌+◌, ◌-◌, ◌≤◌}
-use mathlib.Core.Path.{◌≡◌, sym, ap, ◌∙◌}
-use mathlib.Core.Bool.{Bool, true, false}
-use mathlib.Core.List.{List}
-use mathlib.Core.Logic.{⊎_elim}
-use native.Mathlib.Omega.{arith}
+use Prim.Native.Nat.{◌+◌, ◌-◌, ◌≤◌}
+use mathlib.Core.Path.{◌≡◌}
+use mathlib.Core.Bool.{true}
 use lib.ListN.{length, drop}
 use Rattle.texts.specs.Split.{up_to}
-use Rattle.texts.proofs.Scan.{up_to_miss}
 use Rattle.tokens.proofs.lacks.Given as goal
 
 abbrev pub invariant-loop-k : goal.invariant-loop-k

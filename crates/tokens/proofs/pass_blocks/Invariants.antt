@@ -1,9 +1,6 @@
 -- Sixteen bytes at a time, as long as all are others.
-use borrow.Author.Rules.{rules}
-use borrow.Author.Tests.{not-false}
-use Prim.Native.Nat.{ℕ, ◌+◌, ◌-◌, ◌≤◌}
-use native.Mathlib.Omega.{arith}
-use mathlib.Core.Path.{◌≡◌, refl}
+use Prim.Native.Nat.{◌+◌, ◌-◌, ◌≤◌}
+use mathlib.Core.Path.{◌≡◌}
 use lib.ListN.{length, drop}
 use Rattle.texts.specs.Split.{up_to}
 use Rattle.tokens.proofs.pass_blocks.Given as goal

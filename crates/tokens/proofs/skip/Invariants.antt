@@ -1,11 +1,8 @@
 -- The places passed hold spaces.
-use borrow.Author.Rules.{rules}
 use Prim.Native.Nat.{◌-◌, ◌≤◌}
-use native.Mathlib.Omega.{arith}
-use mathlib.Core.Path.{◌≡◌, ◌∙◌}
+use mathlib.Core.Path.{◌≡◌}
 use lib.ListN.{length, drop}
 use Rattle.texts.specs.Split.{tokens}
-use Rattle.texts.proofs.Scan.{space_skipped}
 use Rattle.tokens.proofs.skip.Given as goal
 
 abbrev pub invariant-loop-j : goal.invariant-loop-j

@@ -1,5 +1,4 @@
 use Rattle.programs.proofs.Sets.{row_of_lem}
-use borrow.Author.Rules.{rules}
 use Rattle.uses.proofs.row.Goals as goal
 
 pub returns : goal.returns

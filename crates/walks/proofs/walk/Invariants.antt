@@ -1,12 +1,9 @@
 -- The work area holds what the lines so far mean.
-use Prim.Native.Nat.{ℕ, ◌-◌, ◌≤◌}
-use mathlib.Core.Path.{◌≡◌, refl, ◌∙◌, subst}
-use native.Mathlib.Omega.{arith}
-use lib.ListN.{length, drop, length-drop}
-use borrow.Author.Rules.{rules}
-use Rattle.tables.proofs.Encoding.{fits_table}
+use Prim.Native.Nat.{◌-◌, ◌≤◌}
+use mathlib.Core.Path.{◌≡◌}
+use lib.ListN.{length, drop}
 use Rattle.tables.specs.Layout.{lines_of}
-use Rattle.circuits.proofs.Walked.{Walked, walk_start, walk_fit, walk_step, walk_ends}
+use Rattle.circuits.proofs.Walked.{Walked}
 use Rattle.walks.proofs.walk.Given as goal
 
 abbrev pub invariant-loop-i : goal.invariant-loop-i

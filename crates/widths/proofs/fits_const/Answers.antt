@@ -4,7 +4,6 @@ use borrow.Author.Tests.{lt-ltb}
 use Rattle.tables.proofs.Laws.{shifted_out}
 use mathlib.Core.Path.{sym}
 use borrow.Author.Tests.{lt-ltb}
-use borrow.Author.Rules.{rules}
 use Rattle.widths.proofs.fits_const.Goals as goal
 
 pub returns-then-w-ge64 : goal.returns-then-w-ge64

@@ -1,5 +1,4 @@
 use mathlib.Core.Path.{refl, sym, ap, ◌∙◌, subst}
-use borrow.Author.Rules.{rules}
 use Rattle.circuits.proofs.Puts as laws
 use Rattle.word_lines.specs.Model.Operators.{Room, is_word, leaves}
 use Rattle.word_lines.proofs.store.Goals as goal

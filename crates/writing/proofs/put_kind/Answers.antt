@@ -1,16 +1,11 @@
 -- The words of a kind, with their spaces.
-use Prim.Native.Nat.{ℕ, ◌+◌}
+use Prim.Native.Nat.{ℕ}
 use native.Mathlib.Omega.{arith}
-use mathlib.Core.Path.{◌≡◌, sym, ap, ◌∙◌, subst}
-use mathlib.Core.List.{List, [], ◌∷◌, ◌++◌}
+use mathlib.Core.Path.{ap}
+use mathlib.Core.List.{List}
 use lib.ListN.{length}
-use lib.Seq.{sets}
 use Rattle.tables.specs.Kinds.{word_of}
-use Rattle.texts.specs.Forms.{sort_word}
-use Rattle.texts.specs.Split.{spaced}
-use Rattle.texts.specs.Writing.{kind_tokens}
-use Rattle.texts.proofs.Printed.{kind_sort, kind_word, and_then, row_words}
-use borrow.Author.Rules.{rules}
+use Rattle.texts.proofs.Printed.{kind_sort, kind_word, row_words}
 use Rattle.writing.proofs.put_kind.Goals as goal
 
 pub put_word-requires : goal.put_word-requires

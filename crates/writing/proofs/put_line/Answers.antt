@@ -1,13 +1,12 @@
 -- The parts of a line, one after the other.
 use Prim.Native.Nat.{ℕ, ◌≤◌}
 use native.Mathlib.Omega.{arith}
-use mathlib.Core.Path.{sym, subst, ◌∙◌}
+use mathlib.Core.Path.{sym, subst}
 use mathlib.Core.List.{List}
 use Rattle.tables.specs.Kinds.{operand_count}
 use Rattle.tables.specs.Lines.{kind_in}
 use Rattle.texts.proofs.Words.{sorted_most}
 use Rattle.texts.proofs.Printed.{row_fit, line_length, line_put}
-use borrow.Author.Rules.{rules}
 use Rattle.writing.proofs.put_line.Goals as goal
 
 pub put_numbers-d-requires : goal.put_numbers-d-requires

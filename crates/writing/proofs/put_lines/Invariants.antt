@@ -1,8 +1,6 @@
 -- Line after line; what is left to store is from the next record on.
 use Prim.Native.Nat.{◌-◌}
-use borrow.Author.Rules.{rules}
-use native.Mathlib.Omega.{arith}
-use Rattle.texts.proofs.Printed.{Before, before_all, after_all, this_kind, this_fits, next_record}
+use Rattle.texts.proofs.Printed.{Before}
 use Rattle.writing.proofs.put_lines.Given as goal
 
 abbrev pub invariant-loop-p : goal.invariant-loop-p

@@ -1,19 +1,18 @@
-use borrow.Author.Rules.{rules}
-use Prim.Native.Nat.{ℕ, ◌+◌, ◌-◌, ◌^◌, ◌<◌, ◌≤◌}
+use Prim.Native.Nat.{ℕ, ◌+◌, ◌-◌, ◌<◌}
 use native.Mathlib.Omega.{arith}
-use mathlib.Core.Path.{◌≡◌, refl, sym, ap, ◌∙◌}
-use mathlib.Core.List.{List, []}
+use mathlib.Core.Path.{refl, sym, ap, ◌∙◌}
+use mathlib.Core.List.{List}
 use lib.ListN.{length, get_or, length-set}
 use lib.Seq.{sets, length-sets}
-use Rattle.tables.specs.Layout.{record_words}
 use Rattle.texts.specs.Split.{spaced}
 use Rattle.texts.specs.Decimal.{digits}
 use Rattle.texts.specs.Writing.{numbers}
-use Rattle.texts.proofs.Printed.{numbers_none, number_less, number_out}
+use Rattle.texts.proofs.Printed.{number_less, number_out}
 use Rattle.writing.proofs.put_numbers.Goals as goal
 
 pub loop-i-preserved : goal.loop-i-preserved
-loop-i-preserved c = let v = c.loop-i.invariant in
+loop-i-preserved c =
+    let v = c.loop-i.invariant in
     let r : List ℕ = c.args.rec in
     let e : ℕ = c.args.j + c.args.m in
     let i : ℕ = c.loop-i.i in

@@ -1,16 +1,11 @@
 -- The numbers passed are stored.
-use borrow.Author.Rules.{rules}
-use Prim.Native.Nat.{ℕ, ◌+◌, ◌-◌, ◌^◌, ◌<◌, ◌≤◌}
-use native.Mathlib.Omega.{arith}
-use mathlib.Core.Path.{◌≡◌, refl, sym, ap, ◌∙◌}
-use mathlib.Core.List.{List, []}
-use lib.ListN.{length, get_or, length-set}
-use lib.Seq.{sets, length-sets}
+use Prim.Native.Nat.{◌+◌, ◌-◌, ◌^◌, ◌<◌, ◌≤◌}
+use mathlib.Core.Path.{◌≡◌}
+use lib.ListN.{length}
+use lib.Seq.{sets}
 use Rattle.tables.specs.Layout.{record_words}
 use Rattle.texts.specs.Split.{spaced}
-use Rattle.texts.specs.Decimal.{digits}
 use Rattle.texts.specs.Writing.{numbers}
-use Rattle.texts.proofs.Printed.{numbers_none, number_less, number_out}
 use Rattle.writing.proofs.put_numbers.Given as goal
 
 abbrev pub invariant-loop-i : goal.invariant-loop-i

@@ -1,17 +1,17 @@
-use borrow.Author.Rules.{rules}
-use Prim.Native.Nat.{ℕ, ◌+◌, ◌-◌, ◌^◌, ◌<◌, ◌≤◌}
+use Prim.Native.Nat.{ℕ, ◌+◌, ◌-◌, ◌<◌}
 use native.Mathlib.Omega.{arith}
-use mathlib.Core.Path.{◌≡◌, refl, sym, ap, ◌∙◌}
+use mathlib.Core.Path.{◌≡◌, sym, ap, ◌∙◌}
 use mathlib.Core.List.{List}
-use lib.ListN.{length, drop, get_or, set, length-set, length-drop}
+use lib.ListN.{length, drop, get_or, set, length-set}
 use lib.Seq.{sets}
 use Rattle.tables.specs.Kinds.{word_of}
-use Rattle.texts.proofs.Words.{word_at_lem, word_length}
-use Rattle.texts.proofs.Printed.{out_byte, out_less, out_none}
+use Rattle.texts.proofs.Words.{word_at_lem}
+use Rattle.texts.proofs.Printed.{out_byte, out_less}
 use Rattle.writing.proofs.put_word.Goals as goal
 
 pub loop-i-preserved : goal.loop-i-preserved
-loop-i-preserved c = let v = c.loop-i.invariant in
+loop-i-preserved c =
+    let v = c.loop-i.invariant in
     let w : List ℕ = word_of c.args.r in
     let i : ℕ = c.loop-i.i in
     let l : List ℕ = c.loop-i.out in

@@ -1,14 +1,9 @@
 -- The letters passed are stored.
-use borrow.Author.Rules.{rules}
-use Prim.Native.Nat.{ℕ, ◌+◌, ◌-◌, ◌^◌, ◌<◌, ◌≤◌}
-use native.Mathlib.Omega.{arith}
-use mathlib.Core.Path.{◌≡◌, refl, sym, ap, ◌∙◌}
-use mathlib.Core.List.{List}
-use lib.ListN.{length, drop, get_or, set, length-set, length-drop}
+use Prim.Native.Nat.{◌+◌, ◌-◌, ◌^◌, ◌<◌, ◌≤◌}
+use mathlib.Core.Path.{◌≡◌}
+use lib.ListN.{length, drop, get_or}
 use lib.Seq.{sets}
 use Rattle.tables.specs.Kinds.{word_of}
-use Rattle.texts.proofs.Words.{word_at_lem, word_length}
-use Rattle.texts.proofs.Printed.{out_byte, out_less, out_none}
 use Rattle.writing.proofs.put_word.Given as goal
 
 abbrev pub invariant-loop-i : goal.invariant-loop-i

@@ -10,19 +10,20 @@ use Rattle.tables.specs.Layout.{records_of}
 use Rattle.texts.specs.Writing.{write_text}
 use Rattle.texts.proofs.Round.{held}
 use Rattle.texts.proofs.Printed.{out_not, out_short, out_written}
-use borrow.Author.Rules.{rules}
 use Rattle.writing.proofs.write.Goals as goal
 
 pub put_lines-n-requires : goal.put_lines-n-requires
 put_lines-n-requires c = let h = held c.args.table.now c.args.count (sym c.accept-c.ensures ∙ c.in-Accepted.is) in (h.fits, h.law)
 
 pub returns-then-text-n : goal.returns-then-text-n
-returns-then-text-n c = let s = c.args in let k = c.put_lines-n.auto.out ∙ c.clear.auto.xs in
+returns-then-text-n c =
+    let s = c.args in let k = c.put_lines-n.auto.out ∙ c.clear.auto.xs in
     out_short s.table.now s.count (length s.text.now) c.accept-c.ensures c.in-Accepted.is (omega (arith, k, c.if-text-n.true, c.put_lines-n.ensures.0)) (c.clear-then-text-n.ensures ∙ ap (λ (n : ℕ). replicate {A = ℕ} n 0) k)
 
 pub returns-in-Refused : goal.returns-in-Refused
 returns-in-Refused c = let s = c.args in out_not s.table.now s.count (length s.text.now) c.accept-c.ensures c.in-Refused.is c.clear.ensures
 
 pub returns-else-text-n : goal.returns-else-text-n
-returns-else-text-n c = let s = c.args in let k = c.put_lines-n.auto.out ∙ c.clear.auto.xs in
+returns-else-text-n c =
+    let s = c.args in let k = c.put_lines-n.auto.out ∙ c.clear.auto.xs in
     out_written s.table.now s.count (length s.text.now) c.put_lines-n.result c.accept-c.ensures c.in-Accepted.is c.put_lines-n.ensures.0 (omega (arith, k, c.if-text-n.false)) (c.put_lines-n.ensures.1 ∙ ap (λ (x : List ℕ). sets x 0 (write_text (records_of false s.table.now s.count))) c.clear.ensures)

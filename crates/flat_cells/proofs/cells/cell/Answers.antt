@@ -1,12 +1,12 @@
-use Prim.Native.Nat.{ℕ, ◌<◌}
-use mathlib.Core.Path.{◌≡◌, refl, sym, ap, ◌∙◌, subst⁻¹}
-use native.Mathlib.Omega.{arith}
+use Prim.Native.Nat.{ℕ}
+use mathlib.Core.Path.{sym, ap, ◌∙◌}
 use Rattle.flattening.specs.Model.Cells.{cell_in}
 use Rattle.flattening.proofs.Holding.{cell_own, cell_new, cell_old}
 use Rattle.flat_cells.proofs.cells.cell.Goals as goal
 
 pub returns-then-entry-j : goal.returns-then-entry-j
-returns-then-entry-j c = let s = c.args in
+returns-then-entry-j c =
+    let s = c.args in
     let H = s.kept.now in
     let m = c.loop-a.m in
     c.entry-then-entry-j.ensures
@@ -14,7 +14,8 @@ returns-then-entry-j c = let s = c.args in
     ∙ c.loop-a.invariant
 
 pub loop-a-preserved : goal.loop-a-preserved
-loop-a-preserved c = let s = c.args in
+loop-a-preserved c =
+    let s = c.args in
     let H = s.kept.now in
     let m = c.loop-a.m in
     ap (λ (x : ℕ). cell_in H x s.j) c.entry-m.ensures
@@ -22,7 +23,8 @@ loop-a-preserved c = let s = c.args in
     ∙ c.loop-a.invariant
 
 pub returns : goal.returns
-returns c = let s = c.args in
+returns c =
+    let s = c.args in
     let H = s.kept.now in
     let m = c.loop-a.m in
     c.own.ensures ∙ sym (cell_own H m s.j (sym c.entry.ensures ∙ c.loop-a-test.false)) ∙ c.loop-a.invariant

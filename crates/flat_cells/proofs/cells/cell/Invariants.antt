@@ -1,9 +1,6 @@
 -- The loop keeps the cell's flat line: from one line to the line it writes over.
-use Prim.Native.Nat.{ℕ, ◌<◌}
-use mathlib.Core.Path.{◌≡◌, refl, sym, ap, ◌∙◌, subst⁻¹}
-use native.Mathlib.Omega.{arith}
+use mathlib.Core.Path.{◌≡◌}
 use Rattle.flattening.specs.Model.Cells.{cell_in}
-use Rattle.flattening.proofs.Holding.{cell_own, cell_new, cell_old}
 use Rattle.flat_cells.proofs.cells.cell.Given as goal
 
 abbrev pub invariant-loop-a : goal.invariant-loop-a

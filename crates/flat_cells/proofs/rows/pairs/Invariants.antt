@@ -1,13 +1,9 @@
 -- The records passed are those of the pairs.
-use borrow.Author.Rules.{rules}
-use Prim.Native.Nat.{ℕ, ◌+◌, ◌-◌, ◌*◌, ◌≤◌}
-use mathlib.Core.Path.{◌≡◌, refl, ap, ap₂, ◌∙◌}
-use mathlib.Core.List.{List, [], ◌∷◌}
-use native.Mathlib.Omega.{arith}
+use Prim.Native.Nat.{◌-◌, ◌≤◌}
+use mathlib.Core.Path.{◌≡◌}
 use lib.ListN.{length}
 use Rattle.flattening.specs.Placed.{put_flat}
 use Rattle.flattening.specs.Model.Rows.{rows_for, pair_at}
-use Rattle.flattening.proofs.Placing.{flat_none, length_flat, pair_more}
 use Rattle.flat_cells.proofs.rows.pairs.Given as goal
 
 abbrev pub invariant-loop-j : goal.invariant-loop-j

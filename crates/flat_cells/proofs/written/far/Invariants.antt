@@ -1,7 +1,5 @@
 -- Each turn goes one write up.
 use Prim.Native.Nat.{◌-◌, ◌≤◌}
-use native.Mathlib.Omega.{arith}
-use borrow.Author.Rules.{rules}
 use Rattle.flat_cells.proofs.written.far.Given as goal
 
 abbrev pub invariant-loop-k : goal.invariant-loop-k

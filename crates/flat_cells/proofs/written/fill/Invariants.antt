@@ -1,13 +1,6 @@
 -- The words passed tell the first cells.
-use Prim.Native.Nat.{ℕ, ◌+◌, ◌-◌, ◌/◌, ◌%◌, ◌≤◌, ◌<◌}
-use mathlib.Core.Path.{◌≡◌, subst, subst⁻¹}
-use mathlib.Core.List.{List}
-use native.Mathlib.Omega.{arith}
-use lib.ListN.{length}
+use Prim.Native.Nat.{◌-◌, ◌≤◌}
 use Rattle.flattening.specs.Model.Cells.{Filled}
-use Rattle.flattening.proofs.Holding.{cell_lt}
-use Rattle.flattening.proofs.Written.{from_none, filling, filled}
-use borrow.Author.Rules.{rules}
 use Rattle.flat_cells.proofs.written.fill.Given as goal
 
 abbrev pub invariant-loop-j : goal.invariant-loop-j

@@ -1,8 +1,6 @@
-use Prim.Native.Nat.{ℕ, ◌-◌}
-use mathlib.Core.Path.{ap, ◌∙◌}
+use Prim.Native.Nat.{◌-◌}
 use native.Mathlib.Omega.{arith}
-use lib.ListN.{length, length-replicate}
-use Rattle.flattening.proofs.Going.{Going, shallow, going, record_fits, line_fits, rec_known, rec_deep, rec_fit, rec_next, rec_low, rec_ready, rec_short, rec_stopped, rec_done, same_kept, same_target}
+use Rattle.flattening.proofs.Going.{shallow, going, record_fits, line_fits, rec_known, rec_deep, rec_fit, rec_next, rec_low, rec_ready, rec_short, rec_stopped, rec_done}
 use Rattle.flatten.proofs.whole.all_lines.Goals as goal
 
 pub loop-i-init : goal.loop-i-init
@@ -24,13 +22,15 @@ pub line-m-requires : goal.line-m-requires
 line-m-requires c = (rec_known c.requires c.loop-i.invariant c.loop-i-test.true _ c.record-rec.ensures, rec_fit c.requires c.loop-i.invariant c.loop-i-test.true _ c.record-rec.ensures c.count_line-c.result c.room_of-room.result c.count_line-c.ensures c.room_of-room.ensures c.if-room-p.false)
 
 pub keep_line-used-requires : goal.keep_line-used-requires
-keep_line-used-requires c = let r = rec_ready c.requires (rec_next c.requires c.loop-i.invariant c.loop-i-test.true _ c.record-rec.ensures c.count_line-c.result c.room_of-room.result c.count_line-c.ensures c.room_of-room.ensures c.if-room-p.false c.line-m.result c.line-m.ensures) in
+keep_line-used-requires c =
+    let r = rec_ready c.requires (rec_next c.requires c.loop-i.invariant c.loop-i-test.true _ c.record-rec.ensures c.count_line-c.result c.room_of-room.result c.count_line-c.ensures c.room_of-room.ensures c.if-room-p.false c.line-m.result c.line-m.ensures) in
     let w = line_fits c.requires c.loop-i.i c.loop-i-test.true in
     let s = c.loop-i.invariant c.requires in
     (r.0, (r.1, (rec_low c.requires c.loop-i.invariant c.loop-i-test.true _ c.record-rec.ensures c.count_line-c.result c.room_of-room.result c.count_line-c.ensures c.room_of-room.ensures c.if-room-p.false c.line-m.result c.line-m.ensures, omega (arith, w.1, s.of_kept))))
 
 pub loop-i-preserved : goal.loop-i-preserved
-loop-i-preserved c = let made = c.line-m in
+loop-i-preserved c =
+    let made = c.line-m in
     let count = c.count_line-c in
     let room = c.room_of-room in
     rec_short c.requires

@@ -1,9 +1,6 @@
 -- Each turn takes one line: it is counted, and then laid.
-use Prim.Native.Nat.{ℕ, ◌-◌}
-use mathlib.Core.Path.{ap, ◌∙◌}
-use native.Mathlib.Omega.{arith}
-use lib.ListN.{length, length-replicate}
-use Rattle.flattening.proofs.Going.{Going, shallow, going, record_fits, line_fits, rec_known, rec_deep, rec_fit, rec_next, rec_low, rec_ready, rec_short, rec_stopped, rec_done, same_kept, same_target}
+use Prim.Native.Nat.{◌-◌}
+use Rattle.flattening.proofs.Going.{Going}
 use Rattle.flatten.proofs.whole.all_lines.Given as goal
 
 abbrev pub invariant-loop-i : goal.invariant-loop-i

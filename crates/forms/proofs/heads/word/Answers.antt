@@ -12,12 +12,14 @@ use borrow.Author.Rules.{rules}
 use Rattle.forms.proofs.heads.word.Goals as goal
 
 pub returns-then-a-l : goal.returns-then-a-l
-returns-then-a-l c = let l : List ℕ = c.args.l.now in
+returns-then-a-l c =
+    let l : List ℕ = c.args.l.now in
     let n : tokens (drop c.args.i l) ≡ [] = sym c.skip-a.ensures.1.1.0 ∙ no_token l c.skip-a.result (omega arith) in
     (search rules, (search rules, ap (λ (x : List (List ℕ)). word_in x) n ∙ word_none))
 
 pub returns-then-b-l : goal.returns-then-b-l
-returns-then-b-l c = let l : List ℕ = c.args.l.now in
+returns-then-b-l c =
+    let l : List ℕ = c.args.l.now in
     let a : ℕ = c.skip-a.result in
     let z : ℕ = c.find_byte-z.result in
     let n : tokens (drop c.args.i l) ≡ take (z - a) (drop a l) ∷ tokens (drop z l) =
@@ -26,7 +28,8 @@ returns-then-b-l c = let l : List ℕ = c.args.l.now in
     (search rules, (search rules, ap (λ (x : List (List ℕ)). word_in x) n ∙ (word_sort_lem (take (z - a) (drop a l)) (tokens (drop z l)) (sym c.is_sort.ensures ∙ c.if-is_sort.true) ∙ ap (λ (x : List (List ℕ)). sort_words x) k)))
 
 pub returns-then-is_sort : goal.returns-then-is_sort
-returns-then-is_sort c = let l : List ℕ = c.args.l.now in
+returns-then-is_sort c =
+    let l : List ℕ = c.args.l.now in
     let a : ℕ = c.skip-a.result in
     let z : ℕ = c.find_byte-z.result in
     let n : tokens (drop c.args.i l) ≡ take (z - a) (drop a l) ∷ tokens (drop z l) =
@@ -44,7 +47,8 @@ returns-then-is_sort c = let l : List ℕ = c.args.l.now in
     )
 
 pub returns : goal.returns
-returns c = let l : List ℕ = c.args.l.now in
+returns c =
+    let l : List ℕ = c.args.l.now in
     let a : ℕ = c.skip-a.result in
     let z : ℕ = c.find_byte-z.result in
     let n : tokens (drop c.args.i l) ≡ take (z - a) (drop a l) ∷ tokens (drop z l) =

@@ -1,27 +1,26 @@
-use borrow.Author.Rules.{rules}
-use Prim.Native.Nat.{ℕ, ◌+◌, ◌-◌, ◌≤◌, ◌<◌, zero-le}
+use Prim.Native.Nat.{ℕ, ◌+◌, ◌-◌, ◌<◌, zero-le}
 use native.Mathlib.Omega.{arith}
 use mathlib.Core.Path.{◌≡◌, refl, sym, ap, ap₂, ◌∙◌}
 use mathlib.Core.Bool.{Bool, true, false}
 use mathlib.Core.List.{List, ◌∷◌}
-use lib.ListN.{length, take, drop, get_or, set, length-set, length-drop}
+use lib.ListN.{length, take, drop, set, length-set, length-drop}
 use lib.Seq.{get_or-set_other, length-take-le}
 use lib.Arith.{lt_of_le-ne}
-use Rattle.tables.specs.Layout.{record_words}
 use Rattle.texts.specs.Split.{tokens}
-use Rattle.texts.specs.Minus.{no_signs}
 use Rattle.texts.specs.Model.Stages.{operands}
 use Rattle.texts.proofs.Places.{next_token, no_token}
 use Rattle.texts.proofs.Steps.{op_end, op_none, op_bad, op_big, op_is}
 use Rattle.forms.proofs.operands.operands.Goals as goal
 
 pub returns-then-a-l : goal.returns-then-a-l
-returns-then-a-l c = let s = c.args in let o = c.loop-p in let w = c.loop-p.invariant.1.1.1.1.1.1.1 in
+returns-then-a-l c =
+    let s = c.args in let o = c.loop-p in let w = c.loop-p.invariant.1.1.1.1.1.1.1 in
     let e : ℕ = s.j + s.m in
     (zero-le, (c.loop-p.invariant.0, w ∙ (ap (λ (ts : List (List ℕ)). operands s.f (e - o.p) o.p o.rec o.minus o.big o.len ts) (sym c.skip-a.ensures.1.1.0 ∙ no_token s.l.now c.skip-a.result (omega (arith, c.if-a-l.true))) ∙ op_none s.f e o.p o.rec o.minus o.big o.len c.loop-p-test.true)))
 
 pub returns-in-Bad : goal.returns-in-Bad
-returns-in-Bad c = let s = c.args in let o = c.loop-p in let w = c.loop-p.invariant.1.1.1.1.1.1.1 in
+returns-in-Bad c =
+    let s = c.args in let o = c.loop-p in let w = c.loop-p.invariant.1.1.1.1.1.1.1 in
     let e : ℕ = s.j + s.m in
     let l : List ℕ = s.l.now in
     let a : ℕ = c.skip-a.result in
@@ -33,7 +32,8 @@ returns-in-Bad c = let s = c.args in let o = c.loop-p in let w = c.loop-p.invari
     (zero-le, (c.loop-p.invariant.0, (u ∙ op_bad s.f e o.p o.rec o.minus o.big o.len t (tokens (drop z l)) c.loop-p-test.true (sym c.token-t.ensures.0 ∙ c.in-Bad.is))))
 
 pub loop-p-preserved-in-Big : goal.loop-p-preserved-in-Big
-loop-p-preserved-in-Big c = let s = c.args in let o = c.loop-p in let w = c.loop-p.invariant.1.1.1.1.1.1.1 in
+loop-p-preserved-in-Big c =
+    let s = c.args in let o = c.loop-p in let w = c.loop-p.invariant.1.1.1.1.1.1.1 in
     let e : ℕ = s.j + s.m in
     let l : List ℕ = s.l.now in
     let a : ℕ = c.skip-a.result in
@@ -67,7 +67,8 @@ loop-p-preserved-in-Big c = let s = c.args in let o = c.loop-p in let w = c.loop
     )
 
 pub loop-p-preserved : goal.loop-p-preserved
-loop-p-preserved c = let s = c.args in let o = c.loop-p in let w = c.loop-p.invariant.1.1.1.1.1.1.1 in
+loop-p-preserved c =
+    let s = c.args in let o = c.loop-p in let w = c.loop-p.invariant.1.1.1.1.1.1.1 in
     let e : ℕ = s.j + s.m in
     let l : List ℕ = s.l.now in
     let a : ℕ = c.skip-a.result in
@@ -102,6 +103,7 @@ loop-p-preserved c = let s = c.args in let o = c.loop-p in let w = c.loop-p.inva
     )
 
 pub returns : goal.returns
-returns c = let s = c.args in let o = c.loop-p in let w = c.loop-p.invariant.1.1.1.1.1.1.1 in
+returns c =
+    let s = c.args in let o = c.loop-p in let w = c.loop-p.invariant.1.1.1.1.1.1.1 in
     let e : ℕ = s.j + s.m in
     (c.loop-p.invariant.1.1.1.1.1.0, (c.loop-p.invariant.0, w ∙ op_end s.f e o.p o.rec o.minus o.big o.len (tokens (drop o.at s.l.now)) c.loop-p-test.false))

@@ -1,19 +1,12 @@
 -- The numbers passed are in the record, and their signs beside it.
-use borrow.Author.Rules.{rules}
-use Prim.Native.Nat.{ℕ, ◌+◌, ◌-◌, ◌≤◌, ◌<◌, zero-le}
-use native.Mathlib.Omega.{arith}
-use mathlib.Core.Path.{◌≡◌, refl, sym, ap, ap₂, ◌∙◌}
-use mathlib.Core.Bool.{Bool, true, false}
-use mathlib.Core.List.{List, ◌∷◌}
-use lib.ListN.{length, take, drop, get_or, set, length-set, length-drop}
-use lib.Seq.{get_or-set_other, length-take-le}
-use lib.Arith.{lt_of_le-ne}
+use Prim.Native.Nat.{◌+◌, ◌-◌, ◌≤◌}
+use mathlib.Core.Path.{◌≡◌}
+use mathlib.Core.Bool.{false}
+use lib.ListN.{length, drop, get_or}
 use Rattle.tables.specs.Layout.{record_words}
 use Rattle.texts.specs.Split.{tokens}
 use Rattle.texts.specs.Minus.{no_signs}
 use Rattle.texts.specs.Model.Stages.{operands}
-use Rattle.texts.proofs.Places.{next_token, no_token}
-use Rattle.texts.proofs.Steps.{op_end, op_none, op_bad, op_big, op_is}
 use Rattle.forms.proofs.operands.operands.Given as goal
 
 abbrev pub invariant-loop-p : goal.invariant-loop-p

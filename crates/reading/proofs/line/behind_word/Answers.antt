@@ -1,5 +1,4 @@
 -- What stands behind the word, with the id and the name.
-use borrow.Author.Rules.{rules}
 use Prim.Native.Nat.{ℕ, ◌-◌, ◌≤◌}
 use mathlib.Core.Path.{◌≡◌, sym, ap, ◌∙◌, subst}
 use mathlib.Core.List.{List}
@@ -16,7 +15,8 @@ use Rattle.texts.proofs.Readouts.{tells_labels}
 use Rattle.reading.proofs.line.behind_word.Goals as goal
 
 pub finish-r-requires : goal.finish-r-requires
-finish-r-requires c = let p = c.requires in
+finish-r-requires c =
+    let p = c.requires in
     let l = c.args.l.now in
     let t = c.take-t in
     let x = c.next-p in
@@ -35,7 +35,8 @@ finish-r-requires c = let p = c.requires in
     )
 
 pub returns : goal.returns
-returns c = let s = c.args in
+returns c =
+    let s = c.args in
     let L = look_in s.notes.now in
     let G = given_in s.notes.now in
     let ids = ids_of s.table.now s.n in

@@ -10,7 +10,7 @@ use Rattle.tables.specs.Layout.{ids_of}
 use Rattle.tables.specs.Model.Notes.{look_in, given_in}
 use Rattle.texts.specs.Split.{tokens}
 use Rattle.texts.specs.Decimal.{decimal}
-use Rattle.texts.specs.Reading.{is_next, line_id, line_name, Reply}
+use Rattle.texts.specs.Reading.{is_next, line_id, line_name}
 use Rattle.texts.specs.Model.Stages.{judged_line}
 use Rattle.texts.specs.Model.Structs.{Tells}
 use Rattle.texts.proofs.Places.{no_token, next_token}
@@ -18,11 +18,11 @@ use Rattle.texts.proofs.Resolving.{ids_length}
 use Rattle.texts.proofs.Steps.{read_skip, read_3, read_4, read_5, judged_on}
 use Rattle.texts.proofs.Readouts.{tells_line, blank_what, refused_what}
 use Rattle.texts.proofs.Named.{extra_of}
-use borrow.Author.Rules.{rules}
 use Rattle.reading.proofs.line.read_line.Goals as goal
 
 pub returns-then-a-l : goal.returns-then-a-l
-returns-then-a-l c = let s = c.args in
+returns-then-a-l c =
+    let s = c.args in
     let l : List ℕ = s.l.now in
     let L = look_in s.notes.now in
     let G = given_in s.notes.now in
@@ -32,7 +32,8 @@ returns-then-a-l c = let s = c.args in
     (tells_line 0 0 0 (judged_line L G ids s.room (tokens l)) (read_skip L G ids s.room l e refl), blank_what refl)
 
 pub returns-then-id-eq0 : goal.returns-then-id-eq0
-returns-then-id-eq0 c = let s = c.args in
+returns-then-id-eq0 c =
+    let s = c.args in
     let l : List ℕ = s.l.now in
     let L = look_in s.notes.now in
     let G = given_in s.notes.now in
@@ -46,7 +47,8 @@ returns-then-id-eq0 c = let s = c.args in
     (tells_line 0 0 0 (judged_line L G ids s.room (tokens l)) (read_3 L G ids s.room l t z e q c.refuse.ensures), refused_what WrongId c.refuse.ensures)
 
 pub returns-then-room-n : goal.returns-then-room-n
-returns-then-room-n c = let s = c.args in
+returns-then-room-n c =
+    let s = c.args in
     let l : List ℕ = s.l.now in
     let L = look_in s.notes.now in
     let G = given_in s.notes.now in
@@ -61,7 +63,8 @@ returns-then-room-n c = let s = c.args in
     (tells_line 0 0 0 (judged_line L G ids s.room (tokens l)) (read_4 L G ids s.room l t z e q full c.refuse-then-room-n.ensures), refused_what NoRecordLeft c.refuse-then-room-n.ensures)
 
 pub returns-then-w-eq0 : goal.returns-then-w-eq0
-returns-then-w-eq0 c = let s = c.args in
+returns-then-w-eq0 c =
+    let s = c.args in
     let l : List ℕ = s.l.now in
     let L = look_in s.notes.now in
     let G = given_in s.notes.now in
@@ -78,7 +81,8 @@ returns-then-w-eq0 c = let s = c.args in
     (tells_line 0 0 0 (judged_line L G ids s.room (tokens l)) (read_5 L G ids s.room l t z e q some w.result w.ensures.1.1 c.if-w-eq0.true c.refuse-then-w-eq0.ensures), refused_what UnknownWord c.refuse-then-w-eq0.ensures)
 
 pub returns : goal.returns
-returns c = let s = c.args in
+returns c =
+    let s = c.args in
     let l : List ℕ = s.l.now in
     let L = look_in s.notes.now in
     let G = given_in s.notes.now in

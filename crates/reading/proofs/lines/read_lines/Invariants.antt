@@ -1,14 +1,11 @@
 -- Line after line, reading stands where the definition does.
-use Prim.Native.Nat.{ℕ, ◌+◌, ◌-◌, min}
-use mathlib.Core.Path.{◌≡◌, refl, sym, ap, ◌∙◌}
+use Prim.Native.Nat.{◌-◌}
+use mathlib.Core.Path.{◌≡◌}
 use mathlib.Core.Bool.{false}
-use native.Mathlib.Nat.{le_trans}
-use native.Mathlib.Omega.{arith}
-use lib.ListN.{length, replicate}
+use lib.ListN.{length}
 use Rattle.tables.specs.Layout.{room as roomOf}
-use Rattle.texts.specs.Reading.{Sofar, no_lines}
-use Rattle.texts.proofs.Holding.{table_size, risen, narrow_noted}
-use Rattle.texts.proofs.Reached.{Reached, at_start, at_end, can_enter, at_no, at_skip, at_got, is_ready, behind_it, out_refused, out_done}
+use Rattle.texts.specs.Reading.{Sofar}
+use Rattle.texts.proofs.Reached.{Reached}
 use Rattle.reading.proofs.lines.read_lines.Given as goal
 
 abbrev pub invariant-loop-i : goal.invariant-loop-i

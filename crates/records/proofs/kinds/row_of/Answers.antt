@@ -3,7 +3,6 @@ use mathlib.Core.Path.{ap}
 use mathlib.Core.List.{List, []}
 use lib.ListN.{get_or}
 use Rattle.tables.specs.Kinds.{row_of}
-use borrow.Author.Rules.{rules}
 use Rattle.records.proofs.kinds.row_of.Goals as goal
 
 pub returns : goal.returns

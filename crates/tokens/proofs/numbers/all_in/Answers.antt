@@ -1,9 +1,7 @@
-use borrow.Author.Rules.{rules}
-use Prim.Native.Nat.{◌-◌, ◌≤◌}
+use Prim.Native.Nat.{◌-◌}
 use native.Mathlib.Omega.{arith}
-use mathlib.Core.Path.{◌≡◌, sym, ◌∙◌}
-use lib.ListN.{length, drop}
-use Rattle.texts.specs.Decimal.{digit, all_in}
+use mathlib.Core.Path.{sym, ◌∙◌}
+use Rattle.texts.specs.Decimal.{all_in}
 use Rattle.texts.proofs.Scan.{in_more, in_not, in_end}
 use Rattle.tokens.proofs.numbers.all_in.Goals as goal
 

@@ -1,11 +1,8 @@
 -- The bytes passed are digits.
-use borrow.Author.Rules.{rules}
 use Prim.Native.Nat.{◌-◌, ◌≤◌}
-use native.Mathlib.Omega.{arith}
-use mathlib.Core.Path.{◌≡◌, sym, ◌∙◌}
+use mathlib.Core.Path.{◌≡◌}
 use lib.ListN.{length, drop}
-use Rattle.texts.specs.Decimal.{digit, all_in}
-use Rattle.texts.proofs.Scan.{in_more, in_not, in_end}
+use Rattle.texts.specs.Decimal.{all_in}
 use Rattle.tokens.proofs.numbers.all_in.Given as goal
 
 abbrev pub invariant-loop-i : goal.invariant-loop-i

@@ -4,7 +4,6 @@ use native.Mathlib.Omega.{arith}
 use mathlib.Core.Path.{sym, ◌∙◌}
 use mathlib.Core.List.{List}
 use Rattle.texts.proofs.Scan.{decimal_none, decimal_one, decimal_lead, decimal_more}
-use borrow.Author.Rules.{rules}
 use Rattle.tokens.proofs.numbers.decimal.Goals as goal
 
 pub returns-then-t-eq0 : goal.returns-then-t-eq0

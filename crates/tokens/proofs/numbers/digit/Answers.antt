@@ -1,7 +1,6 @@
 -- A digit, by its range.
 use native.Mathlib.Omega.{arith}
 use Rattle.texts.proofs.Scan.{digit_1, digit_2, digit_3, digit_4, digit_5, digit_6, digit_7}
-use borrow.Author.Rules.{rules}
 use Rattle.tokens.proofs.numbers.digit.Goals as goal
 
 pub returns-then-c-lt48 : goal.returns-then-c-lt48

@@ -3,7 +3,6 @@ use native.Mathlib.Omega.{arith}
 use borrow.Author.Tests.{not-true, not-false}
 use mathlib.Core.Path.{sym, ◌∙◌}
 use Rattle.texts.proofs.Scan.{digits_none, digits_bad, digits_long, digits_ok}
-use borrow.Author.Rules.{rules}
 use Rattle.tokens.proofs.numbers.digits_in.Goals as goal
 
 pub returns-then-t-eq0 : goal.returns-then-t-eq0

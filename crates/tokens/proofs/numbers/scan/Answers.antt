@@ -1,7 +1,6 @@
 -- Digits only, and their value.
 use mathlib.Core.Path.{sym, ◌∙◌}
 use Rattle.texts.proofs.Scan.{scan_true, scan_false}
-use borrow.Author.Rules.{rules}
 use Rattle.tokens.proofs.numbers.scan.Goals as goal
 
 pub returns-then-all_in : goal.returns-then-all_in

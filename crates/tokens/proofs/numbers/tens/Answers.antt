@@ -1,19 +1,20 @@
-use borrow.Author.Rules.{rules}
-use Prim.Native.Nat.{ℕ, ◌+◌, ◌-◌, ◌*◌, ◌^◌, ◌<◌, ◌≤◌}
+use Prim.Native.Nat.{ℕ, ◌+◌, ◌-◌, ◌*◌}
 use native.Mathlib.Omega.{arith}
-use mathlib.Core.Path.{◌≡◌, sym, ap, ◌∙◌}
+use mathlib.Core.Path.{sym, ap, ◌∙◌}
 use mathlib.Core.List.{List}
-use lib.ListN.{length, drop}
-use Rattle.texts.specs.Decimal.{all_in, value_from}
+use lib.ListN.{drop}
+use Rattle.texts.specs.Decimal.{value_from}
 use Rattle.texts.proofs.Scan.{in_more, in_not, in_end, value_more, value_end, value_small, scan_true, scan_false}
 use Rattle.tokens.proofs.numbers.tens.Goals as goal
 
 pub returns-then-d-ge10 : goal.returns-then-d-ge10
-returns-then-d-ge10 c = let t : List ℕ = c.args.t.now in
+returns-then-d-ge10 c =
+    let t : List ℕ = c.args.t.now in
     sym (scan_false 10 t (c.loop-i.invariant.1.1.0 ∙ in_not 10 t c.loop-i.i c.loop-i-test.true (omega (arith, c.digit-d.ensures))))
 
 pub loop-i-preserved : goal.loop-i-preserved
-loop-i-preserved c = let t : List ℕ = c.args.t.now in
+loop-i-preserved c =
+    let t : List ℕ = c.args.t.now in
     let v : ℕ = c.loop-i.v in
     let i : ℕ = c.loop-i.i in
     let l = c.loop-i-test.true in
@@ -29,6 +30,7 @@ loop-i-preserved c = let t : List ℕ = c.args.t.now in
     )
 
 pub returns : goal.returns
-returns c = let t : List ℕ = c.args.t.now in
+returns c =
+    let t : List ℕ = c.args.t.now in
     let l = c.loop-i in
     sym (scan_true 10 t (l.invariant.1.1.0 ∙ in_end 10 t l.i c.loop-i-test.false) ∙ value_small 10 t l.v (l.invariant.1.1.1 ∙ value_end 10 t l.i l.v c.loop-i-test.false) l.invariant.1.0)

@@ -1,12 +1,8 @@
 -- The bytes passed are digits, and have the value so far.
-use borrow.Author.Rules.{rules}
-use Prim.Native.Nat.{ℕ, ◌+◌, ◌-◌, ◌*◌, ◌^◌, ◌<◌, ◌≤◌}
-use native.Mathlib.Omega.{arith}
-use mathlib.Core.Path.{◌≡◌, sym, ap, ◌∙◌}
-use mathlib.Core.List.{List}
+use Prim.Native.Nat.{◌-◌, ◌^◌, ◌<◌, ◌≤◌}
+use mathlib.Core.Path.{◌≡◌}
 use lib.ListN.{length, drop}
 use Rattle.texts.specs.Decimal.{all_in, value_from}
-use Rattle.texts.proofs.Scan.{in_more, in_not, in_end, value_more, value_end, value_small, scan_true, scan_false}
 use Rattle.tokens.proofs.numbers.tens.Given as goal
 
 abbrev pub invariant-loop-i : goal.invariant-loop-i

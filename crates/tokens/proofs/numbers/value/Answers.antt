@@ -1,15 +1,15 @@
-use borrow.Author.Rules.{rules}
-use Prim.Native.Nat.{ℕ, ◌+◌, ◌-◌, ◌*◌, ◌^◌, ◌<◌, ◌≤◌}
+use Prim.Native.Nat.{ℕ, ◌+◌, ◌-◌, ◌*◌, ◌^◌, ◌≤◌}
 use native.Mathlib.Omega.{arith}
 use mathlib.Core.Path.{◌≡◌, sym, ap, ◌∙◌}
 use mathlib.Core.List.{List}
-use lib.ListN.{length, drop, get_or}
+use lib.ListN.{drop, get_or}
 use Rattle.texts.specs.Decimal.{digit, value_from}
 use Rattle.texts.proofs.Scan.{value_more, value_end, value_least, value_big, value_small, room_of, over_of}
 use Rattle.tokens.proofs.numbers.value.Goals as goal
 
 pub returns-then-most-v : goal.returns-then-most-v
-returns-then-most-v c = let s : List ℕ = c.args.t.now in
+returns-then-most-v c =
+    let s : List ℕ = c.args.t.now in
     let b : ℕ = c.args.base in
     let v : ℕ = c.loop-i.v in
     let i : ℕ = c.loop-i.i in
@@ -18,7 +18,8 @@ returns-then-most-v c = let s : List ℕ = c.args.t.now in
     sym (value_big b s (omega (arith, value_least b (v * b + digit (get_or s i 0)) (drop (i + 1) s) (omega arith), c.digit-d.ensures)))
 
 pub loop-i-preserved : goal.loop-i-preserved
-loop-i-preserved c = let s : List ℕ = c.args.t.now in
+loop-i-preserved c =
+    let s : List ℕ = c.args.t.now in
     let b : ℕ = c.args.base in
     let v : ℕ = c.loop-i.v in
     let i : ℕ = c.loop-i.i in

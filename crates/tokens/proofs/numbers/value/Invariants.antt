@@ -1,12 +1,8 @@
 -- The digits passed have the value so far.
-use borrow.Author.Rules.{rules}
-use Prim.Native.Nat.{ℕ, ◌+◌, ◌-◌, ◌*◌, ◌^◌, ◌<◌, ◌≤◌}
-use native.Mathlib.Omega.{arith}
-use mathlib.Core.Path.{◌≡◌, sym, ap, ◌∙◌}
-use mathlib.Core.List.{List}
-use lib.ListN.{length, drop, get_or}
-use Rattle.texts.specs.Decimal.{digit, value_from}
-use Rattle.texts.proofs.Scan.{value_more, value_end, value_least, value_big, value_small, room_of, over_of}
+use Prim.Native.Nat.{◌-◌, ◌^◌, ◌<◌, ◌≤◌}
+use mathlib.Core.Path.{◌≡◌}
+use lib.ListN.{length, drop}
+use Rattle.texts.specs.Decimal.{value_from}
 use Rattle.tokens.proofs.numbers.value.Given as goal
 
 abbrev pub invariant-loop-i : goal.invariant-loop-i

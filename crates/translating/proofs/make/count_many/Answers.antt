@@ -1,7 +1,5 @@
 -- The lists are zero as they are made.
-use borrow.Author.Rules.{rules}
 use Rattle.programs.proofs.Keeping.{fresh_many}
-use borrow.Author.Rules.{rules}
 use Rattle.translating.proofs.make.count_many.Goals as goal
 
 pub count_all-requires : goal.count_all-requires

@@ -1,7 +1,5 @@
 -- The lists are zero as they are made.
-use borrow.Author.Rules.{rules}
 use Rattle.programs.proofs.Keeping.{fresh_many}
-use borrow.Author.Rules.{rules}
 use Rattle.translating.proofs.make.write_many.Goals as goal
 
 pub write_all-requires : goal.write_all-requires
