@@ -1,6 +1,6 @@
 /* The C interface of Gofeshan, a proved tool for BTOR2 circuits with small memories.
  *
- * Link target/staticlib/libexports.a, which `rt staticlib exports` writes.
+ * Link crates/exports/out/libexports.a, which `rt lib` in crates/exports writes.
  *
  * A table is a list that holds a circuit's records, six words each: kind, sort
  * line, three operands, and the id as written. A program holds records of five

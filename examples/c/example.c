@@ -1,8 +1,8 @@
 /* Reads the circuit below, whose ids have a gap, flattens it and prints the flat text; then runs it and its program,
  * peeks at values and looks at a record.
  *
- *     rt staticlib exports
- *     cc -O2 -Iinclude examples/c/example.c target/staticlib/libexports.a -o example && ./example
+ *     (cd crates/exports && rt lib)
+ *     cc -O2 -Iinclude examples/c/example.c crates/exports/out/libexports.a -o example && ./example
  */
 #include "gofeshan.h"
 

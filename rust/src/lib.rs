@@ -37,9 +37,9 @@
 //! lent for writing is zero too, and a work area is zero after any call. What
 //! a list lent for writing held before makes no difference.
 //!
-//! The archive `libexports.a` is built by `rt staticlib exports` in the
-//! repository's root; the environment variable `GOFESHAN_LIB` names another
-//! folder that holds it. The functions keep their notes on the stack, less than
+//! The archive `libexports.a` is built by `rt lib` in `crates/exports`, which
+//! leaves it in `crates/exports/out`; the environment variable `GOFESHAN_LIB`
+//! names another folder that holds it. The functions keep their notes on the stack, less than
 //! 1 MB: call them from the main thread or from a thread with 2 MB ([`STACK`]),
 //! which a thread of Rust has unless told otherwise.
 //!

@@ -19,22 +19,35 @@ fn read(file: &str) -> String {
     std::fs::read_to_string(root().join(file)).unwrap_or_else(|error| panic!("{file}: {error}"))
 }
 
-/// The file of a module of definitions: `Rattle·tables.specs.Lines` from another crate, `Rattle·tables·specs.specs.Lines` from its own.
-/// Types that the code declares have no file of definitions.
+/// The file of a module of definitions, as `Rattle.tables.specs.Lines`, from its own crate or another. Types that the code declares have no
+/// file of definitions, and the library's are not the repository's.
 fn file_of(module: &str) -> Option<String> {
-    let (name, path) = module.strip_prefix("Rattle·")?.split_once('.')?;
+    let (name, path) = module.strip_prefix("Rattle.")?.split_once('.')?;
     let path = path.strip_prefix("specs.")?;
-    let name = name.strip_suffix("·specs").unwrap_or(name);
     let file = format!("crates/{name}/specs/{}.antt", path.replace('.', "/"));
-    (!path.starts_with("declared")).then_some(file)
+    (root().join("crates").join(name).is_dir() && !path.starts_with("declared")).then_some(file)
+}
+
+/// What the `use` lines of a file say, each in one line: a list of names may go over several.
+fn uses(text: &str) -> Vec<String> {
+    let mut found = Vec::new();
+    let mut lines = text.lines();
+    while let Some(line) = lines.next() {
+        let line = ["ghost ", "pub "].iter().fold(line, |line, word| line.strip_prefix(word).unwrap_or(line));
+        let Some(line) = line.strip_prefix("use ") else { continue };
+        let mut said = line.to_string();
+        while said.contains('{') && !said.contains('}') {
+            said += lines.next().expect("a list of names ends");
+        }
+        found.push(said);
+    }
+    found
 }
 
 /// The definitions that a file takes from others: their file and their names.
 fn imports(text: &str) -> Vec<(String, Vec<String>)> {
     let mut found = Vec::new();
-    for line in text.lines() {
-        let line = line.strip_prefix("ghost ").unwrap_or(line);
-        let Some(line) = line.strip_prefix("use ") else { continue };
+    for line in uses(text) {
         let line = line.trim_end_matches(';');
         let (module, names) = line.split_once(".{").unwrap_or((line, ""));
         let names = names.trim_end_matches('}').split(',');
@@ -52,8 +65,9 @@ fn promises(text: &str) -> BTreeSet<String> {
     for item in text.split("\npub ").skip(1) {
         let head = item.split("\n{\n").next().unwrap_or(item);
         let function = head.starts_with("fn ") || head.starts_with("extern \"C\" fn ");
-        if function && !head.contains("requires {") {
-            let parted = head.split(|c: char| c.is_whitespace() || "(){}⌜⌝.,;".contains(c));
+        let asks = head.lines().any(|line| line.trim_start().starts_with("requires "));
+        if function && !asks {
+            let parted = head.split(|c: char| c.is_whitespace() || "(){}.,;".contains(c));
             words.extend(parted.map(str::to_string));
         }
     }

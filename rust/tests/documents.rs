@@ -6,13 +6,14 @@ fn root() -> PathBuf {
     Path::new(env!("CARGO_MANIFEST_DIR")).join("..")
 }
 
-/// The files below a folder of the repository, by their paths from its root.
+/// The files below a folder of the repository, by their paths from its root, but for what checks and builds leave in `out` and `target`.
 fn files(folder: &str, found: &mut Vec<String>) {
     for entry in std::fs::read_dir(root().join(folder)).unwrap() {
         let entry = entry.unwrap();
-        let path = format!("{folder}/{}", entry.file_name().to_string_lossy());
+        let name = entry.file_name().to_string_lossy().to_string();
+        let path = format!("{folder}/{name}");
         found.push(path.clone());
-        if entry.file_type().unwrap().is_dir() {
+        if entry.file_type().unwrap().is_dir() && !["out", "target"].contains(&name.as_str()) {
             files(&path, found);
         }
     }

@@ -13,7 +13,7 @@ use flattening::Made;
 use records::notes::BYTES;
 
 // Nothing is kept of a line that has no value.
-fn no_value_lem(q: usize) -> Made
+fn no_value(q: usize) -> Made
     ensures { result ≡ made_as q 0 0 0 0 0 }
 {
     Made {
@@ -268,7 +268,7 @@ pub fn line_init_or_next(
             sources::run(x, 0),
             sources::run(0, 0),
         );
-        return no_value_lem(p + n);
+        return no_value(p + n);
     }
     rows::rows(
         kept,
@@ -281,5 +281,5 @@ pub fn line_init_or_next(
         sources::of(v),
         sources::run(0, 0),
     );
-    no_value_lem(p + n)
+    no_value(p + n)
 }

@@ -1,0 +1,107 @@
+use Prim.Native.Nat.{ℕ, ◌-◌, ◌≤◌, ◌<◌}
+use mathlib.Core.Path.{◌≡◌, refl, sym, ap, ◌∙◌, subst}
+use mathlib.Core.Bool.{true, false}
+use mathlib.Core.List.{List}
+use native.Mathlib.Omega.{arith}
+use lib.ListN.{length, take, drop}
+use Rattle.tables.specs.declared.Refusal.TheVariants.{WrongId, NoRecordLeft, UnknownWord}
+use Rattle.tables.specs.Layout.{ids_of}
+use Rattle.tables.specs.Model.Notes.{look_in, given_in}
+use Rattle.texts.specs.Split.{tokens}
+use Rattle.texts.specs.Decimal.{decimal}
+use Rattle.texts.specs.Reading.{is_next, line_id, line_name, Reply}
+use Rattle.texts.specs.Model.Stages.{judged_line}
+use Rattle.texts.specs.Model.Structs.{Tells}
+use Rattle.texts.proofs.Places.{no_token, next_token}
+use Rattle.texts.proofs.Resolving.{ids_length}
+use Rattle.texts.proofs.Steps.{read_skip, read_3, read_4, read_5, judged_on}
+use Rattle.texts.proofs.Readouts.{tells_line, blank_what, refused_what}
+use Rattle.texts.proofs.Named.{extra_of}
+use borrow.Author.Rules.{rules}
+use Rattle.reading.proofs.line.read_line.Goals as goal
+
+pub returns-then-a-l : goal.returns-then-a-l
+returns-then-a-l c = let s = c.args in 
+    let l : List ℕ = s.l.now in
+    let L = look_in s.notes.now in
+    let G = given_in s.notes.now in
+    let ids = ids_of s.table.now s.n in
+    let k = c.skip-a in 
+    let e = sym k.ensures.1.1.0 ∙ no_token l k.result (omega arith) in
+    (tells_line 0 0 0 (judged_line L G ids s.room (tokens l)) (read_skip L G ids s.room l e refl), blank_what refl)
+
+pub returns-then-id-eq0 : goal.returns-then-id-eq0
+returns-then-id-eq0 c = let s = c.args in 
+    let l : List ℕ = s.l.now in
+    let L = look_in s.notes.now in
+    let G = given_in s.notes.now in
+    let ids = ids_of s.table.now s.n in
+    let a = c.skip-a.result in 
+    let z = c.find_byte-z.result in 
+    let t = take (z - a) (drop a l) in
+    let on : a < length l = omega (arith, c.skip-a.ensures.1.0, c.if-a-l.false) in
+    let e = sym c.skip-a.ensures.1.1.0 ∙ next_token l a z on (c.skip-a.ensures.1.1.1 on) c.find_byte-z.ensures.1.1 in
+    let q = subst (λ (k : ℕ). is_next (decimal t) k ≡ false) c.last-last.ensures (c.next_id-id.ensures.0 c.if-id-eq0.true) in
+    (tells_line 0 0 0 (judged_line L G ids s.room (tokens l)) (read_3 L G ids s.room l t z e q c.refuse.ensures), refused_what WrongId c.refuse.ensures)
+
+pub returns-then-room-n : goal.returns-then-room-n
+returns-then-room-n c = let s = c.args in 
+    let l : List ℕ = s.l.now in
+    let L = look_in s.notes.now in
+    let G = given_in s.notes.now in
+    let ids = ids_of s.table.now s.n in
+    let a = c.skip-a.result in 
+    let z = c.find_byte-z.result in 
+    let t = take (z - a) (drop a l) in
+    let on : a < length l = omega (arith, c.skip-a.ensures.1.0, c.if-a-l.false) in
+    let e = sym c.skip-a.ensures.1.1.0 ∙ next_token l a z on (c.skip-a.ensures.1.1.1 on) c.find_byte-z.ensures.1.1 in
+    let q = subst (λ (k : ℕ). is_next (decimal t) k ≡ true) c.last-last.ensures (c.next_id-id.ensures.1 c.if-id-eq0.false).0 in
+    let full = subst (λ (k : ℕ). s.room ≤ k) (sym (ids_length s.table.now s.n)) c.if-room-n.true in
+    (tells_line 0 0 0 (judged_line L G ids s.room (tokens l)) (read_4 L G ids s.room l t z e q full c.refuse-then-room-n.ensures), refused_what NoRecordLeft c.refuse-then-room-n.ensures)
+
+pub returns-then-w-eq0 : goal.returns-then-w-eq0
+returns-then-w-eq0 c = let s = c.args in 
+    let l : List ℕ = s.l.now in
+    let L = look_in s.notes.now in
+    let G = given_in s.notes.now in
+    let ids = ids_of s.table.now s.n in
+    let a = c.skip-a.result in 
+    let z = c.find_byte-z.result in 
+    let t = take (z - a) (drop a l) in
+    let on : a < length l = omega (arith, c.skip-a.ensures.1.0, c.if-a-l.false) in
+    let e = sym c.skip-a.ensures.1.1.0 ∙ next_token l a z on (c.skip-a.ensures.1.1.1 on) c.find_byte-z.ensures.1.1 in
+    let q = subst (λ (k : ℕ). is_next (decimal t) k ≡ true) c.last-last.ensures (c.next_id-id.ensures.1 c.if-id-eq0.false).0 in
+    let left : s.n < s.room = omega (arith, c.if-room-n.false) in
+    let some = subst (λ (k : ℕ). k < s.room) (sym (ids_length s.table.now s.n)) left in
+    let w = c.word-w in 
+    (tells_line 0 0 0 (judged_line L G ids s.room (tokens l)) (read_5 L G ids s.room l t z e q some w.result w.ensures.1.1 c.if-w-eq0.true c.refuse-then-w-eq0.ensures), refused_what UnknownWord c.refuse-then-w-eq0.ensures)
+
+pub returns : goal.returns
+returns c = let s = c.args in 
+    let l : List ℕ = s.l.now in
+    let L = look_in s.notes.now in
+    let G = given_in s.notes.now in
+    let ids = ids_of s.table.now s.n in
+    let a = c.skip-a.result in 
+    let z = c.find_byte-z.result in 
+    let t = take (z - a) (drop a l) in
+    let on : a < length l = omega (arith, c.skip-a.ensures.1.0, c.if-a-l.false) in
+    let e = sym c.skip-a.ensures.1.1.0 ∙ next_token l a z on (c.skip-a.ensures.1.1.1 on) c.find_byte-z.ensures.1.1 in
+    let i = c.next_id-id in 
+    let p = i.ensures.1 c.if-id-eq0.false in
+    let q = subst (λ (k : ℕ). is_next (decimal t) k ≡ true) c.last-last.ensures p.0 in
+    let left : s.n < s.room = omega (arith, c.if-room-n.false) in
+    let some = subst (λ (k : ℕ). k < s.room) (sym (ids_length s.table.now s.n)) left in
+    let w = c.word-w in 
+    let n = c.if-w-eq0.false in 
+    let o = c.behind_word.ensures in (
+      subst (Tells c.behind_word.result) (judged_on L G ids s.room l t z e q some w.result w.ensures.1.1 n) o.0,
+      λ h.
+          let k = o.1 h in
+          record {
+            number = k.0 ∙ (p.1 ∙ sym (ap line_id e));
+            ordered = k.1.0;
+            within = k.1.1.0;
+            name = k.1.1.1 ∙ (extra_of l w.result (tokens (drop z l)) _ w.ensures.1.1 n refl ∙ sym (ap line_name e));
+          },
+    )

@@ -1,0 +1,26 @@
+use Prim.Native.Nat.{◌+◌, ◌-◌}
+use mathlib.Core.Path.{refl, sym, ◌∙◌}
+use native.Mathlib.Omega.{arith}
+use lib.ListN.{length, drop}
+use borrow.Author.Rules.{rules}
+use Rattle.tables.specs.Layout.{lines_of}
+use Rattle.circuits.proofs.Stepping.{Stepped, stepped_none, stepped_all, running, rooms, enter_fits, walk_ready, stepped_more}
+use Rattle.steps.proofs.steps.Goals as goal
+
+pub loop-i-init : goal.loop-i-init
+loop-i-init c = let a = c.args in 
+    stepped_none a.program (lines_of a.program a.table.now a.count) (a.ins + a.fed) a.sigs a.k a.all a.inputs.now a.signals.now a.work.now c.requires.1.1.1.1
+
+pub enter-requires : goal.enter-requires
+enter-requires c = let l = c.loop-i in 
+    let u = running c.args.fed c.args.k c.args.inputs.now c.args.work.now c.requires.1.0 c.requires.1.1.0 c.requires.1.1.1.0 in
+    let h = c.loop-i-test.true in 
+    (omega (arith, c.requires.0, l.invariant.many), enter_fits u l.invariant h)
+
+pub loop-i-preserved : goal.loop-i-preserved
+loop-i-preserved c = let l = c.loop-i in 
+    let u = running c.args.fed c.args.k c.args.inputs.now c.args.work.now c.requires.1.0 c.requires.1.1.0 c.requires.1.1.1.0 in
+    let h = c.loop-i-test.true in 
+    let e = c.enter in 
+    let w = c.walk in 
+    stepped_more u l.invariant h e.new.work e.auto.work e.ensures w.new.sig w.auto.work w.auto.sig w.ensures.0 (w.ensures.1 refl)
