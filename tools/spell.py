@@ -1,7 +1,7 @@
 #!/usr/bin/env python3
 """Spells the repository's own definitions and lemmas as the library spells its own: words in snake case, types and facts in camel case.
 
-usage: python3 tools/spell.py [--write]        at the top of the repository
+usage: python3 tools/spell.py [--write] [--table]        at the top of the repository, once, on what port.py left
 
 A name that begins with a small letter gets underscores for its humps and dashes; one that begins with a capital keeps them.
 Where two names would meet, the lemma (the one with dashes) ends in `_lem`. Goals' names in proofs of functions are not the repository's own.
@@ -14,6 +14,12 @@ import sys
 
 ROOT = "crates"
 NAME = r"[^\s(){}.;,@\"«»|]+"
+SEVERAL = re.compile(rf"(?m)^ +((?:{NAME} )+{NAME}) :(?=\s)")
+ALIAS = re.compile(rf"\bas ([a-z][^\s(){{}}.;,]*)")
+MODULE = re.compile(rf"(?m)^\s*(?:pub )?use [^\s{{]+ as (\S+)$|^\s*(?:pub )?use Rattle\.(?:[^\s{{]+\.)?([^\s.{{]+)$")
+# Names that a match or a module binds, and that are no definitions: they go along.
+BOUND = {"flatLen", "outLen", "isDriven"}
+CLAUSE = re.compile(r"\b(?:requires|ensures)(?:\s+\w+)?\s*\{")
 DECLARED = re.compile(rf"(?m)^( *)((?:(?:pub|abbrev|unfoldable|data|record)\s+)*)({NAME})((?: \{{[^{{}}\n]*\}}| \([^()\n]*\))*) :(?=\s)([^\n]*)")
 USE = re.compile(r"(?m)^\s*(?:pub )?(?:ghost )?use ([^\s;{]+?)\.?\{([^}]*)\}")
 
@@ -33,7 +39,20 @@ def of_function(path):
 def spelled(name):
     if not name[0].islower() or "◌" in name:
         return name
+    name = name.replace("getD", "get_or")
     return re.sub(r"(?<=[a-z0-9₀-₉])[A-Z]", lambda m: "_" + m[0].lower(), name).replace("-", "_")
+
+
+def clauses(text):
+    """The spans of clauses and of imports for them, in a file of code."""
+    spans = [m.span() for m in re.finditer(r"(?m)^\s*ghost use [^;]*;", text)]
+    for m in CLAUSE.finditer(text):
+        depth, end = 1, m.end()
+        while depth:
+            depth += {"{": 1, "}": -1}.get(text[end], 0)
+            end += 1
+        spans.append((m.start(), end))
+    return spans
 
 
 def main():
@@ -48,6 +67,9 @@ def main():
             m = re.match(r"( *)(?:pub )?record ", line)
             if m:
                 in_record = len(m[1])
+            several = SEVERAL.match(line)
+            if several and not of_function(p):
+                declared.update(w for w in several[1].split() if w not in ("pub", "abbrev", "unfoldable"))
             d = DECLARED.match(line)
             if d:
                 if of_function(p) and (re.match(r"\s*tie\.", d[5]) or d[3].endswith("-spec")):
@@ -88,14 +110,21 @@ def main():
                 foreign.update(w for w in re.findall(NAME, items))
                 foreign.difference_update(w for w in re.findall(rf"as ({NAME})", items))
         own_fn = of_function(p)
+        modules = {w for pair in MODULE.findall(t) for w in pair if w} - {"tie", "goal"}
+        aliases = {a: spelled(a) for a in ALIAS.findall(t) if spelled(a) != a and spelled(a) not in words[p]} | {b: spelled(b) for b in BOUND}
+        inside = clauses(t) if p.endswith(".rt") else []
 
         def turn(m):
             w = m[0]
+            behind = m.start() and t[m.start() - 1] == "."
+            if w in aliases and not behind:
+                return aliases[w]
             if w not in table or w in foreign:
                 return w
-            if m.start() and t[m.start() - 1] == ".":
-                before = t[: m.start()]
-                if re.search(r"Rattle\.[^\s{}]*\.$", before):
+            if behind:
+                before = t[max(0, m.start() - 200) : m.start()]
+                head = re.search(rf"({NAME})\.$", before)
+                if re.search(r"Rattle\.[^\s{}]*\.$", before) or head and (head[1] in modules or head[1][0].isupper()):
                     return table[w]
                 if w not in fields or own_fn and "-" in w and re.search(r"\b[cslam](\.[^\s]*)?\.$", before):
                     return w
@@ -113,7 +142,7 @@ def main():
             if at < len(comments) and comments[at][0] <= m.start():
                 w = m[0].strip("`")
                 return m[0].replace(w, table[w]) if m[0].startswith("`") and m[0].rstrip(",:;").endswith("`") and w in table else m[0]
-            if p.endswith(".rt") and "-" in m[0]:
+            if p.endswith(".rt") and ("-" in m[0] or not any(a <= m.start() < b for a, b in inside)):
                 return m[0]
             return turn(m)
 
