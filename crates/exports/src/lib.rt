@@ -159,7 +159,7 @@ pub extern "C" fn gofeshan_peek(
 pub extern "C" fn gofeshan_name(text: &[u8], id: u64, answer: &mut [u64]) -> u64
     ensures value { result ≡ pick (three answer.old) 0 1 }
     ensures named { three answer.old ≡ true → Named text.now id answer.new }
-    ensures answer_after { three answer.old ≡ false → answer.new ≡ zeros answer.old }
+    ensures refused { three answer.old ≡ false → answer.new ≡ zeros answer.old }
 {
     if !answers::take(answer) {
         return 1;

@@ -1,4 +1,4 @@
--- What the code of `record`, `kind`, `id`, `put` and `strides` works out is what the layout says: with the layout's own files, the only ones that know it. Assumes nothing.
+-- What the code of `record`, `kind`, `id`, `put` and `strides_of` works out is what the layout says: with the layout's own files, the only ones that know it. Assumes nothing.
 use Prim.Native.Nat.{ℕ, ◌+◌, ◌*◌, ◌<◌}
 use mathlib.Core.Path.{◌≡◌, sym, ap, ◌∙◌}
 use mathlib.Core.Bool.{Bool, true, false}

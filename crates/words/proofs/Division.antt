@@ -1,4 +1,4 @@
--- Division in a circuit, at every width from 1 to 64: the request's sentences about udiv, urem, sdiv, srem and smod. `signedValue w a` is a word's value as a whole number, and the
+-- Division in a circuit, at every width from 1 to 64: the request's sentences about udiv, urem, sdiv, srem and smod. `signed_value w a` is a word's value as a whole number, and the
 -- second width and the third operand are of no matter. Assumes nothing.
 use mathlib.Core.Path.{◌≡◌, refl, sym, ap, ap₂, ◌∙◌, subst}
 use mathlib.Core.Logic.{◌⊎◌}
