@@ -8,6 +8,7 @@ use native.Mathlib.Omega.{arith}
 use lib.Dec.{eqb}
 use lib.ListN.{length, get_or, replicate, length-replicate}
 use borrow.Author.Tests.{le-leb, lt-leb}
+use Rattle.tables.specs.declared.Note.{Note}
 use Rattle.tables.specs.declared.Refusal.{Refusal}
 use Rattle.tables.specs.declared.Refusal.TheVariants.{NotATable}
 use Rattle.tables.specs.Layout.{whole, held, room, records_of}
@@ -63,15 +64,15 @@ empty_at : (a : ℕ) → ty_at no_ctx a ≡ no_ty
 empty_at zero = refl
 empty_at (suc a) = refl
 
-pub shows_none : {n : ℕ} {notes : List (List ℕ)} → Fresh n notes → Shows notes no_ctx
-shows_none {n} {notes} f = record { types = λ a. ap (λ (r : List ℕ). ty (get_or r 0 0) (get_or r 1 0) (get_or r 2 0)) (none a) ∙ sym (empty_at a); flags = no_flag }
+pub shows_none : {n : ℕ} {notes : List Note} → Fresh n notes → Shows notes no_ctx
+shows_none {n} {notes} f = record { types = λ a. ap (λ (x : Note). x.ty) (none a) ∙ sym (empty_at a); flags = no_flag }
   where
     none : (a : ℕ) → note_at notes a ≡ blank
-    none a = ap (λ (l : List (List ℕ)). note_at l a) f.blanks ∙ blanks_at (length notes) a
+    none a = ap (λ (l : List Note). note_at l a) f.blanks ∙ blanks_at (length notes) a
 
     no_flag : (m : Bool) (q : ℕ) → given_in notes m q ≡ given no_ctx m q
-    no_flag true q = ap (λ (r : List ℕ). eqb (flag_in true r) 1) (none q)
-    no_flag false q = ap (λ (r : List ℕ). eqb (flag_in false r) 1) (none q)
+    no_flag true q = ap (λ (r : Note). flag_in true r) (none q)
+    no_flag false q = ap (λ (r : Note). flag_in false r) (none q)
 
 -- a list of m blank notes
 pub fresh : (n m : ℕ) → (n ≤ 16384 → n < m) → Fresh n (replicate m blank)

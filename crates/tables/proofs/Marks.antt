@@ -9,6 +9,7 @@ use mathlib.Core.List.{List, [], ◌∷◌}
 use native.Mathlib.Omega.{arith}
 use lib.Dec.{leb, eqb}
 use borrow.Author.Tests.{eqb-true, eq-eqb, leb-true}
+use Rattle.tables.specs.declared.Note.{Note}
 use Rattle.tables.specs.declared.Ty.{Ty}
 use Rattle.tables.specs.Pick.{pick, inside, among}
 use Rattle.tables.specs.Lines.{Line, Expr}
@@ -122,7 +123,7 @@ module _ (p : Bool) (C : List Line) (ok : AllOk p no_ctx C) where
   marks_exactly v h = (λ e. found v v (finds v v (omega arith) h ∙ e), λ S. source_marks v S.line h S.in_cone S.is)
 
   -- so it is of the marks in the notes that a check keeps
-  pub noted_marks : {notes : List (List ℕ)} → Shows notes (context p C) → (v : ℕ) → 2 ≤ (look_in notes v).role → (marked (look_in notes v) ≡ true) ↔ SourceInCone C v
+  pub noted_marks : {notes : List Note} → Shows notes (context p C) → (v : ℕ) → 2 ≤ (look_in notes v).role → (marked (look_in notes v) ≡ true) ↔ SourceInCone C v
   noted_marks S v = subst (λ (t : Ty). 2 ≤ t.role → (marked t ≡ true) ↔ SourceInCone C v) (sym (S.types v)) (marks_exactly v)
 
   -- a search of the cones leaves the types that are kept

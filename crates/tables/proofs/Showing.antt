@@ -10,6 +10,7 @@ use lib.ListN.{length, get_or, set, length-set, length-append, get_or-eq_default
 use lib.Seq.{get_or-set_same, get_or-set_other, get_or_at, set_out}
 use borrow.Author.Tests.{eqb-true, eqb-false, eq-eqb, ne_eqb, leb-true, leb-false}
 use Rattle.tables.specs.declared.Ty.{Ty}
+use Rattle.tables.specs.declared.Note.{Note}
 use Rattle.tables.specs.Pick.{pick, all, among, alike}
 use Rattle.tables.specs.Kinds.{row_of, sort_class, first_class}
 use Rattle.tables.specs.Lines.{Shape, is_bitvec, is_array, is_const, is_input, is_state as state_shape, is_output, is_unary, is_binary, is_ite, is_read, is_write, is_unknown, is_init_or_next, is_signal, is_equality, init_or_next_kind, shape_of, build, line_of, kind_in, sort_in, first_in, second_in, third_in}
@@ -103,15 +104,15 @@ given_as m c r = go (shape_of (kind_in r)) refl (kind_of_lem (kind_in r))
     go (is_equality false) e q = rest (is_equality false) e refl (other m (kind_in r) (λ z. omega arith) (λ z. omega arith))
 
 -- a flag at the state q
-flagged_at : (m : Bool) (notes : List (List ℕ)) (xs : List ℕ) (q : ℕ) → q < length notes → ((n : ℕ) → given_in notes m n ≡ among n xs)
+flagged_at : (m : Bool) (notes : List Note) (xs : List ℕ) (q : ℕ) → q < length notes → ((n : ℕ) → given_in notes m n ≡ among n xs)
     → (n : ℕ) → given_in (set notes q (with_flag m (note_at notes q))) m n ≡ among n (xs ++ (q ∷ []))
 flagged_at m notes xs q h f n =
     by_place n q
     (λ e. subst (λ (j : ℕ). given_in (set notes q (with_flag m (note_at notes q))) m j ≡ among j (xs ++ (q ∷ []))) (sym e)
-    (ap (λ (r : List ℕ). eqb (flag_in m r) 1) (get_or-set_same notes q (with_flag m (note_at notes q)) blank h) ∙ own m ∙ sym (among_snoc q xs q ∙ rw (eq-eqb q q refl, or_true))))
-    (λ e. ap (λ (r : List ℕ). eqb (flag_in m r) 1) (get_or-set_other notes q n (with_flag m (note_at notes q)) blank e) ∙ f n ∙ sym (among_snoc n xs q ∙ rw (ne_eqb n q e, or_false)))
+    (ap (λ (r : Note). flag_in m r) (get_or-set_same notes q (with_flag m (note_at notes q)) blank h) ∙ own m ∙ sym (among_snoc q xs q ∙ rw (eq-eqb q q refl, or_true))))
+    (λ e. ap (λ (r : Note). flag_in m r) (get_or-set_other notes q n (with_flag m (note_at notes q)) blank e) ∙ f n ∙ sym (among_snoc n xs q ∙ rw (ne_eqb n q e, or_false)))
   where
-    own : (m : Bool) → eqb (flag_in m (with_flag m (note_at notes q))) 1 ≡ true
+    own : (m : Bool) → flag_in m (with_flag m (note_at notes q)) ≡ true
     own true = refl
     own false = refl
 
@@ -149,46 +150,46 @@ earlier ts a h = by_length (leb (length ts) a) refl
 -- ---- the parts of a note
 
 -- a property of notes that the new note at q shares with the old one
-same_at : {B : Type 0} (g : List ℕ → B) (notes : List (List ℕ)) (q : ℕ) (r : List ℕ) → g r ≡ g (note_at notes q) → (a : ℕ) → g (note_at (set notes q r) a) ≡ g (note_at notes a)
+same_at : {B : Type 0} (g : Note → B) (notes : List Note) (q : ℕ) (r : Note) → g r ≡ g (note_at notes q) → (a : ℕ) → g (note_at (set notes q r) a) ≡ g (note_at notes a)
 same_at g notes q r e a = go (leb (length notes) q) refl
   where
     go : (b : Bool) → leb (length notes) q ≡ b → g (note_at (set notes q r) a) ≡ g (note_at notes a)
-    go true h = ap (λ (l : List (List ℕ)). g (note_at l a)) (set_out notes q r (leb-true (length notes) q h))
+    go true h = ap (λ (l : List Note). g (note_at l a)) (set_out notes q r (leb-true (length notes) q h))
     go false h =
         by_place a q
         (λ z. subst (λ (j : ℕ). g (note_at (set notes q r) j) ≡ g (note_at notes j)) (sym z) (ap g (get_or-set_same notes q r blank (leb-false (length notes) q h)) ∙ e))
         (λ z. ap g (get_or-set_other notes q a r blank z))
 
 -- a flag leaves the types and the other flags
-flag_types : (m : Bool) (r : List ℕ) (notes : List (List ℕ)) (a : ℕ) → look_in (flagged_by m r notes) a ≡ look_in notes a
+flag_types : (m : Bool) (r : List ℕ) (notes : List Note) (a : ℕ) → look_in (flagged_by m r notes) a ≡ look_in notes a
 flag_types m r notes a = go (eqb (kind_in r) (init_or_next_kind m)) m
   where
     go : (b m : Bool) → look_in (pick b (set notes (first_in r) (with_flag m (note_at notes (first_in r)))) notes) a ≡ look_in notes a
-    go true true = same_at (λ (x : List ℕ). ty (get_or x 0 0) (get_or x 1 0) (get_or x 2 0)) notes (first_in r) (with_flag true (note_at notes (first_in r))) refl a
-    go true false = same_at (λ (x : List ℕ). ty (get_or x 0 0) (get_or x 1 0) (get_or x 2 0)) notes (first_in r) (with_flag false (note_at notes (first_in r))) refl a
+    go true true = same_at (λ (x : Note). x.ty) notes (first_in r) (with_flag true (note_at notes (first_in r))) refl a
+    go true false = same_at (λ (x : Note). x.ty) notes (first_in r) (with_flag false (note_at notes (first_in r))) refl a
     go false m = refl
 
-other_flag : (m : Bool) (r : List ℕ) (notes : List (List ℕ)) (q : ℕ) → given_in (flagged_by (not m) r notes) m q ≡ given_in notes m q
+other_flag : (m : Bool) (r : List ℕ) (notes : List Note) (q : ℕ) → given_in (flagged_by (not m) r notes) m q ≡ given_in notes m q
 other_flag m r notes q = go (eqb (kind_in r) (init_or_next_kind (not m))) m
   where
     go : (b m : Bool) → given_in (pick b (set notes (first_in r) (with_flag (not m) (note_at notes (first_in r)))) notes) m q ≡ given_in notes m q
-    go true true = same_at (λ (x : List ℕ). eqb (flag_in true x) 1) notes (first_in r) (with_flag false (note_at notes (first_in r))) refl q
-    go true false = same_at (λ (x : List ℕ). eqb (flag_in false x) 1) notes (first_in r) (with_flag true (note_at notes (first_in r))) refl q
+    go true true = same_at (λ (x : Note). flag_in true x) notes (first_in r) (with_flag false (note_at notes (first_in r))) refl q
+    go true false = same_at (λ (x : Note). flag_in false x) notes (first_in r) (with_flag true (note_at notes (first_in r))) refl q
     go false m = refl
 
 -- a type leaves the flags
-type_flags : (m : Bool) (n : ℕ) (y : Ty) (notes : List (List ℕ)) (q : ℕ) → given_in (set notes n (typed y (note_at notes n))) m q ≡ given_in notes m q
-type_flags true n y notes q = same_at (λ (x : List ℕ). eqb (flag_in true x) 1) notes n (typed y (note_at notes n)) refl q
-type_flags false n y notes q = same_at (λ (x : List ℕ). eqb (flag_in false x) 1) notes n (typed y (note_at notes n)) refl q
+type_flags : (m : Bool) (n : ℕ) (y : Ty) (notes : List Note) (q : ℕ) → given_in (set notes n (typed y (note_at notes n))) m q ≡ given_in notes m q
+type_flags true n y notes q = same_at (λ (x : Note). flag_in true x) notes n (typed y (note_at notes n)) refl q
+type_flags false n y notes q = same_at (λ (x : Note). flag_in false x) notes n (typed y (note_at notes n)) refl q
 
-same_flags : (m : Bool) (r : List ℕ) (notes : List (List ℕ)) → length (flagged_by m r notes) ≡ length notes
+same_flags : (m : Bool) (r : List ℕ) (notes : List Note) → length (flagged_by m r notes) ≡ length notes
 same_flags m r notes = go (eqb (kind_in r) (init_or_next_kind m))
   where
     go : (b : Bool) → length (pick b (set notes (first_in r) (with_flag m (note_at notes (first_in r)))) notes) ≡ length notes
     go true = length-set notes (first_in r) (with_flag m (note_at notes (first_in r)))
     go false = refl
 
-pub length_noted : (p : Bool) (r : List ℕ) (n : ℕ) (notes : List (List ℕ)) → length (noted p r n notes) ≡ length notes
+pub length_noted : (p : Bool) (r : List ℕ) (n : ℕ) (notes : List Note) → length (noted p r n notes) ≡ length notes
 unfolding noted
 length_noted p r n notes =
     let y = typed (record_type p (look_in notes) r (line_of r)) (note_at notes n) in
@@ -196,7 +197,7 @@ length_noted p r n notes =
 
 -- ---- one line more
 
-module _ {notes : List (List ℕ)} {c : Ctx} (p : Bool) (r : List ℕ) {n : ℕ} (sh : Shows notes c) (ln : length c.tys ≡ n) (hn : n < length notes) (lr : length r ≡ record_words)
+module _ {notes : List Note} {c : Ctx} (p : Bool) (r : List ℕ) {n : ℕ} (sh : Shows notes c) (ln : length c.tys ≡ n) (hn : n < length notes) (lr : length r ≡ record_words)
     (kp : keeps p (ty_at c) (given c) r ≡ true) where
   lookups : look_in notes ≡ ty_at c
   lookups = λ i a. sh.types a i
@@ -210,7 +211,7 @@ module _ {notes : List (List ℕ)} {c : Ctx} (p : Bool) (r : List ℕ) {n : ℕ}
   abbrev new : Ty
   new = record_type p (look_in notes) r (line_of r)
 
-  abbrev put : List (List ℕ)
+  abbrev put : List Note
   put = set notes n (typed (record_type p (look_in notes) r (line_of r)) (note_at notes n))
 
   is_new : record_type p (look_in notes) r (line_of r) ≡ line_type p (ty_at c) (line_of r)
@@ -220,13 +221,13 @@ module _ {notes : List (List ℕ)} {c : Ctx} (p : Bool) (r : List ℕ) {n : ℕ}
   types_put a =
       by_place a n
       (λ e. subst (λ (j : ℕ). look_in put j ≡ ty_at (grow p c (line_of r)) j) (sym e)
-      (ap (λ (x : List ℕ). ty (get_or x 0 0) (get_or x 1 0) (get_or x 2 0)) (get_or-set_same notes n (typed new (note_at notes n)) blank hn) ∙ is_new
+      (ap (λ (x : Note). x.ty) (get_or-set_same notes n (typed new (note_at notes n)) blank hn) ∙ is_new
       ∙ sym (get_or_at c.tys (line_type p (ty_at c) (line_of r)) [] no_ty n ln)))
-      (λ e. ap (λ (x : List ℕ). ty (get_or x 0 0) (get_or x 1 0) (get_or x 2 0)) (get_or-set_other notes n a (typed new (note_at notes n)) blank e) ∙ sh.types a
+      (λ e. ap (λ (x : Note). x.ty) (get_or-set_other notes n a (typed new (note_at notes n)) blank e) ∙ sh.types a
       ∙ sym (snoc_other c.tys (line_type p (ty_at c) (line_of r)) no_ty a (λ q. e (q ∙ ln))))
 
   -- the flags of one kind of line
-  flags_of : (m : Bool) (xs : List (List ℕ)) → length xs ≡ length notes → ((q : ℕ) → given_in xs m q ≡ given c m q)
+  flags_of : (m : Bool) (xs : List Note) → length xs ≡ length notes → ((q : ℕ) → given_in xs m q ≡ given c m q)
       → (q : ℕ) → given_in (flagged_by m r xs) m q ≡ among q (given_after m c (line_of r))
   flags_of m xs l f q = go (eqb (kind_in r) (init_or_next_kind m)) refl
     where

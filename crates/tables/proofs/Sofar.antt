@@ -6,6 +6,7 @@ use mathlib.Core.List.{List, [], map}
 use native.Mathlib.Omega.{arith}
 use lib.ListN.{length, get_or, take, drop}
 use lib.Seq.{take-length, drop-length}
+use Rattle.tables.specs.declared.Note.{Note}
 use Rattle.tables.specs.declared.Ty.{Ty}
 use Rattle.tables.specs.Lines.{line_of}
 use Rattle.tables.specs.Layout.{record_at, records_of, lines_of}
@@ -16,17 +17,17 @@ use Rattle.tables.proofs.Places.{length_records, record_at_lem, length_record}
 use Rattle.tables.proofs.Contexts.{after, after_suc, lawful_step}
 use Rattle.tables.proofs.Showing.{length_noted, shows_more, length_more}
 
-pub record Sofar (p : Bool) (t : List ℕ) (n i : ℕ) (notes : List (List ℕ)) : Type 0 where
+pub record Sofar (p : Bool) (t : List ℕ) (n i : ℕ) (notes : List Note) : Type 0 where
   pub most : i ≤ n
   pub answer : lawful p no_ctx (records_of p t n) ≡ lawful p (after p (records_of p t n) i) (drop i (records_of p t n))
   pub shows : Shows notes (after p (records_of p t n) i)
   pub ample : n < length notes
   pub lines : length (after p (records_of p t n) i).tys ≡ suc i
 
-pub begun : {p : Bool} {t : List ℕ} {n : ℕ} {notes : List (List ℕ)} → n < length notes → Shows notes no_ctx → Sofar p t n 0 notes
+pub begun : {p : Bool} {t : List ℕ} {n : ℕ} {notes : List Note} → n < length notes → Shows notes no_ctx → Sofar p t n 0 notes
 begun a s = record { most = omega arith; answer = refl; shows = s; ample = a; lines = refl }
 
-module _ {p : Bool} {t : List ℕ} {n i : ℕ} {notes : List (List ℕ)} (S : Sofar p t n i notes) (l : i < n) where
+module _ {p : Bool} {t : List ℕ} {n i : ℕ} {notes : List Note} (S : Sofar p t n i notes) (l : i < n) where
   inside : i < length (records_of p t n)
   inside = omega (arith, length_records p t n)
 
@@ -51,7 +52,7 @@ module _ {p : Bool} {t : List ℕ} {n i : ℕ} {notes : List (List ℕ)} (S : So
       let e : keeps p (look_in notes) (given_in notes) (record_at p t i) ≡ false = subst (λ (x : List ℕ). keeps p (look_in notes) (given_in notes) x ≡ false) er f in
       sym (step ∙ rw e refl)
 
-  module _ {r : List ℕ} {notes₁ : List (List ℕ)} (er : r ≡ record_at p t i) (er-keeps : keeps p (look_in notes) (given_in notes) r ≡ true) (er-noted : notes₁ ≡ noted p r (i + 1) notes) where
+  module _ {r : List ℕ} {notes₁ : List Note} (er : r ≡ record_at p t i) (er-keeps : keeps p (look_in notes) (given_in notes) r ≡ true) (er-noted : notes₁ ≡ noted p r (i + 1) notes) where
     e : keeps p (look_in notes) (given_in notes) (record_at p t i) ≡ true
     e = subst (λ (x : List ℕ). keeps p (look_in notes) (given_in notes) x ≡ true) er er-keeps
 
@@ -73,13 +74,13 @@ module _ {p : Bool} {t : List ℕ} {n i : ℕ} {notes : List (List ℕ)} (S : So
         record {
           most = omega arith;
           answer = step ∙ rw e (ap₂ (λ (x : Ctx) (m : ℕ). lawful p x (drop m (records_of p t n))) (sym next) q);
-          shows = subst (λ (x : List (List ℕ)). Shows x (after p (records_of p t n) (i + 1))) (sym nt)
+          shows = subst (λ (x : List Note). Shows x (after p (records_of p t n) (i + 1))) (sym nt)
               (subst (λ (x : Ctx). Shows (noted p (record_at p t i) (i + 1) notes) x) (sym next) (shows_more p (record_at p t i) S.shows ln (omega arith) lr kp));
           ample = subst (λ (m : ℕ). n < m) (sym (ap length nt ∙ length_noted p (record_at p t i) (i + 1) notes)) am;
           lines = ap (λ (x : Ctx). length x.tys) next ∙ length_more p (record_at p t i) S.shows ln (omega arith) lr kp;
         }
 
-module _ {p : Bool} {t : List ℕ} {n i : ℕ} {notes : List (List ℕ)} (S : Sofar p t n i notes) (l : n ≤ i) where
+module _ {p : Bool} {t : List ℕ} {n i : ℕ} {notes : List Note} (S : Sofar p t n i notes) (l : n ≤ i) where
   done : i ≡ length (records_of p t n)
   done = omega (arith, length_records p t n, S.most)
 

@@ -38,3 +38,22 @@ pub struct Ty {
     pub iw: u8,
     pub w: u8,
 }
+
+// What a check keeps of a line: its type, and of a state whether it has had an init line and a next line.
+#[derive(Clone, Copy)]
+pub struct Note {
+    pub ty: Ty,
+    pub has_init: bool,
+    pub has_next: bool,
+}
+
+// The note of no line.
+pub const BLANK: Note = Note {
+    ty: Ty {
+        role: 0,
+        iw: 0,
+        w: 0,
+    },
+    has_init: false,
+    has_next: false,
+};
