@@ -10,7 +10,6 @@ ghost use Rattle.tables.specs.Ids.{ids_right};
 ghost use Rattle.tables.specs.Types.{record_type, no_ctx, context};
 ghost use Rattle.tables.specs.Model.Notes.{look_in, noted, given_in, Shows, Fresh};
 ghost use Rattle.tables.specs.Kinds.{rows};
-ghost use Rattle.tables.specs.Refusals.{number_of};
 
 use records::kinds::{NONE, NOT};
 use records::notes::BYTES;
@@ -217,35 +216,5 @@ pub fn broken(program: bool) -> Refusal
         Refusal::BadProgram
     } else {
         Refusal::BadTable
-    }
-}
-
-// The number of a refusal.
-pub fn number(r: Refusal) -> u64
-    ensures { result ≡ number_of r }
-{
-    match r {
-        Refusal::NotATable => 1,
-        Refusal::TextTooLong => 2,
-        Refusal::WrongId => 3,
-        Refusal::NoRecordLeft => 4,
-        Refusal::UnknownWord => 5,
-        Refusal::BadOperand => 6,
-        Refusal::NumberTooLarge => 7,
-        Refusal::WrongClass => 8,
-        Refusal::Misfit => 9,
-        Refusal::InitOrNext => 10,
-        Refusal::BadTable => 11,
-        Refusal::TargetTooSmall => 12,
-        Refusal::TooManySteps => 13,
-        Refusal::StartWords => 14,
-        Refusal::InputWords => 15,
-        Refusal::SignalBytes => 16,
-        Refusal::WorkArea => 17,
-        Refusal::NoSuchCell => 18,
-        Refusal::ArrayPresent => 19,
-        Refusal::BadProgram => 20,
-        Refusal::TextBuffer => 21,
-        Refusal::NameUsed => 22,
     }
 }

@@ -4,7 +4,7 @@
 // The words of a record that is handed about.
 pub const WORDS: usize = 5;
 
-// Why an operation refuses; `checks::number` has the numbers.
+// Why an operation refuses. As a number it is that of include/gofeshan.h.
 #[derive(Clone, Copy, Debug, PartialEq, Eq)]
 pub enum Refusal {
     NotATable,
@@ -29,6 +29,40 @@ pub enum Refusal {
     BadProgram,
     TextBuffer,
     NameUsed,
+}
+
+impl From<Refusal> for u64 {
+    ghost use Rattle.std.specs.Prelude.{◌≡◌};
+    ghost use Rattle.tables.specs.Refusals.{number_of};
+
+    ghost from_gives = { λ r n. n ≡ number_of r };
+
+    fn from(r: Refusal) -> u64 {
+        match r {
+            Refusal::NotATable => 1,
+            Refusal::TextTooLong => 2,
+            Refusal::WrongId => 3,
+            Refusal::NoRecordLeft => 4,
+            Refusal::UnknownWord => 5,
+            Refusal::BadOperand => 6,
+            Refusal::NumberTooLarge => 7,
+            Refusal::WrongClass => 8,
+            Refusal::Misfit => 9,
+            Refusal::InitOrNext => 10,
+            Refusal::BadTable => 11,
+            Refusal::TargetTooSmall => 12,
+            Refusal::TooManySteps => 13,
+            Refusal::StartWords => 14,
+            Refusal::InputWords => 15,
+            Refusal::SignalBytes => 16,
+            Refusal::WorkArea => 17,
+            Refusal::NoSuchCell => 18,
+            Refusal::ArrayPresent => 19,
+            Refusal::BadProgram => 20,
+            Refusal::TextBuffer => 21,
+            Refusal::NameUsed => 22,
+        }
+    }
 }
 
 // What is known of a line: its role (none, sort, unmarked value, marked value, state), its index width and its width.
