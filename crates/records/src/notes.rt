@@ -13,31 +13,24 @@ pub const BYTES: usize = 5;
 pub fn at(notes: &[[u8; BYTES]], a: u64) -> [u8; BYTES]
     ensures { result ≡ note_at notes.now a }
 {
-    if a < notes.len() as u64 {
-        let i = a as usize;
-        return notes[i];
-    }
-    [0, 0, 0, 0, 0]
+    notes.get(a as usize).copied().unwrap_or([0; BYTES])
 }
 
 // The type of the line a.
 pub fn look(notes: &[[u8; BYTES]], a: u64) -> Ty
     ensures { result ≡ look_in notes.now a }
 {
-    let r = at(notes, a);
-    Ty {
-        role: r[0],
-        iw: r[1],
-        w: r[2],
-    }
+    let [role, iw, w, _, _] = at(notes, a);
+    Ty { role, iw, w }
 }
 
 // A note goes to the line n; a place past the end is left.
 fn put(notes: &mut [[u8; BYTES]], n: u64, r: [u8; BYTES])
     ensures { notes.new ≡ set notes.old n r }
 {
-    if n < notes.len() as u64 {
-        let i = n as usize;
+    // after a `get_mut` nothing is known of the slice but its length
+    let i = n as usize;
+    if i < notes.len() {
         notes[i] = r;
     }
 }
@@ -46,8 +39,8 @@ fn put(notes: &mut [[u8; BYTES]], n: u64, r: [u8; BYTES])
 pub fn put_type(notes: &mut [[u8; BYTES]], n: u64, y: Ty)
     ensures { notes.new ≡ set notes.old n (typed_of y (note_at notes.old n)) }
 {
-    let r = at(notes, n);
-    put(notes, n, [y.role, y.iw, y.w, r[3], r[4]]);
+    let [_, _, _, init, next] = at(notes, n);
+    put(notes, n, [y.role, y.iw, y.w, init, next]);
 }
 
 // A note with the flag of an init, or of a next.
@@ -55,9 +48,10 @@ fn flagged(init: bool, r: [u8; BYTES]) -> [u8; BYTES]
     ensures { result ≡ flagged_of init r }
 {
     if init {
-        return [r[0], r[1], r[2], 1, r[4]];
+        [r[0], r[1], r[2], 1, r[4]]
+    } else {
+        [r[0], r[1], r[2], r[3], 1]
     }
-    [r[0], r[1], r[2], r[3], 1]
 }
 
 // A record of the kind k, an init or a next, flags its state.
