@@ -12,9 +12,8 @@ ghost use Rattle.tables.specs.Model.Notes.{look_in, noted, given_in, Shows, Fres
 ghost use Rattle.tables.specs.Kinds.{rows};
 
 use records::kinds::{NONE, NOT};
-use records::notes::BYTES;
 use records::{ids, kinds, notes};
-use tables::{Refusal, Ty, WORDS};
+use tables::{BLANK, Note, Refusal, Ty, WORDS};
 
 // The kind is one from `first` to `last`, or from `again` to 63.
 fn listed(k: u64, first: u64, last: u64, again: u64) -> bool
@@ -45,14 +44,14 @@ fn unused(k: u8, x: u64) -> bool
 fn tidy(row: [u8; 16], rec: [u64; WORDS]) -> bool
     ensures { result ≡ all (tidy_of row rec) }
 {
-    unused(row[11], rec[1])
-        && unused(row[13], rec[2])
-        && unused(row[14], rec[3])
-        && unused(row[15], rec[4])
+    unused(kinds::sort_class(row), rec[1])
+        && unused(kinds::first_class(row), rec[2])
+        && unused(kinds::second_class(row), rec[3])
+        && unused(kinds::third_class(row), rec[4])
 }
 
 // The type of a record that keeps the rules, after the lines noted.
-fn type_in(program: bool, rec: [u64; WORDS], notes: &[[u8; BYTES]]) -> Ty
+fn type_in(program: bool, rec: [u64; WORDS], notes: &[Note]) -> Ty
     requires { kind_in rec ≡ 1 → first_in rec ≤ 64 }
     ensures { result ≡ record_type program (look_in notes.now) rec (line_of rec) }
 {
@@ -64,7 +63,7 @@ fn type_in(program: bool, rec: [u64; WORDS], notes: &[[u8; BYTES]]) -> Ty
 }
 
 // The line n, whose record keeps the rules, is noted.
-pub fn note(program: bool, rec: [u64; WORDS], n: u64, notes: &mut [[u8; BYTES]])
+pub fn note(program: bool, rec: [u64; WORDS], n: u64, notes: &mut [Note])
     requires { kind_in rec ≡ 1 → first_in rec ≤ 64 }
     ensures { notes.new ≡ noted program rec n notes.old }
 {
@@ -79,7 +78,7 @@ fn keeps_rules(
     program: bool,
     kinds: &[[u8; 16]; 63],
     rec: [u64; WORDS],
-    notes: &[[u8; BYTES]],
+    notes: &[Note],
 ) -> bool
     requires { kinds.now ≡ rows }
     ensures { result ≡ keeps program (look_in notes.now) (given_in notes.now) rec }
@@ -98,7 +97,7 @@ fn take_record(
     kinds: &[[u8; 16]; 63],
     rec: [u64; WORDS],
     n: u64,
-    notes: &mut [[u8; BYTES]],
+    notes: &mut [Note],
 ) -> bool
     requires { kinds.now ≡ rows }
     ensures { (result ≡ keeps program (look_in notes.old) (given_in notes.old) rec)
@@ -117,7 +116,7 @@ fn lines(
     kinds: &[[u8; 16]; 63],
     table: &[u64],
     count: usize,
-    notes: &mut [[u8; BYTES]],
+    notes: &mut [Note],
 ) -> bool
     requires { (kinds.now ≡ rows) × ((count ≤ 16384) × ((count ≤ held program (length table.now)) × ((count < length notes.old) × Shows notes.old no_ctx))) }
     ensures { (result ≡ lawful program no_ctx (records_of program table.now count))
@@ -167,7 +166,7 @@ pub fn check(
     program: bool,
     table: &[u64],
     count: usize,
-    notes: &mut [[u8; BYTES]],
+    notes: &mut [Note],
 ) -> Result<(), Refusal>
     requires { Fresh count notes.old }
     ensures { (result ≡ checked program table.now count)
@@ -204,7 +203,7 @@ fn accept_in<const N: usize>(program: bool, table: &[u64], count: usize) -> Resu
     requires { (count ≤ 16384 → count < N) × (N ≤ 16385) }
     ensures { result ≡ checked program table.now count }
 {
-    let mut notes = [[0u8; BYTES]; N];
+    let mut notes = [BLANK; N];
     check(program, table, count, &mut notes)
 }
 

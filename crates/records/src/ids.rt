@@ -9,8 +9,5 @@ const MOST: u64 = 4294967295;
 pub fn follows(last: u64, d: u64) -> bool
     ensures { result ≡ follows_by last d }
 {
-    if d <= last {
-        return false;
-    }
-    d <= MOST
+    last < d && d <= MOST
 }

@@ -2,7 +2,7 @@
 pub mod letters; // the letters of the words
 
 ghost use Rattle.std.specs.Prelude.{◌≡◌, ◌≤◌};
-ghost use Rattle.tables.specs.Kinds.{rows, row_of};
+ghost use Rattle.tables.specs.Kinds.{rows, row_of, sort_class, operand_count, first_class, second_class, third_class};
 
 use letters::*;
 
@@ -110,10 +110,45 @@ pub fn all() -> [[u8; 16]; 63]
 }
 
 // The row of a kind, from the rows of all.
+#[tactic(auto, unfolding(tables::specs::Kinds::row_of))]
 pub fn row_of(kinds: &[[u8; 16]; 63], k: u64) -> [u8; 16]
     requires { (1 ≤ k) × ((k ≤ 63) × (kinds.now ≡ rows)) }
     ensures { result ≡ row_of k }
 {
-    let i = (k - 1) as usize;
-    kinds[i]
+    kinds[(k - 1) as usize]
+}
+
+// The class of a row's sort.
+pub fn sort_class(row: [u8; 16]) -> u8
+    ensures { result ≡ sort_class row }
+{
+    row[11]
+}
+
+// The number of a row's operands.
+pub fn operand_count(row: [u8; 16]) -> u8
+    ensures { result ≡ operand_count row }
+{
+    row[12]
+}
+
+// The class of a row's first operand.
+pub fn first_class(row: [u8; 16]) -> u8
+    ensures { result ≡ first_class row }
+{
+    row[13]
+}
+
+// The class of a row's second operand.
+pub fn second_class(row: [u8; 16]) -> u8
+    ensures { result ≡ second_class row }
+{
+    row[14]
+}
+
+// The class of a row's third operand.
+pub fn third_class(row: [u8; 16]) -> u8
+    ensures { result ≡ third_class row }
+{
+    row[15]
 }

@@ -23,10 +23,7 @@ pub fn of(k: u64, s: u64, a: u64, b: u64, c: u64) -> [u64; WORDS]
 pub fn size(program: bool) -> usize
     ensures { result ≡ record_size program }
 {
-    if program {
-        return WORDS;
-    }
-    WORDS + 1
+    if program { WORDS } else { WORDS + 1 }
 }
 
 // A list of so many words holds a whole number of records.
@@ -47,11 +44,7 @@ pub fn step(program: bool, len: usize) -> usize
 pub fn room_of(program: bool, len: usize) -> usize
     ensures { result ≡ room program len }
 {
-    let n = step(program, len);
-    if 16384 < n {
-        return 16384;
-    }
-    n
+    step(program, len).min(16384)
 }
 
 // The record at the place i, from 0; h is the list's step.
@@ -90,11 +83,8 @@ pub fn put(program: bool, table: &mut [u64], i: usize, rec: [u64; WORDS])
     ensures { table.new ≡ recorded program table.old i rec }
 {
     let h = step(program, table.len());
-    let mut j: usize = 0;
-    while j < WORDS {
-        let v = rec[j];
-        table[h * j + i] = v;
-        j += 1;
+    for (j, word) in rec.iter().enumerate() {
+        table[h * j + i] = *word;
     }
 }
 
@@ -120,14 +110,15 @@ pub fn strides_of(columns: bool, program: bool, len: usize) -> Strides
     ensures { (i j : ℕ) → result.word * j + result.row * i ≡ placing_in columns program len i j }
 {
     if columns {
-        return Strides {
+        Strides {
             row: 1,
             word: step(program, len),
-        };
-    }
-    Strides {
-        row: size(program),
-        word: 1,
+        }
+    } else {
+        Strides {
+            row: size(program),
+            word: 1,
+        }
     }
 }
 
@@ -135,9 +126,5 @@ pub fn strides_of(columns: bool, program: bool, len: usize) -> Strides
 pub fn clear(table: &mut [u64])
     ensures { table.new ≡ replicate (length table.old) 0 }
 {
-    let mut i: usize = 0;
-    while i < table.len() {
-        table[i] = 0;
-        i += 1;
-    }
+    table.fill(0);
 }

@@ -1,67 +1,62 @@
-// What a check keeps of each line, at the line's number: its role, which has the mark in it, its index width, its width, and two flags, of a state that has an init
-// line and of one that has a next line.
+// What a check keeps of each line, at the line's number: its type, and of a state whether it has had an init line and a next line.
 ghost use Rattle.std.specs.Prelude.{◌≡◌, set};
 ghost use Rattle.tables.specs.Model.Notes.{note_at, look_in, typed as typed_of, with_flag as flagged_of, flagged_by};
 ghost use Rattle.tables.specs.Lines.{init_or_next_kind};
 
-use tables::{Ty, WORDS};
-
-// The bytes of a note.
-pub const BYTES: usize = 5;
+use tables::{BLANK, Note, Ty, WORDS};
 
 // The note of the line a; of no line past the end.
-pub fn at(notes: &[[u8; BYTES]], a: u64) -> [u8; BYTES]
+pub fn at(notes: &[Note], a: u64) -> Note
     ensures { result ≡ note_at notes.now a }
 {
-    if a < notes.len() as u64 {
-        let i = a as usize;
-        return notes[i];
-    }
-    [0, 0, 0, 0, 0]
+    notes.get(a as usize).copied().unwrap_or(BLANK)
 }
 
 // The type of the line a.
-pub fn look(notes: &[[u8; BYTES]], a: u64) -> Ty
+pub fn look(notes: &[Note], a: u64) -> Ty
     ensures { result ≡ look_in notes.now a }
 {
-    let r = at(notes, a);
-    Ty {
-        role: r[0],
-        iw: r[1],
-        w: r[2],
-    }
+    at(notes, a).ty
 }
 
 // A note goes to the line n; a place past the end is left.
-fn put(notes: &mut [[u8; BYTES]], n: u64, r: [u8; BYTES])
+fn put(notes: &mut [Note], n: u64, r: Note)
     ensures { notes.new ≡ set notes.old n r }
 {
-    if n < notes.len() as u64 {
-        let i = n as usize;
+    // after a `get_mut` nothing is known of the slice but its length
+    let i = n as usize;
+    if i < notes.len() {
         notes[i] = r;
     }
 }
 
 // A type goes to the line n.
-pub fn put_type(notes: &mut [[u8; BYTES]], n: u64, y: Ty)
-    ensures { notes.new ≡ set notes.old n (typed_of y (note_at notes.old n)) }
+pub fn put_type(notes: &mut [Note], n: u64, ty: Ty)
+    ensures { notes.new ≡ set notes.old n (typed_of ty (note_at notes.old n)) }
 {
     let r = at(notes, n);
-    put(notes, n, [y.role, y.iw, y.w, r[3], r[4]]);
+    put(notes, n, Note { ty, ..r });
 }
 
 // A note with the flag of an init, or of a next.
-fn flagged(init: bool, r: [u8; BYTES]) -> [u8; BYTES]
+fn flagged(init: bool, r: Note) -> Note
     ensures { result ≡ flagged_of init r }
 {
     if init {
-        return [r[0], r[1], r[2], 1, r[4]];
+        Note {
+            has_init: true,
+            ..r
+        }
+    } else {
+        Note {
+            has_next: true,
+            ..r
+        }
     }
-    [r[0], r[1], r[2], r[3], 1]
 }
 
 // A record of the kind k, an init or a next, flags its state.
-pub fn flag(init: bool, k: u64, rec: [u64; WORDS], notes: &mut [[u8; BYTES]])
+pub fn flag(init: bool, k: u64, rec: [u64; WORDS], notes: &mut [Note])
     requires { k ≡ init_or_next_kind init }
     ensures { notes.new ≡ flagged_by init rec notes.old }
 {

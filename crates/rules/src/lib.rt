@@ -9,11 +9,11 @@ ghost use Rattle.tables.specs.Model.Notes.{given_in, look_in};
 ghost use Rattle.tables.specs.Kinds.{row_of};
 
 use records::kinds::{ARRAY, ASORT, SORT, STATE, VALUE, WORD, WSORT};
-use records::notes;
-use records::notes::BYTES;
-use tables::{Refusal, Ty, WORDS};
+use records::{kinds, notes};
+use tables::{Note, Refusal, Ty, WORDS};
 
 // A line of the type t may stand where the class k is asked for.
+#[tactic(auto, unfolding(tables::specs::Rules::suits))]
 fn suits(k: u8, t: Ty) -> bool
     ensures { result ≡ suits_of k t }
 {
@@ -33,36 +33,20 @@ fn suits(k: u8, t: Ty) -> bool
 fn classed(row: [u8; 16], t: Ty, a: Ty, b: Ty, c: Ty) -> bool
     ensures { result ≡ all (classes row t a b c) }
 {
-    if !suits(row[11], t) {
-        return false;
-    }
-    if !suits(row[13], a) {
-        return false;
-    }
-    if !suits(row[14], b) {
-        return false;
-    }
-    suits(row[15], c)
+    suits(kinds::sort_class(row), t)
+        && suits(kinds::first_class(row), a)
+        && suits(kinds::second_class(row), b)
+        && suits(kinds::third_class(row), c)
 }
 
 // Rule 10: b is the type of the second operand. Of an init's value one mark is looked at.
-fn once(rec: [u64; WORDS], b: Ty, notes: &[[u8; BYTES]]) -> bool
+fn once(rec: [u64; WORDS], b: Ty, notes: &[Note]) -> bool
     ensures { result ≡ all (once_rules (line_of rec) (given_in notes.now) b) }
 {
-    let k = rec[0];
-    let q = rec[2];
-    let r = notes::at(notes, q);
-    match k {
-        6 => {
-            if r[3] == 1 {
-                return false;
-            }
-            if q <= rec[3] {
-                return false;
-            }
-            !types::marked(b)
-        }
-        7 => r[4] != 1,
+    let state = notes::at(notes, rec[2]);
+    match rec[0] {
+        6 => !state.has_init && rec[3] < rec[2] && !types::marked(b),
+        7 => !state.has_next,
         _ => true,
     }
 }
@@ -72,7 +56,7 @@ pub fn fault(
     program: bool,
     row: [u8; 16],
     rec: [u64; WORDS],
-    notes: &[[u8; BYTES]],
+    notes: &[Note],
 ) -> Result<(), Refusal>
     requires { row ≡ row_of (kind_in rec) }
     ensures { result ≡ refused_by (fault_of program (look_in notes.now) (given_in notes.now) rec) }

@@ -3,75 +3,61 @@
 
 ghost use Rattle.std.specs.Prelude.{◌≡◌, ◌||◌, ◌≤◌, ◌<◌};
 ghost use Rattle.tables.specs.Model.Notes.{look_in};
-ghost use Rattle.tables.specs.Types.{sort_at, is_word, is_array, is_word_sort, is_array_sort, marked as marked_of, ty, value_role, type_of};
+ghost use Rattle.tables.specs.Types.{sort_at, is_word, is_array, is_word_sort, is_array_sort, marked as marked_of, ty, sort_role, value_role, type_of};
 ghost use Rattle.tables.specs.Lines.{line_of, kind_in, first_in};
 
 use records::notes;
-use records::notes::BYTES;
-use tables::{Ty, WORDS};
+use tables::{Note, Ty, WORDS};
+
+// No sort and no value.
+const NO_TYPE: Ty = Ty {
+    role: 0,
+    iw: 0,
+    w: 0,
+};
+
+// The sort of the words of w bits.
+fn word_sort(w: u8) -> Ty
+    ensures { result ≡ ty sort_role 0 w }
+{
+    Ty { role: 1, iw: 0, w }
+}
 
 // The sort that a line's second word names: in a program the word is the width.
-pub fn sort_at(program: bool, notes: &[[u8; BYTES]], s: u64) -> Ty
+pub fn sort_at(program: bool, notes: &[Note], s: u64) -> Ty
     ensures { result ≡ sort_at program (look_in notes.now) s }
 {
     if !program {
         return notes::look(notes, s);
     }
-    if s < 1 {
-        return Ty {
-            role: 0,
-            iw: 0,
-            w: 0,
-        };
-    }
-    if 64 < s {
-        return Ty {
-            role: 0,
-            iw: 0,
-            w: 0,
-        };
-    }
-    Ty {
-        role: 1,
-        iw: 0,
-        w: s as u8,
+    match s {
+        1..=64 => word_sort(s as u8),
+        _ => NO_TYPE,
     }
 }
 
 pub fn is_word(t: Ty) -> bool
     ensures { result ≡ is_word t }
 {
-    if t.role < 2 {
-        return false;
-    }
-    t.iw == 0
+    2 <= t.role && t.iw == 0
 }
 
 pub fn is_array(t: Ty) -> bool
     ensures { result ≡ is_array t }
 {
-    if t.role < 2 {
-        return false;
-    }
-    0 < t.iw
+    2 <= t.role && 0 < t.iw
 }
 
 pub fn is_word_sort(t: Ty) -> bool
     ensures { result ≡ is_word_sort t }
 {
-    if t.role != 1 {
-        return false;
-    }
-    t.iw == 0
+    t.role == 1 && t.iw == 0
 }
 
 pub fn is_array_sort(t: Ty) -> bool
     ensures { result ≡ is_array_sort t }
 {
-    if t.role != 1 {
-        return false;
-    }
-    0 < t.iw
+    t.role == 1 && 0 < t.iw
 }
 
 // The line is, or has beneath it, an input or a state.
@@ -81,40 +67,13 @@ pub fn marked(t: Ty) -> bool
     3 <= t.role
 }
 
-// One of the lines that a value uses is marked: of two, and of three.
-fn marked_two(a: Ty, b: Ty) -> bool
-    ensures { result ≡ (marked_of a || marked_of b) }
-{
-    if 3 <= a.role {
-        return true;
-    }
-    3 <= b.role
-}
-
-fn marked_three(a: Ty, b: Ty, c: Ty) -> bool
-    ensures { result ≡ (marked_of a || (marked_of b || marked_of c)) }
-{
-    if marked_two(a, b) {
-        return true;
-    }
-    3 <= c.role
-}
-
 // A value of the sort t, marked or not.
 fn value(mark: bool, t: Ty) -> Ty
     ensures { result ≡ ty (value_role mark) t.iw t.w }
 {
-    if mark {
-        return Ty {
-            role: 3,
-            iw: t.iw,
-            w: t.w,
-        };
-    }
     Ty {
-        role: 2,
-        iw: t.iw,
-        w: t.w,
+        role: if mark { 3 } else { 2 },
+        ..t
     }
 }
 
@@ -124,22 +83,9 @@ pub fn type_of(rec: [u64; WORDS], t: Ty, a: Ty, b: Ty, c: Ty) -> Ty
     ensures { result ≡ type_of (line_of rec) t a b c }
 {
     let k = rec[0];
-    if k < 1 {
-        return Ty {
-            role: 0,
-            iw: 0,
-            w: 0,
-        };
-    }
-    if 10 < k {
-        return type_of_value(rec, t, a, b, c);
-    }
+    // by the kinds' numbers, which the C interface fixes
     match k {
-        1 => Ty {
-            role: 1,
-            iw: 0,
-            w: rec[2] as u8,
-        },
+        1 => word_sort(rec[2] as u8),
         2 => Ty {
             role: 1,
             iw: a.w,
@@ -147,39 +93,10 @@ pub fn type_of(rec: [u64; WORDS], t: Ty, a: Ty, b: Ty, c: Ty) -> Ty
         },
         3 => value(false, t),
         4 => value(true, t),
-        5 => Ty {
-            role: 4,
-            iw: t.iw,
-            w: t.w,
-        },
-        _ => Ty {
-            role: 0,
-            iw: 0,
-            w: 0,
-        },
-    }
-}
-
-// The same, for the kinds of operators.
-fn type_of_value(rec: [u64; WORDS], t: Ty, a: Ty, b: Ty, c: Ty) -> Ty
-    requires { 10 < kind_in rec }
-    ensures { result ≡ type_of (line_of rec) t a b c }
-{
-    let k = rec[0];
-    if k <= 20 {
-        return value(marked(a), t);
-    }
-    if 63 < k {
-        return Ty {
-            role: 0,
-            iw: 0,
-            w: 0,
-        };
-    }
-    match k {
-        53 => value(marked_three(a, b, c), t),
-        55 => value(marked_three(a, b, c), t),
-        56 => value(marked(a), t),
-        _ => value(marked_two(a, b), t),
+        5 => Ty { role: 4, ..t },
+        11..=20 | 56 => value(marked(a), t),
+        53 | 55 => value(marked(a) || marked(b) || marked(c), t),
+        21..=52 | 54 | 57..=63 => value(marked(a) || marked(b), t),
+        _ => NO_TYPE,
     }
 }
