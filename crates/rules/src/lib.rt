@@ -39,7 +39,7 @@ fn classed(row: [u8; 16], t: Ty, a: Ty, b: Ty, c: Ty) -> bool
         && suits(kinds::third_class(row), c)
 }
 
-// Rule 10: b is the type of the second operand. Of an init's value one mark is looked at.
+// Rule 10, by the kinds' numbers, which the C interface fixes: b is the type of the second operand. Of an init's value one mark is looked at.
 fn once(rec: [u64; WORDS], b: Ty, notes: &[Note]) -> bool
     ensures { result ≡ all (once_rules (line_of rec) (given_in notes.now) b) }
 {
