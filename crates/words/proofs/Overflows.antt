@@ -15,8 +15,8 @@ use Rattle.words.specs.Word.{signed_value}
 use Rattle.words.specs.Model.Widths.{Words}
 use Rattle.words.specs.Op.{uaddo, saddo, usubo, ssubo, umulo, smulo, sdivo}
 use Rattle.words.specs.Overflow.{outside, overflows}
-use Rattle.words.proofs.Signed.{half, signed_low, signed_high}
-use Rattle.words.proofs.Integers.{quot_range, signed_range}
+use Rattle.words.proofs.Signed.{half, signed_low, signed_high, signed_range}
+use Rattle.words.proofs.Integers.{quot_range}
 use Rattle.words.proofs.Division.{is_least, is_minus_one, minus_one}
 
 -- ---- tests
