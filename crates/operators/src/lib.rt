@@ -24,13 +24,6 @@ pub fn low(w: u64, x: u64) -> u64
 
 // ---- arithmetic and tests on whole words
 
-// The product modulo 2^64.
-pub fn wrapping_mul(a: u64, b: u64) -> u64
-    ensures { result ≡ a * b % 2 ^ 64 }
-{
-    a.wrapping_mul(b)
-}
-
 pub fn udiv(w: u64, a: u64, b: u64) -> u64
     requires { Width w }
     ensures { result ≡ prog udiv w w a b 0 }
@@ -114,7 +107,7 @@ pub fn slte(w: u64, a: u64, b: u64) -> u64
     u64::from(to_signed(w, a) <= to_signed(w, b))
 }
 
-// The least value has no opposite of its width: by -1 it stays.
+// By -1 the least value, which has no opposite of its width, stays as it is: `/` has no answer there.
 pub fn sdiv(w: u64, a: u64, b: u64) -> u64
     requires { Width w }
     ensures { result ≡ prog sdiv w w a b 0 }
@@ -128,7 +121,7 @@ pub fn sdiv(w: u64, a: u64, b: u64) -> u64
     }
 }
 
-// The least i64 must not be divided by -1; nothing is left over there.
+// By -1 nothing is left over, of the least value too, where `%` has no answer.
 pub fn srem(w: u64, a: u64, b: u64) -> u64
     requires { Width w }
     ensures { result ≡ prog srem w w a b 0 }
@@ -186,6 +179,7 @@ pub fn sra(w: u64, a: u64, b: u64) -> u64
     requires { Width w }
     ensures { result ≡ prog sra w w a b 0 }
 {
+    // from 63 on, copies of the sign alone are left
     let amount = low(w, b);
     from_signed(w, to_signed(w, a) >> amount.min(63))
 }
