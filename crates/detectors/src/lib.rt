@@ -1,23 +1,20 @@
-// Overflow detectors on words of 1 to 64 bits: whether the result of an operation, as a whole number, lies outside the operands' width. No sum, difference or product is
-// worked out that could pass 64 bits. In each, x and y are words of the width w, m is the greatest word of it and h the greatest signed number; a word above h is negative,
-// -1 - (m - x).
+// Overflow detectors on words of 1 to 64 bits: whether the result of an operation, as a whole number, lies outside the operands' width. No sum or difference is worked out
+// that could pass 64 bits, and a product in 128. In each, x and y are words of the width w, m is the greatest word of it and h the greatest signed number; a word above h is
+// negative, -1 - (m - x).
 #![tactic(auto)]
 
 ghost use Rattle.std.specs.Prelude.{◌≡◌, ◌≤◌, ◌*◌, ltb};
-ghost use Rattle.words.specs.Word.{Width, bit as bit_of};
+ghost use Rattle.words.specs.Word.{Width};
 ghost use Rattle.words.specs.Op.{op_of, uaddo, saddo, usubo, ssubo, umulo, smulo, sdivo};
 ghost use Rattle.words.specs.Overflow.{overflows};
 ghost use Rattle.words.specs.Program.{prog};
 ghost use Rattle.words.specs.Model.Widths.{Words};
 
-// The product of p and q is above the limit. It may not fit a machine word: one division tells.
+// The product of p and q is above the limit. It may not fit a machine word.
 fn passes(limit: u64, p: u64, q: u64) -> bool
     ensures { result ≡ ltb limit (p * q) }
 {
-    if p == 0 {
-        return false;
-    }
-    limit / p < q
+    u128::from(limit) < u128::from(p) * u128::from(q)
 }
 
 fn uaddo(w: u64, x: u64, y: u64) -> bool
@@ -48,16 +45,11 @@ fn saddo(w: u64, x: u64, y: u64) -> bool
 {
     let m = operators::mask(w);
     let h = m >> 1;
-    if x <= h {
-        if y <= h {
-            return h - x < y;
-        }
-        return false;
+    match (x <= h, y <= h) {
+        (true, true) => h - x < y,
+        (false, false) => h - (m - x) <= m - y,
+        _ => false,
     }
-    if y <= h {
-        return false;
-    }
-    h - (m - x) <= m - y
 }
 
 // Numbers of one sign have a difference between the least and the greatest.
@@ -67,16 +59,11 @@ fn ssubo(w: u64, x: u64, y: u64) -> bool
 {
     let m = operators::mask(w);
     let h = m >> 1;
-    if x <= h {
-        if y <= h {
-            return false;
-        }
-        return h - x <= m - y;
+    match (x <= h, y <= h) {
+        (true, false) => h - x <= m - y,
+        (false, true) => h - (m - x) < y,
+        _ => false,
     }
-    if y <= h {
-        return h - (m - x) < y;
-    }
-    false
 }
 
 // The product of the sizes: up to h where the signs are the same, else up to h + 1.
@@ -86,16 +73,12 @@ fn smulo(w: u64, x: u64, y: u64) -> bool
 {
     let m = operators::mask(w);
     let h = m >> 1;
-    if x <= h {
-        if y <= h {
-            return passes(h, x, y);
-        }
-        return passes(h + 1, x, m - y + 1);
+    match (x <= h, y <= h) {
+        (true, true) => passes(h, x, y),
+        (true, false) => passes(h + 1, x, m - y + 1),
+        (false, true) => passes(h + 1, m - x + 1, y),
+        (false, false) => passes(h, m - x + 1, m - y + 1),
     }
-    if y <= h {
-        return passes(h + 1, m - x + 1, y);
-    }
-    passes(h, m - x + 1, m - y + 1)
 }
 
 // Of all quotients only that of the least value by -1 is no word; by 0 there is none.
@@ -104,19 +87,7 @@ fn sdivo(w: u64, x: u64, y: u64) -> bool
     ensures { result ≡ overflows sdivo w x y }
 {
     let m = operators::mask(w);
-    if x == (m >> 1) + 1 {
-        if y == m {
-            return true;
-        }
-    }
-    false
-}
-
-// A test as a word.
-fn bit(t: bool) -> u64
-    ensures { result ≡ bit_of t }
-{
-    if t { 1 } else { 0 }
+    x == (m >> 1) + 1 && y == m
 }
 
 // The word of the detector of a kind from 57 to 63 in a program, which reads the low w bits of each operand.
@@ -126,13 +97,15 @@ pub fn detect(kind: u64, w: u64, a: u64, b: u64) -> u64
 {
     let x = operators::low(w, a);
     let y = operators::low(w, b);
-    match kind {
-        57 => bit(uaddo(w, x, y)),
-        58 => bit(saddo(w, x, y)),
-        59 => bit(usubo(w, x, y)),
-        60 => bit(ssubo(w, x, y)),
-        61 => bit(umulo(w, x, y)),
-        62 => bit(smulo(w, x, y)),
-        _ => bit(sdivo(w, x, y)),
-    }
+    // The kinds' numbers are those of records in include/gofeshan.h.
+    let outside = match kind {
+        57 => uaddo(w, x, y),
+        58 => saddo(w, x, y),
+        59 => usubo(w, x, y),
+        60 => ssubo(w, x, y),
+        61 => umulo(w, x, y),
+        62 => smulo(w, x, y),
+        _ => sdivo(w, x, y),
+    };
+    u64::from(outside)
 }

@@ -14,11 +14,12 @@ pub fn prog_word(kind: u64, u: u64, v: u64, a: u64, b: u64, c: u64) -> u64
     requires { (11 ≤ kind) × Width u × Widths (class_of (op_of kind)) u v b c }
     ensures { result ≡ prog (op_of kind) u v a b c }
 {
+    // The kinds' numbers are those of records in include/gofeshan.h.
     match kind {
         11 => !a,
-        12 => std::num::wrapping_sub_u64(0, a),
-        13 => std::num::wrapping_add_u64(a, 1),
-        14 => std::num::wrapping_sub_u64(a, 1),
+        12 => a.wrapping_neg(),
+        13 => a.wrapping_add(1),
+        14 => a.wrapping_sub(1),
         15 => operators::eq(a, operators::mask(u)),
         16 => operators::neq(a, 0),
         17 => operators::redxor(a),
@@ -43,9 +44,9 @@ pub fn prog_word(kind: u64, u: u64, v: u64, a: u64, b: u64, c: u64) -> u64
         36 => !(a & b),
         37 => !(a | b),
         38 => !(a ^ b),
-        39 => std::num::wrapping_add_u64(a, b),
-        40 => std::num::wrapping_sub_u64(a, b),
-        41 => operators::wrapping_mul(a, b),
+        39 => a.wrapping_add(b),
+        40 => a.wrapping_sub(b),
+        41 => a.wrapping_mul(b),
         42 => operators::udiv(u, a, b),
         43 => operators::urem(a, b),
         44 => operators::sdiv(u, a, b),

@@ -24,18 +24,6 @@ pub fn low(w: u64, x: u64) -> u64
 
 // ---- arithmetic and tests on whole words
 
-// The product modulo 2^64, from halves of 32 bits. The middle products count 2^32 times, and the high halves' product 2^64 times, which is nothing.
-pub fn wrapping_mul(a: u64, b: u64) -> u64
-    ensures { result ≡ a * b % 2 ^ 64 }
-{
-    let a0 = a & 0xffff_ffff;
-    let a1 = a >> 32;
-    let b0 = b & 0xffff_ffff;
-    let b1 = b >> 32;
-    let middle = std::num::wrapping_add_u64(a1 * b0, a0 * b1);
-    std::num::wrapping_add_u64(a0 * b0, middle << 32)
-}
-
 pub fn udiv(w: u64, a: u64, b: u64) -> u64
     requires { Width w }
     ensures { result ≡ prog udiv w w a b 0 }
@@ -52,59 +40,50 @@ pub fn urem(a: u64, b: u64) -> u64
 pub fn redxor(a: u64) -> u64
     ensures { result ≡ prog redxor 64 64 a 0 0 }
 {
-    (u64::count_ones(a) & 1) as u64
+    u64::from(a.count_ones() & 1)
 }
 
 pub fn eq(a: u64, b: u64) -> u64
     ensures { result ≡ prog eq 64 64 a b 0 }
 {
-    if a == b { 1 } else { 0 }
+    u64::from(a == b)
 }
 
 pub fn neq(a: u64, b: u64) -> u64
     ensures { result ≡ prog neq 64 64 a b 0 }
 {
-    if a == b { 0 } else { 1 }
+    u64::from(a != b)
 }
 
 pub fn ult(a: u64, b: u64) -> u64
     ensures { result ≡ prog ult 64 64 a b 0 }
 {
-    if a < b { 1 } else { 0 }
+    u64::from(a < b)
 }
 
 pub fn ulte(a: u64, b: u64) -> u64
     ensures { result ≡ prog ulte 64 64 a b 0 }
 {
-    if a <= b { 1 } else { 0 }
+    u64::from(a <= b)
 }
 
 // ---- signed operators, on the low w bits of their operands
 
-// The low w bits of a word as a signed number, by their sign bit, bit w - 1: x, or x - 2^w.
-// 2^w - x may be 2^63, which is no i64, so one less of it is negated.
+// The low w bits of a word as a signed number, by their sign bit, bit w - 1: they are moved to the top of the word and back, and copies of the sign bit come in.
 fn to_signed(w: u64, a: u64) -> i64
     requires { Width w }
     ensures { result ≡ signed_value w (a % 2 ^ w) }
 {
-    let x = low(w, a);
-    if x >> (w - 1) == 0 {
-        x as i64
-    } else {
-        -((mask(w) - x) as i64) - 1
-    }
+    let spare = 64 - w;
+    (a << spare).cast_signed() >> spare
 }
 
-// The word of width w of a signed number. The least i64 has no opposite, so one more of a negative number is negated.
+// The word of width w of a signed number.
 fn from_signed(w: u64, z: i64) -> u64
     requires { Width w }
     ensures { result ≡ twos_complement w z }
 {
-    if z >= 0 {
-        low(w, z as u64)
-    } else {
-        mask(w) - low(w, (-(z + 1)) as u64)
-    }
+    low(w, z.cast_unsigned())
 }
 
 pub fn sext(w: u64, a: u64, extra: u64) -> u64
@@ -118,21 +97,17 @@ pub fn slt(w: u64, a: u64, b: u64) -> u64
     requires { Width w }
     ensures { result ≡ prog slt w w a b 0 }
 {
-    let x = to_signed(w, a);
-    let y = to_signed(w, b);
-    if x < y { 1 } else { 0 }
+    u64::from(to_signed(w, a) < to_signed(w, b))
 }
 
 pub fn slte(w: u64, a: u64, b: u64) -> u64
     requires { Width w }
     ensures { result ≡ prog slte w w a b 0 }
 {
-    let x = to_signed(w, a);
-    let y = to_signed(w, b);
-    if x <= y { 1 } else { 0 }
+    u64::from(to_signed(w, a) <= to_signed(w, b))
 }
 
-// By -1 the word is negated modulo 2^w: the least value has no opposite of its width, and stays.
+// By -1 the least value, which has no opposite of its width, stays as it is: `/` has no answer there.
 pub fn sdiv(w: u64, a: u64, b: u64) -> u64
     requires { Width w }
     ensures { result ≡ prog sdiv w w a b 0 }
@@ -141,14 +116,12 @@ pub fn sdiv(w: u64, a: u64, b: u64) -> u64
     let d = to_signed(w, b);
     if d == 0 {
         if n >= 0 { mask(w) } else { 1 }
-    } else if d == -1 {
-        low(w, std::num::wrapping_sub_u64(0, a))
     } else {
-        from_signed(w, n / d)
+        from_signed(w, n.wrapping_div(d))
     }
 }
 
-// By -1 nothing is left over; the least i64 must not be divided by -1.
+// By -1 nothing is left over, of the least value too, where `%` has no answer.
 pub fn srem(w: u64, a: u64, b: u64) -> u64
     requires { Width w }
     ensures { result ≡ prog srem w w a b 0 }
@@ -157,10 +130,8 @@ pub fn srem(w: u64, a: u64, b: u64) -> u64
     let d = to_signed(w, b);
     if d == 0 {
         low(w, a)
-    } else if d == -1 {
-        0
     } else {
-        from_signed(w, n % d)
+        from_signed(w, n.wrapping_rem(d))
     }
 }
 
@@ -168,12 +139,10 @@ pub fn srem(w: u64, a: u64, b: u64) -> u64
 fn toward_divisor(r: i64, d: i64) -> i64
     ensures { result ≡ toward_divisor r d }
 {
-    if r == 0 {
+    if r == 0 || (r >= 0) == (d >= 0) {
         r
-    } else if r >= 0 {
-        if d >= 0 { r } else { r + d }
     } else {
-        if d >= 0 { r + d } else { r }
+        r + d
     }
 }
 
@@ -185,14 +154,12 @@ pub fn smod(w: u64, a: u64, b: u64) -> u64
     let d = to_signed(w, b);
     if d == 0 {
         low(w, a)
-    } else if d == -1 {
-        0
     } else {
-        from_signed(w, toward_divisor(n % d, d))
+        from_signed(w, toward_divisor(n.wrapping_rem(d), d))
     }
 }
 
-// ---- shifts, whose limit is w, and rotations
+// ---- shifts, whose limit is w, and rotations of w bits; those of the library turn all 64
 
 pub fn sll(w: u64, a: u64, b: u64) -> u64
     requires { Width w }
@@ -212,15 +179,9 @@ pub fn sra(w: u64, a: u64, b: u64) -> u64
     requires { Width w }
     ensures { result ≡ prog sra w w a b 0 }
 {
-    let n = to_signed(w, a);
+    // from 63 on, copies of the sign alone are left
     let amount = low(w, b);
-    if amount < w {
-        from_signed(w, n >> amount)
-    } else if n >= 0 {
-        0
-    } else {
-        mask(w)
-    }
+    from_signed(w, to_signed(w, a) >> amount.min(63))
 }
 
 pub fn rol(w: u64, a: u64, b: u64) -> u64

@@ -16,8 +16,8 @@ use Rattle.words.specs.Op.{Detector, sdivo, overflow}
 use Rattle.words.specs.Overflow.{is_signed, whole_result, outside, overflows}
 use Rattle.words.specs.Circuit.{circ}
 use Rattle.words.proofs.Bounds.{complement_lt}
-use Rattle.words.proofs.Signed.{half}
-use Rattle.words.proofs.Integers.{signed_range, signed_complement}
+use Rattle.words.proofs.Signed.{half, signed_range}
+use Rattle.words.proofs.Integers.{signed_complement}
 use Rattle.words.proofs.Overflows.{outside_unsigned, outside_signed, sdivo_least, sdivo_else}
 use Rattle.words.proofs.Wrapping.{watched, HasResult, watched_word}
 

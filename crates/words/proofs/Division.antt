@@ -13,9 +13,9 @@ use lib.Signed.{non_neg, le_z, quot_z, rem_z, mag_rem}
 use Rattle.words.specs.Word.{Width, flip, signed_value, twos_complement, smod_z, toward_divisor}
 use Rattle.words.specs.Op.{udiv, urem, sdiv, srem, smod}
 use Rattle.words.specs.Circuit.{circ}
-use Rattle.words.proofs.Signed.{half, signed_low, signed_high}
+use Rattle.words.proofs.Signed.{half, signed_low, signed_high, signed_range}
 use Rattle.words.proofs.Divide.{complement_signed, complement_zero, complement_minus_one, div_by_zero, div_by_minus_one, div_else, rem_by_zero, rem_by_minus_one, toward_zero, complement_neg}
-use Rattle.words.proofs.Integers.{quot_rem, quot_abs, rem_less, rem_sign, Toward, toward, mag_below, quot_range, signed_range, signed_complement}
+use Rattle.words.proofs.Integers.{quot_rem, quot_abs, rem_less, rem_sign, Toward, toward, mag_below, quot_range, signed_complement}
 
 -- ---- unsigned: n = q d + r with r < d
 

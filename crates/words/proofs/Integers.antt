@@ -1,12 +1,11 @@
 -- Division of whole numbers, rounded toward zero, with its remainder; and the signed values that a word of a width has. Assumes nothing.
 use mathlib.Core.Path.{◌≡◌, refl, sym, ap, ◌∙◌, subst}
 use mathlib.Core.Logic.{◌⊎◌, inl, inr}
-use mathlib.Core.Bool.{Bool, true, false, cond}
+use mathlib.Core.Bool.{Bool, false, cond}
 use Prim.Native.Nat.{ℕ, zero, suc, ◌+◌, ◌-◌, ◌*◌, ◌/◌, ◌%◌, ◌^◌, ◌≤◌, ◌<◌, suc-le-suc}
 use native.Mathlib.Nat.{le_trans, le-suc, le_of_lt, lt_of_lt_of_le, lt_of_le_of_lt, le_of_suc-le-suc, div-le_self, div-lt_self, div-one, mod-lt, mod-eq_of_lt, div-add-mod', zero-lt-suc, add-zero, zero-add, zero-mul}
 use native.Mathlib.Omega.{arith}
-use borrow.Author.Tests.{lt-ltb, le-ltb, ltb-true, ltb-false}
-use lib.Dec.{ltb}
+use borrow.Author.Tests.{lt-ltb, le-ltb}
 use lib.IntN.{ℤ, pos, negsuc, neg_ℤ, nat_abs, ◌+ℤ◌, ◌*ℤ◌, +ℤ_idl, +ℤ_idr}
 use lib.Signed.{mag, non_neg, quot_z, rem_z, nat_abs-le}
 use Rattle.words.specs.Word.{Width, flip, signed_value, twos_complement, toward_divisor}
@@ -110,14 +109,7 @@ quot_range (negsuc a) (negsuc zero) H h f =
     let g : (a ≡ H - 1 → ⊥) = λ e. f (ap negsuc e) refl in subst (λ (x : ℕ). x < H) (sym (div-one (suc a))) (omega arith)
 quot_range (negsuc a) (negsuc (suc b)) H h f = lt_of_le_of_lt (le_of_suc-le-suc (div-lt_self (zero-lt-suc a) (suc-le-suc (zero-lt-suc b)))) h
 
--- the signed value of a word of the width w is one of them, with H = 2 ^ (w - 1), and so is each of them
-pub signed_range : (w a : ℕ) → Width w → a < 2 ^ w → mag (signed_value w a) < 2 ^ (w - 1)
-signed_range w a k h = go (ltb a (2 ^ (w - 1))) refl
-  where
-    go : (t : Bool) → ltb a (2 ^ (w - 1)) ≡ t → mag (cond t (pos a) (negsuc (2 ^ w - suc a))) < 2 ^ (w - 1)
-    go true e = ltb-true a (2 ^ (w - 1)) e
-    go false e = omega (arith, half w k.least, ltb-false a (2 ^ (w - 1)) e)
-
+-- each of them is the signed value of a word of the width w, with H = 2 ^ (w - 1); that each value is one of them is `signed_range` of `Signed`
 pub signed_complement : (w : ℕ) (z : ℤ) → Width w → mag z < 2 ^ (w - 1) → signed_value w (twos_complement w z) ≡ z
 signed_complement w (pos n) k h = ap (signed_value w) (mod-eq_of_lt (omega (arith, half w k.least))) ∙ signed_low w n h
 signed_complement w (negsuc n) k h =

@@ -3,10 +3,10 @@
 use mathlib.Core.Path.{◌≡◌, refl, sym, ap, ap₂, ◌∙◌, subst}
 use mathlib.Core.Bool.{Bool, true, false, cond, ◌||◌, or-false}
 use Prim.Native.Nat.{ℕ, zero, suc, ◌+◌, ◌-◌, ◌*◌, ◌/◌, ◌^◌, ◌≤◌, ◌<◌, zero-le}
-use native.Mathlib.Nat.{div-lt_iff_lt-mul, mul_comm, zero-mul, div-one}
+use native.Mathlib.Nat.{div-one}
 use native.Mathlib.Numerals.{add-one}
 use native.Mathlib.Omega.{arith}
-use borrow.Author.Tests.{lt-ltb, le-ltb, le-leb, lt-leb, ltb-true, ltb-false, leb-true, leb-false}
+use borrow.Author.Tests.{le-ltb, le-leb, lt-leb, ltb-true, ltb-false, leb-true, leb-false}
 use lib.Dec.{ltb, leb}
 use lib.Pow.{pow_pos}
 use lib.IntN.{ℤ, pos, negsuc, neg_ℤ, ◌+ℤ◌, ◌-ℤ◌, ◌*ℤ◌}
@@ -15,8 +15,8 @@ use Rattle.words.specs.Word.{signed_value}
 use Rattle.words.specs.Model.Widths.{Words}
 use Rattle.words.specs.Op.{uaddo, saddo, usubo, ssubo, umulo, smulo, sdivo}
 use Rattle.words.specs.Overflow.{outside, overflows}
-use Rattle.words.proofs.Signed.{half, signed_low, signed_high}
-use Rattle.words.proofs.Integers.{quot_range, signed_range}
+use Rattle.words.proofs.Signed.{half, signed_low, signed_high, signed_range}
+use Rattle.words.proofs.Integers.{quot_range}
 use Rattle.words.proofs.Division.{is_least, is_minus_one, minus_one}
 
 -- ---- tests
@@ -31,18 +31,6 @@ lt_as_le a b c d f g = same_test (ltb a b) (leb c d) (λ e. le-leb c d (f (ltb-t
 
 le_as_le : (a b c d : ℕ) → (a ≤ b → c ≤ d) → (b < a → d < c) → leb a b ≡ leb c d
 le_as_le a b c d f g = same_test (leb a b) (leb c d) (λ e. le-leb c d (f (leb-true a b e))) (λ e. lt-leb c d (g (leb-false a b e)))
-
--- a product against a limit, by one division
-pub product_test : (l p q : ℕ) → 0 < p → ltb (l / p) q ≡ ltb l (p * q)
-product_test l p q h =
-    same_test (ltb (l / p) q) (ltb l (p * q)) (λ e. lt-ltb l (p * q) (subst (λ (n : ℕ). l < n) (mul_comm q p) ((div-lt_iff_lt-mul h).0 (ltb-true (l / p) q e))))
-    (λ e. le-ltb l (p * q) (let f : ¬ (l < p * q) = λ k. absurd (not_below_lem ((div-lt_iff_lt-mul h).1 (subst (λ (n : ℕ). l < n) (mul_comm p q) k)) (ltb-false (l / p) q e)) in omega arith))
-  where
-    not_below_lem : {a b : ℕ} → a < b → b ≤ a → ⊥
-    not_below_lem a b = omega arith
-
-pub product_zero : (l p q : ℕ) → p ≡ 0 → false ≡ ltb l (p * q)
-product_zero l p q e = sym (le-ltb l (p * q) (let z : p * q ≡ 0 = ap (λ (n : ℕ). n * q) e ∙ zero-mul q in omega arith))
 
 -- ---- outside, in one test
 

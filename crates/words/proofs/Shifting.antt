@@ -12,9 +12,9 @@ use Rattle.words.specs.Word.{Width, signed_value, twos_complement, shl, shr, sar
 use Rattle.words.specs.Op.{sll, srl, sra, rol, ror}
 use Rattle.words.specs.Circuit.{circ}
 use Rattle.words.proofs.Mod.{shl_mod}
-use Rattle.words.proofs.Signed.{signed_low, signed_high}
+use Rattle.words.proofs.Signed.{signed_low, signed_high, signed_range}
 use Rattle.words.proofs.Divide.{complement_zero, complement_minus_one, shr_all}
-use Rattle.words.proofs.Integers.{signed_range, signed_complement}
+use Rattle.words.proofs.Integers.{signed_complement}
 
 -- ---- rotations by r, of a word of r high and w - r low bits, or of w - r and r
 

@@ -1,6 +1,4 @@
-use Rattle.std.proofs.Common.{◌≡◌, ℕ, zero, suc, ◌+◌, ◌<◌, ◌≤◌, sym, refl, ap, ◌∙◌, arith}
-use lib.Arith.{lt_of_le-ne}
-use Rattle.words.specs.Word.{choose}
+use Rattle.std.proofs.Common.{◌≡◌, ℕ, ◌≤◌, sym, ap, ◌∙◌, arith}
 use Rattle.words.specs.Op.{Op, op_of, mask, overflow}
 use Rattle.words.specs.Program.{prog}
 use Rattle.words.specs.Model.Classes.{class_of}
@@ -8,18 +6,6 @@ use Rattle.words.specs.Model.Widths.{Widths}
 use Rattle.words.proofs.KindLaws.{detector_of, detector_kind, mask_between, mask_past}
 use Rattle.instructions.proofs.prog_word.Goals as goal
 use Rattle.instructions.proofs.prog_word.Goals.{in_default-via-then-kind-lt57, in_default-via-else-kind-lt57+else-kind-lt64}
-
-abbrev NoneOf : ℕ → ℕ → Type 0
-NoneOf zero k = Unit {0}
-NoneOf (suc d) k = NoneOf d k × (k ≡ 11 + d → ⊥)
-
-past : (d k : ℕ) → 11 ≤ k → NoneOf d k → 11 + d ≤ k
-past zero k h n = h
-past (suc d) k h n = let l : 11 + d < k = lt_of_le-ne (past d k h n.0) (λ e. n.1 (sym e)) in omega arith
-
-chosen : (a b c : ℕ) → (a ≡ 0 → ⊥) → b ≡ choose a b c
-chosen zero b c f = absurd (f refl)
-chosen (suc a) b c f = refl
 
 one_width : (k u v a b c : ℕ) → 57 ≤ k → k ≤ 63 → Widths (class_of (op_of k)) u v b c → prog (op_of k) u u a b 0 ≡ prog (op_of k) u v a b c
 one_width k u v a b c h l g =
@@ -34,7 +20,7 @@ pub returns-in_default : goal.returns-in_default
 returns-in_default c =
     let e : op_of c.args.kind ≡ mask =
     elim c.in_default.branch [
-      | in_default-via-then-kind-lt57 w ↦ mask_between c.args.kind (past 43 c.args.kind c.requires.0 c.in_default-1.rest) (omega arith)
+      | in_default-via-then-kind-lt57 w ↦ mask_between c.args.kind (omega arith) (omega arith)
       | in_default-via-else-kind-lt57+else-kind-lt64 w ↦ mask_past c.args.kind (omega arith)
     ]
     in

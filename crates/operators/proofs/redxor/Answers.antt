@@ -5,4 +5,4 @@ use Rattle.words.proofs.Shift.{ones_in_lem}
 use Rattle.operators.proofs.redxor.Goals as goal
 
 pub returns : goal.returns
-returns c = and_mask (ones c.args.a) 1 ∙ ap (λ (n : ℕ). n % 2) (sym (ones_in_lem 64 c.args.a c.ranges.a.fits))
+returns c = c.from.ensures ∙ and_mask (ones c.args.a) 1 ∙ ap (λ (n : ℕ). n % 2) (sym (ones_in_lem 64 c.args.a c.ranges.a.fits))
