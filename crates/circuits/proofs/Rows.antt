@@ -76,20 +76,20 @@ first_step : (i : ℕ) (g : List Signal) (gs : List (List Signal)) (b : Bool) �
     → first_bad i (g ∷ gs) ≡ elim b as (λ x. Ran) [ false ↦ Nothing | true ↦ bad_or i (bad_at 1 g) (first_bad (suc i) gs) ]
 first_step i g gs b e = ap (λ (t : Bool). elim t as (λ x. Ran) [ false ↦ Nothing | true ↦ bad_or i (bad_at 1 g) (first_bad (suc i) gs) ]) e
 
-module _ (bs g : List ℕ) (k i row : ℕ) where
-  pub step_stops : i < k → met (zip_sig bs (drop row g)) ≡ false → first_bad i (sig_rows bs (k - i) (drop row g)) ≡ Nothing
+module _ (bs g : List ℕ) (k i : ℕ) where
+  pub step_stops : i < k → met (zip_sig bs g) ≡ false → first_bad i (sig_rows bs (k - i) g) ≡ Nothing
   step_stops h e =
       let u : k - i ≡ suc (k - (i + 1)) = omega arith in
-      ap (λ (m : ℕ). first_bad i (sig_rows bs m (drop row g))) u ∙ first_step i (zip_sig bs (drop row g)) (sig_rows bs (k - (i + 1)) (drop (length bs) (drop row g))) false e
+      ap (λ (m : ℕ). first_bad i (sig_rows bs m g)) u ∙ first_step i (zip_sig bs g) (sig_rows bs (k - (i + 1)) (drop (length bs) g)) false e
 
-  pub step_met : i < k → met (zip_sig bs (drop row g)) ≡ true
-      → first_bad i (sig_rows bs (k - i) (drop row g)) ≡ bad_or i (bad_at 1 (zip_sig bs (drop row g))) (first_bad (i + 1) (sig_rows bs (k - (i + 1)) (drop (row + length bs) g)))
+  pub step_met : i < k → met (zip_sig bs g) ≡ true
+      → first_bad i (sig_rows bs (k - i) g) ≡ bad_or i (bad_at 1 (zip_sig bs g)) (first_bad (i + 1) (sig_rows bs (k - (i + 1)) (drop (length bs) g)))
   step_met h e =
       let u : k - i ≡ suc (k - (i + 1)) = omega arith in
-      ap (λ (m : ℕ). first_bad i (sig_rows bs m (drop row g))) u ∙ first_step i (zip_sig bs (drop row g)) (sig_rows bs (k - (i + 1)) (drop (length bs) (drop row g))) true e
-      ∙ ap₂ (λ (x : ℕ) (y : List ℕ). bad_or i (bad_at 1 (zip_sig bs (drop row g))) (first_bad x (sig_rows bs (k - (i + 1)) y))) (sym (add-one i)) (drop-drop (length bs) row g)
+      ap (λ (m : ℕ). first_bad i (sig_rows bs m g)) u ∙ first_step i (zip_sig bs g) (sig_rows bs (k - (i + 1)) (drop (length bs) g)) true e
+      ∙ ap (λ (x : ℕ). bad_or i (bad_at 1 (zip_sig bs g)) (first_bad x (sig_rows bs (k - (i + 1)) (drop (length bs) g)))) (sym (add-one i))
 
-  pub steps_end : k ≤ i → first_bad i (sig_rows bs (k - i) (drop row g)) ≡ Nothing
+  pub steps_end : k ≤ i → first_bad i (sig_rows bs (k - i) g) ≡ Nothing
   steps_end h = let u : k - i ≡ 0 = omega arith in rw u refl
 
 pub counted_hit : (i p : ℕ) (r : Ran) → 1 ≤ p → bad_or i p r ≡ Bad i p

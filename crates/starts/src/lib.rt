@@ -21,12 +21,10 @@ fn has_init(program: bool, table: &[u64], count: usize) -> bool
     ensures { result ≡ has_init (lines_of program table.now count) }
 {
     let mut found = false;
-    let mut i: usize = 0;
-    while i < count {
+    for i in 0..count {
         if records::kind(program, table, i) == 6 {
             found = true;
         }
-        i += 1;
     }
     found
 }
@@ -54,12 +52,10 @@ fn mask_starts(
     requires { (all ≤ length work.old) × NoInit program table.now count laid.now (length (drop all work.old)) }
     ensures { (ι : List ℕ) → drop all work.new ≡ (step program true (lines_of program table.now count) (drop all work.old) ι).sts }
 {
-    let mut i: usize = 0;
-    while i < count {
+    for i in 0..count {
         if records::kind(program, table, i) == 5 {
             mask_state(i + 1, laid, all, work);
         }
-        i += 1;
     }
 }
 
