@@ -6,7 +6,7 @@ ghost use Rattle.tables.specs.Pick.{pick};
 ghost use Rattle.circuits.specs.Run.{met as met_of, bad_at, first_bad};
 ghost use Rattle.circuits.specs.Model.Signals.{zip_sig, sig_rows};
 
-use circuits::Ran;
+use circuits::FirstBad;
 
 // A constraint whose byte is not 1.
 fn breaks(b: u8, v: u8) -> bool
@@ -62,19 +62,19 @@ fn first_hit(row: &[u8], bad: &[u8]) -> Option<usize>
 }
 
 // The first counted bad in k steps.
-pub fn first_bad(k: usize, signals: &[u8], bad: &[u8]) -> Ran
+pub fn first_bad(k: usize, signals: &[u8], bad: &[u8]) -> Option<FirstBad>
     requires { (k ≤ 4096) × ((length bad.now ≤ 16384) × (k * length bad.now ≤ length signals.now)) }
     ensures { result ≡ first_bad 0 (sig_rows bad.now k signals.now) }
 {
     let mut row = signals;
     for i in 0..k {
         if !met(row, bad) {
-            return Ran::Nothing;
+            return None;
         }
         if let Some(p) = first_hit(row, bad) {
-            return Ran::Bad(i, p);
+            return Some(FirstBad { step: i, place: p });
         }
         row = &row[bad.len()..];
     }
-    Ran::Nothing
+    None
 }

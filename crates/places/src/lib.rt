@@ -1,7 +1,7 @@
 // The pass over the lines before a run: where each line has its cells and its place, and which signals are bad lines.
 #![tactic(auto)]
 
-ghost use Rattle.std.specs.Prelude.{◌≡◌, false, List, ◌++◌, ℕ, ◌≤◌, ◌+◌, ◌<◌, length, set, take};
+ghost use Rattle.std.specs.Prelude.{◌≡◌, false, List, ◌++◌, ℕ, ◌≤◌, ◌+◌, ◌<◌, length, set, take, Ok};
 ghost use Rattle.circuits.specs.Layout.{counting, size, counts_after, layout};
 ghost use Rattle.tables.specs.Lines.{line_of, kind_in};
 ghost use Rattle.circuits.specs.Model.Work.{laid_as};
@@ -17,7 +17,7 @@ use area::LAID;
 use circuits::{Spot, Totals};
 use records::notes;
 use records::notes::BYTES;
-use tables::{Checked, Ty};
+use tables::Ty;
 
 // The cells of a line of the type y.
 fn cells_of(y: Ty) -> usize
@@ -160,7 +160,7 @@ fn note_mark(k: u64, g: usize, bad: &mut [u8]) -> usize
 
 // A mark for each signal, in line order: 1 for a bad line, 0 for a constraint.
 pub fn bad_marks(program: bool, table: &[u64], count: usize, bad: &mut [u8])
-    requires { (checked program table.now count ≡ Checked.Accepted) × (length bad.old ≡ 16385) }
+    requires { (checked program table.now count ≡ Ok tt) × (length bad.old ≡ 16385) }
     ensures { take (length (marks (lines_of program table.now count))) bad.new ≡ marks (lines_of program table.now count) }
 {
     let mut g = 0;

@@ -5,7 +5,7 @@ use mathlib.Core.Bool.{true}
 use native.Mathlib.Omega.{arith}
 use lib.ListN.{length, take, drop, length-drop}
 use lib.Seq.{take_all}
-use borrow.Author.Tests.{not-false}
+use borrow.Author.Rules.{rules}
 use Rattle.circuits.specs.Run.{met, bad_at, bad_or, first_bad}
 use Rattle.circuits.specs.Model.Signals.{zip_sig, sig_rows}
 use Rattle.circuits.proofs.Repeated.{fewer}
@@ -21,7 +21,7 @@ loop-i-preserved c =
     let n = length bs in
     let f = fewer a.k l.i n c.loop-i-test.true in
     let later = λ (m : ℕ) (x : List ℕ). bad_or l.i m (first_bad (l.i + 1) (sig_rows bs (a.k - (l.i + 1)) x)) in
-    let all : met (zip_sig bs g) ≡ true = sym c.met.ensures ∙ not-false _ c.if-not-met.false-raw in
+    let all : met (zip_sig bs g) ≡ true = search rules in
     let none : bad_at 1 (zip_sig bs g) ≡ 0 = c.in_default.ensures in
     let rest : take (length g - n) (drop n g) ≡ drop n g = take_all (length g - n) (drop n g) (omega (arith, length-drop n g)) in (
       omega (arith, l.invariant.0, ap length rest, length-drop n g),

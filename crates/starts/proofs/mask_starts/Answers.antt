@@ -26,10 +26,10 @@ loop-i-preserved c =
     let t = c.loop-i-test.true in
     let σ = drop a.all a.work.now in
     elim c.if-kind-eq5.branch [
-        | then-kind-eq5 w ↦ masked_state a.all σ c.requires.1 l.i t l.invariant k.result k.ensures w.if-kind-eq5.true (w.work-is ∙ w.mask_state.ensures)
-        | else-kind-eq5 w ↦
-            subst (λ (x : List ℕ). Masked a.program (lines_of a.program a.table.now a.count) a.all σ x (l.i + 1)) (sym w.work-is)
-            (masked_other a.all σ c.requires.1 l.i t l.invariant k.result k.ensures w.if-kind-eq5.false)
+      | then-kind-eq5 w ↦ masked_state a.all σ c.requires.1 l.i t l.invariant k.result k.ensures w.if-kind-eq5.true (w.work-is ∙ w.mask_state.ensures)
+      | else-kind-eq5 w ↦
+          subst (λ (x : List ℕ). Masked a.program (lines_of a.program a.table.now a.count) a.all σ x (l.i + 1)) (sym w.work-is)
+          (masked_other a.all σ c.requires.1 l.i t l.invariant k.result k.ensures w.if-kind-eq5.false)
     ]
 
 pub returns : goal.returns
