@@ -127,6 +127,7 @@ pub fn says(e: bool, r: bool) -> u64
     u64::from(e == r)
 }
 
+#[tactic(auto, using(circuits::proofs::Puts::stored))]
 pub fn line_const(a: u64, n: usize, laid: &[[u32; LAID]; 16385], work: &mut [u64])
     requires { WordBelow laid.now (length work.old) n }
     ensures { work.new ≡ put work.old (off_in laid.now n) (a ∷ []) }
@@ -135,6 +136,7 @@ pub fn line_const(a: u64, n: usize, laid: &[[u32; LAID]; 16385], work: &mut [u64
     work[o] = a;
 }
 
+#[tactic(auto, using(circuits::proofs::Puts::stored))]
 pub fn line_input(
     program: bool,
     n: usize,
@@ -152,6 +154,7 @@ pub fn line_input(
     work[o] = input_word(program, area::width(laid, n), v);
 }
 
+#[tactic(auto, using(circuits::proofs::Puts::stored))]
 pub fn line_unary(
     program: bool,
     k: u64,
@@ -169,6 +172,7 @@ pub fn line_unary(
     work[o] = unary(program, k, a, x, y, n, laid, work);
 }
 
+#[tactic(auto, using(circuits::proofs::Puts::stored))]
 pub fn line_binary(
     program: bool,
     k: u64,
