@@ -5,8 +5,8 @@ ghost use Rattle.peeks.specs.Model.Looks.{WordAsked, WordFound, CellAsked, CellF
 
 use area::LAID;
 
-// The word of the line n, from the start words `from` and the row. `ini` has the lines of the states' init values, `kept` the word of each line, with 1 where it was
-// found. A line looks at one or two earlier lines; where the first has more than one cell, two arrays are compared. Line 0, which is none, has the word 0.
+// The word of the line n, from the start words `from` and the row. `ini` has the lines of the states' init values, `kept` the word of each line whose
+// word was found. A line looks at one or two earlier lines; where the first has more than one cell, two arrays are compared. Line 0, which is none, has the word 0.
 #[cycle(cell_word)]
 pub fn word(
     table: &[u64],
@@ -15,25 +15,26 @@ pub fn word(
     ini: &[u64],
     from: &[u64],
     row: &[u64],
-    kept: &mut [[u64; 2]; 65],
+    kept: &mut [Option<u64>; 65],
     n: usize,
 ) -> u64
     requires { WordAsked table.now count laid.now ini.now from.now row.now kept.old n }
     ensures { WordFound table.now count from.now row.now kept.new n result }
 {
-    if kept[n][1] == 1 {
-        return kept[n][0];
+    if let Some(v) = kept[n] {
+        return v;
     }
     let rec = peek_values::record(table, n - 1);
     let a = peek_values::first(rec, ini[n]);
     let m = area::cells(laid, a);
     if 1 < m {
         let mut same = true;
-        let mut k: usize = 0;
-        while same && k < m {
+        for k in 0..m {
             let x = cell(table, count, laid, ini, from, row, kept, a, k);
-            same = x == cell(table, count, laid, ini, from, row, kept, rec[3] as usize, k);
-            k += 1;
+            if x != cell(table, count, laid, ini, from, row, kept, rec[3] as usize, k) {
+                same = false;
+                break;
+            }
         }
         let v = evaluation::says(rec[0] == 21, same);
         return peek_values::keep(kept, n, v);
@@ -58,7 +59,7 @@ pub fn cell(
     ini: &[u64],
     from: &[u64],
     row: &[u64],
-    kept: &mut [[u64; 2]; 65],
+    kept: &mut [Option<u64>; 65],
     n: usize,
     k: usize,
 ) -> u64

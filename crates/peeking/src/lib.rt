@@ -29,9 +29,9 @@ fn find(
 {
     let mut ini = [0u64; 65];
     peek_values::find_inits(table, count, &mut ini);
-    let mut kept = [[0u64; 2]; 65];
+    let mut kept = [None; 65];
     // line 0, which is none, has the word 0
-    kept[0] = [0, 1];
+    kept[0] = Some(0);
     if area::cells(laid, n) == 1 {
         return peek_cells::word(table, count, laid, &ini, starts, row, &mut kept, n);
     }
