@@ -19,11 +19,11 @@ cell-overflow_sub-n t c = let a = c.args in let p = c.requires in let lk = p.loo
 pub cell-record-rec-requires : goal.cell-record-rec-requires
 cell-record-rec-requires t c = let a = c.args in let p = c.requires in let lk = p.looks in let ln = p.line in (number lk a.n ln.array.value).here
 
-pub cell-offset_bounds-ini-n : goal.cell-offset_bounds-ini-n
-cell-offset_bounds-ini-n t c = let a = c.args in let p = c.requires in let lk = p.looks in let ln = p.line in omega (arith, (number lk a.n ln.array.value).most)
+pub cell-offset_bounds-circuit-n : goal.cell-offset_bounds-circuit-n
+cell-offset_bounds-circuit-n t c = let a = c.args in let p = c.requires in let lk = p.looks in let ln = p.line in omega (arith, (number lk a.n ln.array.value).most)
 
-pub cell-bounds-ini-n : goal.cell-bounds-ini-n
-cell-bounds-ini-n t c = let a = c.args in let p = c.requires in let lk = p.looks in let ln = p.line in omega (arith, (number lk a.n ln.array.value).most, lk.many)
+pub cell-bounds-circuit-n : goal.cell-bounds-circuit-n
+cell-bounds-circuit-n t c = let a = c.args in let p = c.requires in let lk = p.looks in let ln = p.line in omega (arith, (number lk a.n ln.array.value).most, lk.many)
 
 pub cell-start_word-requires : goal.cell-start_word-requires
 cell-start_word-requires t c = let a = c.args in let p = c.requires in let lk = p.looks in let ln = p.line in let er = c.record-rec.ensures in let f = c.first-a.ensures in start_asks lk a.n a.k ln.array.value ln.inside er f (cell_start lk ln er f c.if-a-eq0.true) c.if-a-eq0.true
@@ -64,11 +64,11 @@ word-bounds t c = let a = c.args in let p = c.requires in let lk = p.looks in om
 pub word-record-rec-requires : goal.word-record-rec-requires
 word-record-rec-requires t c = let a = c.args in let p = c.requires in let lk = p.looks in let ln = p.line (not_none a.n p.kept c.in_default.not-Some) in (number lk a.n ln.value).here
 
-pub word-offset_bounds-ini-n : goal.word-offset_bounds-ini-n
-word-offset_bounds-ini-n t c = let a = c.args in let p = c.requires in let lk = p.looks in omega (arith, word_most lk a.n p.line)
+pub word-offset_bounds-circuit-n : goal.word-offset_bounds-circuit-n
+word-offset_bounds-circuit-n t c = let a = c.args in let p = c.requires in let lk = p.looks in omega (arith, word_most lk a.n p.line)
 
-pub word-bounds-ini-n : goal.word-bounds-ini-n
-word-bounds-ini-n t c = let a = c.args in let p = c.requires in let lk = p.looks in omega (arith, word_most lk a.n p.line, lk.many)
+pub word-bounds-circuit-n : goal.word-bounds-circuit-n
+word-bounds-circuit-n t c = let a = c.args in let p = c.requires in let lk = p.looks in omega (arith, word_most lk a.n p.line, lk.many)
 
 pub word-cells-m-requires : goal.word-cells-m-requires
 word-cells-m-requires t c = let a = c.args in let p = c.requires in let lk = p.looks in let ln = p.line (not_none a.n p.kept c.in_default.not-Some) in let er = c.record-rec.ensures in let f = c.first-a.ensures in omega (arith, (word_first lk ln er f).below, (number lk a.n ln.value).most)
@@ -86,7 +86,7 @@ pub word-keep-requires : goal.word-keep-requires
 word-keep-requires t c = let a = c.args in let p = c.requires in let lk = p.looks in word_most lk a.n p.line
 
 pub word-returns-then-m-gt1 : goal.word-returns-then-m-gt1
-word-returns-then-m-gt1 t c = let a = c.args in let p = c.requires in let lk = p.looks in let ln = p.line (not_none a.n p.kept c.in_default.not-Some) in let er = c.record-rec.ensures in let f = c.first-a.ensures in let em = c.cells-m.ensures in let o = c.if-m-gt1.true in let q = first_equality lk ln er f (subst (λ (x : ℕ). 1 < x) em o) in let v : Compared (step_zero (lines_of false a.table.now a.count) a.from.now a.row.now) a.n (eqb (get_or c.record-rec.result 0 0) 21) c.loop-k-test.kept c.loop-k-test.same = elim c.loop-k-test.branch [ word-else-loop-k-test w ↦ alike_all lk q em w.kept-is (w.same-is ∙ c.loop-k.invariant.0) w.loop-k-test.false c.loop-k.invariant.1 | word-then-loop-k-test+then-x-cell w ↦ alike_broken lk q em w.kept-is w.same-is w.loop-k-test.true c.loop-k.invariant.1 w.cell.ensures.kept w.cell-x.ensures.is w.cell.ensures.is w.if-x-cell.true ] in word_kept_lem (word_most lk a.n p.line) v.kept (c.says-v.ensures ∙ v.is) c.keep.ensures
+word-returns-then-m-gt1 t c = let a = c.args in let p = c.requires in let lk = p.looks in let ln = p.line (not_none a.n p.kept c.in_default.not-Some) in let er = c.record-rec.ensures in let f = c.first-a.ensures in let em = c.cells-m.ensures in let o = c.if-m-gt1.true in let q = first_equality lk ln er f (subst (λ (x : ℕ). 1 < x) em o) in let v : Compared (step_zero (lines_of false a.circuit.table.now a.circuit.count) a.circuit.starts.now a.circuit.row.now) a.n (eqb (get_or c.record-rec.result 0 0) 21) c.loop-k-test.kept c.loop-k-test.same = elim c.loop-k-test.branch [ word-else-loop-k-test w ↦ alike_all lk q em w.kept-is (w.same-is ∙ c.loop-k.invariant.0) w.loop-k-test.false c.loop-k.invariant.1 | word-then-loop-k-test+then-x-cell w ↦ alike_broken lk q em w.kept-is w.same-is w.loop-k-test.true c.loop-k.invariant.1 w.cell.ensures.kept w.cell-x.ensures.is w.cell.ensures.is w.if-x-cell.true ] in word_kept_lem (word_most lk a.n p.line) v.kept (c.says-v.ensures ∙ v.is) c.keep.ensures
 
 pub word-word-x-requires : goal.word-word-x-requires
 word-word-x-requires t c = let a = c.args in let p = c.requires in let lk = p.looks in let ln = p.line (not_none a.n p.kept c.in_default.not-Some) in let er = c.record-rec.ensures in let f = c.first-a.ensures in let one = subst (λ (x : ℕ). x ≤ 1) c.cells-m.ensures c.if-m-gt1.false in (omega (arith, (word_first lk ln er f).below), record { looks = lk; line = first_word lk ln er f one; kept = p.kept })

@@ -15,7 +15,7 @@ abbrev pub decreases-word : goal.decreases-word
 decreases-word l = l.n
 
 abbrev pub invariant-word-loop-k : goal.invariant-word-loop-k
-invariant-word-loop-k l = (l.same ≡ true) × Alike (step_zero (lines_of false l.table l.count) l.from l.row) l.a (get_or l.rec 3 0) l.kept l.m l.k
+invariant-word-loop-k l = (l.same ≡ true) × Alike (step_zero (lines_of false l.circuit.table.now l.circuit.count) l.circuit.starts.now l.circuit.row.now) l.a (get_or l.rec 3 0) l.kept l.m l.k
 
 abbrev pub decreases-word-loop-k : goal.decreases-word-loop-k
 decreases-word-loop-k l = l.m - l.k
