@@ -13,22 +13,15 @@ pub(crate) const WRITTEN: u64 = 257;
 
 pub(crate) const SPAN: u64 = 131072;
 
-fn wide(x: u32) -> u64
-    ensures { result ≡ x }
-{
-    x as u64
-}
-
 // The number k of what is kept of the line a; 0 past the end.
 pub fn entry(kept: &[[u32; KEPT]], k: usize, a: u64) -> u64
     requires { k < 6 }
     ensures { result ≡ kept_of kept.now k a }
 {
-    if a < kept.len() as u64 {
-        let i = a as usize;
-        return wide(kept[i][k]);
+    match kept.get(a as usize) {
+        Some(numbers) => u64::from(numbers[k]),
+        None => 0,
     }
-    0
 }
 
 // The flat line of the cell j of the line m, which writes over none.
@@ -39,9 +32,10 @@ fn own(kept: &[[u32; KEPT]], m: u64, j: u64) -> u64
     let at = entry(kept, 0, m);
     let key = entry(kept, 3, m);
     if key == WRITTEN {
-        return entry(kept, 5, at + j) % SPAN;
+        entry(kept, 5, at + j) % SPAN
+    } else {
+        at + key * j
     }
-    at + key * j
 }
 
 // The flat line of the cell j of the line a.
@@ -63,13 +57,11 @@ pub fn cell(kept: &[[u32; KEPT]], a: u64, j: u64) -> u64
 fn turn(s: Source, j: u64) -> u64
     ensures { result ≡ turn_at s j }
 {
-    if !s.falling {
-        return j;
+    if s.falling {
+        s.top.saturating_sub(j)
+    } else {
+        j
     }
-    if s.top < j {
-        return 0;
-    }
-    s.top - j
 }
 
 // The word j of a source.
@@ -79,7 +71,8 @@ pub(crate) fn source(kept: &[[u32; KEPT]], s: Source, j: u64) -> u64
 {
     let i = turn(s, j);
     if s.line == 0 {
-        return s.base + s.step * i;
+        s.base + s.step * i
+    } else {
+        cell(kept, s.line, i)
     }
-    cell(kept, s.line, i)
 }

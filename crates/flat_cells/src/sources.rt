@@ -12,17 +12,7 @@ fn power(w: u8) -> usize
     requires { w ≤ 8 }
     ensures { result ≡ 2 ^ w }
 {
-    match w {
-        0 => 1,
-        1 => 2,
-        2 => 4,
-        3 => 8,
-        4 => 16,
-        5 => 32,
-        6 => 64,
-        7 => 128,
-        _ => 256,
-    }
+    1 << w
 }
 
 // The cells of the line a.
@@ -30,8 +20,7 @@ pub fn size(types: &[[u8; BYTES]], a: u64) -> usize
     requires { (look_in types.now a).iw ≤ 8 }
     ensures { result ≡ 2 ^ (look_in types.now a).iw }
 {
-    let y = notes::look(types, a);
-    power(y.iw)
+    power(notes::look(types, a).iw)
 }
 
 // The cells of an array whose index sort is the line a.
@@ -39,8 +28,7 @@ pub fn index_size(types: &[[u8; BYTES]], a: u64) -> usize
     requires { (look_in types.now a).w ≤ 8 }
     ensures { result ≡ 2 ^ (look_in types.now a).w }
 {
-    let y = notes::look(types, a);
-    power(y.w)
+    power(notes::look(types, a).w)
 }
 
 // A row of numbers, base + step * j.
@@ -98,8 +86,5 @@ pub fn of_down(a: u64, top: u64) -> Source
 pub fn less(n: usize, k: usize) -> usize
     ensures { result ≡ n - k }
 {
-    if n < k {
-        return 0;
-    }
-    n - k
+    n.saturating_sub(k)
 }
