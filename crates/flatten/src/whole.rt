@@ -44,10 +44,9 @@ pub fn all_lines(
 {
     let h = records::step(false, table.len());
     let room = records::room_of(false, target.len());
-    let mut i: usize = 0;
     let mut p: usize = 0;
     let mut used: usize = 0;
-    while i < count {
+    for i in 0..count {
         let rec = records::record(false, table, h, i);
         let c = flat_counts::count_line(rec, kept, types);
         if room - p < c {
@@ -55,10 +54,8 @@ pub fn all_lines(
             return Answer::Refused(Refusal::TargetTooSmall, 0);
         }
         let m = flat_dispatch::line(rec, kept, types, p, target);
-        let n = i + 1;
-        used = keep_line(kept, n, m, used);
+        used = keep_line(kept, i + 1, m, used);
         p = m.next;
-        i = n;
     }
     Answer::Done(p)
 }
