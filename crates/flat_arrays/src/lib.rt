@@ -1,48 +1,49 @@
 // Lines that leave a flat line for each cell: states, init and next, and the operators that take arrays. The flat lines go to the target, and what later lines need of the line is answered.
 #![tactic(auto)]
 
-ghost use Rattle.std.specs.Prelude.{◌≡◌, length};
-ghost use Rattle.flattening.specs.Model.Lines.{made_as, notes};
+ghost use Rattle.std.specs.Prelude.{◌≡◌, ℕ, List, length};
+ghost use Rattle.flattening.specs.Model.Cells.{Sound};
+ghost use Rattle.flattening.specs.Model.Rows.{Tame};
+ghost use Rattle.flattening.specs.Model.Lines.{given_from, notes};
 ghost use Rattle.flattening.specs.Model.Fits.{Fit, MadeFlat};
-ghost use Rattle.tables.specs.Lines.{equality_kind, Line, Expr};
+ghost use Rattle.tables.specs.Lines.{equality_kind, init_or_next_kind, Line, Expr};
 ghost use Rattle.flattening.specs.Flat.{join_kind};
 
 use flat_cells::cells::KEPT;
-use flat_cells::{cells, rows, sources};
-use flattening::Made;
+use flat_cells::{cells, made, rows, sources};
+use flattening::{Made, Source};
 use records::notes::BYTES;
 
-// Nothing is kept of a line that has no value.
-fn no_value(q: usize) -> Made
-    ensures { result ≡ made_as q 0 0 0 0 0 }
-{
-    Made {
-        next: q,
-        at: 0,
-        bit: 0,
-        old: 0,
-        key: 0,
-        con: 0,
-    }
-}
-
-// The kinds of eq and neq, and of and and or.
+// The kinds of eq and neq, of and and or, and of init and next.
 fn equality_kind(e: bool) -> u64
     ensures { result ≡ equality_kind e }
 {
-    if e {
-        return 21;
-    }
-    22
+    if e { 21 } else { 22 }
 }
 
 fn join_kind(e: bool) -> u64
     ensures { result ≡ join_kind e }
 {
-    if e {
-        return 33;
+    if e { 33 } else { 34 }
+}
+
+fn init_or_next_kind(m: bool) -> u64
+    ensures { result ≡ init_or_next_kind m }
+{
+    if m { 6 } else { 7 }
+}
+
+// An init gives one word to all cells, a next its cells.
+fn given_from(kept: &[[u32; KEPT]], m: bool, v: u64) -> Source
+    requires { Sound kept.now }
+    ensures given { (types : List (List ℕ)) → result ≡ given_from (notes kept.now types) m v }
+    ensures tame { Tame result }
+{
+    if m {
+        sources::run(cells::cell(kept, v, 0), 0)
+    } else {
+        sources::of(v)
     }
-    34
 }
 
 // One state for each cell.
@@ -59,14 +60,7 @@ pub fn line_state(
     let n = sources::size(types, s);
     let z = sources::run(0, 0);
     rows::rows(kept, target, p, n, 5, cells::entry(kept, 0, s), z, z, z);
-    Made {
-        next: p + n,
-        at: (p + 1) as u64,
-        bit: cells::entry(kept, 1, s),
-        old: 0,
-        key: 1,
-        con: 0,
-    }
+    made::value(p + n, (p + 1) as u64, cells::entry(kept, 1, s))
 }
 
 // eq and neq: a test for each cell, then ands or ors.
@@ -95,15 +89,8 @@ pub fn line_equality(
         p,
         target,
     );
-    let q = p + (n + sources::less(n, 1));
-    Made {
-        next: q,
-        at: q as u64,
-        bit: cells::entry(kept, 1, s),
-        old: 0,
-        key: 1,
-        con: 0,
-    }
+    let q = p + (n + n.saturating_sub(1));
+    made::value(q, q as u64, cells::entry(kept, 1, s))
 }
 
 // One ite for each cell.
@@ -132,14 +119,7 @@ pub fn line_ite(
         sources::of(x),
         sources::of(y),
     );
-    Made {
-        next: p + n,
-        at: (p + 1) as u64,
-        bit: cells::entry(kept, 1, s),
-        old: 0,
-        key: 1,
-        con: 0,
-    }
+    made::value(p + n, (p + 1) as u64, cells::entry(kept, 1, s))
 }
 
 // A read: by a constant index it stands for the cell.
@@ -155,17 +135,9 @@ pub fn line_read(
     requires { Fit (notes kept.now types.now) p (Line.value s (Expr.read a i)) (length target.old) }
     ensures { MadeFlat (notes kept.now types.now) p (Line.value s (Expr.read a i)) target.old target.new result }
 {
-    let c = cells::entry(kept, 4, i);
     let b = cells::entry(kept, 1, s);
-    if c != 0 {
-        return Made {
-            next: p,
-            at: cells::cell(kept, a, c - 1),
-            bit: b,
-            old: 0,
-            key: 1,
-            con: 0,
-        };
+    if let Some(c) = cells::constant(kept, i) {
+        return made::value(p, cells::cell(kept, a, c), b);
     }
     let n = sources::size(types, a);
     flat_chains::read_lines(
@@ -179,14 +151,7 @@ pub fn line_read(
         target,
     );
     let q = p + 2 * (n - 1);
-    Made {
-        next: q,
-        at: q as u64,
-        bit: b,
-        old: 0,
-        key: 1,
-        con: 0,
-    }
+    made::value(q, q as u64, b)
 }
 
 // A write: by a constant index it swaps one cell.
@@ -203,17 +168,13 @@ pub fn line_write(
     requires { Fit (notes kept.now types.now) p (Line.value s (Expr.write a i v)) (length target.old) }
     ensures { MadeFlat (notes kept.now types.now) p (Line.value s (Expr.write a i v)) target.old target.new result }
 {
-    let c = cells::entry(kept, 4, i);
     let o = cells::entry(kept, 1, s);
     let x = cells::cell(kept, v, 0);
-    if c != 0 {
+    if let Some(c) = cells::constant(kept, i) {
         return Made {
-            next: p,
-            at: x,
-            bit: o,
-            old: a,
-            key: c - 1,
-            con: 0,
+            old: Some(a),
+            key: c,
+            ..made::value(p, x, o)
         };
     }
     let n = sources::size(types, s);
@@ -230,12 +191,8 @@ pub fn line_write(
         sources::of(a),
     );
     Made {
-        next: p + 2 * n,
-        at: (p + 2) as u64,
-        bit: o,
-        old: 0,
         key: 2,
-        con: 0,
+        ..made::value(p + 2 * n, (p + 2) as u64, o)
     }
 }
 
@@ -254,32 +211,17 @@ pub fn line_init_or_next(
     ensures { MadeFlat (notes kept.now types.now) p (Line.init_or_next m s q v) target.old target.new result }
 {
     let n = sources::size(types, q);
-    let t = cells::entry(kept, 0, s);
-    if m {
-        let x = cells::cell(kept, v, 0);
-        rows::rows(
-            kept,
-            target,
-            p,
-            n,
-            6,
-            t,
-            sources::of(q),
-            sources::run(x, 0),
-            sources::run(0, 0),
-        );
-        return no_value(p + n);
-    }
+    let given = given_from(kept, m, v);
     rows::rows(
         kept,
         target,
         p,
         n,
-        7,
-        t,
+        init_or_next_kind(m),
+        cells::entry(kept, 0, s),
         sources::of(q),
-        sources::of(v),
+        given,
         sources::run(0, 0),
     );
-    no_value(p + n)
+    made::nothing(p + n)
 }

@@ -1,9 +1,9 @@
 // The flat line of a cell.
 ghost use Rattle.std.specs.Prelude.{◌≡◌, ◌<◌};
-ghost use Rattle.flattening.specs.Model.Cells.{kept_of, own_cell, cell_in, Sound};
+ghost use Rattle.flattening.specs.Model.Cells.{kept_of, con_of, constant_of, own_cell, cell_in, Sound};
 ghost use Rattle.flattening.specs.Model.Rows.{turn_at, source_at, Tame};
 
-use flattening::Source;
+use flattening::{Source, Words};
 
 // The numbers kept of a line.
 pub const KEPT: usize = 6;
@@ -21,6 +21,16 @@ pub fn entry(kept: &[[u32; KEPT]], k: usize, a: u64) -> u64
     match kept.get(a as usize) {
         Some(numbers) => u64::from(numbers[k]),
         None => 0,
+    }
+}
+
+// The small constant that is kept of the line a.
+pub fn constant(kept: &[[u32; KEPT]], a: u64) -> Option<u64>
+    ensures { result ≡ constant_of (con_of kept.now a) }
+{
+    match entry(kept, 4, a) {
+        0 => None,
+        number => Some(number - 1),
     }
 }
 
@@ -57,10 +67,9 @@ pub fn cell(kept: &[[u32; KEPT]], a: u64, j: u64) -> u64
 fn turn(s: Source, j: u64) -> u64
     ensures { result ≡ turn_at s j }
 {
-    if s.falling {
-        s.top.saturating_sub(j)
-    } else {
-        j
+    match s.top {
+        Some(top) => top.saturating_sub(j),
+        None => j,
     }
 }
 
@@ -70,9 +79,8 @@ pub(crate) fn source(kept: &[[u32; KEPT]], s: Source, j: u64) -> u64
     ensures { result ≡ source_at kept.now s j }
 {
     let i = turn(s, j);
-    if s.line == 0 {
-        s.base + s.step * i
-    } else {
-        cell(kept, s.line, i)
+    match s.words {
+        Words::Cells(a) => cell(kept, a, i),
+        Words::Numbers { base, step } => base + step * i,
     }
 }

@@ -2,6 +2,7 @@
 #![tactic(auto)]
 
 pub mod cells; // the flat line of a cell
+pub mod made; // what lines leave
 pub mod rows; // the lines for each cell
 pub mod sources; // where the words of a row come from
 pub mod written; // cells written out

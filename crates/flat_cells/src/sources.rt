@@ -1,9 +1,9 @@
 // Where the words of a row come from, and how many cells a line has.
-ghost use Rattle.std.specs.Prelude.{◌≡◌, ◌^◌, ◌≤◌, ◌-◌};
+ghost use Rattle.std.specs.Prelude.{◌≡◌, ◌^◌, ◌≤◌};
 ghost use Rattle.tables.specs.Model.Notes.{look_in};
 ghost use Rattle.flattening.specs.Model.Rows.{stepping, of, run_down, of_down};
 
-use flattening::Source;
+use flattening::{Source, Words};
 use records::notes;
 use records::notes::BYTES;
 
@@ -36,11 +36,8 @@ pub fn run(base: u64, step: u64) -> Source
     ensures { result ≡ stepping base step }
 {
     Source {
-        line: 0,
-        base: base,
-        step: step,
-        falling: false,
-        top: 0,
+        words: Words::Numbers { base, step },
+        top: None,
     }
 }
 
@@ -49,11 +46,8 @@ pub fn of(a: u64) -> Source
     ensures { result ≡ of a }
 {
     Source {
-        line: a,
-        base: 0,
-        step: 0,
-        falling: false,
-        top: 0,
+        words: Words::Cells(a),
+        top: None,
     }
 }
 
@@ -62,11 +56,8 @@ pub fn run_down(base: u64, top: u64) -> Source
     ensures { result ≡ run_down base top }
 {
     Source {
-        line: 0,
-        base: base,
-        step: 1,
-        falling: true,
-        top: top,
+        words: Words::Numbers { base, step: 1 },
+        top: Some(top),
     }
 }
 
@@ -74,17 +65,7 @@ pub fn of_down(a: u64, top: u64) -> Source
     ensures { result ≡ of_down a top }
 {
     Source {
-        line: a,
-        base: 0,
-        step: 0,
-        falling: true,
-        top: top,
+        words: Words::Cells(a),
+        top: Some(top),
     }
-}
-
-// n less k, or 0.
-pub fn less(n: usize, k: usize) -> usize
-    ensures { result ≡ n - k }
-{
-    n.saturating_sub(k)
 }

@@ -17,10 +17,7 @@ fn count_read(c: u64, n: usize) -> usize
     requires { n ≤ 256 }
     ensures { result ≡ read_count c n }
 {
-    if c == 0 {
-        return 2 * sources::less(n, 1);
-    }
-    0
+    if c == 0 { 2 * n.saturating_sub(1) } else { 0 }
 }
 
 // A write of n cells.
@@ -28,10 +25,7 @@ fn count_write(c: u64, n: usize) -> usize
     requires { n ≤ 256 }
     ensures { result ≡ write_count c n }
 {
-    if c == 0 {
-        return 2 * n;
-    }
-    0
+    if c == 0 { 2 * n } else { 0 }
 }
 
 // The line of a record.
@@ -46,10 +40,8 @@ pub fn count_line(rec: [u64; WORDS], kept: &[[u32; KEPT]], types: &[[u8; BYTES]]
     match k {
         2 => 1 + sources::index_size(types, a),
         5 => sources::size(types, s),
-        6 => sources::size(types, a),
-        7 => sources::size(types, a),
-        21 => count_tests(sources::size(types, a)),
-        22 => count_tests(sources::size(types, a)),
+        6 | 7 => sources::size(types, a),
+        21 | 22 => count_tests(sources::size(types, a)),
         53 => sources::size(types, b),
         54 => count_read(cells::entry(kept, 4, b), sources::size(types, a)),
         55 => count_write(cells::entry(kept, 4, b), sources::size(types, s)),
@@ -62,5 +54,5 @@ fn count_tests(n: usize) -> usize
     requires { n ≤ 256 }
     ensures { result ≡ n + (n - 1) }
 {
-    n + sources::less(n, 1)
+    n + n.saturating_sub(1)
 }

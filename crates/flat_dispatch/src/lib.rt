@@ -28,13 +28,9 @@ fn operator(
     let a = rec[2];
     let b = rec[3];
     let c = rec[4];
-    if k <= 20 {
-        return flat_lines::line_unary(k, s, a, b, c, kept, types, p, target);
-    }
-    if k <= 22 {
-        return flat_arrays::line_equality(k == 21, s, a, b, kept, types, p, target);
-    }
     match k {
+        ..=20 => flat_lines::line_unary(k, s, a, b, c, kept, types, p, target),
+        21 | 22 => flat_arrays::line_equality(k == 21, s, a, b, kept, types, p, target),
         53 => flat_arrays::line_ite(s, a, b, c, kept, types, p, target),
         54 => flat_arrays::line_read(s, a, b, kept, types, p, target),
         55 => flat_arrays::line_write(s, a, b, c, kept, types, p, target),
@@ -54,24 +50,18 @@ pub fn line(
     ensures { MadeFlat (notes kept.now types.now) p (line_of rec) target.old target.new result }
 {
     let k = rec[0];
-    if 10 < k {
-        return operator(rec, kept, types, p, target);
-    }
     let s = rec[1];
     let a = rec[2];
     let b = rec[3];
-    if 7 < k {
-        if k == 10 {
-            return flat_lines::line_output(a, kept, types, p, target);
-        }
-        return flat_lines::line_signal(k == 8, a, kept, types, p, target);
-    }
     match k {
         1 => flat_lines::line_bitvec(a, kept, types, p, target),
         2 => flat_lines::line_array(a, b, kept, types, p, target),
         3 => flat_lines::line_const(s, a, kept, types, p, target),
         4 => flat_lines::line_input(s, kept, types, p, target),
         5 => flat_arrays::line_state(s, kept, types, p, target),
-        _ => flat_arrays::line_init_or_next(k == 6, s, a, b, kept, types, p, target),
+        6 | 7 => flat_arrays::line_init_or_next(k == 6, s, a, b, kept, types, p, target),
+        8 | 9 => flat_lines::line_signal(k == 8, a, kept, types, p, target),
+        10 => flat_lines::line_output(a, kept, types, p, target),
+        _ => operator(rec, kept, types, p, target),
     }
 }

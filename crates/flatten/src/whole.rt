@@ -2,7 +2,7 @@
 ghost use Rattle.std.specs.Prelude.{◌≡◌, [], ◌∷◌, ◌<◌, length};
 ghost use Rattle.tables.specs.Answers.{told};
 ghost use Rattle.flattening.specs.Answers.{flattens};
-ghost use Rattle.flattening.specs.Model.Cells.{Sound, Low, keep, Written, Shortened};
+ghost use Rattle.flattening.specs.Model.Cells.{old_number, con_number, Sound, Low, keep, Written, Shortened};
 ghost use Rattle.flattening.specs.Model.Start.{Begun};
 
 use flat_cells::cells::KEPT;
@@ -11,24 +11,39 @@ use flattening::Made;
 use records::notes::BYTES;
 use tables::{Answer, Refusal};
 
+// What is kept of the line written over, and of a small constant: 0 for none.
+fn old_number(old: Option<u64>) -> u64
+    ensures { result ≡ old_number old }
+{
+    old.unwrap_or(0)
+}
+
+fn con_number(con: Option<u8>) -> u32
+    ensures { result ≡ con_number con }
+{
+    match con {
+        None => 0,
+        Some(v) => u32::from(v) + 1,
+    }
+}
+
 // Keeps what the line n leaves. After a write by a constant index cells may be written out: the words below `used` are taken.
 fn keep_line(kept: &mut [[u32; KEPT]], n: usize, m: Made, used: usize) -> usize
     requires { Sound (keep kept.old n m) × (Written (keep kept.old n m) used × (Low m × (n < length kept.old))) }
     ensures { Shortened (keep kept.old n m) kept.new result }
 {
-    let r = kept[n];
     kept[n] = [
         m.at as u32,
         m.bit as u32,
-        m.old as u32,
+        old_number(m.old) as u32,
         m.key as u32,
-        m.con as u32,
-        r[5],
+        con_number(m.con),
+        kept[n][5],
     ];
-    if m.old == 0 {
-        return used;
+    match m.old {
+        None => used,
+        Some(_) => written::shorten(kept, n, used),
     }
-    written::shorten(kept, n, used)
 }
 
 // The lines of an accepted table.

@@ -37,7 +37,7 @@ use Rattle.flattening.specs.declared.Made.{Made}
 use Rattle.flattening.specs.Flat.{Info, no_info, info_at, chunk, flatten, flat_lines, flat_records}
 use Rattle.flattening.specs.Placed.{put_flat, flat_filled}
 use Rattle.flattening.specs.Answers.{flattened, flat_left}
-use Rattle.flattening.specs.Model.Cells.{nothing, kept_of, at_of, key_of, Sound, Low, kept_now, keep, Written, Shortened}
+use Rattle.flattening.specs.Model.Cells.{old_number, con_number, nothing, kept_of, at_of, key_of, Sound, Low, kept_now, keep, Written, Shortened}
 use Rattle.flattening.specs.Model.Lines.{notes, flat_count, line_records, flat_made}
 use Rattle.flattening.specs.Model.Fits.{Neat, Deep, Fit, MadeFlat}
 use Rattle.flattening.proofs.Walk.{new_type}
@@ -299,11 +299,11 @@ module _ (t : List ℕ) (n : ℕ) (acc : checked false t n ≡ Accepted) where
                 ∙ flat_filled_lem len (map words_of F) p (map words_of L) (s.count ∙ sym (length_words F)) ∙ ap (flat_filled len) (sym (map-append words_of F L))
 
         low_next : Low m
-        low_next = record { at = lk.low; bit = lk.bit; old = go (eqb m.old 0) refl; key = lk.few; con = lk.con }
+        low_next = record { at = lk.low; bit = lk.bit; old = go (eqb (old_number m.old) 0) refl; key = lk.few; con = lk.con }
           where
-            go : (y : Bool) → eqb m.old 0 ≡ y → m.old ≤ 65536
-            go true q = let z = eqb-true m.old 0 q in omega arith
-            go false q = let z = lk.falls (eqb-false m.old 0 q) in let e = many.0 in omega (arith, h)
+            go : (y : Bool) → eqb (old_number m.old) 0 ≡ y → old_number m.old ≤ 65536
+            go true q = let z = eqb-true (old_number m.old) 0 q in omega arith
+            go false q = let z = lk.falls (eqb-false (old_number m.old) 0 q) in let e = many.0 in omega (arith, h)
 
         pub made_low : (r : Made) {target₁ : List ℕ} → MadeFlat (notes kept types) p (line_in C i) target target₁ r → Low r
         made_low r d = subst⁻¹ Low d.kept low_next
