@@ -1,7 +1,7 @@
 // Lines that leave a flat line for each cell: states, init and next, and the operators that take arrays. The flat lines go to the target, and what later lines need of the line is answered.
 #![tactic(auto)]
 
-ghost use Rattle.std.specs.Prelude.{◌≡◌, ℕ, List, length};
+ghost use Rattle.std.specs.Prelude.{◌≡◌, length};
 ghost use Rattle.flattening.specs.Model.Cells.{Sound};
 ghost use Rattle.flattening.specs.Model.Rows.{Tame};
 ghost use Rattle.flattening.specs.Model.Lines.{given_from, notes};
@@ -9,10 +9,9 @@ ghost use Rattle.flattening.specs.Model.Fits.{Fit, MadeFlat};
 ghost use Rattle.tables.specs.Lines.{equality_kind, init_or_next_kind, Line, Expr};
 ghost use Rattle.flattening.specs.Flat.{join_kind};
 
-use flat_cells::cells::KEPT;
+use flat_cells::lines::Lines;
 use flat_cells::{cells, made, rows, sources};
 use flattening::{Made, Source};
-use records::notes::BYTES;
 
 // The kinds of eq and neq, of and and or, and of init and next.
 fn equality_kind(e: bool) -> u64
@@ -34,33 +33,27 @@ fn init_or_next_kind(m: bool) -> u64
 }
 
 // An init gives one word to all cells, a next its cells.
-fn given_from(kept: &[[u32; KEPT]], m: bool, v: u64) -> Source
-    requires { Sound kept.now }
-    ensures given { (types : List (List ℕ)) → result ≡ given_from (notes kept.now types) m v }
+fn given_from(lines: Lines, m: bool, v: u64) -> Source
+    requires { Sound lines.kept.now }
+    ensures given { result ≡ given_from (notes lines.entry.kept.now lines.entry.types.now) m v }
     ensures tame { Tame result }
 {
     if m {
-        sources::run(cells::cell(kept, v, 0), 0)
+        sources::run(lines.word_line(v), 0)
     } else {
         sources::of(v)
     }
 }
 
 // One state for each cell.
-pub fn line_state(
-    s: u64,
-    kept: &[[u32; KEPT]],
-    types: &[[u8; BYTES]],
-    p: usize,
-    target: &mut [u64],
-) -> Made
-    requires { Fit (notes kept.now types.now) p (Line.state s) (length target.old) }
-    ensures { MadeFlat (notes kept.now types.now) p (Line.state s) target.old target.new result }
+pub fn line_state(s: u64, lines: Lines, p: usize, target: &mut [u64]) -> Made
+    requires { Fit (notes lines.kept.now lines.types.now) p (Line.state s) (length target.old) }
+    ensures { MadeFlat (notes lines.entry.kept.now lines.entry.types.now) p (Line.state s) target.old target.new result }
 {
-    let n = sources::size(types, s);
+    let n = lines.size(s);
     let z = sources::run(0, 0);
-    rows::rows(kept, target, p, n, 5, cells::entry(kept, 0, s), z, z, z);
-    made::value(p + n, (p + 1) as u64, cells::entry(kept, 1, s))
+    rows::rows(lines.kept, target, p, n, 5, lines.sort_line(s), z, z, z);
+    made::value(p + n, (p + 1) as u64, lines.bit_line(s))
 }
 
 // eq and neq: a test for each cell, then ands or ors.
@@ -69,20 +62,19 @@ pub fn line_equality(
     s: u64,
     x: u64,
     y: u64,
-    kept: &[[u32; KEPT]],
-    types: &[[u8; BYTES]],
+    lines: Lines,
     p: usize,
     target: &mut [u64],
 ) -> Made
-    requires { Fit (notes kept.now types.now) p (Line.value s (Expr.equality e x y)) (length target.old) }
-    ensures { MadeFlat (notes kept.now types.now) p (Line.value s (Expr.equality e x y)) target.old target.new result }
+    requires { Fit (notes lines.kept.now lines.types.now) p (Line.value s (Expr.equality e x y)) (length target.old) }
+    ensures { MadeFlat (notes lines.entry.kept.now lines.entry.types.now) p (Line.value s (Expr.equality e x y)) target.old target.new result }
 {
-    let n = sources::size(types, x);
+    let n = lines.size(x);
     flat_chains::equality_lines(
-        kept,
+        lines.kept,
         equality_kind(e),
         join_kind(e),
-        cells::entry(kept, 0, s),
+        lines.sort_line(s),
         x,
         y,
         n,
@@ -90,61 +82,44 @@ pub fn line_equality(
         target,
     );
     let q = p + (n + n.saturating_sub(1));
-    made::value(q, q as u64, cells::entry(kept, 1, s))
+    made::value(q, q as u64, lines.bit_line(s))
 }
 
 // One ite for each cell.
-pub fn line_ite(
-    s: u64,
-    c: u64,
-    x: u64,
-    y: u64,
-    kept: &[[u32; KEPT]],
-    types: &[[u8; BYTES]],
-    p: usize,
-    target: &mut [u64],
-) -> Made
-    requires { Fit (notes kept.now types.now) p (Line.value s (Expr.ite c x y)) (length target.old) }
-    ensures { MadeFlat (notes kept.now types.now) p (Line.value s (Expr.ite c x y)) target.old target.new result }
+pub fn line_ite(s: u64, c: u64, x: u64, y: u64, lines: Lines, p: usize, target: &mut [u64]) -> Made
+    requires { Fit (notes lines.kept.now lines.types.now) p (Line.value s (Expr.ite c x y)) (length target.old) }
+    ensures { MadeFlat (notes lines.entry.kept.now lines.entry.types.now) p (Line.value s (Expr.ite c x y)) target.old target.new result }
 {
-    let n = sources::size(types, x);
+    let n = lines.size(x);
     rows::rows(
-        kept,
+        lines.kept,
         target,
         p,
         n,
         53,
-        cells::entry(kept, 0, s),
-        sources::run(cells::cell(kept, c, 0), 0),
+        lines.sort_line(s),
+        sources::run(lines.word_line(c), 0),
         sources::of(x),
         sources::of(y),
     );
-    made::value(p + n, (p + 1) as u64, cells::entry(kept, 1, s))
+    made::value(p + n, (p + 1) as u64, lines.bit_line(s))
 }
 
 // A read: by a constant index it stands for the cell.
-pub fn line_read(
-    s: u64,
-    a: u64,
-    i: u64,
-    kept: &[[u32; KEPT]],
-    types: &[[u8; BYTES]],
-    p: usize,
-    target: &mut [u64],
-) -> Made
-    requires { Fit (notes kept.now types.now) p (Line.value s (Expr.read a i)) (length target.old) }
-    ensures { MadeFlat (notes kept.now types.now) p (Line.value s (Expr.read a i)) target.old target.new result }
+pub fn line_read(s: u64, a: u64, i: u64, lines: Lines, p: usize, target: &mut [u64]) -> Made
+    requires { Fit (notes lines.kept.now lines.types.now) p (Line.value s (Expr.read a i)) (length target.old) }
+    ensures { MadeFlat (notes lines.entry.kept.now lines.entry.types.now) p (Line.value s (Expr.read a i)) target.old target.new result }
 {
-    let b = cells::entry(kept, 1, s);
-    if let Some(c) = cells::constant(kept, i) {
-        return made::value(p, cells::cell(kept, a, c), b);
+    let b = lines.bit_line(s);
+    if let Some(c) = lines.constant(i) {
+        return made::value(p, cells::cell(lines.kept, a, c), b);
     }
-    let n = sources::size(types, a);
+    let n = lines.size(a);
     flat_chains::read_lines(
-        kept,
-        cells::entry(kept, 1, a),
-        cells::cell(kept, i, 0),
-        cells::entry(kept, 0, s),
+        lines.kept,
+        lines.bit_line(a),
+        lines.word_line(i),
+        lines.sort_line(s),
         a,
         n,
         p,
@@ -160,32 +135,31 @@ pub fn line_write(
     a: u64,
     i: u64,
     v: u64,
-    kept: &[[u32; KEPT]],
-    types: &[[u8; BYTES]],
+    lines: Lines,
     p: usize,
     target: &mut [u64],
 ) -> Made
-    requires { Fit (notes kept.now types.now) p (Line.value s (Expr.write a i v)) (length target.old) }
-    ensures { MadeFlat (notes kept.now types.now) p (Line.value s (Expr.write a i v)) target.old target.new result }
+    requires { Fit (notes lines.kept.now lines.types.now) p (Line.value s (Expr.write a i v)) (length target.old) }
+    ensures { MadeFlat (notes lines.entry.kept.now lines.entry.types.now) p (Line.value s (Expr.write a i v)) target.old target.new result }
 {
-    let o = cells::entry(kept, 1, s);
-    let x = cells::cell(kept, v, 0);
-    if let Some(c) = cells::constant(kept, i) {
+    let o = lines.bit_line(s);
+    let x = lines.word_line(v);
+    if let Some(c) = lines.constant(i) {
         return Made {
             old: Some(a),
             key: c,
             ..made::value(p, x, o)
         };
     }
-    let n = sources::size(types, s);
+    let n = lines.size(s);
     rows::pairs(
-        kept,
+        lines.kept,
         target,
         p,
         n,
         o,
-        cells::cell(kept, i, 0),
-        cells::entry(kept, 0, s),
+        lines.word_line(i),
+        lines.sort_line(s),
         sources::run(o + 1, 1),
         sources::run(x, 0),
         sources::of(a),
@@ -202,23 +176,22 @@ pub fn line_init_or_next(
     s: u64,
     q: u64,
     v: u64,
-    kept: &[[u32; KEPT]],
-    types: &[[u8; BYTES]],
+    lines: Lines,
     p: usize,
     target: &mut [u64],
 ) -> Made
-    requires { Fit (notes kept.now types.now) p (Line.init_or_next m s q v) (length target.old) }
-    ensures { MadeFlat (notes kept.now types.now) p (Line.init_or_next m s q v) target.old target.new result }
+    requires { Fit (notes lines.kept.now lines.types.now) p (Line.init_or_next m s q v) (length target.old) }
+    ensures { MadeFlat (notes lines.entry.kept.now lines.entry.types.now) p (Line.init_or_next m s q v) target.old target.new result }
 {
-    let n = sources::size(types, q);
-    let given = given_from(kept, m, v);
+    let n = lines.size(q);
+    let given = given_from(lines, m, v);
     rows::rows(
-        kept,
+        lines.kept,
         target,
         p,
         n,
         init_or_next_kind(m),
-        cells::entry(kept, 0, s),
+        lines.sort_line(s),
         sources::of(q),
         given,
         sources::run(0, 0),

@@ -8,10 +8,9 @@ ghost use Rattle.flattening.specs.Placed.{put_flat};
 ghost use Rattle.flattening.specs.Model.Lines.{made_as, small as small_of, notes};
 ghost use Rattle.flattening.specs.Model.Fits.{Fit, MadeFlat};
 
-use flat_cells::cells::KEPT;
-use flat_cells::{cells, made, rows, sources};
+use flat_cells::lines::Lines;
+use flat_cells::{made, rows};
 use flattening::Made;
-use records::notes::BYTES;
 use tables::WORDS;
 
 // A line that leaves one flat line, of which nothing is kept.
@@ -40,15 +39,9 @@ fn small(v: u64) -> Option<u8>
 }
 
 // A word sort is copied.
-pub fn line_bitvec(
-    w: u64,
-    kept: &[[u32; KEPT]],
-    types: &[[u8; BYTES]],
-    p: usize,
-    target: &mut [u64],
-) -> Made
-    requires { Fit (notes kept.now types.now) p (Line.bitvec w) (length target.old) }
-    ensures { MadeFlat (notes kept.now types.now) p (Line.bitvec w) target.old target.new result }
+pub fn line_bitvec(w: u64, lines: Lines, p: usize, target: &mut [u64]) -> Made
+    requires { Fit (notes lines.kept.now lines.types.now) p (Line.bitvec w) (length target.old) }
+    ensures { MadeFlat (notes lines.entry.kept.now lines.entry.types.now) p (Line.bitvec w) target.old target.new result }
 {
     Made {
         at: (p + 1) as u64,
@@ -57,57 +50,37 @@ pub fn line_bitvec(
 }
 
 // An array sort: a width-1 sort, then the index constants.
-pub fn line_array(
-    i: u64,
-    e: u64,
-    kept: &[[u32; KEPT]],
-    types: &[[u8; BYTES]],
-    p: usize,
-    target: &mut [u64],
-) -> Made
-    requires { Fit (notes kept.now types.now) p (Line.array i e) (length target.old) }
-    ensures { MadeFlat (notes kept.now types.now) p (Line.array i e) target.old target.new result }
+pub fn line_array(i: u64, e: u64, lines: Lines, p: usize, target: &mut [u64]) -> Made
+    requires { Fit (notes lines.kept.now lines.types.now) p (Line.array i e) (length target.old) }
+    ensures { MadeFlat (notes lines.entry.kept.now lines.entry.types.now) p (Line.array i e) target.old target.new result }
 {
-    let n = sources::index_size(types, i);
-    flat_chains::array_lines(kept, cells::entry(kept, 0, i), n, p, target);
+    let n = lines.index_size(i);
+    flat_chains::array_lines(lines.kept, lines.sort_line(i), n, p, target);
     Made {
-        at: cells::entry(kept, 0, e),
+        at: lines.sort_line(e),
         bit: (p + 1) as u64,
         ..made::nothing(p + (1 + n))
     }
 }
 
 // An input is copied.
-pub fn line_input(
-    s: u64,
-    kept: &[[u32; KEPT]],
-    types: &[[u8; BYTES]],
-    p: usize,
-    target: &mut [u64],
-) -> Made
-    requires { Fit (notes kept.now types.now) p (Line.input s) (length target.old) }
-    ensures { MadeFlat (notes kept.now types.now) p (Line.input s) target.old target.new result }
+pub fn line_input(s: u64, lines: Lines, p: usize, target: &mut [u64]) -> Made
+    requires { Fit (notes lines.kept.now lines.types.now) p (Line.input s) (length target.old) }
+    ensures { MadeFlat (notes lines.entry.kept.now lines.entry.types.now) p (Line.input s) target.old target.new result }
 {
-    let rec = records::of(4, cells::entry(kept, 0, s), 0, 0, 0);
-    word(rec, p, cells::entry(kept, 1, s), target)
+    let rec = records::of(4, lines.sort_line(s), 0, 0, 0);
+    word(rec, p, lines.bit_line(s), target)
 }
 
 // A constant is copied.
-pub fn line_const(
-    s: u64,
-    v: u64,
-    kept: &[[u32; KEPT]],
-    types: &[[u8; BYTES]],
-    p: usize,
-    target: &mut [u64],
-) -> Made
-    requires { Fit (notes kept.now types.now) p (Line.value s (Expr.const v)) (length target.old) }
-    ensures { MadeFlat (notes kept.now types.now) p (Line.value s (Expr.const v)) target.old target.new result }
+pub fn line_const(s: u64, v: u64, lines: Lines, p: usize, target: &mut [u64]) -> Made
+    requires { Fit (notes lines.kept.now lines.types.now) p (Line.value s (Expr.const v)) (length target.old) }
+    ensures { MadeFlat (notes lines.entry.kept.now lines.entry.types.now) p (Line.value s (Expr.const v)) target.old target.new result }
 {
-    let rec = records::of(3, cells::entry(kept, 0, s), v, 0, 0);
+    let rec = records::of(3, lines.sort_line(s), v, 0, 0);
     Made {
         con: small(v),
-        ..word(rec, p, cells::entry(kept, 1, s), target)
+        ..word(rec, p, lines.bit_line(s), target)
     }
 }
 
@@ -118,16 +91,15 @@ pub fn line_unary(
     a: u64,
     x: u64,
     y: u64,
-    kept: &[[u32; KEPT]],
-    types: &[[u8; BYTES]],
+    lines: Lines,
     p: usize,
     target: &mut [u64],
 ) -> Made
-    requires { Fit (notes kept.now types.now) p (Line.value s (Expr.unary k a x y)) (length target.old) }
-    ensures { MadeFlat (notes kept.now types.now) p (Line.value s (Expr.unary k a x y)) target.old target.new result }
+    requires { Fit (notes lines.kept.now lines.types.now) p (Line.value s (Expr.unary k a x y)) (length target.old) }
+    ensures { MadeFlat (notes lines.entry.kept.now lines.entry.types.now) p (Line.value s (Expr.unary k a x y)) target.old target.new result }
 {
-    let rec = records::of(k, cells::entry(kept, 0, s), cells::cell(kept, a, 0), x, y);
-    word(rec, p, cells::entry(kept, 1, s), target)
+    let rec = records::of(k, lines.sort_line(s), lines.word_line(a), x, y);
+    word(rec, p, lines.bit_line(s), target)
 }
 
 // An operator of two words is copied.
@@ -136,54 +108,36 @@ pub fn line_binary(
     s: u64,
     a: u64,
     b: u64,
-    kept: &[[u32; KEPT]],
-    types: &[[u8; BYTES]],
+    lines: Lines,
     p: usize,
     target: &mut [u64],
 ) -> Made
-    requires { Fit (notes kept.now types.now) p (Line.value s (Expr.binary k a b)) (length target.old) }
-    ensures { MadeFlat (notes kept.now types.now) p (Line.value s (Expr.binary k a b)) target.old target.new result }
+    requires { Fit (notes lines.kept.now lines.types.now) p (Line.value s (Expr.binary k a b)) (length target.old) }
+    ensures { MadeFlat (notes lines.entry.kept.now lines.entry.types.now) p (Line.value s (Expr.binary k a b)) target.old target.new result }
 {
     let rec = records::of(
         k,
-        cells::entry(kept, 0, s),
-        cells::cell(kept, a, 0),
-        cells::cell(kept, b, 0),
+        lines.sort_line(s),
+        lines.word_line(a),
+        lines.word_line(b),
         0,
     );
-    word(rec, p, cells::entry(kept, 1, s), target)
+    word(rec, p, lines.bit_line(s), target)
 }
 
 // bad and constraint are copied.
-pub fn line_signal(
-    m: bool,
-    a: u64,
-    kept: &[[u32; KEPT]],
-    types: &[[u8; BYTES]],
-    p: usize,
-    target: &mut [u64],
-) -> Made
-    requires { Fit (notes kept.now types.now) p (Line.signal m a) (length target.old) }
-    ensures { MadeFlat (notes kept.now types.now) p (Line.signal m a) target.old target.new result }
+pub fn line_signal(m: bool, a: u64, lines: Lines, p: usize, target: &mut [u64]) -> Made
+    requires { Fit (notes lines.kept.now lines.types.now) p (Line.signal m a) (length target.old) }
+    ensures { MadeFlat (notes lines.entry.kept.now lines.entry.types.now) p (Line.signal m a) target.old target.new result }
 {
     let kind = if m { 8 } else { 9 };
-    copied(
-        records::of(kind, 0, cells::cell(kept, a, 0), 0, 0),
-        p,
-        target,
-    )
+    copied(records::of(kind, 0, lines.word_line(a), 0, 0), p, target)
 }
 
 // An output is copied.
-pub fn line_output(
-    a: u64,
-    kept: &[[u32; KEPT]],
-    types: &[[u8; BYTES]],
-    p: usize,
-    target: &mut [u64],
-) -> Made
-    requires { Fit (notes kept.now types.now) p (Line.output a) (length target.old) }
-    ensures { MadeFlat (notes kept.now types.now) p (Line.output a) target.old target.new result }
+pub fn line_output(a: u64, lines: Lines, p: usize, target: &mut [u64]) -> Made
+    requires { Fit (notes lines.kept.now lines.types.now) p (Line.output a) (length target.old) }
+    ensures { MadeFlat (notes lines.entry.kept.now lines.entry.types.now) p (Line.output a) target.old target.new result }
 {
-    copied(records::of(10, 0, cells::cell(kept, a, 0), 0, 0), p, target)
+    copied(records::of(10, 0, lines.word_line(a), 0, 0), p, target)
 }

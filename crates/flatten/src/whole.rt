@@ -6,6 +6,7 @@ ghost use Rattle.flattening.specs.Model.Cells.{old_number, con_number, Sound, Lo
 ghost use Rattle.flattening.specs.Model.Start.{Begun};
 
 use flat_cells::cells::KEPT;
+use flat_cells::lines::Lines;
 use flat_cells::written;
 use flattening::Made;
 use records::notes::BYTES;
@@ -63,12 +64,13 @@ pub fn all_lines(
     let mut used: usize = 0;
     for i in 0..count {
         let rec = records::record(false, table, h, i);
-        let c = flat_counts::count_line(rec, kept, types);
+        let lines = Lines { kept, types };
+        let c = flat_counts::count_line(rec, lines);
         if room - p < c {
             records::clear(target);
             return Answer::Refused(Refusal::TargetTooSmall, 0);
         }
-        let m = flat_dispatch::line(rec, kept, types, p, target);
+        let m = flat_dispatch::line(rec, lines, p, target);
         used = keep_line(kept, i + 1, m, used);
         p = m.next;
     }

@@ -37,7 +37,7 @@ use Rattle.flattening.specs.declared.Made.{Made}
 use Rattle.flattening.specs.Flat.{Info, no_info, info_at, chunk, flatten, flat_lines, flat_records}
 use Rattle.flattening.specs.Placed.{put_flat, flat_filled}
 use Rattle.flattening.specs.Answers.{flattened, flat_left}
-use Rattle.flattening.specs.Model.Cells.{old_number, con_number, nothing, kept_of, at_of, key_of, Sound, Low, kept_now, keep, Written, Shortened}
+use Rattle.flattening.specs.Model.Cells.{old_number, nothing, kept_of, at_of, key_of, Sound, Low, kept_now, keep, Written, Shortened}
 use Rattle.flattening.specs.Model.Lines.{notes, flat_count, line_records, flat_made}
 use Rattle.flattening.specs.Model.Fits.{Neat, Deep, Fit, MadeFlat}
 use Rattle.flattening.proofs.Walk.{new_type}

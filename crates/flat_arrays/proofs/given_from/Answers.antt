@@ -8,5 +8,5 @@ use Rattle.flat_arrays.proofs.given_from.Goals as goal
 
 pub returns-then-m-clause-tame : goal.returns-then-m-clause-tame
 returns-then-m-clause-tame c =
-    let b = subst⁻¹ (λ (x : ℕ). x ≤ 131072) c.cell.ensures (cell_bound c.args.kept.now c.requires c.args.v 0 (omega arith)) in
-    subst⁻¹ Tame c.run.ensures (tame_run c.cell.result 0 (omega (arith, b)) (omega arith))
+    let b = subst⁻¹ (λ (x : ℕ). x ≤ 131072) c.word_line.ensures (cell_bound c.args.lines.kept.now c.requires c.args.v 0 (omega arith)) in
+    subst⁻¹ Tame c.run.ensures (tame_run c.word_line.result 0 (omega (arith, b)) (omega arith))
