@@ -10,7 +10,6 @@ use lib.Pow.{pow_pos}
 use Rattle.std.specs.Prelude.{Some, None}
 use Rattle.tables.specs.Pick.{pick}
 use Rattle.tables.specs.Lines.{Line, Expr, equality_kind, init_or_next_kind}
-use Rattle.tables.specs.Layout.{held}
 use Rattle.flattening.specs.Flat.{join_kind}
 use Rattle.flattening.specs.Model.Cells.{Held, cell_in}
 use Rattle.flattening.specs.Model.Rows.{rows_for, row_at, pair_at, stepping, still, of, run_down, of_down, join_records, read_records, write_records}

@@ -3,7 +3,6 @@ use Prim.Native.Nat.{ℕ, zero, suc, ◌+◌, ◌≤◌, ◌<◌}
 use mathlib.Core.Path.{◌≡◌, refl, sym, ap, ap₂, ◌∙◌, subst, subst⁻¹}
 use mathlib.Core.Logic.{◌≢◌}
 use mathlib.Core.Bool.{Bool, true, false}
-use mathlib.Core.Option.{none}
 use mathlib.Core.List.{List, [], ◌∷◌, map, map-append}
 use native.Mathlib.Omega.{arith}
 use native.Mathlib.Decide.{dec_lt}
@@ -30,7 +29,7 @@ use Rattle.tables.proofs.Places.{length_records, length_lines, record_at_lem}
 use Rattle.tables.proofs.Facts.{Ok, AllOk}
 use Rattle.tables.proofs.Sound.{accepted_lawful, accepted_room, accepted_ok}
 use Rattle.tables.proofs.Encoding.{fits_table, length_words}
-use Rattle.circuits.specs.Layout.{Layout, type_at, line_type_in, lay, no_layout, layout}
+use Rattle.circuits.specs.Layout.{Layout, type_at, line_type_in, no_layout, layout}
 use Rattle.circuits.specs.Meaning.{Frame, no_frame}
 use Rattle.circuits.proofs.Placing.{lay_ctx}
 use Rattle.flattening.specs.declared.Made.{Made}
