@@ -1,43 +1,21 @@
 // What is kept of a line for later lines, and its instruction.
 #![tactic(auto)]
 
-ghost use Rattle.std.specs.Prelude.{◌≡◌, ◌&&◌, ◌≤◌, ◌<◌, get_or, set};
+ghost use Rattle.std.specs.Prelude.{◌≡◌, ◌≤◌, ◌<◌, get_or};
 ghost use Rattle.tables.specs.Lines.{kind_in};
 ghost use Rattle.programs.specs.Model.Kinds.{entry_at, flag_at};
 ghost use Rattle.programs.specs.Model.Records.{loose_in, instruction as instruction_of, width_in, number_in, emitted as emitted_of, Taken};
 ghost use Rattle.tables.specs.Pick.{pick};
-ghost use Rattle.words.specs.Word.{bit};
 
 use tables::WORDS;
-use uses::flags;
-
-// The entry of the line a; 0 past the end.
-pub fn entry(xs: &[u64], a: u64) -> u64
-    ensures { result ≡ get_or xs.now a 0 }
-{
-    if a < xs.len() as u64 {
-        let i = a as usize;
-        return xs[i];
-    }
-    0
-}
-
-// An entry of a list; a place past the end is left.
-fn store(xs: &mut [u64], n: u64, v: u64)
-    ensures { xs.new ≡ set xs.old n v }
-{
-    if n < xs.len() as u64 {
-        let i = n as usize;
-        xs[i] = v;
-    }
-}
+use uses::entries;
 
 // The record's line is loose.
 fn loose(rec: [u64; WORDS], wd: &[u64], lo: &[u8]) -> bool
     requires { kind_in rec ≤ 63 }
     ensures { result ≡ loose_in (entry_at wd.now) (flag_at lo.now) rec }
 {
-    if entry(wd, rec[1]) == 64 {
+    if entries::at(wd, rec[1], 0) == 64 {
         return false;
     }
     let k = rec[0];
@@ -52,10 +30,7 @@ fn loose(rec: [u64; WORDS], wd: &[u64], lo: &[u8]) -> bool
 fn operand(line: bool, num: &[u64], a: u64) -> u64
     ensures { result ≡ pick line (get_or num.now a 0) a }
 {
-    if line {
-        return entry(num, a);
-    }
-    a
+    if line { entries::at(num, a, 0) } else { a }
 }
 
 // The record's instruction.
@@ -63,7 +38,7 @@ pub fn instruction(rec: [u64; WORDS], wd: &[u64], num: &[u64]) -> [u64; WORDS]
     ensures { result ≡ instruction_of (entry_at wd.now) (entry_at num.now) rec }
 {
     let k = rec[0];
-    let w = entry(wd, rec[1]);
+    let w = entries::at(wd, rec[1], 0);
     let a = operand(uses::first_line(k), num, rec[2]);
     let b = operand(uses::second_line(k), num, rec[3]);
     let c = operand(uses::third_line(k), num, rec[4]);
@@ -74,13 +49,11 @@ pub fn instruction(rec: [u64; WORDS], wd: &[u64], num: &[u64]) -> [u64; WORDS]
 fn width(rec: [u64; WORDS], wd: &[u64]) -> u64
     ensures { result ≡ width_in (entry_at wd.now) rec }
 {
-    if rec[0] == 1 {
-        return rec[2];
+    match rec[0] {
+        1 => rec[2],
+        k if uses::has_value(k) => entries::at(wd, rec[1], 0),
+        _ => 0,
     }
-    if uses::has_value(rec[0]) {
-        return entry(wd, rec[1]);
-    }
-    0
 }
 
 // The instruction that uses of the line take.
@@ -88,46 +61,21 @@ fn number(k: u64, b: u64, mask: bool) -> u64
     requires { b < 65536 }
     ensures { result ≡ number_in k b mask }
 {
-    if !uses::has_value(k) {
-        return 0;
+    match (uses::has_value(k), mask) {
+        (false, _) => 0,
+        (true, false) => b,
+        (true, true) => b + 1,
     }
-    if mask {
-        return b + 1;
-    }
-    b
 }
 
 // How many instructions a line has.
 pub fn emitted(k: u64, mask: bool) -> usize
     ensures { result ≡ emitted_of k mask }
 {
-    if k <= 2 {
-        return 0;
+    match k {
+        0..=2 => 0,
+        _ => 1 + usize::from(mask),
     }
-    if mask {
-        return 2;
-    }
-    1
-}
-
-// Both hold.
-fn both(a: bool, b: bool) -> bool
-    ensures { result ≡ (a && b) }
-{
-    if !a {
-        return false;
-    }
-    b
-}
-
-// A mark for a flag.
-fn flag(t: bool) -> u8
-    ensures { result ≡ bit t }
-{
-    if t {
-        return 1;
-    }
-    0
 }
 
 // The line n goes to the lists; answers whether it gets a mask.
@@ -144,11 +92,11 @@ pub fn take(
     ensures { Taken rec n need b wd.old num.old lo.old wd.new num.new lo.new result }
 {
     let l = loose(rec, wd, lo);
-    let m = both(l, need);
+    let m = l && need;
     let w = width(rec, wd);
     let v = number(rec[0], b, m);
-    store(wd, n, w);
-    store(num, n, v);
-    flags::put(lo, n, flag(l));
+    entries::put(wd, n, w);
+    entries::put(num, n, v);
+    entries::put(lo, n, u8::from(l));
     m
 }

@@ -10,6 +10,7 @@ ghost use Rattle.programs.specs.Answers.{program_of};
 ghost use Rattle.programs.specs.Model.Passes.{Zeroed, emitted_to, Prepared, Fitted, program_in};
 
 use tables::WORDS;
+use uses::entries;
 
 // A counted record is an array sort. All kinds are looked at, so that the compiled code takes several of them at a time.
 pub fn has_array(table: &[u64], count: usize) -> bool
@@ -17,12 +18,10 @@ pub fn has_array(table: &[u64], count: usize) -> bool
     ensures { result ≡ has_array (lines_of false table.now count) }
 {
     let mut found = false;
-    let mut i: usize = 0;
-    while i < count {
+    for i in 0..count {
         if records::kind(false, table, i) == 2 {
             found = true;
         }
-        i += 1;
     }
     found
 }
@@ -33,11 +32,9 @@ pub fn needing(table: &[u64], count: usize, marks: &mut [u8])
     ensures { Prepared table.now count marks.new }
 {
     let h = records::step(false, table.len());
-    let mut i: usize = 0;
-    while i < count {
+    for i in 0..count {
         let rec = records::record(false, table, h, i);
         uses::mark(rec, marks);
-        i += 1;
     }
 }
 
@@ -54,15 +51,13 @@ pub fn count_all(
     ensures { result ≡ length (program_of table.now count) }
 {
     let h = records::step(false, table.len());
-    let mut i: usize = 0;
     let mut b: usize = 1;
-    while i < count {
+    for i in 0..count {
         let rec = records::record(false, table, h, i);
         let n = (i + 1) as u64;
         let need = uses::used(true, marks, n);
         let m = masks::take(rec, n, need, b as u64, wd, num, lo);
         b += masks::emitted(rec[0], m);
-        i += 1;
     }
     b - 1
 }
@@ -95,18 +90,16 @@ pub fn write_all(
     ensures { target.new ≡ program_in table.now count (length target.old) }
 {
     let h = records::step(false, table.len());
-    let mut i: usize = 0;
     let mut b: usize = 1;
-    while i < count {
+    for i in 0..count {
         let rec = records::record(false, table, h, i);
         let n = (i + 1) as u64;
         let need = uses::used(true, marks, n);
         let ins = masks::instruction(rec, wd, num);
-        let w = masks::entry(wd, rec[1]);
+        let w = entries::at(wd, rec[1], 0);
         let m = masks::take(rec, n, need, b as u64, wd, num, lo);
         let e = masks::emitted(rec[0], m);
         emit(e, ins, w, b, target);
         b += e;
-        i += 1;
     }
 }

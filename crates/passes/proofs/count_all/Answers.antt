@@ -1,4 +1,3 @@
-use Prim.Native.Nat.{◌-◌}
 use native.Mathlib.Omega.{arith}
 use Rattle.programs.proofs.Keeping.{held_here, kind_here}
 use Rattle.programs.proofs.Counting.{walk_start, small_here, walk_more, walk_end, need_here}

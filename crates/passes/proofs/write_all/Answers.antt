@@ -1,4 +1,3 @@
-use Prim.Native.Nat.{◌-◌}
 use lib.ListN.{length}
 use Rattle.tables.specs.Lines.{kind_in}
 use Rattle.programs.proofs.Keeping.{held_here, kind_here, few_emitted}
@@ -30,7 +29,7 @@ pub loop-i-preserved : goal.loop-i-preserved
 loop-i-preserved c =
     let P = c.requires.0.prepared in
     let l = c.loop-i-test.true in
-    writes_more c.loop-i.invariant P.accepted l c.used-need.result (need_here P c.loop-i.i l c.used-need.ensures) c.record-rec.ensures c.take-m.ensures c.emitted-e.ensures c.instruction-ins.ensures c.entry-w.ensures c.emit.ensures
+    writes_more c.loop-i.invariant P.accepted l c.used-need.result (need_here P c.loop-i.i l c.used-need.ensures) c.record-rec.ensures c.take-m.ensures c.emitted-e.ensures c.instruction-ins.ensures c.at-w.ensures c.emit.ensures
 
 pub returns : goal.returns
 returns c = writes_end c.loop-i.invariant c.loop-i-test.false
