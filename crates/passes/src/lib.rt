@@ -9,6 +9,7 @@ ghost use Rattle.programs.specs.Translation.{has_array};
 ghost use Rattle.programs.specs.Answers.{program_of};
 ghost use Rattle.programs.specs.Model.Passes.{Zeroed, emitted_to, Prepared, Fitted, program_in};
 
+use programs::Known;
 use tables::WORDS;
 use uses::entries;
 
@@ -27,8 +28,8 @@ pub fn has_array(table: &[u64], count: usize) -> bool
 }
 
 // A mark at each line that has a needing use.
-pub fn needing(table: &[u64], count: usize, marks: &mut [u8])
-    requires { (checked false table.now count ≡ Accepted) × (marks.old ≡ replicate 16385 0) }
+pub fn needing(table: &[u64], count: usize, marks: &mut [bool])
+    requires { (checked false table.now count ≡ Accepted) × (marks.old ≡ replicate 16385 false) }
     ensures { Prepared table.now count marks.new }
 {
     let h = records::step(false, table.len());
@@ -39,15 +40,8 @@ pub fn needing(table: &[u64], count: usize, marks: &mut [u8])
 }
 
 // How many instructions the program has.
-pub fn count_all(
-    table: &[u64],
-    count: usize,
-    marks: &[u8],
-    wd: &mut [u64],
-    num: &mut [u64],
-    lo: &mut [u8],
-) -> usize
-    requires { Prepared table.now count marks.now × Zeroed count wd.old num.old lo.old }
+pub fn count_all(table: &[u64], count: usize, marks: &[bool], known: &mut [Known]) -> usize
+    requires { Prepared table.now count marks.now × Zeroed count known.old }
     ensures { result ≡ length (program_of table.now count) }
 {
     let h = records::step(false, table.len());
@@ -55,8 +49,8 @@ pub fn count_all(
     for i in 0..count {
         let rec = records::record(false, table, h, i);
         let n = (i + 1) as u64;
-        let need = uses::used(true, marks, n);
-        let m = masks::take(rec, n, need, b as u64, wd, num, lo);
+        let need = entries::at(marks, n, false);
+        let m = masks::take(rec, n, need, b as u64, known);
         b += masks::emitted(rec[0], m);
     }
     b - 1
@@ -80,13 +74,11 @@ fn emit(e: usize, ins: [u64; WORDS], w: u64, b: usize, target: &mut [u64])
 pub fn write_all(
     table: &[u64],
     count: usize,
-    marks: &[u8],
-    wd: &mut [u64],
-    num: &mut [u64],
-    lo: &mut [u8],
+    marks: &[bool],
+    known: &mut [Known],
     target: &mut [u64],
 )
-    requires { Fitted table.now count marks.now target.old × Zeroed count wd.old num.old lo.old }
+    requires { Fitted table.now count marks.now target.old × Zeroed count known.old }
     ensures { target.new ≡ program_in table.now count (length target.old) }
 {
     let h = records::step(false, table.len());
@@ -94,10 +86,10 @@ pub fn write_all(
     for i in 0..count {
         let rec = records::record(false, table, h, i);
         let n = (i + 1) as u64;
-        let need = uses::used(true, marks, n);
-        let ins = masks::instruction(rec, wd, num);
-        let w = entries::at(wd, rec[1], 0);
-        let m = masks::take(rec, n, need, b as u64, wd, num, lo);
+        let need = entries::at(marks, n, false);
+        let ins = masks::instruction(rec, known);
+        let w = masks::of_line(known, rec[1]).width;
+        let m = masks::take(rec, n, need, b as u64, known);
         let e = masks::emitted(rec[0], m);
         emit(e, ins, w, b, target);
         b += e;

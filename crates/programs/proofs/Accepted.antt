@@ -23,7 +23,8 @@ use Rattle.tables.proofs.Encoding.{lines_accepted}
 use Rattle.circuits.specs.Layout.{Layout, type_at, line_type_in, place_of, lay, lay_all}
 use Rattle.circuits.proofs.Placing.{lay_ctx}
 use Rattle.programs.specs.Uses.{loose_line, loose_expr, has_needing_use}
-use Rattle.programs.specs.Translation.{Known, info, none_known, operand_width, operand_number, loose_of, with_mask, renumbered, instructions_of, array_sort_line, has_array, translate_from, translate}
+use Rattle.programs.specs.declared.Known.{Known}
+use Rattle.programs.specs.Translation.{info, none_known, operand_width, operand_number, loose_of, with_mask, renumbered, instructions_of, array_sort_line, has_array, translate_from, translate}
 use Rattle.programs.proofs.Grew.{lines, grew_line, new_type}
 use Rattle.programs.proofs.Laid.{Laid, sort_of_width, Fresh, puts}
 use Rattle.programs.proofs.LaidLines.{and_never, typed, sorted, fresh_input, fresh_state, fresh_val, laid_line, lines_more, laid_start}
@@ -94,7 +95,7 @@ module _ {Y Z : Layout} {J : List Known} (v : Laid Y Z J) (o : Once Y Z J) where
   mask_given true b w i true true e = e
   mask_given false b w i true true e = e
 
-  mask_number : (b w : ℕ) (i : Line) (lo n : Bool) → b ≤ (with_mask b w i lo n).info.num
+  mask_number : (b w : ℕ) (i : Line) (lo n : Bool) → b ≤ (with_mask b w i lo n).info.number
   mask_number b w i false n = le_refl b
   mask_number b w i true false = le_refl b
   mask_number b w i true true = omega arith

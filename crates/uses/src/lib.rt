@@ -3,8 +3,8 @@
 
 pub mod entries; // lists with an entry for each line number
 
-ghost use Rattle.std.specs.Prelude.{◌≡◌, ◌&&◌, ◌≤◌, ◌/◌, ◌%◌, ◌^◌};
-ghost use Rattle.programs.specs.Model.Kinds.{uses_of, loose_how, first_line, second_line, third_line, has_value, flag_at, mark_if, uses_marked};
+ghost use Rattle.std.specs.Prelude.{◌≡◌, ◌≤◌, ◌/◌, ◌%◌, ◌^◌};
+ghost use Rattle.programs.specs.Model.Kinds.{uses_of, loose_how, first_line, second_line, third_line, has_value, mark_if, uses_marked};
 ghost use Rattle.tables.specs.Lines.{kind_in};
 
 use tables::WORDS;
@@ -86,24 +86,17 @@ pub fn has_value(k: u64) -> bool
     matches!(k, 3..=5 | 11..)
 }
 
-// An operand is a line that has a mark.
-pub fn used(line: bool, lo: &[u8], a: u64) -> bool
-    ensures { result ≡ (line && flag_at lo.now a) }
-{
-    line && entries::at(lo, a, 0) == 1
-}
-
 // A mark at the line a, if v is 1.
-fn mark_if(v: u8, a: u64, marks: &mut [u8])
+fn mark_if(v: u8, a: u64, marks: &mut [bool])
     ensures { marks.new ≡ mark_if v a marks.old }
 {
     if v == 1 {
-        entries::put(marks, a, 1);
+        entries::put(marks, a, true);
     }
 }
 
 // A mark at each line that the record needs clean.
-pub fn mark(rec: [u64; WORDS], marks: &mut [u8])
+pub fn mark(rec: [u64; WORDS], marks: &mut [bool])
     requires { kind_in rec ≤ 63 }
     ensures { marks.new ≡ uses_marked rec marks.old }
 {

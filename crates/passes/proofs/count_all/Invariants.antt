@@ -4,4 +4,4 @@ use Rattle.programs.proofs.Counting.{Walk}
 use Rattle.passes.proofs.count_all.Given as goal
 
 abbrev pub invariant-loop-i : goal.invariant-loop-i
-invariant-loop-i l = Walk (length l.initial.wd) l.table l.count l.i l.b l.wd l.num l.lo
+invariant-loop-i l = Walk (length l.initial.known) l.table l.count l.i l.b l.known
