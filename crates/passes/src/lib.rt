@@ -2,7 +2,6 @@
 #![tactic(auto)]
 
 ghost use Rattle.std.specs.Prelude.{◌≡◌, true, false, ◌+◌, ◌-◌, ◌≤◌, ◌<◌, replicate, length};
-ghost use Rattle.tables.specs.declared.Checked.TheVariants.{Accepted};
 ghost use Rattle.tables.specs.Tables.{checked};
 ghost use Rattle.tables.specs.Layout.{held, lines_of};
 ghost use Rattle.programs.specs.Translation.{has_array};
@@ -15,7 +14,7 @@ use uses::entries;
 
 // A counted record is an array sort. All kinds are looked at, so that the compiled code takes several of them at a time.
 pub fn has_array(table: &[u64], count: usize) -> bool
-    requires { checked false table.now count ≡ Accepted }
+    requires { checked false table.now count ≡ Ok tt }
     ensures { result ≡ has_array (lines_of false table.now count) }
 {
     let mut found = false;
@@ -29,7 +28,7 @@ pub fn has_array(table: &[u64], count: usize) -> bool
 
 // A mark at each line that has a needing use.
 pub fn needing(table: &[u64], count: usize, marks: &mut [bool])
-    requires { (checked false table.now count ≡ Accepted) × (marks.old ≡ replicate 16385 false) }
+    requires { (checked false table.now count ≡ Ok tt) × (marks.old ≡ replicate 16385 false) }
     ensures { Prepared table.now count marks.new }
 {
     let h = records::step(false, table.len());

@@ -1,11 +1,11 @@
 -- The second pass: after i records the list K holds what is known of their lines, and the instructions so far with those ahead are the program's. Assumes nothing.
+use Rattle.std.specs.Prelude.{Ok}
 use Prim.Native.Nat.{ℕ, ◌+◌, ◌*◌, ◌≤◌, ◌<◌}
 use mathlib.Core.Path.{◌≡◌, refl, sym, ap, ◌∙◌, subst, subst⁻¹}
 use mathlib.Core.Bool.{Bool, false}
 use mathlib.Core.List.{List, [], ◌∷◌, ◌++◌, append_assoc, append-nil}
 use native.Mathlib.Omega.{arith}
 use lib.ListN.{length, drop, length-append}
-use Rattle.tables.specs.declared.Checked.TheVariants.{Accepted}
 use Rattle.tables.specs.Lines.{Line, words_of, kind_in}
 use Rattle.tables.specs.Layout.{record_at, lines_of}
 use Rattle.tables.specs.Tables.{checked}
@@ -42,7 +42,7 @@ pub start_out : (t : List ℕ) (n : ℕ) {K : List Known} (f : Zeroed n K) → (
 unfolding walk_start
 start_out t n f = refl
 
-module _ {z : ℕ} {t : List ℕ} {n i b : ℕ} {K : List Known} (S : Walk z t n i b K) (e : checked false t n ≡ Accepted) where
+module _ {z : ℕ} {t : List ℕ} {n i b : ℕ} {K : List Known} (S : Walk z t n i b K) (e : checked false t n ≡ Ok tt) where
   abbrev N : ℕ → Bool
   N = has_needing_use (lines_of false t n)
 

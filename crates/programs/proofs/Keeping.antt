@@ -1,4 +1,5 @@
 -- The list that the code keeps holds what the definition knows of the lines so far; and the line at hand. Assumes nothing.
+use Rattle.std.specs.Prelude.{Ok}
 use Prim.Native.Nat.{ℕ, zero, suc, ◌+◌, ◌≤◌, ◌<◌}
 use mathlib.Core.Path.{◌≡◌, refl, sym, ap, ap₂, ◌∙◌, subst, subst⁻¹}
 use mathlib.Core.Bool.{Bool, true, false}
@@ -7,7 +8,6 @@ use native.Mathlib.Omega.{arith}
 use lib.Dec.{leb}
 use lib.ListN.{length, get_or, set, drop, replicate, length-set, length-replicate}
 use lib.Seq.{get_or_at, drop-cons, get_or-set_same, get_or-set_other}
-use Rattle.tables.specs.declared.Checked.TheVariants.{Accepted}
 use Rattle.tables.specs.Pick.{pick}
 use Rattle.tables.specs.Lines.{Line, Expr, line_of, words_of, kind_in, unknown, bitvec, array, input, state, value, init_or_next, signal, output, const, unary, binary, equality, ite, read, write}
 use Rattle.tables.specs.Layout.{held, record_at, records_of, lines_of}
@@ -113,7 +113,7 @@ kinded_at c [] k i l = absurd (omega arith)
 kinded_at c (x ∷ ls) k zero l = kinded_line c x k.0
 kinded_at c (x ∷ ls) k (suc i) l = kinded_at (grow false c x) ls k.1 i (omega arith)
 
-pub line_at : (t : List ℕ) (n i : ℕ) → checked false t n ≡ Accepted → i < n → LineAt t n i
+pub line_at : (t : List ℕ) (n i : ℕ) → checked false t n ≡ Ok tt → i < n → LineAt t n i
 line_at t n i e l =
     let rs = records_of false t n in
     let li : i < length rs = omega (arith, length_records false t n) in
@@ -131,7 +131,7 @@ line_at t n i e l =
     }
 
 -- its record is in the table, its number is at most 16,384, and its kind is a circuit's
-module _ (t : List ℕ) (n i : ℕ) (e : checked false t n ≡ Accepted) (l : i < n) where
+module _ (t : List ℕ) (n i : ℕ) (e : checked false t n ≡ Ok tt) (l : i < n) where
   pub held_here : i < held false (length t)
   held_here = omega (arith, (fits_table false t n e).1)
 
@@ -142,7 +142,7 @@ module _ (t : List ℕ) (n i : ℕ) (e : checked false t n ≡ Accepted) (l : i 
   kind_here er = subst⁻¹ (λ (x : List ℕ). kind_in x ≤ 63) er (line_at t n i e l).kind
 
 -- a table has fewer lines than the largest list has entries
-pub few_lines : (t : List ℕ) (n : ℕ) → checked false t n ≡ Accepted → n < 16385
+pub few_lines : (t : List ℕ) (n : ℕ) → checked false t n ≡ Ok tt → n < 16385
 few_lines t n e = omega (arith, (fits_table false t n e).0)
 
 -- past the last line

@@ -1,4 +1,5 @@
 -- The first pass: after i records the marks and the lines ahead name the lines that have a needing use. And the search for an array sort. Assumes nothing.
+use Rattle.std.specs.Prelude.{Ok}
 use Prim.Native.Nat.{ℕ, ◌+◌, ◌≤◌, ◌<◌}
 use mathlib.Core.Path.{◌≡◌, refl, sym, ap, ◌∙◌, subst}
 use mathlib.Core.Bool.{Bool, true, false, ◌&&◌, ◌||◌}
@@ -9,7 +10,6 @@ use lib.ListN.{length, get_or, set, drop, replicate, length-set, length-replicat
 use lib.Seq.{get_or-set_same, get_or-set_other}
 use borrow.Author.Tests.{eq-eqb, ne_eqb}
 use Rattle.words.specs.Kinds.{need_kind₁, need_kind₂}
-use Rattle.tables.specs.declared.Checked.TheVariants.{Accepted}
 use Rattle.tables.specs.Pick.{pick, among}
 use Rattle.tables.specs.Lines.{Line, kind_in, first_in, second_in}
 use Rattle.tables.specs.Layout.{record_at, lines_of}
@@ -77,7 +77,7 @@ marking_start t n e =
       at = λ j h. ap (λ (x : List Bool). mark_at x j || has_needing_use (lines_of false t n) j) e ∙ ap (λ (x : Bool). x || has_needing_use (lines_of false t n) j) (blank_at false 16385 j);
     }
 
-module _ {t : List ℕ} {n i : ℕ} {ms : List Bool} (M : Marking t n i ms) (e : checked false t n ≡ Accepted) where
+module _ {t : List ℕ} {n i : ℕ} {ms : List Bool} (M : Marking t n i ms) (e : checked false t n ≡ Ok tt) where
   pub marking_more : {ms₁ : List Bool} (r : List ℕ) → i < n → r ≡ record_at false t i → ms₁ ≡ uses_marked r ms → Marking t n (i + 1) ms₁
   marking_more {ms₁} r l er q =
       let x = line_at t n i e l in
@@ -109,7 +109,7 @@ pub record Looked (t : List ℕ) (n i : ℕ) (found : Bool) : Type 0 where
 pub array_start : (t : List ℕ) (n : ℕ) → Looked t n 0 false
 array_start t n = record { most = omega arith; at = refl }
 
-module _ {t : List ℕ} {n i : ℕ} {found : Bool} (Y : Looked t n i found) (e : checked false t n ≡ Accepted) where
+module _ {t : List ℕ} {n i : ℕ} {found : Bool} (Y : Looked t n i found) (e : checked false t n ≡ Ok tt) where
   abbrev ahead : Bool
   ahead = has_array (drop (i + 1) (lines_of false t n))
 

@@ -1,4 +1,5 @@
 -- The third pass: after i records the target holds the instructions so far, and zeros. Assumes nothing.
+use Rattle.std.specs.Prelude.{Ok}
 use Prim.Native.Nat.{ℕ, ◌+◌, ◌-◌, ◌≤◌, ◌<◌}
 use mathlib.Core.Path.{◌≡◌, sym, ap, ap₂, ◌∙◌}
 use mathlib.Core.Bool.{Bool, true, false}
@@ -6,7 +7,6 @@ use mathlib.Core.List.{List, [], ◌∷◌, ◌++◌, map, append_assoc, append-
 use native.Mathlib.Omega.{arith}
 use lib.Dec.{leb}
 use lib.ListN.{length, drop, replicate, length-append}
-use Rattle.tables.specs.declared.Checked.TheVariants.{Accepted}
 use Rattle.tables.specs.Pick.{pick}
 use Rattle.tables.specs.Lines.{Line, kind_in, sort_in, words_of}
 use Rattle.tables.specs.Layout.{held, record_at, lines_of, recorded, filled}
@@ -49,7 +49,7 @@ module _ {z : ℕ} {t : List ℕ} {n i b len : ℕ} {K : List Known} {target : L
   pub writes_size : length target ≡ len
   writes_size = ap length S.holds ∙ length_filled true len (map words_of S.walk.out)
 
-  module _ (e : checked false t n ≡ Accepted) (l : i < n) (nd : Bool) (en : nd ≡ has_needing_use (lines_of false t n) (i + 1)) {m : Bool} {K₁ : List Known} {r : List ℕ} (er : r ≡ record_at false t i)
+  module _ (e : checked false t n ≡ Ok tt) (l : i < n) (nd : Bool) (en : nd ≡ has_needing_use (lines_of false t n) (i + 1)) {m : Bool} {K₁ : List Known} {r : List ℕ} (er : r ≡ record_at false t i)
       (T : Taken r (i + 1) nd b K K₁ m) {x : ℕ} (ex : x ≡ emitted (kind_in r) m) where
     -- there is room for the line's instructions
     pub fits_here : length (program_of t n) ≤ held true len → b - 1 + x ≤ held true (length target)

@@ -1,13 +1,12 @@
 // The program of an accepted table, where it fits.
 ghost use Rattle.std.specs.Prelude.{◌≡◌, false, [], ◌∷◌, ◌≤◌, ◌<◌, length, replicate};
-ghost use Rattle.tables.specs.declared.Checked.TheVariants.{Accepted};
 ghost use Rattle.tables.specs.Tables.{checked};
 ghost use Rattle.tables.specs.Answers.{told};
 ghost use Rattle.programs.specs.Answers.{program_of};
 ghost use Rattle.programs.specs.Model.Passes.{Prepared, Fitted, program_in, makes};
 
 use programs::NONE_KNOWN;
-use tables::{Answer, Refusal};
+use tables::Refusal;
 
 // The entries of the list of lines: a small circuit takes a small list, which is sooner empty.
 const FEW: usize = 512;
@@ -57,16 +56,16 @@ fn writing(table: &[u64], count: usize, marks: &[bool], target: &mut [u64])
 }
 
 // The program of an accepted table, where it fits into the target, which is zero.
-pub fn make(table: &[u64], count: usize, target: &mut [u64]) -> Answer
-    requires { (checked false table.now count ≡ Accepted) × (target.old ≡ replicate (length target.old) 0) }
+pub fn make(table: &[u64], count: usize, target: &mut [u64]) -> Result<usize, Refusal>
+    requires { (checked false table.now count ≡ Ok tt) × (target.old ≡ replicate (length target.old) 0) }
     ensures { told result (target.new ∷ []) ≡ makes table.now count (length target.old) }
 {
     let mut marks = [false; MANY];
     passes::needing(table, count, &mut marks);
     let m = counting(table, count, &marks);
     if records::room_of(true, target.len()) < m {
-        return Answer::Refused(Refusal::TargetTooSmall, 0);
+        return Err(Refusal::TargetTooSmall);
     }
     writing(table, count, &marks, target);
-    Answer::Done(m)
+    Ok(m)
 }

@@ -1,7 +1,6 @@
 -- The passes over a table: the lists and the target that they are given, and what they leave. Assumes nothing.
-use Rattle.std.specs.Prelude.{ℕ, ◌-◌, ◌≤◌, ◌<◌, ◌≡◌, Bool, true, false, List, [], ◌∷◌, map, eqb, length, replicate}
-use Rattle.tables.specs.declared.Answer.{Answer}
-use Rattle.tables.specs.declared.Checked.TheVariants.{Accepted}
+use Rattle.tables.specs.declared.Refusal.{Refusal}
+use Rattle.std.specs.Prelude.{ℕ, ◌-◌, ◌≤◌, ◌<◌, ◌≡◌, Bool, true, false, List, [], ◌∷◌, map, eqb, length, replicate, Result, Ok}
 use Rattle.tables.specs.Pick.{pick}
 use Rattle.tables.specs.Lines.{Line, words_of}
 use Rattle.tables.specs.Layout.{held, lines_of, recorded, filled}
@@ -30,7 +29,7 @@ emitted_to e i w b t = pick (eqb e 0) t (pick (eqb e 2) (recorded true (recorded
 
 -- the table is accepted, and the marks are those of its lines
 pub record Prepared (t : List ℕ) (n : ℕ) (ms : List Bool) : Type 0 where
-  pub accepted : checked false t n ≡ Accepted
+  pub accepted : checked false t n ≡ Ok tt
   pub needing : Needing (lines_of false t n) ms
 
 -- and the target is zero and holds as many records as the program has
@@ -44,7 +43,7 @@ abbrev pub program_in : (t : List ℕ) (n len : ℕ) → List ℕ
 program_in t n len = filled true len (map words_of (program_of t n))
 
 -- the outcome where a is answered
-abbrev pub outcome_for : Answer → (t : List ℕ) (n len : ℕ) → Outcome
+abbrev pub outcome_for : Result ℕ Refusal → (t : List ℕ) (n len : ℕ) → Outcome
 outcome_for a t n len = told a (left_by a len (filled true len (map words_of (program_of t n))) ∷ [])
 
 -- and where only the target's room is in question
