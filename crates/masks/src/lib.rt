@@ -76,10 +76,10 @@ fn number(k: u64, b: u64, mask: bool) -> u64
     requires { b < 65536 }
     ensures { result ≡ number_in k b mask }
 {
-    match (uses::has_value(k), mask) {
-        (false, _) => 0,
-        (true, false) => b,
-        (true, true) => b + 1,
+    if uses::has_value(k) {
+        b + u64::from(mask)
+    } else {
+        0
     }
 }
 
@@ -87,10 +87,7 @@ fn number(k: u64, b: u64, mask: bool) -> u64
 pub fn emitted(k: u64, mask: bool) -> usize
     ensures { result ≡ emitted_of k mask }
 {
-    match k {
-        0..=2 => 0,
-        _ => 1 + usize::from(mask),
-    }
+    if k <= 2 { 0 } else { 1 + usize::from(mask) }
 }
 
 // What is known of the line n goes to the list; answers whether the line gets a mask.

@@ -22,7 +22,7 @@ abbrev pub has_array : List Line → Bool
 has_array [] = false
 has_array (l ∷ ls) = array_sort_line l || has_array ls
 
--- ---- what is known of an earlier line
+-- ---- what is known of an earlier line: its width, its number and whether it is loose, the struct `Known` of src/lib.rt
 
 abbrev pub info : (width number : ℕ) → Bool → Known
 info w n l = record { width = w; number = n; loose = l }

@@ -8,12 +8,12 @@ ghost use Rattle.programs.specs.Model.Passes.{Prepared, Fitted, program_in, make
 use programs::NONE_KNOWN;
 use tables::Refusal;
 
-// The entries of the list of lines: a small circuit takes a small list, which is sooner empty.
+// How many entries a list of lines has: for a small circuit, whose list is sooner empty, and for the largest.
 const FEW: usize = 512;
 
 const MANY: usize = 16385;
 
-// How many instructions the program has, by a list of N entries.
+// How many instructions the program has, by a list of N entries. A function that makes a list pays for its size at the start, so a small circuit and a large one have each their own.
 fn count_in<const N: usize>(table: &[u64], count: usize, marks: &[bool]) -> usize
     requires prepared { Prepared table.now count marks.now }
     requires room { (count < N) × (N ≤ MANY) }
@@ -23,6 +23,7 @@ fn count_in<const N: usize>(table: &[u64], count: usize, marks: &[bool]) -> usiz
     passes::count_all(table, count, marks, &mut known)
 }
 
+// The same, by a list that is large enough.
 fn counting(table: &[u64], count: usize, marks: &[bool]) -> usize
     requires { Prepared table.now count marks.now }
     ensures { result ≡ length (program_of table.now count) }
@@ -44,6 +45,7 @@ fn write_in<const N: usize>(table: &[u64], count: usize, marks: &[bool], target:
     passes::write_all(table, count, marks, &mut known, target);
 }
 
+// The same, by a list that is large enough.
 fn writing(table: &[u64], count: usize, marks: &[bool], target: &mut [u64])
     requires { Fitted table.now count marks.now target.old }
     ensures { target.new ≡ program_in table.now count (length target.old) }
