@@ -7,6 +7,7 @@ use native.Mathlib.Omega.{arith}
 use native.Mathlib.Numerals.{add-one}
 use lib.Dec.{T, eqb, leb, leb→le, eqb→eq}
 use lib.ListN.{length, drop, get_or, drop_of_length-le, length-drop}
+use lib.Pointwise.{pointwise}
 use lib.Seq.{drop-cons, length-take-le, get_or-take, get_or-drop}
 use mir.Facts.{and_yes}
 use borrow.Author.Tests.{eq-eqb, ne_eqb, le-leb, lt-leb, leb-true, leb-false}
@@ -24,6 +25,13 @@ use Rattle.texts.specs.Model.Structs.{word_with}
 use Rattle.texts.proofs.Splitting.{Clean, Tok, Toks}
 
 -- ---- a token against a word
+
+-- the library's test of two slices is this one
+pub same_pointwise : (x y : List ℕ) → pointwise eqb x y ≡ same_bytes x y
+same_pointwise [] [] = refl
+same_pointwise [] (b ∷ y) = refl
+same_pointwise (a ∷ x) [] = refl
+same_pointwise (a ∷ x) (b ∷ y) = ap (λ (q : Bool). eqb a b && q) (same_pointwise x y)
 
 pub same_not : (x y : List ℕ) → (length x ≡ length y → ⊥) → same_bytes x y ≡ false
 same_not [] [] h = absurd (h refl)
