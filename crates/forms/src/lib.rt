@@ -46,20 +46,14 @@ pub fn row(kinds: &[[u8; 16]; 63], f: usize) -> [u8; 16]
 pub fn kind_of(f: usize) -> u64
     ensures { result ≡ kind_of f }
 {
-    if f <= 63 {
-        return f as u64;
-    }
-    3
+    if f <= 63 { f as u64 } else { 3 }
 }
 
 // 1 where a line has a sort, else 0.
 pub fn sorted(row: [u8; 16]) -> usize
     ensures { result ≡ sorted_of row }
 {
-    if row[11] == NONE {
-        return 0;
-    }
-    1
+    usize::from(row[11] != NONE)
 }
 
 // A token is the word of a row.
@@ -67,37 +61,14 @@ fn is_word(t: &[u8], r: [u8; 16]) -> bool
     requires { get_or r 0 0 ≤ 10 }
     ensures { result ≡ same_bytes t.now (word_of r) }
 {
-    let n = r[0] as usize;
-    if t.len() != n {
-        return false;
-    }
-    let mut i: usize = 0;
-    while i < n {
-        if t[i] != r[i + 1] {
-            return false;
-        }
-        i += 1;
-    }
-    true
+    t == &r[1..usize::from(r[0]) + 1]
 }
 
 // The token is `sort`.
 fn is_sort(t: &[u8]) -> bool
     ensures { result ≡ same_bytes t.now sort_word }
 {
-    if t.len() != 4 {
-        return false;
-    }
-    if t[0] != b's' {
-        return false;
-    }
-    if t[1] != b'o' {
-        return false;
-    }
-    if t[2] != b'r' {
-        return false;
-    }
-    t[3] == b't'
+    t == b"sort".as_slice()
 }
 
 // The word of the kind j has the first letter and the length of the token t: so most kinds are passed over by one byte of their rows. A mask, kind 56, has no word.
@@ -105,14 +76,8 @@ fn begins(kinds: &[[u8; 16]; 63], j: usize, t: &[u8]) -> bool
     requires { (kinds.now ≡ rows) × ((1 ≤ j) × ((j ≤ 63) × (j ≡ 56 → ⊥))) }
     ensures { result ≡ false → same_bytes t.now (word_of (form_row j)) ≡ false }
 {
-    if t.len() == 0 {
-        return false;
-    }
     let r = kinds[j - 1];
-    if t[0] != r[1] {
-        return false;
-    }
-    t.len() == r[0] as usize
+    !t.is_empty() && t[0] == r[1] && t.len() == usize::from(r[0])
 }
 
 // The first of n kinds from k on that has the word t, or 0; a mask, which has no word, is none of them. kinds are the rows of all kinds.
@@ -120,16 +85,10 @@ fn find_kind(kinds: &[[u8; 16]; 63], t: &[u8], k: usize, n: usize) -> usize
     requires { (kinds.now ≡ rows) × ((1 ≤ k) × ((k + n ≤ 64) × (56 < k + n → 56 < k))) }
     ensures { result ≡ find_in k n t.now }
 {
-    let e = k + n;
-    let mut j = k;
-    while j < e {
-        if begins(kinds, j, t) {
-            let r = kinds[j - 1];
-            if is_word(t, r) {
-                return j;
-            }
+    for j in k..k + n {
+        if begins(kinds, j, t) && is_word(t, kinds[j - 1]) {
+            return j;
         }
-        j += 1;
     }
     0
 }
@@ -138,14 +97,10 @@ fn find_kind(kinds: &[[u8; 16]; 63], t: &[u8], k: usize, n: usize) -> usize
 fn find_other(t: &[u8]) -> usize
     ensures { result ≡ find_in 64 5 t.now }
 {
-    let rows = others();
-    let mut j: usize = 0;
-    while j < 5 {
-        let r = rows[j];
-        if is_word(t, r) {
+    for (j, row) in others().iter().enumerate() {
+        if is_word(t, *row) {
             return j + 64;
         }
-        j += 1;
     }
     0
 }

@@ -19,16 +19,11 @@ use tokens::numbers;
 fn number(f: usize, j: usize, t: &[u8]) -> Num
     ensures { result ≡ plain_at f j t.now }
 {
-    if j == 2 {
-        if f == 64 {
-            return numbers::digits_in(t, 2, 64);
-        }
-        if f == 65 {
-            return numbers::digits_in(t, 16, 16);
-        }
-        return numbers::decimal(t);
+    match (f, j) {
+        (64, 2) => numbers::digits_in(t, 2, 64),
+        (65, 2) => numbers::digits_in(t, 16, 16),
+        _ => numbers::decimal(t),
     }
-    numbers::decimal(t)
 }
 
 // The class of the place j of a record, by a row.
@@ -36,10 +31,7 @@ fn class_at(r: [u8; 16], j: usize) -> u8
     requires { (1 ≤ j) × (j ≤ 4) }
     ensures { result ≡ class_at r j }
 {
-    if j == 1 {
-        return r[11];
-    }
-    r[11 + j]
+    if j == 1 { r[11] } else { r[11 + j] }
 }
 
 // A token for the place j of a record of the form f has a minus, which only one that names a line may have; kinds are the rows of all kinds, of which one is looked up only for
@@ -48,17 +40,11 @@ fn has_minus(kinds: &[[u8; 16]; 63], f: usize, j: usize, t: &[u8]) -> bool
     requires { (kinds.now ≡ rows) × ((1 ≤ f) × ((f ≤ 68) × ((1 ≤ j) × (j ≤ 4)))) }
     ensures { result ≡ sign_at f j t.now }
 {
-    if t.len() == 0 {
-        return false;
-    }
-    if t[0] != b'-' {
+    if t.is_empty() || t[0] != b'-' {
         return false;
     }
     let k = class_at(row(kinds, f), j);
-    if k == NONE {
-        return false;
-    }
-    k < NUM
+    k != NONE && k < NUM
 }
 
 // The number and the sign of a token, at the place j of a line of the form f; kinds are the rows of all kinds.
