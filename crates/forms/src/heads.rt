@@ -9,7 +9,7 @@ ghost use Rattle.texts.specs.Decimal.{decimal};
 
 use crate::{find, find_kind, is_sort};
 use records::ids;
-use texts::{Form, Num};
+use texts::Form;
 use tokens::numbers;
 
 // The line's word, from the place i on; kinds are the rows of all kinds.
@@ -39,11 +39,9 @@ pub fn word(kinds: &[[u8; 16]; 63], l: &[u8], i: usize) -> Form
 pub fn is_id(t: &[u8], n: u64) -> bool
     ensures { result ≡ is_id (decimal t.now) n }
 {
-    let r = numbers::decimal(t);
-    match r {
-        Num::Bad => false,
-        Num::Big => false,
-        Num::Is(v) => v == n,
+    match numbers::decimal(t) {
+        Ok(v) => v == n,
+        Err(_) => false,
     }
 }
 
@@ -51,15 +49,13 @@ pub fn is_id(t: &[u8], n: u64) -> bool
 pub fn next_id(t: &[u8], last: u64) -> u64
     ensures { NextId (decimal t.now) last result }
 {
-    let r = numbers::decimal(t);
-    match r {
-        Num::Bad => 0,
-        Num::Big => 0,
-        Num::Is(v) => {
+    match numbers::decimal(t) {
+        Ok(v) => {
             if ids::follows(last, v) {
                 return v;
             }
             0
         }
+        Err(_) => 0,
     }
 }

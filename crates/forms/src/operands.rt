@@ -12,11 +12,11 @@ ghost use Rattle.texts.specs.Model.Structs.{as_took};
 use crate::row;
 use records::kinds::{NONE, NUM};
 use tables::WORDS;
-use texts::{Num, Signed, Taken};
+use texts::{NumberError, Signed, Taken};
 use tokens::numbers;
 
 // The number that a token without a sign is, at the place j of a line of the form f.
-fn number(f: usize, j: usize, t: &[u8]) -> Num
+fn number(f: usize, j: usize, t: &[u8]) -> Result<u64, NumberError>
     ensures { result ≡ plain_at f j t.now }
 {
     match (f, j) {
@@ -78,14 +78,12 @@ pub fn operands(
     ensures { (result.at ≤ length l.now) × ((kind_in result.rec ≡ kind_in start)
         × (operands_of f m j start no_signs false 0 (tokens_in (drop i l.now)) ≡ as_took l.now result)) }
 {
-    let e = j + m;
     let mut rec = start;
     let mut minus = [false; WORDS];
     let mut at = i;
     let mut big = false;
     let mut len: usize = 0;
-    let mut p = j;
-    while p < e {
+    for p in j..j + m {
         let a = tokens::skip(l, at);
         if a == l.len() {
             return Taken {
@@ -97,14 +95,15 @@ pub fn operands(
                 minus: minus,
             };
         }
-        let z = tokens::find_byte(l, a, 32);
+        let z = tokens::find_byte(l, a, b' ');
         let t = token(kinds, f, p, &l[a..z]);
-        let r = t.num;
         minus[p] = t.minus;
         len = z - a;
         at = z;
-        match r {
-            Num::Bad => {
+        match t.num {
+            Ok(v) => rec[p] = v,
+            Err(NumberError::TooLarge) => big = true,
+            Err(NumberError::Malformed) => {
                 return Taken {
                     ok: false,
                     big: false,
@@ -113,16 +112,6 @@ pub fn operands(
                     rec: rec,
                     minus: minus,
                 };
-            }
-            Num::Big => {
-                big = true;
-                p += 1;
-                continue;
-            }
-            Num::Is(v) => {
-                rec[p] = v;
-                p += 1;
-                continue;
             }
         }
     }

@@ -17,8 +17,9 @@ use Rattle.tables.specs.Ids.{most_id, follows}
 use Rattle.tables.specs.Types.{is_word}
 use Rattle.tables.proofs.Laws.{and_true, and_false}
 use Rattle.tables.proofs.Kept.{both, neither}
-use Rattle.texts.specs.declared.Num.{Num}
-use Rattle.texts.specs.declared.Num.TheVariants.{Bad, Big, Is}
+use Rattle.texts.specs.Decimal.{Num}
+use Rattle.std.specs.Prelude.{Ok, Err}
+use Rattle.texts.specs.declared.NumberError.TheVariants.{Malformed, TooLarge}
 use Rattle.tables.specs.Kinds.{row_of, sort_class, first_class, second_class, third_class, operand_count}
 use Rattle.texts.specs.Forms.{form_row, kind_of, sorted, first_of, numbers_of}
 use Rattle.texts.specs.Split.{tokens}
@@ -47,15 +48,15 @@ module _ (f e p : ℕ) (rec : List ℕ) (s : List Bool) (big : Bool) (len : ℕ)
     op_step : operands f (e - p) p rec s big len (t ∷ ts) ≡ operands f (suc (e - (p + 1))) p rec s big len (t ∷ ts)
     op_step = let q : e - p ≡ suc (e - (p + 1)) = omega arith in ap (λ (m : ℕ). operands f m p rec s big len (t ∷ ts)) q
 
-    pub op_bad : number_at f p t ≡ Bad → operands f (e - p) p rec s big len (t ∷ ts) ≡ malformed
+    pub op_bad : number_at f p t ≡ Err Malformed → operands f (e - p) p rec s big len (t ∷ ts) ≡ malformed
     unfolding operands
     op_bad k = op_step ∙ rw (k, operands) refl
 
-    pub op_big : number_at f p t ≡ Big → operands f (e - p) p rec s big len (t ∷ ts) ≡ operands f (e - (p + 1)) (p + 1) rec (set s p (sign_at f p t)) true (length t) ts
+    pub op_big : number_at f p t ≡ Err TooLarge → operands f (e - p) p rec s big len (t ∷ ts) ≡ operands f (e - (p + 1)) (p + 1) rec (set s p (sign_at f p t)) true (length t) ts
     unfolding operands
     op_big k = op_step ∙ rw (k, operands) (ap (λ (x : ℕ). operands f (e - (p + 1)) x rec (set s p (sign_at f p t)) true (length t) ts) (sym (add-one p)))
 
-    pub op_is : (v : ℕ) → number_at f p t ≡ Is v → operands f (e - p) p rec s big len (t ∷ ts) ≡ operands f (e - (p + 1)) (p + 1) (set rec p v) (set s p (sign_at f p t)) big (length t) ts
+    pub op_is : (v : ℕ) → number_at f p t ≡ Ok v → operands f (e - p) p rec s big len (t ∷ ts) ≡ operands f (e - (p + 1)) (p + 1) (set rec p v) (set s p (sign_at f p t)) big (length t) ts
     unfolding operands
     op_is v k = op_step ∙ rw (k, operands) (ap (λ (x : ℕ). operands f (e - (p + 1)) x (set rec p v) (set s p (sign_at f p t)) big (length t) ts) (sym (add-one p)))
 
@@ -257,7 +258,7 @@ module _ (n : Num) (last : ℕ) where
   pub next_none : is_next n last ≡ false → NextId n last 0
   next_none h = (λ z. h, λ z. absurd (z refl))
 
-  pub next_is : (v : ℕ) → n ≡ Is v → follows last v ≡ true → NextId n last v
+  pub next_is : (v : ℕ) → n ≡ Ok v → follows last v ≡ true → NextId n last v
   next_is v e h = (λ z. absurd (omega (arith, ltb-true last v (both (ltb last v) (leb v most_id) h).0)), λ z. (ap (λ (x : Num). is_next x last) e ∙ h, ap value_of (sym e)))
 
 -- ---- lines

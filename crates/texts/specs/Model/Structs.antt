@@ -4,7 +4,7 @@ use Rattle.tables.specs.declared.Refusal.{Refusal}
 use Rattle.tables.specs.declared.Refusal.TheVariants.{NotATable, NoRecordLeft, NameUsed}
 use Rattle.tables.specs.Pick.{pick}
 use Rattle.tables.specs.Lines.{fields}
-use Rattle.texts.specs.declared.Num.{Num}
+use Rattle.texts.specs.Decimal.{Num}
 use Rattle.texts.specs.declared.Form.{Form}
 use Rattle.texts.specs.declared.Taken.{Taken}
 use Rattle.texts.specs.declared.Readout.{Readout}
