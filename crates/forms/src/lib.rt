@@ -9,6 +9,7 @@ ghost use Rattle.texts.specs.Forms.{extra, form_row, kind_of, sorted as sorted_o
 ghost use Rattle.tables.specs.Kinds.{rows, word_of};
 ghost use Rattle.texts.specs.Split.{same_bytes};
 ghost use Rattle.texts.specs.Reading.{find_in, find_word};
+ghost use Rattle.texts.specs.Model.Structs.{found};
 
 use records::kinds;
 use records::kinds::letters::*;
@@ -80,43 +81,41 @@ fn begins(kinds: &[[u8; 16]; 63], j: usize, t: &[u8]) -> bool
     !t.is_empty() && t[0] == r[1] && t.len() == usize::from(r[0])
 }
 
-// The first of n kinds from k on that has the word t, or 0; a mask, which has no word, is none of them. kinds are the rows of all kinds.
-fn find_kind(kinds: &[[u8; 16]; 63], t: &[u8], k: usize, n: usize) -> usize
+// The first of n kinds from k on that has the word t; a mask, which has no word, is none of them. kinds are the rows of all kinds.
+fn find_kind(kinds: &[[u8; 16]; 63], t: &[u8], k: usize, n: usize) -> Option<usize>
     requires { (kinds.now ≡ rows) × ((1 ≤ k) × ((k + n ≤ 64) × (56 < k + n → 56 < k))) }
-    ensures { result ≡ find_in k n t.now }
+    ensures { result ≡ found (find_in k n t.now) }
 {
     for j in k..k + n {
         if begins(kinds, j, t) && is_word(t, kinds[j - 1]) {
-            return j;
+            return Some(j);
         }
     }
-    0
+    None
 }
 
-// The first of the forms 64 to 68 that has the word t, or 0.
-fn find_other(t: &[u8]) -> usize
-    ensures { result ≡ find_in 64 5 t.now }
+// The first of the forms 64 to 68 that has the word t.
+fn find_other(t: &[u8]) -> Option<usize>
+    ensures { result ≡ found (find_in 64 5 t.now) }
 {
     for (j, row) in others().iter().enumerate() {
         if is_word(t, *row) {
-            return j + 64;
+            return Some(j + 64);
         }
     }
-    0
+    None
 }
 
-// The form other than a sort's that has the word t, or 0; kinds are the rows of all kinds. Overflow detectors come last, so that other words are found as fast as without them.
-fn find(kinds: &[[u8; 16]; 63], t: &[u8]) -> usize
+// The form other than a sort's that has the word t; kinds are the rows of all kinds. Overflow detectors come last, so that other words are found as fast as without them.
+fn find(kinds: &[[u8; 16]; 63], t: &[u8]) -> Option<usize>
     requires { kinds.now ≡ rows }
-    ensures { result ≡ find_word t.now }
+    ensures { result ≡ found (find_word t.now) }
 {
-    let f = find_kind(kinds, t, 3, 53);
-    if f != 0 {
-        return f;
+    if let Some(f) = find_kind(kinds, t, 3, 53) {
+        return Some(f);
     }
-    let g = find_other(t);
-    if g != 0 {
-        return g;
+    if let Some(f) = find_other(t) {
+        return Some(f);
     }
     find_kind(kinds, t, 57, 7)
 }

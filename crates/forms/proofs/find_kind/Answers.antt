@@ -7,7 +7,8 @@ use lib.ListN.{get_or}
 use Rattle.tables.specs.Kinds.{word_of}
 use Rattle.texts.specs.Split.{same_bytes}
 use Rattle.texts.specs.Forms.{form_row}
-use Rattle.texts.proofs.Words.{find_hit, find_miss, find_done, listed_kind, row_shape}
+use Rattle.texts.specs.Model.Structs.{found}
+use Rattle.texts.proofs.Words.{found_at, find_hit, find_miss, find_done, listed_kind, row_shape}
 use Rattle.forms.proofs.find_kind.Goals as goal
 use Rattle.forms.proofs.find_kind.Goals.{else-begins-via-then-begins+else-is_word, else-begins-via-else-begins}
 
@@ -22,7 +23,7 @@ returns-then-is_word c =
     let j : ℕ = c.loop-j.j in
     let r = listed_kind _ j c.requires.0 (omega arith) in
     let h : same_bytes t (word_of (form_row j)) ≡ true = ap (λ (r : List ℕ). same_bytes t (word_of r)) (sym r) ∙ (sym c.is_word.ensures ∙ c.if-is_word.true) in
-    sym (c.loop-j.invariant ∙ find_hit j (c.args.k + c.args.n) t (omega arith) h)
+    sym (found_at _ j (omega arith) (c.loop-j.invariant ∙ find_hit j (c.args.k + c.args.n) t (omega arith) h))
 
 pub loop-j-preserved : goal.loop-j-preserved
 loop-j-preserved c =
@@ -38,4 +39,4 @@ loop-j-preserved c =
     c.loop-j.invariant ∙ find_miss j (c.args.k + c.args.n) t (omega arith) h
 
 pub returns : goal.returns
-returns c = let s = c.args in sym (c.loop-j.invariant ∙ find_done c.loop-j.j (s.k + s.n) s.t.now (omega arith))
+returns c = let s = c.args in ap found (sym (c.loop-j.invariant ∙ find_done c.loop-j.j (s.k + s.n) s.t.now (omega arith)))

@@ -14,5 +14,5 @@ invariant-loop-p l = record {
   kind : get_or l.rec 0 0 ≡ get_or l.initial.rec 0 0;
   there : l.at ≤ length l.l;
   whole : length l.rec ≡ record_words;
-  left : operands l.f l.m l.j l.initial.rec no_signs false 0 (tokens (drop l.i l.l)) ≡ operands l.f (l.j + l.m - l.p) l.p l.rec l.minus l.big l.len (tokens (drop l.at l.l))
+  left : operands l.f l.m l.j l.initial.rec no_signs false 0 (tokens (drop l.i l.l)) ≡ operands l.f (l.j + l.m - l.p) l.p l.rec l.minus l.big l.len (tokens (drop l.at l.l));
 }
