@@ -57,10 +57,9 @@ fn part(l: &[u8]) -> Part
 {
     let kinds = kinds::all();
     let i = pass(l, 0, 1);
-    let w = heads::word(&kinds, l, i);
-    if w.form == 0 {
+    let Some(w) = heads::word(&kinds, l, i) else {
         return Part { from: 0, to: 0 };
-    }
+    };
     let row = forms::row(&kinds, w.form);
     let s = forms::sorted(row);
     let c = row[12] as usize;

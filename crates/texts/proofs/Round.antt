@@ -31,8 +31,8 @@ use Rattle.tables.proofs.Places.{fields_of, fields_eq, length_records}
 use Rattle.tables.proofs.Ids.{length_from, from_append}
 use Rattle.tables.proofs.Sound.{accepted_room, accepted_lawful}
 use Rattle.tables.proofs.OwnSorts.{Counted, counted_none, counted_more}
-use Rattle.texts.specs.declared.Num.{Num}
-use Rattle.texts.specs.declared.Num.TheVariants.{Is}
+use Rattle.texts.specs.Decimal.{Num}
+use Rattle.std.specs.Prelude.{Ok}
 use Rattle.texts.specs.Forms.{form_row, kind_of, first_of, numbers_of}
 use Rattle.texts.specs.Split.{split, join}
 use Rattle.texts.specs.Decimal.{decimal, digits}
@@ -65,7 +65,7 @@ length_numbers (suc m) j rec = ap suc (length_numbers m (suc j) rec)
 -- m words of rec, from the place j on, as numbers
 abbrev values : (m j : ℕ) → List ℕ → List Num
 values zero j rec = []
-values (suc m) j rec = Is (get_or rec j 0) ∷ values m (suc j) rec
+values (suc m) j rec = Ok (get_or rec j 0) ∷ values m (suc j) rec
 
 none_bad : (m j : ℕ) (rec : List ℕ) → any_bad (values m j rec) ≡ false
 none_bad zero j rec = refl
@@ -80,7 +80,7 @@ placed_values zero j rec d = refl
 placed_values (suc m) j rec d = placed_values m (suc j) rec (set d j (get_or rec j 0))
 
 module _ (k : ℕ) (low : k ≤ 63) (rec : List ℕ) (words : (j : ℕ) → get_or rec j 0 < 2 ^ 64) where
-  number_read : (j : ℕ) → number_at k j (digits (get_or rec j 0)) ≡ Is (get_or rec j 0)
+  number_read : (j : ℕ) → number_at k j (digits (get_or rec j 0)) ≡ Ok (get_or rec j 0)
   number_read j =
       let d = decimal_digits (get_or rec j 0) (words j) in
       without_sign k j (digits (get_or rec j 0)) (sign_none k j (digits (get_or rec j 0)) (number_plain (digits (get_or rec j 0)) (get_or rec j 0) d))

@@ -2,35 +2,36 @@
 use mathlib.Core.Path.{◌≡◌, refl, sym, ap, ◌∙◌}
 use mathlib.Core.Bool.{Bool, true, false}
 use mathlib.Core.List.{List, [], ◌∷◌}
-use Prim.Native.Nat.{ℕ, zero, suc, ◌+◌, ◌-◌, ◌^◌, ◌≤◌, ◌<◌}
+use Prim.Native.Nat.{ℕ, suc, ◌+◌, ◌-◌, ◌^◌, ◌≤◌, ◌<◌}
 use native.Mathlib.Omega.{arith}
 use native.Mathlib.Numerals.{add-one}
-use lib.Dec.{eqb, leb, ltb}
+use lib.Dec.{eqb, leb}
 use lib.ListN.{length, drop, get_or, set}
-use borrow.Author.Tests.{ltb-true, eq-eqb, ne_eqb, lt-ltb, le-ltb, le-leb, lt-leb}
+use borrow.Author.Tests.{eq-eqb, ne_eqb, lt-ltb, le-ltb, le-leb, lt-leb}
 use Rattle.tables.specs.declared.Ty.{Ty}
 use Rattle.tables.specs.declared.Refusal.TheVariants.{WrongId, NoRecordLeft, UnknownWord, BadOperand, NumberTooLarge, WrongClass, Misfit, InitOrNext}
 use Rattle.tables.specs.Pick.{inside, all}
 use Rattle.tables.specs.Lines.{kind_in, sort_in, first_in, second_in, third_in}
 use Rattle.tables.specs.Rules.{fault}
-use Rattle.tables.specs.Ids.{most_id, follows}
+use Rattle.tables.specs.Ids.{follows}
 use Rattle.tables.specs.Types.{is_word}
 use Rattle.tables.proofs.Laws.{and_true, and_false}
-use Rattle.tables.proofs.Kept.{both, neither}
-use Rattle.texts.specs.declared.Num.{Num}
-use Rattle.texts.specs.declared.Num.TheVariants.{Bad, Big, Is}
+use Rattle.tables.proofs.Kept.{neither}
+use Rattle.texts.specs.Decimal.{Num}
+use Rattle.std.specs.Prelude.{Ok, Err, Some}
+use Rattle.texts.specs.declared.NumberError.TheVariants.{Malformed, TooLarge}
 use Rattle.tables.specs.Kinds.{row_of, sort_class, first_class, second_class, third_class, operand_count}
 use Rattle.texts.specs.Forms.{form_row, kind_of, sorted, first_of, numbers_of}
 use Rattle.texts.specs.Split.{tokens}
 use Rattle.texts.specs.Decimal.{decimal}
 use Rattle.texts.specs.Operands.{resolved}
 use Rattle.texts.specs.Minus.{no_signs, minus_at, minus_fits, minuses_by, minuses_fit}
-use Rattle.texts.specs.Reading.{word_in, sign_at, number_at, fresh, settled, no, got, skip, is_next, value_of, last_of}
+use Rattle.texts.specs.Reading.{unknown, word_in, sign_at, number_at, fresh, settled, no, got, skip, is_next, value_of, last_of}
 use Rattle.texts.specs.Model.Stages.{Took, took, malformed, operands, taken_in, ruled, judged, allowed, concluded, large, ended, worded, judged_line}
 use Rattle.texts.specs.declared.Readout.{Readout}
 use Rattle.texts.specs.declared.Taken.{Taken}
 use Rattle.texts.specs.declared.Form.{Form}
-use Rattle.texts.specs.Model.Structs.{word_with, as_word, took_at, as_took, as_read, NextId, any_sign, several}
+use Rattle.texts.specs.Model.Structs.{as_word, took_at, as_took, as_read, NextId, any_sign, several}
 
 -- ---- operands
 
@@ -47,15 +48,15 @@ module _ (f e p : ℕ) (rec : List ℕ) (s : List Bool) (big : Bool) (len : ℕ)
     op_step : operands f (e - p) p rec s big len (t ∷ ts) ≡ operands f (suc (e - (p + 1))) p rec s big len (t ∷ ts)
     op_step = let q : e - p ≡ suc (e - (p + 1)) = omega arith in ap (λ (m : ℕ). operands f m p rec s big len (t ∷ ts)) q
 
-    pub op_bad : number_at f p t ≡ Bad → operands f (e - p) p rec s big len (t ∷ ts) ≡ malformed
+    pub op_bad : number_at f p t ≡ Err Malformed → operands f (e - p) p rec s big len (t ∷ ts) ≡ malformed
     unfolding operands
     op_bad k = op_step ∙ rw (k, operands) refl
 
-    pub op_big : number_at f p t ≡ Big → operands f (e - p) p rec s big len (t ∷ ts) ≡ operands f (e - (p + 1)) (p + 1) rec (set s p (sign_at f p t)) true (length t) ts
+    pub op_big : number_at f p t ≡ Err TooLarge → operands f (e - p) p rec s big len (t ∷ ts) ≡ operands f (e - (p + 1)) (p + 1) rec (set s p (sign_at f p t)) true (length t) ts
     unfolding operands
     op_big k = op_step ∙ rw (k, operands) (ap (λ (x : ℕ). operands f (e - (p + 1)) x rec (set s p (sign_at f p t)) true (length t) ts) (sym (add-one p)))
 
-    pub op_is : (v : ℕ) → number_at f p t ≡ Is v → operands f (e - p) p rec s big len (t ∷ ts) ≡ operands f (e - (p + 1)) (p + 1) (set rec p v) (set s p (sign_at f p t)) big (length t) ts
+    pub op_is : (v : ℕ) → number_at f p t ≡ Ok v → operands f (e - p) p rec s big len (t ∷ ts) ≡ operands f (e - (p + 1)) (p + 1) (set rec p v) (set s p (sign_at f p t)) big (length t) ts
     unfolding operands
     op_is v k = op_step ∙ rw (k, operands) (ap (λ (x : ℕ). operands f (e - (p + 1)) x (set rec p v) (set s p (sign_at f p t)) big (length t) ts) (sym (add-one p)))
 
@@ -254,11 +255,8 @@ taken_from f row start k s ts o eb es er ek =
 -- ---- the id
 
 module _ (n : Num) (last : ℕ) where
-  pub next_none : is_next n last ≡ false → NextId n last 0
-  next_none h = (λ z. h, λ z. absurd (z refl))
-
-  pub next_is : (v : ℕ) → n ≡ Is v → follows last v ≡ true → NextId n last v
-  next_is v e h = (λ z. absurd (omega (arith, ltb-true last v (both (ltb last v) (leb v most_id) h).0)), λ z. (ap (λ (x : Num). is_next x last) e ∙ h, ap value_of (sym e)))
+  pub next_is : (v : ℕ) → n ≡ Ok v → follows last v ≡ true → NextId n last (Some v)
+  next_is v e h = (ap (λ (x : Num). is_next x last) e ∙ h, ap value_of (sym e))
 
 -- ---- lines
 
@@ -280,17 +278,6 @@ module _ (L : ℕ → Ty) (G : Bool → ℕ → Bool) (ds : List ℕ) (m : ℕ) 
     unfolding judged_line
     line_word h k = rw (h, lt-ltb (length ds) m k, judged_line) refl
 
-module _ (L : ℕ → Ty) (G : Bool → ℕ → Bool) (ds : List ℕ) (l : List ℕ) (f z : ℕ) where
-  word_no : f ≡ 0 → worded L G ds (word_with l f z) ≡ no UnknownWord
-  word_no h = rw h refl
-
-  word_form : (f ≡ 0 → ⊥) → worded L G ds (word_with l f z) ≡ ended L G ds f (taken_in f (tokens (drop z l)))
-  word_form h = go f h
-    where
-      go : (f : ℕ) → (f ≡ 0 → ⊥) → worded L G ds (word_with l f z) ≡ ended L G ds f (taken_in f (tokens (drop z l)))
-      go zero h = absurd (h refl)
-      go (suc f) h = refl
-
 -- a line whose tokens are known
 module _ (L : ℕ → Ty) (G : Bool → ℕ → Bool) (ds : List ℕ) (m : ℕ) (l : List ℕ) {x : Readout} where
   pub read_skip : tokens l ≡ [] → x ≡ as_read skip → x ≡ as_read (judged_line L G ds m (tokens l))
@@ -303,13 +290,12 @@ module _ (L : ℕ → Ty) (G : Bool → ℕ → Bool) (ds : List ℕ) (m : ℕ) 
     pub read_4 : is_next (decimal t) (last_of 0 ds) ≡ true → m ≤ length ds → x ≡ as_read (no NoRecordLeft) → x ≡ as_read (judged_line L G ds m (tokens l))
     read_4 a b h = h ∙ ap as_read (sym (ap (judged_line L G ds m) e ∙ line_4 L G ds m t (tokens (drop z l)) a b))
 
-    pub read_5 : is_next (decimal t) (last_of 0 ds) ≡ true → length ds < m → (w : Form) → word_in (tokens (drop z l)) ≡ as_word l w → w.form ≡ 0 → x ≡ as_read (no UnknownWord)
+    pub read_5 : is_next (decimal t) (last_of 0 ds) ≡ true → length ds < m → word_in (tokens (drop z l)) ≡ unknown → x ≡ as_read (no UnknownWord)
         → x ≡ as_read (judged_line L G ds m (tokens l))
-    read_5 a b w k q h =
-        h ∙ ap as_read (sym (ap (judged_line L G ds m) e ∙ (line_word L G ds m t (tokens (drop z l)) a b ∙ (ap (worded L G ds) k ∙ word_no L G ds l w.form w.at q))))
+    read_5 a b k h = h ∙ ap as_read (sym (ap (judged_line L G ds m) e ∙ (line_word L G ds m t (tokens (drop z l)) a b ∙ ap (worded L G ds) k)))
 
 -- and whose word is known
 pub judged_on : (L : ℕ → Ty) (G : Bool → ℕ → Bool) (ds : List ℕ) (m : ℕ) (l t : List ℕ) (z : ℕ) → tokens l ≡ t ∷ tokens (drop z l) → is_next (decimal t) (last_of 0 ds) ≡ true → length ds < m
-    → (w : Form) → word_in (tokens (drop z l)) ≡ as_word l w → (w.form ≡ 0 → ⊥) → ended L G ds w.form (taken_in w.form (tokens (drop w.at l))) ≡ judged_line L G ds m (tokens l)
-judged_on L G ds m l t z e a b w k q =
-    sym (ap (judged_line L G ds m) e ∙ (line_word L G ds m t (tokens (drop z l)) a b ∙ (ap (worded L G ds) k ∙ word_form L G ds l w.form w.at q)))
+    → (w : Form) → word_in (tokens (drop z l)) ≡ as_word l (Some w) → ended L G ds w.form (taken_in w.form (tokens (drop w.at l))) ≡ judged_line L G ds m (tokens l)
+judged_on L G ds m l t z e a b w k =
+    sym (ap (judged_line L G ds m) e ∙ (line_word L G ds m t (tokens (drop z l)) a b ∙ ap (worded L G ds) k))

@@ -14,8 +14,9 @@ use Rattle.tables.specs.Rules.{fault}
 use Rattle.tables.specs.Layout.{whole, room, with_ids, filled}
 use Rattle.tables.specs.Ids.{follows}
 use Rattle.tables.specs.Answers.{Outcome, told}
-use Rattle.texts.specs.declared.Num.{Num}
-use Rattle.texts.specs.declared.Num.TheVariants.{Bad, Big, Is}
+use Rattle.texts.specs.Decimal.{Num}
+use Rattle.std.specs.Prelude.{Ok, Err}
+use Rattle.texts.specs.declared.NumberError.TheVariants.{Malformed, TooLarge}
 use Rattle.texts.specs.Forms.{form_row, kind_of, first_of, numbers_of, sort_word}
 use Rattle.texts.specs.Split.{split, up_to, tokens, same_bytes}
 use Rattle.texts.specs.Decimal.{decimal, digits_in}
@@ -98,22 +99,22 @@ numbers_from f j (t ∷ ts) = number_at f j t ∷ numbers_from f (suc j) ts
 -- one of the numbers is malformed; one is too large
 abbrev pub any_bad : List Num → Bool
 any_bad [] = false
-any_bad (Bad ∷ ns) = true
-any_bad (Big ∷ ns) = any_bad ns
-any_bad (Is v ∷ ns) = any_bad ns
+any_bad (Err Malformed ∷ ns) = true
+any_bad (Err TooLarge ∷ ns) = any_bad ns
+any_bad (Ok v ∷ ns) = any_bad ns
 
 abbrev pub any_big : List Num → Bool
 any_big [] = false
-any_big (Bad ∷ ns) = any_big ns
-any_big (Big ∷ ns) = true
-any_big (Is v ∷ ns) = any_big ns
+any_big (Err Malformed ∷ ns) = any_big ns
+any_big (Err TooLarge ∷ ns) = true
+any_big (Ok v ∷ ns) = any_big ns
 
 -- numbers at the places j and up of a record; one that has no value leaves its place as it is
 abbrev pub placed : (j : ℕ) → List Num → List ℕ → List ℕ
 placed j [] rec = rec
-placed j (Bad ∷ ns) rec = placed (suc j) ns rec
-placed j (Big ∷ ns) rec = placed (suc j) ns rec
-placed j (Is v ∷ ns) rec = placed (suc j) ns (set rec j v)
+placed j (Err Malformed ∷ ns) rec = placed (suc j) ns rec
+placed j (Err TooLarge ∷ ns) rec = placed (suc j) ns rec
+placed j (Ok v ∷ ns) rec = placed (suc j) ns (set rec j v)
 
 -- which places of a record have a minus: the signs of tokens at the places j and up, the other places as in s
 abbrev pub signs_from : (f j : ℕ) → List (List ℕ) → List Bool → List Bool
@@ -175,15 +176,13 @@ line_name ts = name_behind (word_in (drop 1 ts))
 
 -- a token may be the id of a line behind one whose id is last
 abbrev pub is_next : Num → (last : ℕ) → Bool
-is_next Bad last = false
-is_next Big last = false
-is_next (Is v) last = follows last v
+is_next (Err e) last = false
+is_next (Ok v) last = follows last v
 
 -- the value of a number, 0 where it has none; the id of a line is that of its first token
 abbrev pub value_of : Num → ℕ
-value_of Bad = 0
-value_of Big = 0
-value_of (Is v) = v
+value_of (Err e) = 0
+value_of (Ok v) = v
 
 abbrev pub line_id : List (List ℕ) → ℕ
 line_id [] = 0

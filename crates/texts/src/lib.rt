@@ -3,12 +3,11 @@
 
 use tables::{Refusal, WORDS};
 
-// A token as a number: malformed, above 2^64 - 1, or its value.
-#[derive(Clone, Copy)]
-pub enum Num {
-    Bad,
-    Big,
-    Is(u64),
+// Why a token is no number: malformed, or above 2^64 - 1.
+#[derive(Clone, Copy, Debug, PartialEq, Eq)]
+pub enum NumberError {
+    Malformed,
+    TooLarge,
 }
 
 // A line's form, 0 for an unknown word, and the place behind its word.
@@ -21,7 +20,7 @@ pub struct Form {
 // A token as a number and whether it has a minus.
 #[derive(Clone, Copy)]
 pub struct Signed {
-    pub num: Num,
+    pub num: Result<u64, NumberError>,
     pub minus: bool,
 }
 
