@@ -64,10 +64,7 @@ fn ones(w: u8) -> u64
     requires { w ≤ 64 }
     ensures { result ≡ 2 ^ w - 1 }
 {
-    if w == 0 {
-        return 0;
-    }
-    18446744073709551615 >> (64 - w)
+    if w == 0 { 0 } else { u64::MAX >> (64 - w) }
 }
 
 // The record after the words that give a value; w is the width of the line's sort.
@@ -76,13 +73,10 @@ fn settle(w: u8, f: usize, rec: [u64; WORDS]) -> [u64; WORDS]
     ensures { result ≡ settled w f rec }
 {
     let mut t = rec;
-    if f == 67 {
-        t[2] = 1;
-        return t;
-    }
-    if f == 68 {
-        t[2] = ones(w);
-        return t;
+    match f {
+        67 => t[2] = 1,
+        68 => t[2] = ones(w),
+        _ => {}
     }
     t
 }
@@ -117,19 +111,7 @@ fn judge(
 fn sign_fits(k: u64, class: u8, a: u64, minus: bool, notes: &[[u8; BYTES]]) -> bool
     ensures { result ≡ minus_fits k class (look_in notes.now a) minus }
 {
-    if !minus {
-        return true;
-    }
-    if class == NONE {
-        return false;
-    }
-    if VALUE < class {
-        return false;
-    }
-    if k == 6 {
-        return false;
-    }
-    types::is_word(notes::look(notes, a))
+    !minus || class != NONE && class <= VALUE && k != 6 && types::is_word(notes::look(notes, a))
 }
 
 // Each minus of a record stands where it may, by a row.
@@ -137,32 +119,17 @@ fn signs_fit(row: [u8; 16], rec: [u64; WORDS], minus: [bool; WORDS], notes: &[[u
     ensures { result ≡ all (minuses_by row (look_in notes.now) minus rec) }
 {
     let k = rec[0];
-    if !sign_fits(k, row[11], rec[1], minus[1], notes) {
-        return false;
-    }
-    if !sign_fits(k, row[13], rec[2], minus[2], notes) {
-        return false;
-    }
-    if !sign_fits(k, row[14], rec[3], minus[3], notes) {
-        return false;
-    }
-    sign_fits(k, row[15], rec[4], minus[4], notes)
+    sign_fits(k, row[11], rec[1], minus[1], notes)
+        && sign_fits(k, row[13], rec[2], minus[2], notes)
+        && sign_fits(k, row[14], rec[3], minus[3], notes)
+        && sign_fits(k, row[15], rec[4], minus[4], notes)
 }
 
 // Some place of a record has a minus.
 fn has_signs(minus: [bool; WORDS]) -> bool
     ensures { result ≡ any_sign minus }
 {
-    if minus[1] {
-        return true;
-    }
-    if minus[2] {
-        return true;
-    }
-    if minus[3] {
-        return true;
-    }
-    minus[4]
+    minus[1] || minus[2] || minus[3] || minus[4]
 }
 
 // 8 for a minus that stands where none may, and what follows. The row is that of the record's kind.

@@ -85,30 +85,32 @@ pub spaced_append : (a b : List (List ℕ)) → spaced (a ++ b) ≡ spaced a ++ 
 spaced_append [] b = refl
 spaced_append (t ∷ a) b = ap (λ (x : List ℕ). 32 ∷ x) (ap (λ (x : List ℕ). t ++ x) (spaced_append a b) ∙ sym (append_assoc t (spaced a) (spaced b)))
 
-module _ (e i : ℕ) (rec : List ℕ) where
-  numbers_step : i < e → numbers (e - i) i rec ≡ digits (get_or rec i 0) ∷ numbers (e - (i + 1)) (i + 1) rec
-  numbers_step h =
-      let q : e - i ≡ suc (e - (i + 1)) = omega arith in
-      ap (λ (m : ℕ). numbers m i rec) q ∙ ap (λ (k : ℕ). digits (get_or rec i 0) ∷ numbers (e - (i + 1)) k rec) (sym (add-one i))
+-- of m numbers from the place j on, k are passed
+module _ (m j k : ℕ) (rec : List ℕ) where
+  pub numbers_none : m ≤ k → numbers (m - k) (j + k) rec ≡ []
+  numbers_none h = let q : m - k ≡ 0 = omega arith in ap (λ (n : ℕ). numbers n (j + k) rec) q
 
-  pub numbers_none : e ≤ i → numbers (e - i) i rec ≡ []
-  numbers_none h = let q : e - i ≡ 0 = omega arith in ap (λ (m : ℕ). numbers m i rec) q
-
-  module _ (h : i < e) (l : List ℕ) (p : ℕ) where
+  module _ (h : k < m) (l : List ℕ) (p : ℕ) where
     abbrev num : List ℕ
-    num = digits (get_or rec i 0)
+    num = digits (get_or rec (j + k) 0)
 
     abbrev others : List ℕ
-    others = spaced (numbers (e - (i + 1)) (i + 1) rec)
+    others = spaced (numbers (m - (k + 1)) (j + (k + 1)) rec)
 
-    pub number_less : p + length (spaced (numbers (e - i) i rec)) ≡ p + 1 + length num + length others
-    number_less = omega (arith, ap (λ (x : List (List ℕ)). length (spaced x)) (numbers_step h), length-append num others)
+    numbers_step : numbers (m - k) (j + k) rec ≡ num ∷ numbers (m - (k + 1)) (j + (k + 1)) rec
+    numbers_step =
+        let q : m - k ≡ suc (m - (k + 1)) = omega arith in
+        let i : suc (j + k) ≡ j + (k + 1) = omega arith in
+        ap (λ (n : ℕ). numbers n (j + k) rec) q ∙ ap (λ (n : ℕ). num ∷ numbers (m - (k + 1)) n rec) i
 
-    pub number_out : sets l p (spaced (numbers (e - i) i rec)) ≡ sets (sets (set l p 32) (p + 1) num) (p + 1 + length num) others
+    pub number_less : p + length (spaced (numbers (m - k) (j + k) rec)) ≡ p + 1 + length num + length others
+    number_less = omega (arith, ap (λ (x : List (List ℕ)). length (spaced x)) numbers_step, length-append num others)
+
+    pub number_out : sets l p (spaced (numbers (m - k) (j + k) rec)) ≡ sets (sets (set l p 32) (p + 1) num) (p + 1 + length num) others
     number_out =
-        ap (λ (x : List (List ℕ)). sets l p (spaced x)) (numbers_step h)
+        ap (λ (x : List (List ℕ)). sets l p (spaced x)) numbers_step
         ∙ (sets_append (set l p 32) (suc p) num others
-        ∙ ap (λ (k : ℕ). sets (sets (set l p 32) k num) (k + length num) others) (sym (add-one p)))
+        ∙ ap (λ (n : ℕ). sets (sets (set l p 32) n num) (n + length num) others) (sym (add-one p)))
 
 -- one run of bytes after the other
 pub and_then : (l : List ℕ) (p : ℕ) (a l₁ : List ℕ) (p₁ : ℕ) (b l₂ : List ℕ) (p₂ : ℕ) → (p₁ ≡ p + length a) × (l₁ ≡ sets l p a) → (p₂ ≡ p₁ + length b) × (l₂ ≡ sets l₁ p₁ b)
