@@ -12,24 +12,16 @@ ghost use Rattle.tables.specs.Model.Notes.{look_in, noted, given_in, Shows, Fres
 ghost use Rattle.tables.specs.Kinds.{rows};
 ghost use Rattle.tables.specs.Refusals.{number_of};
 
-use records::kinds::NOT;
+use records::kinds::{NONE, NOT};
 use records::notes::BYTES;
 use records::{ids, kinds, notes};
-use tables::{Checked, Refusal, Ty, WORDS};
+use tables::{Refusal, Ty, WORDS};
 
 // The kind is one from `first` to `last`, or from `again` to 63.
 fn listed(k: u64, first: u64, last: u64, again: u64) -> bool
     ensures { result ≡ (inside first last k || inside again 63 k) }
 {
-    if first <= k {
-        if k <= last {
-            return true;
-        }
-    }
-    if k < again {
-        return false;
-    }
-    k <= 63
+    (first <= k && k <= last) || (again <= k && k <= 63)
 }
 
 // The kind is one of a circuit, or of a program.
@@ -37,35 +29,27 @@ fn known(program: bool, k: u64) -> bool
     ensures { result ≡ known_of program k }
 {
     if program {
-        return listed(k, 3, 53, 56);
+        listed(k, 3, 53, 56)
+    } else {
+        listed(k, 1, 55, 57)
     }
-    listed(k, 1, 55, 57)
 }
 
 // A place that the line does not have holds 0.
 fn unused(k: u8, x: u64) -> bool
     ensures { result ≡ unused_of k x }
 {
-    if k != 0 {
-        return true;
-    }
-    x == 0
+    k != NONE || x == 0
 }
 
 // The places that the row lacks hold 0.
 fn tidy(row: [u8; 16], rec: [u64; WORDS]) -> bool
     ensures { result ≡ all (tidy_of row rec) }
 {
-    if !unused(row[11], rec[1]) {
-        return false;
-    }
-    if !unused(row[13], rec[2]) {
-        return false;
-    }
-    if !unused(row[14], rec[3]) {
-        return false;
-    }
-    unused(row[15], rec[4])
+    unused(row[11], rec[1])
+        && unused(row[13], rec[2])
+        && unused(row[14], rec[3])
+        && unused(row[15], rec[4])
 }
 
 // The type of a record that keeps the rules, after the lines noted.
@@ -106,10 +90,7 @@ fn keeps_rules(
         return false;
     }
     let row = kinds::row_of(kinds, k);
-    if !tidy(row, rec) {
-        return false;
-    }
-    rules::fault(program, row, rec, notes) == 0
+    tidy(row, rec) && rules::fault(program, row, rec, notes).is_ok()
 }
 
 // The record of the line n breaks no rule after the lines noted; then it is noted too.
@@ -144,13 +125,11 @@ fn lines(
         × (result ≡ true → Shows notes.new (context program (lines_of program table.now count))) }
 {
     let h = records::step(program, table.len());
-    let mut i: usize = 0;
-    while i < count {
+    for i in 0..count {
         let rec = records::record(program, table, h, i);
         if !take_record(program, kinds, rec, (i + 1) as u64, notes) {
             return false;
         }
-        i += 1;
     }
     true
 }
@@ -160,10 +139,7 @@ fn ids_right(program: bool, table: &[u64], count: usize) -> bool
     requires { count ≤ held program (length table.now) }
     ensures { result ≡ ids_right program table.now count }
 {
-    if program {
-        return true;
-    }
-    ids_rise(table, count)
+    program || ids_rise(table, count)
 }
 
 // Of so many records only not records hold id 0, and the other ids rise.
@@ -173,8 +149,7 @@ fn ids_rise(table: &[u64], count: usize) -> bool
 {
     let h = records::step(false, table.len());
     let mut last: u64 = 0;
-    let mut i: usize = 0;
-    while i < count {
+    for i in 0..count {
         let d = records::id(table, h, i);
         if d != 0 {
             if !ids::follows(last, d) {
@@ -184,68 +159,65 @@ fn ids_rise(table: &[u64], count: usize) -> bool
         } else if records::kind(false, table, i) != NOT {
             return false;
         }
-        i += 1;
     }
     true
 }
 
 // The check of a table with its count. Where it is accepted the notes, blank before, hold its context.
-pub fn check(program: bool, table: &[u64], count: usize, notes: &mut [[u8; BYTES]]) -> Checked
+pub fn check(
+    program: bool,
+    table: &[u64],
+    count: usize,
+    notes: &mut [[u8; BYTES]],
+) -> Result<(), Refusal>
     requires { Fresh count notes.old }
     ensures { (result ≡ checked program table.now count)
-        × (result ≡ Checked.Accepted → Shows notes.new (context program (lines_of program table.now count))) }
+        × (result ≡ Ok tt → Shows notes.new (context program (lines_of program table.now count))) }
 {
     if !records::is_table(program, table.len()) {
-        return Checked::Refused(Refusal::NotATable);
+        return Err(Refusal::NotATable);
     }
     if records::room_of(program, table.len()) < count {
-        return refused(program);
+        return Err(broken(program));
     }
     if !ids_right(program, table, count) {
-        return refused(program);
+        return Err(broken(program));
     }
     let kinds = kinds::all();
     if !lines(program, &kinds, table, count, notes) {
-        return refused(program);
+        return Err(broken(program));
     }
-    Checked::Accepted
+    Ok(())
 }
 
 // The answer of the check alone. A small table takes a small list, which is sooner blank.
-pub fn accept(program: bool, table: &[u64], count: usize) -> Checked
+pub fn accept(program: bool, table: &[u64], count: usize) -> Result<(), Refusal>
     ensures { result ≡ checked program table.now count }
 {
     if count < 512 {
-        return accept_few(program, table, count);
+        return accept_in::<512>(program, table, count);
     }
-    accept_many(program, table, count)
+    accept_in::<16385>(program, table, count)
 }
 
-// At most 511 records.
-fn accept_few(program: bool, table: &[u64], count: usize) -> Checked
-    requires { count < 512 }
+// The same, with a list that has room for N - 1 records: for all that count, or for all that a table may have.
+fn accept_in<const N: usize>(program: bool, table: &[u64], count: usize) -> Result<(), Refusal>
+    requires { (count ≤ 16384 → count < N) × (N ≤ 16385) }
     ensures { result ≡ checked program table.now count }
 {
-    let mut notes = [[0u8; BYTES]; 512];
-    check(program, table, count, &mut notes)
-}
-
-// As many as a table may have.
-fn accept_many(program: bool, table: &[u64], count: usize) -> Checked
-    ensures { result ≡ checked program table.now count }
-{
-    let mut notes = [[0u8; BYTES]; 16385];
+    let mut notes = [[0u8; BYTES]; N];
     check(program, table, count, &mut notes)
 }
 
 // 11, for a program 20.
-fn refused(program: bool) -> Checked
-    ensures { result ≡ Checked.Refused (broken program) }
+pub fn broken(program: bool) -> Refusal
+    ensures { result ≡ broken program }
 {
     if program {
-        return Checked::Refused(Refusal::BadProgram);
+        Refusal::BadProgram
+    } else {
+        Refusal::BadTable
     }
-    Checked::Refused(Refusal::BadTable)
 }
 
 // The number of a refusal.

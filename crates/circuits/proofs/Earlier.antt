@@ -13,7 +13,7 @@ use Rattle.tables.specs.Types.{no_ty, marked, line_type, no_ctx, ty_at, given}
 use Rattle.tables.proofs.Kept.{neither}
 use Rattle.tables.proofs.Values.{role_mark}
 use Rattle.tables.proofs.Showing.{by_place, snoc_other}
-use Rattle.tables.proofs.Facts.{Ok, AllOk}
+use Rattle.tables.proofs.Facts.{OkLine, AllOk}
 use Rattle.circuits.specs.Cells.{if_nonzero, eq_or_neq, same_cells, part, put}
 use Rattle.circuits.specs.Layout.{Layout, type_at, place_at, size, lay, layout, line_type_in}
 use Rattle.circuits.specs.Meaning.{Frame, cells_at, word_at, width_at, op_word, cells_e, state_words, cells_of, states_after, eval_line, eval_all, no_frame, step}
@@ -135,14 +135,14 @@ module _ (p f f' : Bool) (σ σ' ι ι' : List ℕ) where
 -- ---- the state words that a run starts from depend on no input
 
 module _ (p : Bool) (σ ι ι' : List ℕ) where
-  init_next_alike : (A B : Frame) → Alike A B → A.sts ≡ B.sts → (m : Bool) (s q v : ℕ) → Ok p (ty_at A.lay.ctx) (given A.lay.ctx) (Line.init_or_next m s q v)
+  init_next_alike : (A B : Frame) → Alike A B → A.sts ≡ B.sts → (m : Bool) (s q v : ℕ) → OkLine p (ty_at A.lay.ctx) (given A.lay.ctx) (Line.init_or_next m s q v)
       → states_after p true σ A (Line.init_or_next m s q v) ≡ states_after p true σ B (Line.init_or_next m s q v)
   init_next_alike A B k e true s q v ok =
       ap₂ (λ (x : List ℕ) (Y : Layout). put x (place_at Y q) (replicate (size (type_at Y q)) (word_at A v))) e k.lay
       ∙ ap (λ (x : List ℕ). put B.sts (place_at B.lay q) (replicate (size (type_at B.lay q)) (get_or x 0 0))) (k.cells v ok.value.unmarked)
   init_next_alike A B k e false s q v ok = e
 
-  sts_alike : (A B : Frame) → Alike A B → A.sts ≡ B.sts → (l : Line) → Ok p (ty_at A.lay.ctx) (given A.lay.ctx) l → states_after p true σ A l ≡ states_after p true σ B l
+  sts_alike : (A B : Frame) → Alike A B → A.sts ≡ B.sts → (l : Line) → OkLine p (ty_at A.lay.ctx) (given A.lay.ctx) l → states_after p true σ A l ≡ states_after p true σ B l
   sts_alike A B k e (Line.bitvec w) ok = e
   sts_alike A B k e (Line.array i x) ok = e
   sts_alike A B k e (Line.input s) ok = e

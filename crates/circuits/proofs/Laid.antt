@@ -13,7 +13,7 @@ use Rattle.tables.specs.Types.{no_ty, line_type, ty_at, given}
 use Rattle.tables.proofs.Showing.{snoc_other, by_place}
 use Rattle.tables.proofs.Values.{val_value, val_most}
 use Rattle.tables.proofs.Wide.{AllWide, line_wide, grow_wide}
-use Rattle.tables.proofs.Facts.{Ok, AllOk}
+use Rattle.tables.proofs.Facts.{OkLine, AllOk}
 use Rattle.circuits.specs.Layout.{Counts, Layout, type_at, place_at, size, line_type_in, place_of, counts_after, no_layout, lay, lay_all}
 use Rattle.circuits.specs.Model.Places.{off_at}
 use Rattle.circuits.proofs.Offsets.{AllCounted, off_old, counted_more, off_low}
@@ -94,7 +94,7 @@ record New (t : Ty) (q : ℕ) (d : Counts) : Type 0 where
 pub not_four : (p : Bool) (L : ℕ → Ty) (s : ℕ) (e : Expr) → (line_type p L (Line.value s e)).role ≡ 4 → ⊥
 not_four p L s e q = omega (arith, val_most p L s e)
 
-pub line_deep : (p : Bool) (Y : Layout) (l : Line) → AllWide (ty_at Y.ctx) → Ok p (ty_at Y.ctx) (given Y.ctx) l → (line_type_in p Y l).iw ≤ 8
+pub line_deep : (p : Bool) (Y : Layout) (l : Line) → AllWide (ty_at Y.ctx) → OkLine p (ty_at Y.ctx) (given Y.ctx) l → (line_type_in p Y l).iw ≤ 8
 line_deep p Y (Line.bitvec w) h ok = omega arith
 line_deep p Y (Line.array i e) h ok = ok.most
 line_deep p Y (Line.input s) h ok = (line_wide p (ty_at Y.ctx) (given Y.ctx) h (Line.input s) ok (omega arith)).deep
@@ -107,7 +107,7 @@ line_deep p Y (Line.signal m a) h ok = omega arith
 line_deep p Y (Line.output a) h ok = omega arith
 line_deep p Y Line.unknown h ok = absurd ok
 
-new_line : (p : Bool) (Y : Layout) (l : Line) → AllWide (ty_at Y.ctx) → Ok p (ty_at Y.ctx) (given Y.ctx) l → New (line_type_in p Y l) (place_of Y l) (lay p Y l).counts
+new_line : (p : Bool) (Y : Layout) (l : Line) → AllWide (ty_at Y.ctx) → OkLine p (ty_at Y.ctx) (given Y.ctx) l → New (line_type_in p Y l) (place_of Y l) (lay p Y l).counts
 new_line p Y (Line.bitvec w) h ok = record { deep = omega arith; room = λ q. absurd (omega arith) }
 new_line p Y (Line.array i e) h ok = record { deep = ok.most; room = λ q. absurd (omega arith) }
 new_line p Y (Line.input s) h ok = record { deep = line_deep p Y (Line.input s) h ok; room = λ q. absurd (omega arith) }
@@ -121,7 +121,7 @@ new_line p Y Line.unknown h ok = absurd ok
 pub size_most : (t : Ty) → t.iw ≤ 8 → size t ≤ 256
 size_most t h = pow_mono h
 
-pub sound_more : (p : Bool) (Y : Layout) (l : Line) → Sound Y → Ok p (ty_at Y.ctx) (given Y.ctx) l → Sound (lay p Y l)
+pub sound_more : (p : Bool) (Y : Layout) (l : Line) → Sound Y → OkLine p (ty_at Y.ctx) (given Y.ctx) l → Sound (lay p Y l)
 sound_more p Y l S ok =
     let g = grew Y.counts (size (line_type_in p Y l)) l in
     let w = new_line p Y l S.wide ok in
@@ -172,7 +172,7 @@ lay_append p Y (l ∷ C) D = lay_append p (lay p Y l) C D
 
 -- the line at the place i, after those before it
 pub ok_at : (p : Bool) (Y : Layout) (C : List Line) (i : ℕ) → AllOk p Y.ctx C → i < length C
-    → Ok p (ty_at (lay_all p Y (take i C)).ctx) (given (lay_all p Y (take i C)).ctx) (get_or C i Line.unknown)
+    → OkLine p (ty_at (lay_all p Y (take i C)).ctx) (given (lay_all p Y (take i C)).ctx) (get_or C i Line.unknown)
 ok_at p Y [] i h q = absurd (omega arith)
 ok_at p Y (l ∷ C) zero h q = h.0
 ok_at p Y (l ∷ C) (suc i) h q = ok_at p (lay p Y l) C i h.1 (omega arith)

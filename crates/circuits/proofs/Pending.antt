@@ -13,7 +13,7 @@ use Rattle.tables.specs.Lines.{Line}
 use Rattle.tables.specs.Types.{ty_at, given}
 use Rattle.tables.proofs.Kept.{no_yes, either}
 use Rattle.tables.proofs.Showing.{earlier}
-use Rattle.tables.proofs.Facts.{Ok, AllOk}
+use Rattle.tables.proofs.Facts.{OkLine, AllOk}
 use Rattle.circuits.specs.Layout.{Layout, type_at, place_at, size, lay, lay_all}
 use Rattle.circuits.proofs.Laid.{Sound, sound_more, later}
 use Rattle.tables.proofs.GivenStates.{gives_to, given_more}
@@ -43,7 +43,7 @@ only_one q x e = eqb-true q x (either (eqb q x) false e (λ a. a) (λ a. absurd 
 -- a state that has an init after all lines, and none yet, has one among them
 module _ (p : Bool) (q j : ℕ) where
   -- the state of an init stands among the lines so far
-  known : (Z : Layout) (l : Line) → Ok p (ty_at Z.ctx) (given Z.ctx) l → among q (gives_to true l) ≡ true → q < length Z.ctx.tys
+  known : (Z : Layout) (l : Line) → OkLine p (ty_at Z.ctx) (given Z.ctx) l → among q (gives_to true l) ≡ true → q < length Z.ctx.tys
   known Z (Line.bitvec w) ok e = absurd (no_yes e)
   known Z (Line.array i x) ok e = absurd (no_yes e)
   known Z (Line.input s) ok e = absurd (no_yes e)

@@ -21,7 +21,7 @@ use Rattle.tables.proofs.Shapes.{binary_range}
 use Rattle.tables.proofs.Showing.{earlier}
 use Rattle.tables.proofs.Values.{val_iw, val_w, val_value}
 use Rattle.tables.proofs.Wide.{Wide, sort_wide, line_wide}
-use Rattle.tables.proofs.Facts.{IsWord, OkUnary, OkBinary, OkExpr, OkValue, OkInitOrNext, Ok}
+use Rattle.tables.proofs.Facts.{IsWord, OkUnary, OkBinary, OkExpr, OkValue, OkInitOrNext, OkLine}
 use Rattle.circuits.specs.Cells.{if_nonzero, eq_or_neq, same_cells, mask_words, part, put}
 use Rattle.circuits.specs.Layout.{Layout, type_at, place_at, size, line_type_in, place_of, lay}
 use Rattle.circuits.specs.Meaning.{op_word, cells_e, input_word, state_words, Frame, cells_at, word_at, width_at, given_words, cells_of, states_after, eval_line}
@@ -343,7 +343,7 @@ module _ (p f : Bool) (P : List (List ℕ)) (all : ℕ) (σ ι w : List ℕ) (A 
   sort_ok : (s : ℕ) (e : Expr) → OkExpr p (ty_at A.lay.ctx) (sort_at p (ty_at A.lay.ctx) s) e → (sort_at p (ty_at A.lay.ctx) s).w ≤ 64
   sort_ok s e ok = (sort_wide p (ty_at A.lay.ctx) s H.sound.wide (is_sort_lem p (ty_at A.lay.ctx) (sort_at p (ty_at A.lay.ctx) s) e ok)).most
 
-  pub sim : (l : Line) → Ok p (ty_at A.lay.ctx) (given A.lay.ctx) l → ShowsAll P (lay p A.lay l) → (lay p A.lay l).counts.cells ≤ all
+  pub sim : (l : Line) → OkLine p (ty_at A.lay.ctx) (given A.lay.ctx) l → ShowsAll P (lay p A.lay l) → (lay p A.lay l).counts.cells ≤ all
       → (lay p A.lay l).counts.states ≤ length σ → Held p all σ (work_in p f P all ι w (length A.lay.ctx.tys) l) (eval_line p f σ ι A l)
   sim (Line.bitvec x) ok sh hv hs = quiet (Line.bitvec x) (sound_more p A.lay (Line.bitvec x) H.sound ok) (omega arith) refl refl refl
   sim (Line.array i e) ok sh hv hs = quiet (Line.array i e) (sound_more p A.lay (Line.array i e) H.sound ok) (omega arith) refl refl refl
@@ -410,10 +410,10 @@ module _ (p f : Bool) (P : List (List ℕ)) (all : ℕ) (σ ι w : List ℕ) (A 
   sim (Line.output a) ok sh hv hs = quiet (Line.output a) (sound_more p A.lay (Line.output a) H.sound ok) (omega arith) refl refl refl
   sim Line.unknown ok sh hv hs = absurd ok
 
-  own : (l : Line) → Ok p (ty_at A.lay.ctx) (given A.lay.ctx) l → 2 ≤ (line_type_in p A.lay l).role → Wide (line_type_in p A.lay l)
+  own : (l : Line) → OkLine p (ty_at A.lay.ctx) (given A.lay.ctx) l → 2 ≤ (line_type_in p A.lay l).role → Wide (line_type_in p A.lay l)
   own l ok q = line_wide p (ty_at A.lay.ctx) (given A.lay.ctx) H.sound.wide l ok (omega arith)
 
-  pub fit : (ins sigs : ℕ) (l : Line) → Ok p (ty_at A.lay.ctx) (given A.lay.ctx) l → ShowsAll P (lay p A.lay l) → (lay p A.lay l).counts.cells ≤ all
+  pub fit : (ins sigs : ℕ) (l : Line) → OkLine p (ty_at A.lay.ctx) (given A.lay.ctx) l → ShowsAll P (lay p A.lay l) → (lay p A.lay l).counts.cells ≤ all
       → (lay p A.lay l).counts.states ≤ length σ → (lay p A.lay l).counts.inputs ≤ ins → (lay p A.lay l).counts.signals ≤ sigs
       → FitL p P all ins sigs w (length A.lay.ctx.tys) l
   fit ins sigs (Line.bitvec x) ok sh hv hs hi hg = tt

@@ -13,7 +13,7 @@ use Rattle.tables.specs.Lines.{Line}
 use Rattle.tables.specs.Layout.{lines_of}
 use Rattle.tables.specs.Types.{state_role, ty_at, given}
 use Rattle.tables.specs.Tables.{checked}
-use Rattle.tables.proofs.Facts.{Ok}
+use Rattle.tables.proofs.Facts.{OkLine}
 use Rattle.tables.proofs.Showing.{earlier}
 use Rattle.circuits.specs.Cells.{mask_words}
 use Rattle.circuits.specs.Layout.{Layout, type_at, size, lay, lay_all, no_layout, layout}
@@ -94,8 +94,8 @@ module _ (p : Bool) (t : List ℕ) (n : ℕ) (acc : checked p t n ≡ Accepted) 
     abbrev Z : Layout
     Z = lay_all p no_layout (take i C)
 
-    ok : Ok p (ty_at Z.ctx) (given Z.ctx) (Line.init_or_next false s q v)
-    ok = subst (Ok p (ty_at Z.ctx) (given Z.ctx)) e (ok_here p t n acc i h)
+    ok : OkLine p (ty_at Z.ctx) (given Z.ctx) (Line.init_or_next false s q v)
+    ok = subst (OkLine p (ty_at Z.ctx) (given Z.ctx)) e (ok_here p t n acc i h)
 
     same_type : (a : ℕ) → 1 ≤ (type_at Z a).role → type_at Y a ≡ type_at Z a
     same_type a r =

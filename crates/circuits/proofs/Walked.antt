@@ -14,7 +14,7 @@ use Rattle.tables.specs.Types.{ty_at, given}
 use Rattle.tables.specs.Tables.{checked}
 use Rattle.tables.proofs.Places.{record_at_lem, length_lines}
 use Rattle.tables.proofs.Sound.{accepted_ok}
-use Rattle.tables.proofs.Facts.{Ok, AllOk}
+use Rattle.tables.proofs.Facts.{OkLine, AllOk}
 use Rattle.circuits.specs.Cells.{if_nonzero}
 use Rattle.circuits.specs.Layout.{Layout, type_at, no_layout, lay, lay_all, layout}
 use Rattle.circuits.specs.Meaning.{Signal, signal_byte, Frame, word_at, signals_after, eval_line, eval_all, no_frame, step}
@@ -65,7 +65,7 @@ module _ (p : Bool) (t : List ℕ) (n : ℕ) (acc : checked p t n ≡ Accepted) 
   pub sound_at : (i : ℕ) → Sound (lay_all p no_layout (take i (lines_of p t n)))
   sound_at i = first_laid p no_layout (lines_of p t n) i sound_none lines_ok
 
-  pub ok_here : (i : ℕ) → i < n → Ok p (ty_at (lay_all p no_layout (take i (lines_of p t n))).ctx) (given (lay_all p no_layout (take i (lines_of p t n))).ctx) (get_or (lines_of p t n) i Line.unknown)
+  pub ok_here : (i : ℕ) → i < n → OkLine p (ty_at (lay_all p no_layout (take i (lines_of p t n))).ctx) (given (lay_all p no_layout (take i (lines_of p t n))).ctx) (get_or (lines_of p t n) i Line.unknown)
   ok_here i h = ok_at p no_layout (lines_of p t n) i lines_ok (omega (arith, lines_many))
 
   pub lay_next : (i : ℕ) → i < n → lay_all p no_layout (take (suc i) (lines_of p t n)) ≡ lay p (lay_all p no_layout (take i (lines_of p t n))) (get_or (lines_of p t n) i Line.unknown)
@@ -90,7 +90,7 @@ module _ (p : Bool) (t : List ℕ) (n : ℕ) (acc : checked p t n ≡ Accepted) 
 -- ---- what is known at the line i
 
 pub record Facts (p : Bool) (P : List (List ℕ)) (Y : Layout) (l : Line) (all words ins sigs : ℕ) : Type 0 where
-  pub ok : Ok p (ty_at Y.ctx) (given Y.ctx) l
+  pub ok : OkLine p (ty_at Y.ctx) (given Y.ctx) l
   pub shows : ShowsAll P (lay p Y l)
   pub cells : (lay p Y l).counts.cells ≤ all
   pub states : (lay p Y l).counts.states ≤ words

@@ -23,7 +23,7 @@ use Rattle.tables.specs.Rules.{suits, fault}
 use Rattle.tables.proofs.Laws.{or_true}
 use Rattle.tables.proofs.Kept.{both}
 use Rattle.tables.proofs.Showing.{earlier}
-use Rattle.tables.proofs.Facts.{OkExpr, Ok, AllOk}
+use Rattle.tables.proofs.Facts.{OkExpr, OkLine, AllOk}
 use Rattle.tables.proofs.Sound.{all_sound}
 use Rattle.tables.proofs.Cones.{operand_value}
 use Rattle.circuits.specs.Layout.{Layout, type_at, no_layout, lay_all, layout}
@@ -78,7 +78,7 @@ module _ (p f : Bool) (C : List Line) (σ ι : List ℕ) (ok : AllOk p no_ctx C)
       cells_here p f C σ ι i h ∙ ap (cells_of p f σ ι B) is ∙ frame_word p f σ ι B s k one ∙ ap (λ (x : ℕ). x ∷ []) (whole k below)
     where
       kept : OkExpr p (ty_at Y.ctx) (sort_at p (ty_at Y.ctx) s) e
-      kept = subst (λ (l : Line). Ok p (ty_at Y.ctx) (given Y.ctx) l) is (ok_at p no_layout C i ok h)
+      kept = subst (λ (l : Line). OkLine p (ty_at Y.ctx) (given Y.ctx) l) is (ok_at p no_layout C i ok h)
 
       value : (a : ℕ) → among a (uses_expr e) ≡ true → 2 ≤ (type_at Y a).role
       value a m = operand_value p (ty_at Y.ctx) (sort_at p (ty_at Y.ctx) s) e kept a m

@@ -15,7 +15,7 @@ use Rattle.tables.specs.Lines.{Line, Expr, fields, words_of, init_or_next_kind, 
 use Rattle.tables.specs.Types.{ty_at, given}
 use Rattle.tables.specs.Rules.{value_index}
 use Rattle.tables.specs.Layout.{from}
-use Rattle.tables.proofs.Facts.{IsWord, OkValue, Ok}
+use Rattle.tables.proofs.Facts.{IsWord, OkValue, OkLine}
 use Rattle.tables.proofs.Ids.{from_at, length_from}
 use Rattle.circuits.specs.Layout.{type_at}
 use Rattle.circuits.specs.Meaning.{Frame, cells_at}
@@ -149,7 +149,7 @@ module _ {A B : Frame} {I : List Info} (v : Inv A B I) (N : Notes) (ne : Neat N)
   same_size : (a b : ℕ) → 2 ≤ (type_at A.lay a).role → 2 ≤ (type_at A.lay b).role → (type_at A.lay b).iw ≡ (type_at A.lay a).iw → size_in N b ≡ size_in N a
   same_size a b ha hb e = ap (λ (i : ℕ). 2 ^ i) (tl.iw b (omega arith) ∙ e ∙ sym (tl.iw a (omega arith)))
 
-  array_records_lem : (i e : ℕ) → Ok false (ty_at A.lay.ctx) (given A.lay.ctx) (Line.array i e) → map words_of (chunk I (suc p) (Line.array i e)).lines ≡ line_records N p (Line.array i e)
+  array_records_lem : (i e : ℕ) → OkLine false (ty_at A.lay.ctx) (given A.lay.ctx) (Line.array i e) → map words_of (chunk I (suc p) (Line.array i e)).lines ≡ line_records N p (Line.array i e)
   array_records_lem i e k =
       let H = N.held in
       let q : (info_at I i).width ≡ wide_in N i = ((v.rel i).sort k.index.is).wide ∙ sym (tl.w i (omega (arith, k.index.is))) in
@@ -159,7 +159,7 @@ module _ {A B : Frame} {I : List Info} (v : Inv A B I) (N : Notes) (ne : Neat N)
       (const_records s 0 n ∙ rows_as H n 3 s (stepping 0 1) (still 0) (still 0) (λ j. 0 + j) (λ j. 0) (λ j. 0) (λ j l. omega arith) (λ j l. still_at H 0 j) (λ j l. still_at H 0 j)
       ∙ ap₂ (λ (x y : ℕ). rows_for (2 ^ x) (row_at H 3 y (stepping 0 1) (still 0) (still 0))) q (elem_of i k.index.is))
 
-  state_line_records : (s : ℕ) → Ok false (ty_at A.lay.ctx) (given A.lay.ctx) (Line.state s) → map words_of (chunk I (suc p) (Line.state s)).lines ≡ line_records N p (Line.state s)
+  state_line_records : (s : ℕ) → OkLine false (ty_at A.lay.ctx) (given A.lay.ctx) (Line.state s) → map words_of (chunk I (suc p) (Line.state s)).lines ≡ line_records N p (Line.state s)
   state_line_records s k =
       let H = N.held in
       let e = (info_at I s).elem in
@@ -182,7 +182,7 @@ module _ {A B : Frame} {I : List Info} (v : Inv A B I) (N : Notes) (ne : Neat N)
       let z : size_in N a ≡ n = ap (λ (i : ℕ). 2 ^ i) (tl.iw a (let g : 2 ≤ (type_at A.lay a).role = k.is in omega arith) ∙ e) ∙ h in
       record { len = size_of a k.is ∙ z; at = λ j l. from_line a k.is j (subst⁻¹ (λ (x : ℕ). j < x) z l) }
 
-  init_next_line_records : (m : Bool) (s q a : ℕ) → Ok false (ty_at A.lay.ctx) (given A.lay.ctx) (Line.init_or_next m s q a) → map words_of (chunk I (suc p) (Line.init_or_next m s q a)).lines ≡ line_records N p (Line.init_or_next m s q a)
+  init_next_line_records : (m : Bool) (s q a : ℕ) → OkLine false (ty_at A.lay.ctx) (given A.lay.ctx) (Line.init_or_next m s q a) → map words_of (chunk I (suc p) (Line.init_or_next m s q a)).lines ≡ line_records N p (Line.init_or_next m s q a)
   init_next_line_records m s q a k =
       let H = N.held in
       let hq : 2 ≤ (type_at A.lay q).role = (let h : (type_at A.lay q).role ≡ 4 = k.state in omega arith) in
@@ -194,7 +194,7 @@ module _ {A B : Frame} {I : List Info} (v : Inv A B I) (N : Notes) (ne : Neat N)
       ∙ rows_as H n (init_or_next_kind m) e (of q) (given_from N m a) (still 0) (λ j. get_or (lines_at I q) j 0) (λ j. get_or (value_lines I m n a) j 0) (λ j. 0) (λ j l. from_line q hq j (subst (λ (x : ℕ). j < x) eq l)) g.at (λ j l. still_at H 0 j)
       ∙ ap₂ (λ (x y : ℕ). rows_for x (row_at H (init_or_next_kind m) y (of q) (given_from N m a) (still 0))) eq (elem_of s k.sort.is)
 
-  ite_line_records : (s c x y : ℕ) → Ok false (ty_at A.lay.ctx) (given A.lay.ctx) (Line.value s (Expr.ite c x y)) → map words_of (chunk I (suc p) (Line.value s (Expr.ite c x y))).lines ≡ line_records N p (Line.value s (Expr.ite c x y))
+  ite_line_records : (s c x y : ℕ) → OkLine false (ty_at A.lay.ctx) (given A.lay.ctx) (Line.value s (Expr.ite c x y)) → map words_of (chunk I (suc p) (Line.value s (Expr.ite c x y))).lines ≡ line_records N p (Line.value s (Expr.ite c x y))
   ite_line_records s c x y k =
       let H = N.held in
       let ex = size_of x k.left.is in
@@ -207,7 +207,7 @@ module _ {A B : Frame} {I : List Info} (v : Inv A B I) (N : Notes) (ne : Neat N)
       (λ j l. from_line y k.right.is j (subst (λ (m : ℕ). j < m) (ex ∙ sym exy) l))
       ∙ (λ i. rows_for (ex i) (row_at H 53 (elem_of s k.sort.is i) (still (word_line_lem c k.cond i)) (of x) (of y)))
 
-  equality_line_records : (s : ℕ) (e : Bool) (x y : ℕ) → Ok false (ty_at A.lay.ctx) (given A.lay.ctx) (Line.value s (Expr.equality e x y)) → map words_of (chunk I (suc p) (Line.value s (Expr.equality e x y))).lines ≡ line_records N p (Line.value s (Expr.equality e x y))
+  equality_line_records : (s : ℕ) (e : Bool) (x y : ℕ) → OkLine false (ty_at A.lay.ctx) (given A.lay.ctx) (Line.value s (Expr.equality e x y)) → map words_of (chunk I (suc p) (Line.value s (Expr.equality e x y))).lines ≡ line_records N p (Line.value s (Expr.equality e x y))
   equality_line_records s e x y k =
       let H = N.held in
       let ex = size_of x k.left.is in
@@ -253,7 +253,7 @@ module _ {A B : Frame} {I : List Info} (v : Inv A B I) (N : Notes) (ne : Neat N)
   read_all o s i a zero ps d h c = absurd (omega arith)
   read_all o s i a (suc m) ps d h c = red_records N.held o s i a p m ps d c
 
-  read_line_records : (s a i : ℕ) → Ok false (ty_at A.lay.ctx) (given A.lay.ctx) (Line.value s (Expr.read a i)) → map words_of (chunk I (suc p) (Line.value s (Expr.read a i))).lines ≡ line_records N p (Line.value s (Expr.read a i))
+  read_line_records : (s a i : ℕ) → OkLine false (ty_at A.lay.ctx) (given A.lay.ctx) (Line.value s (Expr.read a i)) → map words_of (chunk I (suc p) (Line.value s (Expr.read a i))).lines ≡ line_records N p (Line.value s (Expr.read a i))
   read_line_records s a i k = go (info_at I i).known ((v.rel i).value k.index.is).known (nr i).known
     where
       ha : 2 ≤ (type_at A.lay a).role
@@ -278,7 +278,7 @@ module _ {A B : Frame} {I : List Info} (v : Inv A B I) (N : Notes) (ne : Neat N)
           ∙ read_all (bit_in N a) (sort_line N s) (word_line N i) a last (lines_at I a) (is_line a (omega arith)) (omega arith) (λ j l. cell_of a ha j (subst⁻¹ (λ (x : ℕ). j < x) e l))
           ∙ ap (read_records N.held p (bit_in N a) (word_line N i) (sort_line N s) a) (sym e) ∙ sym (rw (eq-eqb (con_in N i) 0 z))
 
-  write_line_records : (s a i x : ℕ) → Ok false (ty_at A.lay.ctx) (given A.lay.ctx) (Line.value s (Expr.write a i x)) → map words_of (chunk I (suc p) (Line.value s (Expr.write a i x))).lines ≡ line_records N p (Line.value s (Expr.write a i x))
+  write_line_records : (s a i x : ℕ) → OkLine false (ty_at A.lay.ctx) (given A.lay.ctx) (Line.value s (Expr.write a i x)) → map words_of (chunk I (suc p) (Line.value s (Expr.write a i x))).lines ≡ line_records N p (Line.value s (Expr.write a i x))
   write_line_records s a i x k = go (info_at I i).known ((v.rel i).value k.index.is).known (nr i).known
     where
       ha : 2 ≤ (type_at A.lay a).role
@@ -305,7 +305,7 @@ module _ {A B : Frame} {I : List Info} (v : Inv A B I) (N : Notes) (ne : Neat N)
           ∙ sym (rw (eq-eqb (con_in N i) 0 z))
 
   -- any line
-  pub line_records_lem : (l : Line) → Ok false (ty_at A.lay.ctx) (given A.lay.ctx) l → map words_of (chunk I (suc p) l).lines ≡ line_records N p l
+  pub line_records_lem : (l : Line) → OkLine false (ty_at A.lay.ctx) (given A.lay.ctx) l → map words_of (chunk I (suc p) l).lines ≡ line_records N p l
   line_records_lem (Line.bitvec w) k = refl
   line_records_lem (Line.array i e) k = array_records_lem i e k
   line_records_lem (Line.input s) k = ap (λ (e : ℕ). fields 4 e 0 0 0 ∷ []) (elem_of s k.is)

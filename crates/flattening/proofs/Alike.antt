@@ -8,7 +8,7 @@ use native.Mathlib.Omega.{arith}
 use lib.ListN.{length, take, replicate, length-replicate}
 use Rattle.tables.specs.Lines.{Line, Expr, bitvec, array, input, state, value, init_or_next, signal, output, unknown, const, unary, binary, equality, ite, read, write}
 use Rattle.tables.specs.Types.{ty_at, given, no_ctx}
-use Rattle.tables.proofs.Facts.{Ok, AllOk}
+use Rattle.tables.proofs.Facts.{OkLine, AllOk}
 use Rattle.circuits.specs.Layout.{Layout, no_layout, layout, type_at, place_at}
 use Rattle.circuits.specs.Meaning.{Frame, no_frame, cells_at, step}
 use Rattle.circuits.specs.Free.{Source, sources_from, sources}
@@ -28,7 +28,7 @@ no_state zero e = omega arith
 no_state (suc q) e = omega arith
 
 module _ (f : Bool) (σ ι : List ℕ) where
-  sim_value : {A B : Frame} {I : List Info} {b : ℕ} (s : ℕ) (x : Expr) → Inv A B I → b ≡ length B.env → Ok false (ty_at A.lay.ctx) (given A.lay.ctx) (value s x)
+  sim_value : {A B : Frame} {I : List Info} {b : ℕ} (s : ℕ) (x : Expr) → Inv A B I → b ≡ length B.env → OkLine false (ty_at A.lay.ctx) (given A.lay.ctx) (value s x)
       → Keeps f σ ι A B I (value s x) (chunk I b (value s x))
   sim_value s (const c) v e k = sim_const f σ ι s c v e k
   sim_value s (unary h a x y) v e k = sim_unary f σ ι s h a x y v e k
@@ -39,7 +39,7 @@ module _ (f : Bool) (σ ι : List ℕ) where
   sim_value s (write a i x) v e k = sim_write f σ ι s a i x v e k
 
   -- any line
-  pub sim_line : {A B : Frame} {I : List Info} {b : ℕ} (l : Line) → Inv A B I → b ≡ length B.env → Ok false (ty_at A.lay.ctx) (given A.lay.ctx) l
+  pub sim_line : {A B : Frame} {I : List Info} {b : ℕ} (l : Line) → Inv A B I → b ≡ length B.env → OkLine false (ty_at A.lay.ctx) (given A.lay.ctx) l
       → (ev1 f σ ι A l).lay.counts.states ≤ length σ → Keeps f σ ι A B I l (chunk I b l)
   sim_line (bitvec w) v e k h = sim_bitvec f σ ι w v e k
   sim_line (array i el) v e k h = sim_array f σ ι i el v e k

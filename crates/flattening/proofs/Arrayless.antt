@@ -10,7 +10,7 @@ use Rattle.tables.specs.Lines.{Line, bitvec, array, input, state, value, init_or
 use Rattle.tables.specs.Types.{Ctx, ty_at, given, grow}
 use Rattle.tables.specs.Layout.{from}
 use Rattle.tables.proofs.Shapes.{binary_range}
-use Rattle.tables.proofs.Facts.{Ok, AllOk}
+use Rattle.tables.proofs.Facts.{OkLine, AllOk}
 use Rattle.flattening.specs.Flat.{Info, no_info, info_at, lines_at, line_at, chunk, chunk_read, chunk_write, const_lines, ite_lines, equality_lines, join_lines, write_lines, read_chain, init_or_next_lines, value_lines, flatten_from, flatten}
 
 -- a line that is no array sort
@@ -109,7 +109,7 @@ flat_plain C = all_plain (no_info ∷ []) 1 C
 
 -- ---- kinds
 
-plain_kind : (c : Ctx) (l : Line) → Plain l → Ok false (ty_at c) (given c) l → kind_in (words_of l) ≢ 2
+plain_kind : (c : Ctx) (l : Line) → Plain l → OkLine false (ty_at c) (given c) l → kind_in (words_of l) ≢ 2
 plain_kind c (bitvec w) h k e = omega arith
 plain_kind c (array i x) h k e = h
 plain_kind c (input s) h k e = omega arith

@@ -14,7 +14,7 @@ use Rattle.words.specs.Circuit.{circ}
 use Rattle.tables.specs.Lines.{Line, value, const, binary, equality, ite}
 use Rattle.tables.specs.Types.{marked, given}
 use Rattle.tables.specs.Rules.{fits_binary}
-use Rattle.tables.proofs.Facts.{AllOk, Ok}
+use Rattle.tables.proofs.Facts.{AllOk, OkLine}
 use Rattle.tables.specs.Types.{ty_at}
 use Rattle.tables.specs.Layout.{from}
 use Rattle.circuits.specs.Cells.{if_nonzero, eq_or_neq, same_cells}
@@ -102,12 +102,12 @@ module _ (f : Bool) (σ ι : List ℕ) where
   run_none ev = record { grew = grew_refl ev; holds = none; ok = tt }
 
   -- a line that stands for a cell, and a line that does not
-  run_cell : {u : Bool} {A : Frame} {ls : List Line} {b w v : ℕ} {ps cs : List ℕ} (l : Line) → Even A → T (quiet l) → Ok false (ty_at A.lay.ctx) (given A.lay.ctx) l → Word (ev1 f σ ι A l) u b w v → Run (ev1 f σ ι A l) ls u w ps cs
+  run_cell : {u : Bool} {A : Frame} {ls : List Line} {b w v : ℕ} {ps cs : List ℕ} (l : Line) → Even A → T (quiet l) → OkLine false (ty_at A.lay.ctx) (given A.lay.ctx) l → Word (ev1 f σ ι A l) u b w v → Run (ev1 f σ ι A l) ls u w ps cs
       → Run A (l ∷ ls) u w (b ∷ ps) (v ∷ cs)
   run_cell l ev q k h r =
       record { grew = grew_trans (grew_line f σ ι ev l q) r.grew; holds = more (word_ext r.grew.ext h) r.holds; ok = (k, r.ok) }
 
-  run_skip : {u : Bool} {A : Frame} {ls : List Line} {w : ℕ} {ps cs : List ℕ} (l : Line) → Even A → T (quiet l) → Ok false (ty_at A.lay.ctx) (given A.lay.ctx) l → Run (ev1 f σ ι A l) ls u w ps cs → Run A (l ∷ ls) u w ps cs
+  run_skip : {u : Bool} {A : Frame} {ls : List Line} {w : ℕ} {ps cs : List ℕ} (l : Line) → Even A → T (quiet l) → OkLine false (ty_at A.lay.ctx) (given A.lay.ctx) l → Run (ev1 f σ ι A l) ls u w ps cs → Run A (l ∷ ls) u w ps cs
   run_skip l ev q k r = record { grew = grew_trans (grew_line f σ ι ev l q) r.grew; holds = r.holds; ok = (k, r.ok) }
 
   -- the same line, whatever its number is called
@@ -129,7 +129,7 @@ module _ (f : Bool) (σ ι : List ℕ) where
       (λ z. unmarked_both xc (xp || xq) (hc.unmarked z) (unmarked_both xp xq (hp.unmarked z) (hq.unmarked z)))
 
   ite_ok : {u : Bool} {A : Frame} {s c p q w d x y : ℕ} → SortAt A s w → Word A u c 1 d → Word A u p w x → Word A u q w y
-      → Ok false (ty_at A.lay.ctx) (given A.lay.ctx) (value s (ite c p q))
+      → OkLine false (ty_at A.lay.ctx) (given A.lay.ctx) (value s (ite c p q))
   ite_ok hs hc hp hq =
       record {
         sort = record { is = hs.is };
@@ -149,7 +149,7 @@ module _ (f : Bool) (σ ι : List ℕ) where
       new_val f σ ι (xp || xq) ev (value s (equality t p q)) e hs refl (rw (hp.cells, hq.cells)) (λ z. unmarked_both xp xq (hp.unmarked z) (hq.unmarked z))
 
   equality_ok : {u : Bool} {A : Frame} {s p q w x y : ℕ} (t : Bool) → SortAt A s 1 → Word A u p w x → Word A u q w y
-      → Ok false (ty_at A.lay.ctx) (given A.lay.ctx) (value s (equality t p q))
+      → OkLine false (ty_at A.lay.ctx) (given A.lay.ctx) (value s (equality t p q))
   equality_ok t hs hp hq =
       record {
         sort = sort_ok hs;
@@ -167,7 +167,7 @@ module _ (f : Bool) (σ ι : List ℕ) where
       new_val f σ ι (xp || xq) ev (value s (binary (join_kind t) p q)) e hs refl (rw (hp.cells, hq.cells, hp.wide, hq.wide)) (λ z. unmarked_both xp xq (hp.unmarked z) (hq.unmarked z))
 
   join_ok : {u : Bool} {A : Frame} {s p q x y : ℕ} (t : Bool) → SortAt A s 1 → Word A u p 1 x → Word A u q 1 y
-      → Ok false (ty_at A.lay.ctx) (given A.lay.ctx) (value s (binary (join_kind t) p q))
+      → OkLine false (ty_at A.lay.ctx) (given A.lay.ctx) (value s (binary (join_kind t) p q))
   join_ok t hs hp hq =
       record {
         kind = inl (join_least t, join_most t);
@@ -180,7 +180,7 @@ module _ (f : Bool) (σ ι : List ℕ) where
   const_word : {u : Bool} {A : Frame} {b s w k : ℕ} → Even A → b ≡ length A.env → SortAt A s w → Word (ev1 f σ ι A (value s (const k))) u b w k
   const_word {s = s} {k = k} ev e hs = new_val f σ ι false ev (value s (const k)) e hs refl refl (λ z. tt)
 
-  const_ok : {A : Frame} {s w k : ℕ} → SortAt A s w → k < 2 ^ w → Ok false (ty_at A.lay.ctx) (given A.lay.ctx) (value s (const k))
+  const_ok : {A : Frame} {s w k : ℕ} → SortAt A s w → k < 2 ^ w → OkLine false (ty_at A.lay.ctx) (given A.lay.ctx) (value s (const k))
   const_ok hs h = record { sort = sort_ok hs; fits = rw hs.wide h }
 
   -- ---- the chains. What they rest on is known of O, and stays so: A is O after the lines so far

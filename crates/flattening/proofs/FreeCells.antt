@@ -9,7 +9,7 @@ use lib.Seq.{get_or_at}
 use Rattle.tables.specs.declared.Ty.{Ty}
 use Rattle.tables.specs.Lines.{Line, state}
 use Rattle.tables.specs.Types.{ty_at, given}
-use Rattle.tables.proofs.Facts.{Ok}
+use Rattle.tables.proofs.Facts.{OkLine}
 use Rattle.tables.proofs.Ids.{from_at, length_from}
 use Rattle.circuits.specs.Layout.{Layout, type_at}
 use Rattle.circuits.specs.Meaning.{Frame}
@@ -66,7 +66,7 @@ module _ (f : Bool) (σ ι : List ℕ) where
       sources_none false h B.lay c.lines (ap (λ (Y : Layout). Y.counts.states) (sym (evs_lay f σ ι B c.lines)) ∙ k.inv.alike.states ∙ e ∙ sym v.alike.states)
 
   -- any line
-  pub line_sources : {A B Z : Frame} {I : List Info} {b : ℕ} (l : Line) (ls : List Line) → Inv A B I → b ≡ length B.env → Ok false (ty_at A.lay.ctx) (given A.lay.ctx) l
+  pub line_sources : {A B Z : Frame} {I : List Info} {b : ℕ} (l : Line) (ls : List Line) → Inv A B I → b ≡ length B.env → OkLine false (ty_at A.lay.ctx) (given A.lay.ctx) l
       → Keeps f σ ι A B I l (chunk I b l) → Inv (evs f σ ι A (l ∷ ls)) Z (infos_from I b (l ∷ ls))
       → sources_from false (given Z.lay.ctx false) B.lay (chunk I b l).lines ≡ sources_here false (given (evs f σ ι A (l ∷ ls)).lay.ctx false) A.lay l
   line_sources {A} {Z = Z} {I} (Line.state s) ls v e ok k z =

@@ -27,7 +27,7 @@ use Rattle.tables.proofs.Kept.{both}
 use Rattle.tables.proofs.Checking.{roomy}
 use Rattle.tables.proofs.Showing.{snoc_other}
 use Rattle.tables.proofs.Places.{length_records, length_lines, record_at_lem}
-use Rattle.tables.proofs.Facts.{Ok, AllOk}
+use Rattle.tables.proofs.Facts.{OkLine, AllOk}
 use Rattle.tables.proofs.Sound.{accepted_lawful, accepted_room, accepted_ok}
 use Rattle.tables.proofs.Encoding.{fits_table, length_words}
 use Rattle.circuits.specs.Layout.{Layout, type_at, line_type_in, lay, no_layout, layout}
@@ -132,13 +132,13 @@ module _ (t : List ℕ) (n : ℕ) (acc : checked false t n ≡ Accepted) where
       v : Inv (walked C i) (flat_walked C i) (sofar C i).infos
       v = inv_at C ok_C i hi
 
-      k : Ok false (ty_at (walked C i).lay.ctx) (given (walked C i).lay.ctx) (line_in C i)
+      k : OkLine false (ty_at (walked C i).lay.ctx) (given (walked C i).lay.ctx) (line_in C i)
       k = ok_at C ok_C i (subst⁻¹ (λ (m : ℕ). i < m) size_C h)
 
       tl : Told (walked C i) (notes kept types)
       tl = told_at i s.upto kept
 
-      deep_of : (m : Line) → Ok false (ty_at (walked C i).lay.ctx) (given (walked C i).lay.ctx) m → Deep (notes kept types) m
+      deep_of : (m : Line) → OkLine false (ty_at (walked C i).lay.ctx) (given (walked C i).lay.ctx) m → Deep (notes kept types) m
       deep_of (Line.bitvec w) q = tt
       deep_of (Line.array x e) q = let z = q.index.is in let y = tl.w x (omega arith) in let g = q.most in omega arith
       deep_of (Line.input x) q = tt

@@ -9,7 +9,7 @@ use lib.ListN.{length, get_or, take, drop, length-append, take-append-drop, drop
 use lib.Seq.{take-suc, drop-cons, length-take-le}
 use Rattle.tables.specs.Lines.{Line}
 use Rattle.tables.specs.Types.{ty_at, given, no_ctx}
-use Rattle.tables.proofs.Facts.{Ok, AllOk}
+use Rattle.tables.proofs.Facts.{OkLine, AllOk}
 use Rattle.circuits.specs.Layout.{Layout}
 use Rattle.circuits.specs.Meaning.{Frame, no_frame, step}
 use Rattle.flattening.specs.Flat.{Info, no_info, Chunk, chunk, flatten_from, flatten}
@@ -80,13 +80,13 @@ module _ (C : List Line) where
   walked_suc i h = ap (evs true σ [] no_frame) (take-suc C i Line.unknown h) ∙ evs_append true σ [] no_frame (take i C) (line_in C i ∷ [])
 
   ok_from : (A : Frame) (ls : List Line) → AllOk false A.lay.ctx ls → (i : ℕ) → i < length ls
-      → Ok false (ty_at (evs true σ [] A (take i ls)).lay.ctx) (given (evs true σ [] A (take i ls)).lay.ctx) (get_or ls i Line.unknown)
+      → OkLine false (ty_at (evs true σ [] A (take i ls)).lay.ctx) (given (evs true σ [] A (take i ls)).lay.ctx) (get_or ls i Line.unknown)
   ok_from A [] k i h = absurd (omega arith)
   ok_from A (l ∷ ls) k zero h = k.0
   ok_from A (l ∷ ls) k (suc i) h = ok_from (ev1 true σ [] A l) ls k.1 i (omega arith)
 
   -- the next line keeps the rules
-  pub ok_at : AllOk false no_ctx C → (i : ℕ) → i < length C → Ok false (ty_at (walked i).lay.ctx) (given (walked i).lay.ctx) (line_in C i)
+  pub ok_at : AllOk false no_ctx C → (i : ℕ) → i < length C → OkLine false (ty_at (walked i).lay.ctx) (given (walked i).lay.ctx) (line_in C i)
   ok_at k i h = ok_from no_frame C k i h
 
   -- all lines come after the first i

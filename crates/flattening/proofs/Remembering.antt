@@ -16,7 +16,7 @@ use Rattle.tables.specs.Lines.{Line, Expr}
 use Rattle.tables.specs.Types.{no_ty, ty_at, given}
 use Rattle.tables.specs.Layout.{from}
 use Rattle.tables.proofs.Values.{val_value}
-use Rattle.tables.proofs.Facts.{IsWord, Ok}
+use Rattle.tables.proofs.Facts.{IsWord, OkLine}
 use Rattle.tables.proofs.Ids.{from_at, length_from}
 use Rattle.circuits.specs.Layout.{type_at, line_type_in}
 use Rattle.circuits.specs.Meaning.{Frame, cells_at}
@@ -134,7 +134,7 @@ module _ {A B : Frame} {I : List Info} (v : Inv A B I) (N : Notes) (ne : Neat N)
       let q : get_or (cells_at A i) 0 0 ≡ k = ap (λ (x : List ℕ). get_or x 0 0) c in
       subst (λ (x : ℕ). k < x) (ap (λ (x : ℕ). 2 ^ x) (e ∙ sym (tl.iw a h))) (subst (λ (x : ℕ). x < 2 ^ (type_at A.lay i).w) q z)
 
-  read_kept : (s a i : ℕ) (t : Ty) → t.role ≢ 1 → Ok false (ty_at A.lay.ctx) (given A.lay.ctx) (Line.value s (Expr.read a i)) → p + flat_count N (Line.value s (Expr.read a i)) ≤ 16384
+  read_kept : (s a i : ℕ) (t : Ty) → t.role ≢ 1 → OkLine false (ty_at A.lay.ctx) (given A.lay.ctx) (Line.value s (Expr.read a i)) → p + flat_count N (Line.value s (Expr.read a i)) ≤ 16384
       → LineKept N n (flat_made N p (Line.value s (Expr.read a i))) t (chunk I (suc p) (Line.value s (Expr.read a i))).info
   read_kept s a i t d k top = go (info_at I i).known ((v.rel i).value k.index.is).known (nr i).known
     where
@@ -160,7 +160,7 @@ module _ {A B : Frame} {I : List Info} (v : Inv A B I) (N : Notes) (ne : Neat N)
           kept_as_lem (read_any N p s a i z)
           (word_kept_lem (made_as (p + 2 * (c - 1)) (p + 2 * (c - 1)) (bit_in N s) 0 1 0) s (suc p + (2 * last - 1)) none t d refl refl (sym e) refl refl (omega arith) (omega arith))
 
-  write_kept : (s a i x : ℕ) (t : Ty) → t.role ≢ 1 → Ok false (ty_at A.lay.ctx) (given A.lay.ctx) (Line.value s (Expr.write a i x)) → p + flat_count N (Line.value s (Expr.write a i x)) ≤ 16384
+  write_kept : (s a i x : ℕ) (t : Ty) → t.role ≢ 1 → OkLine false (ty_at A.lay.ctx) (given A.lay.ctx) (Line.value s (Expr.write a i x)) → p + flat_count N (Line.value s (Expr.write a i x)) ≤ 16384
       → LineKept N n (flat_made N p (Line.value s (Expr.write a i x))) t (chunk I (suc p) (Line.value s (Expr.write a i x))).info
   write_kept s a i x t d k top = go (info_at I i).known ((v.rel i).value k.index.is).known (nr i).known
     where
@@ -215,7 +215,7 @@ module _ {A B : Frame} {I : List Info} (v : Inv A B I) (N : Notes) (ne : Neat N)
   not_sort : (s : ℕ) (x : Expr) → (line_type_in false A.lay (Line.value s x)).role ≢ 1
   not_sort s x e = omega (arith, val_value false (type_at A.lay) s x)
 
-  pub line_kept : (l : Line) → Ok false (ty_at A.lay.ctx) (given A.lay.ctx) l → p + flat_count N l ≤ 16384 → LineKept N n (flat_made N p l) (line_type_in false A.lay l) (chunk I (suc p) l).info
+  pub line_kept : (l : Line) → OkLine false (ty_at A.lay.ctx) (given A.lay.ctx) l → p + flat_count N l ≤ 16384 → LineKept N n (flat_made N p l) (line_type_in false A.lay l) (chunk I (suc p) l).info
   line_kept (Line.bitvec w) k top =
       let m = flat_made N p (Line.bitvec w) in
       record {

@@ -12,7 +12,7 @@ use Rattle.tables.specs.declared.Ty.{Ty}
 use Rattle.tables.specs.Lines.{value, equality, ite, read, write}
 use Rattle.tables.specs.Types.{marked, ty_at, given}
 use Rattle.tables.specs.Layout.{from}
-use Rattle.tables.proofs.Facts.{Ok}
+use Rattle.tables.proofs.Facts.{OkLine}
 use Rattle.tables.proofs.Ids.{length_from}
 use Rattle.circuits.specs.Cells.{eq_or_neq, same_cells}
 use Rattle.circuits.specs.Layout.{type_at, place_at}
@@ -28,7 +28,7 @@ use Rattle.flattening.proofs.SimWords.{Keeps}
 module _ (f : Bool) (σ ι : List ℕ) where
   -- ---- ite
 
-  pub sim_ite : {A B : Frame} {I : List Info} {b : ℕ} (s d x y : ℕ) → Inv A B I → b ≡ length B.env → Ok false (ty_at A.lay.ctx) (given A.lay.ctx) (value s (ite d x y))
+  pub sim_ite : {A B : Frame} {I : List Info} {b : ℕ} (s d x y : ℕ) → Inv A B I → b ≡ length B.env → OkLine false (ty_at A.lay.ctx) (given A.lay.ctx) (value s (ite d x y))
       → Keeps f σ ι A B I (value s (ite d x y)) (chunk I b (value s (ite d x y)))
   sim_ite {A} {B} {I} {b} s d x y v e k =
       let t = type_at A.lay s in
@@ -96,7 +96,7 @@ module _ (f : Bool) (σ ι : List ℕ) where
       last_join b m zero e = omega arith
       last_join b m (suc k) e = omega arith
 
-  pub sim_equality : {A B : Frame} {I : List Info} {b : ℕ} (s : ℕ) (t : Bool) (x y : ℕ) → Inv A B I → b ≡ length B.env → Ok false (ty_at A.lay.ctx) (given A.lay.ctx) (value s (equality t x y))
+  pub sim_equality : {A B : Frame} {I : List Info} {b : ℕ} (s : ℕ) (t : Bool) (x y : ℕ) → Inv A B I → b ≡ length B.env → OkLine false (ty_at A.lay.ctx) (given A.lay.ctx) (value s (equality t x y))
       → Keeps f σ ι A B I (value s (equality t x y)) (chunk I b (value s (equality t x y)))
   sim_equality {A} {B} {I} {b} s t x y v e k =
       let g = info_at I s in
@@ -144,7 +144,7 @@ module _ (f : Bool) (σ ι : List ℕ) where
       last_some r b zero q = absurd (omega arith)
       last_some r b (suc m) q = omega arith
 
-  pub sim_read : {A B : Frame} {I : List Info} {b : ℕ} (s a i : ℕ) → Inv A B I → b ≡ length B.env → Ok false (ty_at A.lay.ctx) (given A.lay.ctx) (value s (read a i))
+  pub sim_read : {A B : Frame} {I : List Info} {b : ℕ} (s a i : ℕ) → Inv A B I → b ≡ length B.env → OkLine false (ty_at A.lay.ctx) (given A.lay.ctx) (value s (read a i))
       → Keeps f σ ι A B I (value s (read a i)) (chunk I b (value s (read a i)))
   sim_read {A} {B} {I} {b} s a i v e k = go (info_at I i).known ((v.rel i).value k.index.is).known
     where
@@ -208,7 +208,7 @@ module _ (f : Bool) (σ ι : List ℕ) where
 
   -- ---- write
 
-  pub sim_write : {A B : Frame} {I : List Info} {b : ℕ} (s a i x : ℕ) → Inv A B I → b ≡ length B.env → Ok false (ty_at A.lay.ctx) (given A.lay.ctx) (value s (write a i x))
+  pub sim_write : {A B : Frame} {I : List Info} {b : ℕ} (s a i x : ℕ) → Inv A B I → b ≡ length B.env → OkLine false (ty_at A.lay.ctx) (given A.lay.ctx) (value s (write a i x))
       → Keeps f σ ι A B I (value s (write a i x)) (chunk I b (value s (write a i x)))
   sim_write {A} {B} {I} {b} s a i x v e k = go (info_at I i).known ((v.rel i).value k.index.is).known
     where

@@ -20,7 +20,7 @@ use Rattle.tables.specs.Rules.{value_index}
 use Rattle.tables.specs.Layout.{from}
 use Rattle.tables.proofs.Laws.{or_true}
 use Rattle.tables.proofs.Showing.{by_place, among_join, earlier}
-use Rattle.tables.proofs.Facts.{Ok, OkValue}
+use Rattle.tables.proofs.Facts.{OkLine, OkValue}
 use Rattle.tables.proofs.Ids.{from_at, length_from}
 use Rattle.circuits.specs.Cells.{part, put}
 use Rattle.circuits.specs.Layout.{type_at, place_at, size}
@@ -99,7 +99,7 @@ given_rel {A} {B} {I} v false t q a qs e d k ew ei h =
     }
 
 module _ (f : Bool) (σ ι : List ℕ) where
-  pub sim_state : {A B : Frame} {I : List Info} {b : ℕ} (s : ℕ) → Inv A B I → b ≡ length B.env → Ok false (ty_at A.lay.ctx) (given A.lay.ctx) (state s)
+  pub sim_state : {A B : Frame} {I : List Info} {b : ℕ} (s : ℕ) → Inv A B I → b ≡ length B.env → OkLine false (ty_at A.lay.ctx) (given A.lay.ctx) (state s)
       → (ev1 f σ ι A (state s)).lay.counts.states ≤ length σ → Keeps f σ ι A B I (state s) (chunk I b (state s))
   sim_state {A} {B} {I} {b} s v e k room =
       let t = type_at A.lay s in
@@ -153,7 +153,7 @@ module _ (f : Bool) (σ ι : List ℕ) where
         ok = r.left.ok;
       }
 
-  pub sim_init_next : {A B : Frame} {I : List Info} {b : ℕ} (m : Bool) (s q a : ℕ) → Inv A B I → b ≡ length B.env → Ok false (ty_at A.lay.ctx) (given A.lay.ctx) (init_or_next m s q a)
+  pub sim_init_next : {A B : Frame} {I : List Info} {b : ℕ} (m : Bool) (s q a : ℕ) → Inv A B I → b ≡ length B.env → OkLine false (ty_at A.lay.ctx) (given A.lay.ctx) (init_or_next m s q a)
       → Keeps f σ ι A B I (init_or_next m s q a) (chunk I b (init_or_next m s q a))
   sim_init_next {A} {B} {I} m s q a v e k =
       record {

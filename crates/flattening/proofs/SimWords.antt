@@ -14,7 +14,7 @@ use Rattle.tables.specs.declared.Ty.{Ty}
 use Rattle.tables.specs.Lines.{Line, bitvec, array, input, value, signal, output, const, unary, binary}
 use Rattle.tables.specs.Types.{marked, ty_at, given}
 use Rattle.tables.specs.Layout.{from}
-use Rattle.tables.proofs.Facts.{Ok, AllOk}
+use Rattle.tables.proofs.Facts.{OkLine, AllOk}
 use Rattle.tables.proofs.Ids.{length_from}
 use Rattle.circuits.specs.Cells.{if_nonzero}
 use Rattle.circuits.specs.Layout.{type_at}
@@ -44,7 +44,7 @@ module _ (f : Bool) (σ ι : List ℕ) where
         flat = ap (λ (t : Ty). t.iw) h;
       }
 
-  pub sim_bitvec : {A B : Frame} {I : List Info} {b : ℕ} (w : ℕ) → Inv A B I → b ≡ length B.env → Ok false (ty_at A.lay.ctx) (given A.lay.ctx) (bitvec w)
+  pub sim_bitvec : {A B : Frame} {I : List Info} {b : ℕ} (w : ℕ) → Inv A B I → b ≡ length B.env → OkLine false (ty_at A.lay.ctx) (given A.lay.ctx) (bitvec w)
       → Keeps A B I (bitvec w) (chunk I b (bitvec w))
   sim_bitvec {b = b} w v e k =
       record {
@@ -68,7 +68,7 @@ module _ (f : Bool) (σ ι : List ℕ) where
       (subst (λ (n : ℕ). Run f σ ι B (const_lines s (from 0 (2 ^ w))) true w (from b n) (from 0 (2 ^ w))) (length_from 0 (2 ^ w))
       (run_consts f σ ι (ext_refl ev) e hs (from 0 (2 ^ w)) (small_from w 0 (2 ^ w) (omega arith))))
 
-  pub sim_array : {A B : Frame} {I : List Info} {b : ℕ} (i el : ℕ) → Inv A B I → b ≡ length B.env → Ok false (ty_at A.lay.ctx) (given A.lay.ctx) (array i el)
+  pub sim_array : {A B : Frame} {I : List Info} {b : ℕ} (i el : ℕ) → Inv A B I → b ≡ length B.env → OkLine false (ty_at A.lay.ctx) (given A.lay.ctx) (array i el)
       → Keeps A B I (array i el) (chunk I b (array i el))
   sim_array {A} {B} {I} {b} i el v e k =
       let ri = (v.rel i).sort k.index.is in
@@ -91,7 +91,7 @@ module _ (f : Bool) (σ ι : List ℕ) where
 
   -- ---- words
 
-  pub sim_input : {A B : Frame} {I : List Info} {b : ℕ} (s : ℕ) → Inv A B I → b ≡ length B.env → Ok false (ty_at A.lay.ctx) (given A.lay.ctx) (input s)
+  pub sim_input : {A B : Frame} {I : List Info} {b : ℕ} (s : ℕ) → Inv A B I → b ≡ length B.env → OkLine false (ty_at A.lay.ctx) (given A.lay.ctx) (input s)
       → Keeps A B I (input s) (chunk I b (input s))
   sim_input {A} {B} {I} {b} s v e k =
       let rs = (v.rel s).sort k.is in
@@ -109,7 +109,7 @@ module _ (f : Bool) (σ ι : List ℕ) where
         ok = (sort_ok rs.elem, tt);
       }
 
-  pub sim_const : {A B : Frame} {I : List Info} {b : ℕ} (s c : ℕ) → Inv A B I → b ≡ length B.env → Ok false (ty_at A.lay.ctx) (given A.lay.ctx) (value s (const c))
+  pub sim_const : {A B : Frame} {I : List Info} {b : ℕ} (s c : ℕ) → Inv A B I → b ≡ length B.env → OkLine false (ty_at A.lay.ctx) (given A.lay.ctx) (value s (const c))
       → Keeps A B I (value s (const c)) (chunk I b (value s (const c)))
   sim_const {A} {B} {I} {b} s c v e k =
       let rs = (v.rel s).sort k.sort.is in
@@ -122,7 +122,7 @@ module _ (f : Bool) (σ ι : List ℕ) where
         ok = (record { sort = sort_ok rs.elem; fits = rw rs.elem.wide k.fits }, tt);
       }
 
-  pub sim_unary : {A B : Frame} {I : List Info} {b : ℕ} (s h a x y : ℕ) → Inv A B I → b ≡ length B.env → Ok false (ty_at A.lay.ctx) (given A.lay.ctx) (value s (unary h a x y))
+  pub sim_unary : {A B : Frame} {I : List Info} {b : ℕ} (s h a x y : ℕ) → Inv A B I → b ≡ length B.env → OkLine false (ty_at A.lay.ctx) (given A.lay.ctx) (value s (unary h a x y))
       → Keeps A B I (value s (unary h a x y)) (chunk I b (value s (unary h a x y)))
   sim_unary {A} {B} {I} {b} s h a x y v e k =
       let rs = (v.rel s).sort k.sort.is in
@@ -150,7 +150,7 @@ module _ (f : Bool) (σ ι : List ℕ) where
         );
       }
 
-  pub sim_binary : {A B : Frame} {I : List Info} {b : ℕ} (s h x y : ℕ) → Inv A B I → b ≡ length B.env → Ok false (ty_at A.lay.ctx) (given A.lay.ctx) (value s (binary h x y))
+  pub sim_binary : {A B : Frame} {I : List Info} {b : ℕ} (s h x y : ℕ) → Inv A B I → b ≡ length B.env → OkLine false (ty_at A.lay.ctx) (given A.lay.ctx) (value s (binary h x y))
       → Keeps A B I (value s (binary h x y)) (chunk I b (value s (binary h x y)))
   sim_binary {A} {B} {I} {b} s h x y v e k =
       let rs = (v.rel s).sort k.sort.is in
@@ -181,7 +181,7 @@ module _ (f : Bool) (σ ι : List ℕ) where
         );
       }
 
-  pub sim_signal : {A B : Frame} {I : List Info} {b : ℕ} (m : Bool) (a : ℕ) → Inv A B I → b ≡ length B.env → Ok false (ty_at A.lay.ctx) (given A.lay.ctx) (signal m a)
+  pub sim_signal : {A B : Frame} {I : List Info} {b : ℕ} (m : Bool) (a : ℕ) → Inv A B I → b ≡ length B.env → OkLine false (ty_at A.lay.ctx) (given A.lay.ctx) (signal m a)
       → Keeps A B I (signal m a) (chunk I b (signal m a))
   sim_signal {A} {B} {I} {b} m a v e k =
       let h = word_of v a k.word in
@@ -201,7 +201,7 @@ module _ (f : Bool) (σ ι : List ℕ) where
         ok = (record { word = word_ok h; bit = h.wide ∙ k.bit }, tt);
       }
 
-  pub sim_output : {A B : Frame} {I : List Info} {b : ℕ} (a : ℕ) → Inv A B I → b ≡ length B.env → Ok false (ty_at A.lay.ctx) (given A.lay.ctx) (output a)
+  pub sim_output : {A B : Frame} {I : List Info} {b : ℕ} (a : ℕ) → Inv A B I → b ≡ length B.env → OkLine false (ty_at A.lay.ctx) (given A.lay.ctx) (output a)
       → Keeps A B I (output a) (chunk I b (output a))
   sim_output {A} {B} {I} a v e k =
       record {

@@ -1,4 +1,5 @@
 -- Two lists whose records are the same in all words, each by its own layout, are accepted alike. Assumes nothing.
+use Rattle.std.specs.Prelude.{Ok, Err}
 use Prim.Native.Nat.{ℕ, zero, suc, ◌≤◌}
 use mathlib.Core.Path.{◌≡◌, refl, sym, ap, ap₂, ◌∙◌}
 use mathlib.Core.Bool.{Bool, true, false, ◌&&◌}
@@ -7,7 +8,6 @@ use native.Mathlib.Omega.{arith}
 use lib.Dec.{leb}
 use lib.ListN.{length, get_or, take}
 use Rattle.tables.specs.declared.Refusal.TheVariants.{NotATable}
-use Rattle.tables.specs.declared.Checked.TheVariants.{Accepted, Refused}
 use Rattle.tables.specs.Pick.{pick}
 use Rattle.tables.specs.Layout.{Placing, record_words, record_size, whole, room, words_from, rows_from}
 use Rattle.tables.specs.Ids.{right_ids, ids_right_by}
@@ -38,5 +38,5 @@ pub check_alike : (f g : Placing) (p : Bool) (t u : List ℕ) (n : ℕ) → whol
     → rows_from f (record_size p) t 0 n ≡ rows_from g (record_size p) u 0 n → checked_by f p t n ≡ checked_by g p u n
 check_alike f g p t u n a b e = λ k.
     pick (a k)
-    (pick (b k && (lawful p no_ctx (records_alike f g p t u n e k) && ids_alike f g p t u n e k)) Accepted (Refused (broken p)))
-    (Refused NotATable)
+    (pick (b k && (lawful p no_ctx (records_alike f g p t u n e k) && ids_alike f g p t u n e k)) (Ok tt) (Err (broken p)))
+    (Err NotATable)

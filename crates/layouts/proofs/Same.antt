@@ -1,4 +1,6 @@
 -- The two layouts hold the same circuit, and the same program: record for record, in all words. Assumes nothing.
+use Rattle.std.specs.Prelude.{Result, Ok, Err}
+use Rattle.tables.specs.declared.Refusal.{Refusal}
 use Prim.Native.Nat.{ℕ, ◌≤◌, ◌<◌}
 use mathlib.Core.Path.{◌≡◌, refl, sym, ap, ◌∙◌, subst}
 use mathlib.Core.Bool.{Bool, true, false, not}
@@ -7,8 +9,6 @@ use native.Mathlib.Omega.{arith}
 use lib.Dec.{leb}
 use lib.ListN.{length, get_or, length-replicate}
 use borrow.Author.Tests.{le-leb, leb-true}
-use Rattle.tables.specs.declared.Answer.{Answer}
-use Rattle.tables.specs.declared.Answer.TheVariants.{Done, Refused}
 use Rattle.tables.specs.Layout.{record_size, whole, held, room, by_row, placing_in, filled_by}
 use Rattle.tables.specs.Answers.{left_by}
 use Rattle.tables.specs.Tables.{checked_by, checked}
@@ -22,19 +22,19 @@ use Rattle.layouts.proofs.Alike.{check_alike}
 
 -- ---- what a conversion leaves
 
-length_left : (a : Answer) (len : ℕ) (u : List ℕ) → length u ≡ len → length (left_by a len u) ≡ len
-length_left (Done m) len u e = e
-length_left (Refused r l) len u e = length-replicate len 0
+length_left : (a : Result ℕ Refusal) (len : ℕ) (u : List ℕ) → length u ≡ len → length (left_by a len u) ≡ len
+length_left (Ok m) len u e = e
+length_left (Err r) len u e = length-replicate len 0
 
 pub length_to : (columns p : Bool) (t : List ℕ) (n len : ℕ) → length (converted_to columns p t n len) ≡ len
 unfolding converted_to
 length_to columns p t n len = length_left (converted p (length t) n len) len _ (length_filled (placing_in columns p) len (rows_in (not columns) p t n))
 
-left_done : (columns p : Bool) (t : List ℕ) (n len : ℕ) → converted p (length t) n len ≡ Done n → converted_to columns p t n len ≡ filled_by (placing_in columns p) len (rows_in (not columns) p t n)
+left_done : (columns p : Bool) (t : List ℕ) (n len : ℕ) → converted p (length t) n len ≡ Ok n → converted_to columns p t n len ≡ filled_by (placing_in columns p) len (rows_in (not columns) p t n)
 unfolding converted_to
-left_done columns p t n len e = ap (λ (a : Answer). left_by a len (filled_by (placing_in columns p) len (rows_in (not columns) p t n))) e
+left_done columns p t n len e = ap (λ (a : Result ℕ Refusal). left_by a len (filled_by (placing_in columns p) len (rows_in (not columns) p t n))) e
 
-module _ (columns p : Bool) (t : List ℕ) (n len : ℕ) (e : converted p (length t) n len ≡ Done n) where
+module _ (columns p : Bool) (t : List ℕ) (n len : ℕ) (e : converted p (length t) n len ≡ Ok n) where
   fits : Fits p (length t) n len
   fits = (done_fits p (length t) n len n e).0
 
@@ -73,7 +73,7 @@ not_not : (b : Bool) → not (not b) ≡ b
 not_not true = refl
 not_not false = refl
 
-pub there_and_back : (columns p : Bool) (t : List ℕ) (n len m : ℕ) → converted p (length t) n len ≡ Done n → converted p len n m ≡ Done n
+pub there_and_back : (columns p : Bool) (t : List ℕ) (n len m : ℕ) → converted p (length t) n len ≡ Ok n → converted p len n m ≡ Ok n
     → converted_to (not columns) p (converted_to columns p t n len) n m ≡ filled_by (placing_in (not columns) p) m (rows_in (not columns) p t n)
 there_and_back columns p t n len m e f =
     let u : List ℕ = converted_to columns p t n len in
@@ -82,7 +82,7 @@ there_and_back columns p t n len m e f =
     ∙ ap (filled_by (placing_in (not columns) p) m) (ap (λ (b : Bool). rows_in b p u n) (not_not columns) ∙ same_records columns p t n len e)
 
 -- a list that holds its counted records and zeros is there again
-pub back_again : (columns p : Bool) (t : List ℕ) (n len : ℕ) → converted p (length t) n len ≡ Done n → t ≡ filled_by (placing_in (not columns) p) (length t) (rows_in (not columns) p t n)
+pub back_again : (columns p : Bool) (t : List ℕ) (n len : ℕ) → converted p (length t) n len ≡ Ok n → t ≡ filled_by (placing_in (not columns) p) (length t) (rows_in (not columns) p t n)
     → converted_to (not columns) p (converted_to columns p t n len) n (length t) ≡ t
 back_again columns p t n len e z =
     let f = (done_fits p (length t) n len n e).0 in

@@ -1,6 +1,5 @@
 -- Conversions computed on small lists. Assumes nothing.
-use Rattle.std.specs.Prelude.{ℕ, ◌≡◌, refl, true, false, List, [], ◌∷◌}
-use Rattle.tables.specs.declared.Answer.TheVariants.{Done, Refused}
+use Rattle.std.specs.Prelude.{ℕ, ◌≡◌, refl, true, false, List, [], ◌∷◌, Ok, Err}
 use Rattle.tables.specs.declared.Refusal.TheVariants.{NotATable, BadTable, BadProgram, TargetTooSmall}
 use Rattle.tables.specs.Layout.{filled_by}
 use Rattle.layouts.specs.Conversion.{converted, converted_to}
@@ -28,13 +27,13 @@ back = refl
 
 -- two records into 24 words and into 12; three into 12 (12); four, of a list of three (11); into 13 words (1); none of an empty list into none
 answers : converted false 18 2 24 ∷ converted false 18 2 12 ∷ converted false 18 3 12 ∷ converted false 18 4 24 ∷ converted false 18 2 13 ∷ converted false 0 0 0 ∷ []
-    ≡ Done 2 ∷ Done 2 ∷ Refused TargetTooSmall 0 ∷ Refused BadTable 0 ∷ Refused NotATable 0 ∷ Done 0 ∷ []
+    ≡ Ok 2 ∷ Ok 2 ∷ Err TargetTooSmall ∷ Err BadTable ∷ Err NotATable ∷ Ok 0 ∷ []
 unfolding converted
 answers = refl
 
 -- of 16,400 places 16,384 count
 many : converted false 98400 16384 98400 ∷ converted false 98400 16385 98400 ∷ converted true 82000 16385 82000 ∷ []
-    ≡ Done 16384 ∷ Refused BadTable 0 ∷ Refused BadProgram 0 ∷ []
+    ≡ Ok 16384 ∷ Err BadTable ∷ Err BadProgram ∷ []
 unfolding converted
 many = refl
 
@@ -44,7 +43,7 @@ unfolding converted_to converted filled_by
 program = refl
 
 program_answers : converted true 10 2 10 ∷ converted true 10 3 10 ∷ converted true 10 2 5 ∷ converted true 10 2 12 ∷ []
-    ≡ Done 2 ∷ Refused BadProgram 0 ∷ Refused TargetTooSmall 0 ∷ Refused NotATable 0 ∷ []
+    ≡ Ok 2 ∷ Err BadProgram ∷ Err TargetTooSmall ∷ Err NotATable ∷ []
 unfolding converted
 program_answers = refl
 

@@ -7,7 +7,7 @@ ghost use Rattle.tables.specs.Tables.{broken as broken_by};
 ghost use Rattle.tables.specs.Layout.{held, placing_in, words_from, set_words, filled_by};
 ghost use Rattle.layouts.specs.Conversion.{rows_in, converted, converts};
 
-use tables::{Answer, Refusal};
+use tables::Refusal;
 
 // The first `count` records of a list go to the target: to columns, from records one behind the other, or back.
 pub fn convert(
@@ -16,46 +16,32 @@ pub fn convert(
     list: &[u64],
     count: usize,
     target: &mut [u64],
-) -> Answer
+) -> Result<usize, Refusal>
     ensures { told result (target.new ∷ []) ≡ converts columns program list.now count (length target.old) }
 {
     records::clear(target);
-    match judge(program, list.len(), count, target.len()) {
-        Answer::Done(n) => {
-            carry(columns, program, list, count, target);
-            Answer::Done(n)
-        }
-        Answer::Refused(r, line) => Answer::Refused(r, line),
-    }
-}
-
-// What is answered where the count exceeds the list or 16,384.
-fn broken(program: bool) -> Refusal
-    ensures { result ≡ broken_by program }
-{
-    if program {
-        return Refusal::BadProgram;
-    }
-    Refusal::BadTable
+    let n = judge(program, list.len(), count, target.len())?;
+    carry(columns, program, list, count, target);
+    Ok(n)
 }
 
 // The answer, for a list and a target of so many words.
-fn judge(program: bool, words: usize, count: usize, len: usize) -> Answer
+fn judge(program: bool, words: usize, count: usize, len: usize) -> Result<usize, Refusal>
     ensures { result ≡ converted program words count len }
 {
     if !records::is_table(program, words) {
-        return Answer::Refused(Refusal::NotATable, 0);
+        return Err(Refusal::NotATable);
     }
     if !records::is_table(program, len) {
-        return Answer::Refused(Refusal::NotATable, 0);
+        return Err(Refusal::NotATable);
     }
     if records::room_of(program, words) < count {
-        return Answer::Refused(broken(program), 0);
+        return Err(checks::broken(program));
     }
     if records::room_of(program, len) < count {
-        return Answer::Refused(Refusal::TargetTooSmall, 0);
+        return Err(Refusal::TargetTooSmall);
     }
-    Answer::Done(count)
+    Ok(count)
 }
 
 // All words of so many records go to the target, which is zero.
@@ -66,10 +52,8 @@ fn carry(columns: bool, program: bool, list: &[u64], count: usize, target: &mut 
     let size = records::size(program);
     let a = records::strides_of(!columns, program, list.len());
     let b = records::strides_of(columns, program, target.len());
-    let mut i: usize = 0;
-    while i < count {
+    for i in 0..count {
         copy(list, a.row * i, a.word, target, b.row * i, b.word, size);
-        i += 1;
     }
 }
 
@@ -78,10 +62,7 @@ fn copy(list: &[u64], x: usize, s: usize, target: &mut [u64], y: usize, z: usize
     requires { ((j : ℕ) → j < m → s * j + x < length list.now) × ((j : ℕ) → j < m → z * j + y < length target.old) }
     ensures { target.new ≡ set_words (λ (j : ℕ). z * j + y) target.old 0 (words_from (λ (j : ℕ). s * j + x) list.now 0 m) }
 {
-    let mut j: usize = 0;
-    while j < m {
-        let v = list[s * j + x];
-        target[z * j + y] = v;
-        j += 1;
+    for j in 0..m {
+        target[z * j + y] = list[s * j + x];
     }
 }

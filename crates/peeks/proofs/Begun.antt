@@ -15,7 +15,7 @@ use Rattle.tables.specs.Pick.{pick}
 use Rattle.tables.specs.Lines.{Line}
 use Rattle.tables.specs.Types.{unmarked_role, ty_at, given, sort_at}
 use Rattle.tables.specs.Tables.{checked}
-use Rattle.tables.proofs.Facts.{Ok, OkInitOrNext}
+use Rattle.tables.proofs.Facts.{OkLine, OkInitOrNext}
 use Rattle.tables.proofs.Values.{unmarked_value}
 use Rattle.tables.proofs.Showing.{by_place, earlier}
 use Rattle.circuits.specs.Cells.{if_nonzero, mask_words, part, put}
@@ -181,7 +181,7 @@ module _ (S ι : List ℕ) (B : Frame) (sound : Sound B.lay) (lines : length B.e
         (laws.put_apart B.sts (place_at B.lay x) vs (omega arith) at m room
         (⊎_elim (λ h. inl h) (λ h. inr (omega arith)) (k.settled.apart x ok.state (λ z. n (sym z)))))))
 
-    pub begun_line : (l : Line) → Ok false (ty_at B.lay.ctx) (given B.lay.ctx) l → Begun S (eval_line false true S ι B l) q at m w (note_init q d l)
+    pub begun_line : (l : Line) → OkLine false (ty_at B.lay.ctx) (given B.lay.ctx) l → Begun S (eval_line false true S ι B l) q at m w (note_init q d l)
     begun_line (Line.bitvec x) ok = quiet (Line.bitvec x) refl
     begun_line (Line.array i e) ok = quiet (Line.array i e) refl
     begun_line (Line.input s) ok = quiet (Line.input s) refl
@@ -195,7 +195,7 @@ module _ (S ι : List ℕ) (B : Frame) (sound : Sound B.lay) (lines : length B.e
 
 -- ---- lines before the state give it nothing
 
-note_early : (Y : Layout) (q : ℕ) (l : Line) → Ok false (ty_at Y.ctx) (given Y.ctx) l → length Y.ctx.tys ≤ q → note_init q 0 l ≡ 0
+note_early : (Y : Layout) (q : ℕ) (l : Line) → OkLine false (ty_at Y.ctx) (given Y.ctx) l → length Y.ctx.tys ≤ q → note_init q 0 l ≡ 0
 note_early Y q (Line.bitvec w) ok h = refl
 note_early Y q (Line.array i e) ok h = refl
 note_early Y q (Line.input s) ok h = refl

@@ -16,7 +16,7 @@ use Rattle.tables.specs.Lines.{Line, Expr, line_of}
 use Rattle.tables.specs.Layout.{record_at, lines_of}
 use Rattle.tables.specs.Types.{unmarked_role, marked_role, ty_at, given, sort_at}
 use Rattle.tables.specs.Tables.{checked}
-use Rattle.tables.proofs.Facts.{IsWord, IsArray, Ok, OkExpr}
+use Rattle.tables.proofs.Facts.{IsWord, IsArray, OkLine, OkExpr}
 use Rattle.tables.proofs.Showing.{earlier}
 use Rattle.tables.proofs.Values.{val_iw, val_w}
 use Rattle.tables.proofs.Wide.{sort_wide}
@@ -497,7 +497,7 @@ module _ {t : List ℕ} {n : ℕ} {P : List (List ℕ)} {ini S R : List ℕ} (lk
 
     -- ---- the line
 
-    fact_line : (x : Line) → l ≡ x → Ok false (ty_at B.lay.ctx) (given B.lay.ctx) x → 2 ≤ (line_type_in false B.lay x).role → (c : ℕ) → c < size (type_at Z (suc i)) → Fact A Z P ini S R (suc i) c x
+    fact_line : (x : Line) → l ≡ x → OkLine false (ty_at B.lay.ctx) (given B.lay.ctx) x → 2 ≤ (line_type_in false B.lay x).role → (c : ℕ) → c < size (type_at Z (suc i)) → Fact A Z P ini S R (suc i) c x
     fact_line (Line.bitvec w) el ok q c hc = omega arith
     fact_line (Line.array a b) el ok q c hc = omega arith
     fact_line (Line.input s) el ok q c hc = fact_input s el ok.flat c

@@ -12,7 +12,7 @@ use Rattle.tables.specs.Lines.{Line, Expr, Shape, is_bitvec, is_array, is_const,
 use Rattle.tables.specs.Layout.{record_at, lines_of}
 use Rattle.tables.specs.Types.{is_value, no_ty, ty_at, given}
 use Rattle.tables.specs.Tables.{checked}
-use Rattle.tables.proofs.Facts.{Ok}
+use Rattle.tables.proofs.Facts.{OkLine}
 use Rattle.tables.proofs.Shapes.{each_binary, KindOf, kind_of_lem, line_as}
 use Rattle.tables.proofs.Every.{at_each, from_to}
 use Rattle.tables.proofs.Values.{val_value}
@@ -25,7 +25,7 @@ use Rattle.circuits.proofs.Placing.{lines_here}
 unary_value : (k : ℕ) → 11 ≤ k → k ≤ 20 → value_kind k ≡ true
 unary_value k h l = from_to value_kind 11 10 k (at_each (λ (m : ℕ). value_kind (m + 11)) 10 tt) h (omega arith)
 
-module _ (Y : Layout) (r : List ℕ) (ok : Ok false (ty_at Y.ctx) (given Y.ctx) (line_of r)) where
+module _ (Y : Layout) (r : List ℕ) (ok : OkLine false (ty_at Y.ctx) (given Y.ctx) (line_of r)) where
   yes : (S : Shape) → shape_of (kind_in r) ≡ S → 2 ≤ (line_type_in false Y (build S (kind_in r) (sort_in r) (first_in r) (second_in r) (third_in r))).role → value_kind (kind_in r) ≡ true
       → is_value (line_type_in false Y (line_of r)) ≡ value_kind (kind_in r)
   yes S e q v = ap (λ (l : Line). is_value (line_type_in false Y l)) (line_as r S e) ∙ le-leb 2 _ q ∙ sym v
@@ -34,8 +34,8 @@ module _ (Y : Layout) (r : List ℕ) (ok : Ok false (ty_at Y.ctx) (given Y.ctx) 
       → is_value (line_type_in false Y (line_of r)) ≡ value_kind (kind_in r)
   no S e q v = ap (λ (l : Line). is_value (line_type_in false Y l)) (line_as r S e) ∙ lt-leb 2 _ q ∙ sym v
 
-  by : (S : Shape) → shape_of (kind_in r) ≡ S → Ok false (ty_at Y.ctx) (given Y.ctx) (build S (kind_in r) (sort_in r) (first_in r) (second_in r) (third_in r))
-  by S e = subst (Ok false (ty_at Y.ctx) (given Y.ctx)) (line_as r S e) ok
+  by : (S : Shape) → shape_of (kind_in r) ≡ S → OkLine false (ty_at Y.ctx) (given Y.ctx) (build S (kind_in r) (sort_in r) (first_in r) (second_in r) (third_in r))
+  by S e = subst (OkLine false (ty_at Y.ctx) (given Y.ctx)) (line_as r S e) ok
 
   val : (e : Expr) → 2 ≤ (line_type_in false Y (Line.value (sort_in r) e)).role
   val e = val_value false (ty_at Y.ctx) (sort_in r) e
@@ -74,7 +74,7 @@ module _ (t : List ℕ) (n : ℕ) (acc : checked false t n ≡ Accepted) where
       let q : suc i ≡ length Y.ctx.tys = omega (arith, number_at false t n acc i (omega arith)) in
       let ty : type_at (layout false (lines_of false t n)) (suc i) ≡ line_type_in false Y l =
       (later_at false t n acc i h).type (suc i) (omega (arith, more_types false Y l)) ∙ ap (type_at (lay false Y l)) q ∙ type_new false Y l (sound_at false t n acc i).long in
-      ap is_value (ty ∙ ap (line_type_in false Y) el) ∙ value_of_lem Y (record_at false t i) (subst (Ok false (ty_at Y.ctx) (given Y.ctx)) el (ok_here false t n acc i h))
+      ap is_value (ty ∙ ap (line_type_in false Y) el) ∙ value_of_lem Y (record_at false t i) (subst (OkLine false (ty_at Y.ctx) (given Y.ctx)) el (ok_here false t n acc i h))
 
   -- line 0 and the lines past the count
   pub no_value_lem : is_value (type_at (layout false (lines_of false t n)) 0) ≡ false

@@ -17,7 +17,7 @@ use Rattle.tables.specs.Layout.{whole, held, filled}
 use Rattle.tables.specs.Types.{sort_at, ty_at, given, given_by, Ctx, no_ctx}
 use Rattle.tables.specs.Tables.{checked}
 use Rattle.tables.proofs.Kept.{no_yes, neither}
-use Rattle.tables.proofs.Facts.{OkUnary, OkValue, OkExpr, Ok, AllOk}
+use Rattle.tables.proofs.Facts.{OkUnary, OkValue, OkExpr, OkLine, AllOk}
 use Rattle.tables.proofs.Entries.{ok_append}
 use Rattle.tables.proofs.Encoding.{lines_accepted}
 use Rattle.circuits.specs.Layout.{Layout, type_at, line_type_in, place_of, lay, lay_all}
@@ -38,7 +38,7 @@ mask_ok L w b t e h k c i x =
     (record { kind = inr refl; sort = record { is = refl; flat = refl }; arg = record { is = c; flat = i }; rule = eq-eqb w t.w (sym x); spare₂ = refl; spare₃ = refl })
 
 module _ {Y Z : Layout} {J : List Known} (v : Laid Y Z J) (o : Once Y Z J) where
-  masked_ok : (i l : Line) (b w : ℕ) (lo n : Bool) → b ≡ lines Z → Fresh Z i (line_type_in false Y l) (place_of Y l) w lo → Ok true (ty_at Z.ctx) (given Z.ctx) i → AllOk true Z.ctx (with_mask b w i lo n).code
+  masked_ok : (i l : Line) (b w : ℕ) (lo n : Bool) → b ≡ lines Z → Fresh Z i (line_type_in false Y l) (place_of Y l) w lo → OkLine true (ty_at Z.ctx) (given Z.ctx) i → AllOk true Z.ctx (with_mask b w i lo n).code
   masked_ok i l b w false n e h k = (k, tt)
   masked_ok i l b w true false e h k = (k, tt)
   masked_ok i l b w true true e h k =
@@ -66,12 +66,12 @@ module _ {Y Z : Layout} {J : List Known} (v : Laid Y Z J) (o : Once Y Z J) where
   value_ok true q x c k = record { word = k.word; below = o.rising x q k.word.is (omega arith) k.below; unmarked = k.unmarked }
   value_ok false q x c k = k
 
-  init_next_ok : (m : Bool) (s q x : ℕ) → Ok false (ty_at Y.ctx) (given Y.ctx) (init_or_next m s q x) → Ok true (ty_at Z.ctx) (given Z.ctx) (init_or_next m (operand_width J s) (operand_number J q) (operand_number J x))
+  init_next_ok : (m : Bool) (s q x : ℕ) → OkLine false (ty_at Y.ctx) (given Y.ctx) (init_or_next m s q x) → OkLine true (ty_at Z.ctx) (given Z.ctx) (init_or_next m (operand_width J s) (operand_number J q) (operand_number J x))
   init_next_ok m s q x k =
       rw (sorted v s k.sort.is, typed v q (omega (arith, k.state)), typed v x (given_value m q x (type_at Y x) k.value))
       (record { sort = k.sort; state = k.state; same = k.same; value = value_ok m q x k.state k.value; iw = k.iw; w = k.w; once = o.same m q k.state ∙ k.once })
 
-  pub line_ok : (N : ℕ → Bool) (b : ℕ) (l : Line) → b ≡ lines Z → Ok false (ty_at Y.ctx) (given Y.ctx) l → array_sort_line l ≡ false → AllOk true Z.ctx (instructions_of N J b l).code
+  pub line_ok : (N : ℕ → Bool) (b : ℕ) (l : Line) → b ≡ lines Z → OkLine false (ty_at Y.ctx) (given Y.ctx) l → array_sort_line l ≡ false → AllOk true Z.ctx (instructions_of N J b l).code
   line_ok N b (bitvec w) e k f = tt
   line_ok N b (array i j) e k f = tt
   line_ok N b (input s) e k f =
@@ -109,7 +109,7 @@ module _ {Y Z : Layout} {J : List Known} (v : Laid Y Z J) (o : Once Y Z J) where
   unchanged p X l e f true = e
   unchanged p X l e f false = f
 
-  pub once_line : (N : ℕ → Bool) (b : ℕ) (l : Line) → b ≡ lines Z → Ok false (ty_at Y.ctx) (given Y.ctx) l → array_sort_line l ≡ false
+  pub once_line : (N : ℕ → Bool) (b : ℕ) (l : Line) → b ≡ lines Z → OkLine false (ty_at Y.ctx) (given Y.ctx) l → array_sort_line l ≡ false
       → Once (lay false Y l) (lay_all true Z (instructions_of N J b l).code) (J ++ ((instructions_of N J b l).info ∷ []))
   once_line N b (bitvec w) e k f = once_quiet v o (bitvec w) (info w 0 false) (λ c. absurd (omega arith)) (unchanged false Y (bitvec w) refl refl) (λ m. refl) (le_refl (lines Z))
   once_line N b (array i j) e k f = absurd (no_yes (sym f))

@@ -14,7 +14,7 @@ use Rattle.tables.specs.declared.Ty.{Ty}
 use Rattle.tables.specs.Lines.{Line, bitvec, array, input, state, value, init_or_next, signal, output, unknown}
 use Rattle.tables.specs.Types.{ty_at, given, no_ctx}
 use Rattle.tables.proofs.Kept.{neither}
-use Rattle.tables.proofs.Facts.{Ok, AllOk}
+use Rattle.tables.proofs.Facts.{OkLine, AllOk}
 use Rattle.tables.proofs.Showing.{earlier}
 use Rattle.circuits.specs.Layout.{Layout, type_at, lay, lay_all, no_layout, layout}
 use Rattle.circuits.specs.Free.{Source, driven, free, source_of, cell_sources, sources_here, sources_from, sources, fed}
@@ -67,7 +67,7 @@ own_number b w i true n h = absurd (h refl)
 
 -- hY and hZ say which lines a next line sets, among all lines, those behind l too
 module _ {Y Z : Layout} {J : List Known} (v : Laid Y Z J) (o : Once Y Z J) (N : ℕ → Bool) (b : ℕ) (e : b ≡ lines Z) (hY hZ : ℕ → Bool) where
-  here_same : (l : Line) → Ok false (ty_at Y.ctx) (given Y.ctx) l → ((q : ℕ) → (type_at (lay false Y l) q).role ≡ 4 → hZ (operand_number (J ++ ((instructions_of N J b l).info ∷ [])) q) ≡ hY q)
+  here_same : (l : Line) → OkLine false (ty_at Y.ctx) (given Y.ctx) l → ((q : ℕ) → (type_at (lay false Y l) q).role ≡ 4 → hZ (operand_number (J ++ ((instructions_of N J b l).info ∷ [])) q) ≡ hY q)
       → sources_from true hZ Z (instructions_of N J b l).code ≡ sources_here false hY Y l
   here_same (bitvec w) k g = refl
   here_same (array i j) k g = refl

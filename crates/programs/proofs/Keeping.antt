@@ -20,7 +20,7 @@ use Rattle.tables.proofs.Showing.{by_place, snoc_other}
 use Rattle.tables.proofs.Places.{length_records, length_record, length_lines, record_at_lem}
 use Rattle.tables.proofs.Checking.{zeros_at}
 use Rattle.tables.proofs.Encoding.{fits_table}
-use Rattle.tables.proofs.Facts.{Ok, OkExpr, AllOk}
+use Rattle.tables.proofs.Facts.{OkLine, OkExpr, AllOk}
 use Rattle.tables.proofs.Sound.{accepted_lawful, accepted_ok}
 use Rattle.circuits.proofs.Walked.{line_here}
 use Rattle.programs.specs.Translation.{Known, none_known, known_at, operand_width, operand_number, loose_of}
@@ -131,7 +131,7 @@ kinded_expr c s (ite d a b) k = tt
 kinded_expr c s (read a i) k = tt
 kinded_expr c s (write a i v) k = tt
 
-kinded_line : (c : Ctx) (l : Line) → Ok false (ty_at c) (given c) l → Kinded l
+kinded_line : (c : Ctx) (l : Line) → OkLine false (ty_at c) (given c) l → Kinded l
 kinded_line c (bitvec w) k = tt
 kinded_line c (array i e) k = tt
 kinded_line c (input s) k = tt

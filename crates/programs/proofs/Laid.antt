@@ -12,7 +12,7 @@ use Rattle.tables.specs.declared.Ty.{Ty}
 use Rattle.tables.specs.Lines.{Line}
 use Rattle.tables.specs.Types.{ty, no_ty, marked, value_role, sort_at, ty_at, given}
 use Rattle.tables.proofs.Values.{role_back}
-use Rattle.tables.proofs.Facts.{Ok}
+use Rattle.tables.proofs.Facts.{OkLine}
 use Rattle.tables.proofs.Wide.{AllWide, grow_wide}
 use Rattle.circuits.specs.Layout.{Layout, type_at, place_at, line_type_in, place_of, lay, lay_all}
 use Rattle.programs.specs.Translation.{Known, info, none_known, known_at, mask_of, with_mask}
@@ -60,7 +60,7 @@ pub record Laid (Y Z : Layout) (J : List Known) : Type 0 where
   pub rel : (i : ℕ) → Rel Z (type_at Y i) (place_at Y i) (known_at J i)
 
 -- one line more, of which the program has what Z' has more than Z
-pub laid_end : {Y Z Z' : Layout} {J : List Known} (l : Line) (f : Known) → Laid Y Z J → Ok false (ty_at Y.ctx) (given Y.ctx) l → Grew Z Z' → Even Z'
+pub laid_end : {Y Z Z' : Layout} {J : List Known} (l : Line) (f : Known) → Laid Y Z J → OkLine false (ty_at Y.ctx) (given Y.ctx) l → Grew Z Z' → Even Z'
     → Z'.counts.states ≡ (lay false Y l).counts.states → Z'.counts.inputs ≡ (lay false Y l).counts.inputs → Z'.counts.signals ≡ (lay false Y l).counts.signals
     → Rel Z' (line_type_in false Y l) (place_of Y l) f → Laid (lay false Y l) Z' (J ++ (f ∷ []))
 laid_end {Y} {Z} {Z'} {J} l f v ok g ev es ei eg r =

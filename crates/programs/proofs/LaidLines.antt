@@ -11,7 +11,7 @@ use Rattle.tables.specs.Lines.{Line, Expr, bitvec, array, input, state, value, i
 use Rattle.tables.specs.Types.{ty, no_ty, sort_at, ty_at, given, no_ctx}
 use Rattle.tables.specs.Pick.{pick}
 use Rattle.tables.proofs.Kept.{no_yes, neither}
-use Rattle.tables.proofs.Facts.{Ok, OkExpr, AllOk}
+use Rattle.tables.proofs.Facts.{OkLine, OkExpr, AllOk}
 use Rattle.tables.proofs.Values.{val_iw, val_w, val_value, val_most}
 use Rattle.circuits.specs.Layout.{Layout, type_at, place_at, line_type_in, place_of, size, lay, lay_all, no_layout, layout}
 use Rattle.programs.specs.Uses.{loose_line, loose_expr, has_needing_use}
@@ -62,7 +62,7 @@ module _ {Y Z : Layout} {J : List Known} (v : Laid Y Z J) where
 
   -- ---- value lines
 
-  pub fresh_input : (s : ℕ) (lo : Bool) → Ok false (ty_at Y.ctx) (given Y.ctx) (input s) → Fresh Z (input (operand_width J s)) (line_type_in false Y (input s)) (place_of Y (input s)) (operand_width J s) lo
+  pub fresh_input : (s : ℕ) (lo : Bool) → OkLine false (ty_at Y.ctx) (given Y.ctx) (input s) → Fresh Z (input (operand_width J s)) (line_type_in false Y (input s)) (place_of Y (input s)) (operand_width J s) lo
   fresh_input s lo k =
       let w : operand_width J s ≡ (type_at Y s).w = (v.rel s).sort k.is in
       let g = v.wide s (omega (arith, k.is)) in
@@ -78,7 +78,7 @@ module _ {Y Z : Layout} {J : List Known} (v : Laid Y Z J) where
         low = λ c. absurd (omega arith);
       }
 
-  pub fresh_state : (s : ℕ) (lo : Bool) → (lo ≡ true → ⊥) → Ok false (ty_at Y.ctx) (given Y.ctx) (state s) → Fresh Z (state (operand_width J s)) (line_type_in false Y (state s)) (place_of Y (state s)) (operand_width J s) lo
+  pub fresh_state : (s : ℕ) (lo : Bool) → (lo ≡ true → ⊥) → OkLine false (ty_at Y.ctx) (given Y.ctx) (state s) → Fresh Z (state (operand_width J s)) (line_type_in false Y (state s)) (place_of Y (state s)) (operand_width J s) lo
   fresh_state s lo n k =
       let w : operand_width J s ≡ (type_at Y s).w = (v.rel s).sort k.is in
       let g = v.wide s (omega (arith, k.is)) in
@@ -95,7 +95,7 @@ module _ {Y Z : Layout} {J : List Known} (v : Laid Y Z J) where
         low = λ c. omega (arith, v.states);
       }
 
-  pub fresh_val : (s : ℕ) (x : Expr) (lo : Bool) → Ok false (ty_at Y.ctx) (given Y.ctx) (value s x)
+  pub fresh_val : (s : ℕ) (x : Expr) (lo : Bool) → OkLine false (ty_at Y.ctx) (given Y.ctx) (value s x)
       → Fresh Z (value (operand_width J s) (renumbered (operand_number J) x)) (line_type_in false Y (value s x)) (place_of Y (value s x)) (operand_width J s) lo
   fresh_val s x lo k =
       let c = sort_class_lem s x k in
@@ -116,7 +116,7 @@ module _ {Y Z : Layout} {J : List Known} (v : Laid Y Z J) where
 
   -- ---- any line
 
-  value_line : (l i : Line) (b w : ℕ) (lo n : Bool) → b ≡ lines Z → Ok false (ty_at Y.ctx) (given Y.ctx) l → Fresh Z i (line_type_in false Y l) (place_of Y l) w lo
+  value_line : (l i : Line) (b w : ℕ) (lo n : Bool) → b ≡ lines Z → OkLine false (ty_at Y.ctx) (given Y.ctx) l → Fresh Z i (line_type_in false Y l) (place_of Y l) w lo
       → (lay true Z i).counts.states ≡ (lay false Y l).counts.states → (lay true Z i).counts.inputs ≡ (lay false Y l).counts.inputs → (lay true Z i).counts.signals ≡ (lay false Y l).counts.signals
       → Laid (lay false Y l) (lay_all true Z (with_mask b w i lo n).code) (J ++ ((with_mask b w i lo n).info ∷ []))
   value_line l i b w lo n e k h es ei eg =
@@ -124,12 +124,12 @@ module _ {Y Z : Layout} {J : List Known} (v : Laid Y Z J) where
       laid_end l (with_mask b w i lo n).info v k p.grew p.even (p.counts.0 ∙ es) (p.counts.1 ∙ ei) (p.counts.2 ∙ eg)
       (record { flat = h.flat; sort = λ c. absurd (omega (arith, h.class)); value = λ c. p.reg })
 
-  quiet_line : (l i : Line) → Ok false (ty_at Y.ctx) (given Y.ctx) l → line_type_in false Y l ≡ no_ty
+  quiet_line : (l i : Line) → OkLine false (ty_at Y.ctx) (given Y.ctx) l → line_type_in false Y l ≡ no_ty
       → (lay true Z i).counts.states ≡ (lay false Y l).counts.states → (lay true Z i).counts.inputs ≡ (lay false Y l).counts.inputs → (lay true Z i).counts.signals ≡ (lay false Y l).counts.signals
       → Laid (lay false Y l) (lay true Z i) (J ++ (none_known ∷ []))
   quiet_line l i k t es ei eg = laid_end l none_known v k (grew_line true v.even_z i) (even_line true v.even_z i) es ei eg (subst⁻¹ (λ (x : Ty). Rel (lay true Z i) x (place_of Y l) none_known) t rel_none)
 
-  pub laid_line : (N : ℕ → Bool) (b : ℕ) (l : Line) → b ≡ lines Z → Ok false (ty_at Y.ctx) (given Y.ctx) l → array_sort_line l ≡ false
+  pub laid_line : (N : ℕ → Bool) (b : ℕ) (l : Line) → b ≡ lines Z → OkLine false (ty_at Y.ctx) (given Y.ctx) l → array_sort_line l ≡ false
       → Laid (lay false Y l) (lay_all true Z (instructions_of N J b l).code) (J ++ ((instructions_of N J b l).info ∷ []))
   laid_line N b (bitvec w) e k f =
       laid_end (bitvec w) (info w 0 false) v k (grew_none Z) v.even_z v.states v.inputs v.signals

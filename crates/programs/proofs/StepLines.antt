@@ -14,7 +14,7 @@ use Rattle.tables.specs.Pick.{pick, alike}
 use Rattle.tables.specs.Lines.{Line, Expr, bitvec, array, input, state, value, init_or_next, signal, output, unknown, init_or_next_kind}
 use Rattle.tables.specs.Types.{ty_at, given}
 use Rattle.tables.proofs.Kept.{no_yes}
-use Rattle.tables.proofs.Facts.{Ok, OkValue}
+use Rattle.tables.proofs.Facts.{OkLine, OkValue}
 use Rattle.tables.proofs.Values.{val_most}
 use Rattle.tables.proofs.Showing.{by_place, snoc_other}
 use Rattle.circuits.specs.Cells.{if_nonzero, part, put as put_words}
@@ -87,13 +87,13 @@ module _ (g : Bool) (σ ι : List ℕ) (W : ℕ → ℕ) (N : ℕ → Bool) (tam
     abbrev Kept : Line → Type 0
     Kept l = Alike W N (eval_line false g σ ι A l) (eval_all true g σ ι B (instructions_of N J b l).code) (J ++ ((instructions_of N J b l).info ∷ []))
 
-    laid_here : (l : Line) → Ok false (ty_at A.lay.ctx) (given A.lay.ctx) l → array_sort_line l ≡ false
+    laid_here : (l : Line) → OkLine false (ty_at A.lay.ctx) (given A.lay.ctx) l → array_sort_line l ≡ false
         → Laid (lay false A.lay l) (eval_all true g σ ι B (instructions_of N J b l).code).lay (J ++ ((instructions_of N J b l).info ∷ []))
     laid_here l k f = subst⁻¹ (λ (Z : Layout). Laid (lay false A.lay l) Z (J ++ ((instructions_of N J b l).info ∷ []))) (eval_lay true g σ ι B (instructions_of N J b l).code) (laid_line v.laid N b l e k f)
 
     -- ---- value lines
 
-    new_input : (s : ℕ) → Ok false (ty_at A.lay.ctx) (given A.lay.ctx) (input s)
+    new_input : (s : ℕ) → OkLine false (ty_at A.lay.ctx) (given A.lay.ctx) (input s)
         → New g σ ι A B (input (operand_width J s)) (input s) (operand_width J s) (loose_line (operand_width J s) 4 false false false)
     new_input s k =
         let w = operand_width J s in
@@ -107,13 +107,13 @@ module _ (g : Bool) (σ ι : List ℕ) (W : ℕ → ℕ) (N : ℕ → Bool) (tam
           result = record { fits = words A.lay.counts.inputs; small = mod-lt u (pow_pos w); stands = narrowed w true u (u % 2 ^ w) (words A.lay.counts.inputs) refl };
         }
 
-    line_input : (s : ℕ) → Ok false (ty_at A.lay.ctx) (given A.lay.ctx) (input s) → Kept (input s)
+    line_input : (s : ℕ) → OkLine false (ty_at A.lay.ctx) (given A.lay.ctx) (input s) → Kept (input s)
     line_input s k =
         let lo = loose_line (operand_width J s) 4 false false false in
         let h = holds g σ ι W v.full_b b e lo (N (length J)) (fresh_input v.laid s lo k) (new_input s k) (λ c. absurd (omega arith)) in
         alike_end g σ ι (input s) _ v h.more (laid_here (input s) k refl) h.full (h.sts ∙ v.sts) (h.sigs ∙ v.sigs) v.count v.fit (λ c. h.word)
 
-    line_value : (s : ℕ) (x : Expr) → Ok false (ty_at A.lay.ctx) (given A.lay.ctx) (value s x) → Met N (needs (value s x)) → Kept (value s x)
+    line_value : (s : ℕ) (x : Expr) → OkLine false (ty_at A.lay.ctx) (given A.lay.ctx) (value s x) → Met N (needs (value s x)) → Kept (value s x)
     line_value s x k m =
         let lo = loose_expr (loose_of J) (operand_width J s) x in
         let r = fresh_val v.laid s x lo k in
@@ -122,7 +122,7 @@ module _ (g : Bool) (σ ι : List ℕ) (W : ℕ → ℕ) (N : ℕ → Bool) (tam
 
     -- ---- a state line
 
-    module _ (s : ℕ) (k : Ok false (ty_at A.lay.ctx) (given A.lay.ctx) (state s)) (r : Reads W σ A.lay (state s)) where
+    module _ (s : ℕ) (k : OkLine false (ty_at A.lay.ctx) (given A.lay.ctx) (state s)) (r : Reads W σ A.lay (state s)) where
       abbrev cell : ℕ
       cell = get_or σ A.lay.counts.states 0 % 2 ^ (type_at A.lay s).w
 
@@ -182,7 +182,7 @@ module _ (g : Bool) (σ ι : List ℕ) (W : ℕ → ℕ) (N : ℕ → Bool) (tam
     one_given C true n x z h = ap (λ (y : ℕ). replicate y (word_at C x)) z
     one_given C false n x z h = h
 
-    line_init_or_next : (m : Bool) (s q x : ℕ) → Ok false (ty_at A.lay.ctx) (given A.lay.ctx) (init_or_next m s q x) → Met N (needs (init_or_next m s q x)) → Kept (init_or_next m s q x)
+    line_init_or_next : (m : Bool) (s q x : ℕ) → OkLine false (ty_at A.lay.ctx) (given A.lay.ctx) (init_or_next m s q x) → Met N (needs (init_or_next m s q x)) → Kept (init_or_next m s q x)
     line_init_or_next m s q x k n =
         let i = init_or_next m (operand_width J s) (operand_number J q) (operand_number J x) in
         let hq : 2 ≤ (type_at A.lay q).role = omega (arith, k.state) in
@@ -213,13 +213,13 @@ module _ (g : Bool) (σ ι : List ℕ) (W : ℕ → ℕ) (N : ℕ → Bool) (tam
         kept true a y h l = fit_set W A.sts a y v.fit h l
         kept false a y h l = v.fit
 
-    line_signal : (m : Bool) (a : ℕ) → Ok false (ty_at A.lay.ctx) (given A.lay.ctx) (signal m a) → Met N (needs (signal m a)) → Kept (signal m a)
+    line_signal : (m : Bool) (a : ℕ) → OkLine false (ty_at A.lay.ctx) (given A.lay.ctx) (signal m a) → Met N (needs (signal m a)) → Kept (signal m a)
     line_signal m a k n =
         let i = signal m (operand_number J a) in
         alike_end g σ ι (signal m a) none_known v (more_line g σ ι v.full_b i) (laid_here (signal m a) k refl) (full_line g σ ι v.full_b i true) v.sts
         (ap₂ (λ (y : List Signal) (z : ℕ). y ++ (signal_byte m (if_nonzero z 1 0) ∷ [])) v.sigs (clean g σ ι v a k.word.is (needs_signal m a n))) v.count v.fit (λ c. absurd (omega arith))
 
-    pub alike_line : (l : Line) → Ok false (ty_at A.lay.ctx) (given A.lay.ctx) l → array_sort_line l ≡ false → Met N (needs l) → Reads W σ A.lay l → Kept l
+    pub alike_line : (l : Line) → OkLine false (ty_at A.lay.ctx) (given A.lay.ctx) l → array_sort_line l ≡ false → Met N (needs l) → Reads W σ A.lay l → Kept l
     alike_line (bitvec w) k f m r =
         alike_end g σ ι (bitvec w) (info w 0 false) v (more_none (grew_none B.lay)) (laid_here (bitvec w) k f) v.full_b v.sts v.sigs v.count v.fit (λ c. absurd (omega arith))
     alike_line (array i j) k f m r = absurd (no_yes (sym f))

@@ -2,7 +2,7 @@
 #![tactic(auto)]
 
 ghost use Rattle.std.specs.Prelude.{◌≡◌};
-ghost use Rattle.tables.specs.Rules.{suits as suits_of, classes, once_rules, fault as fault_of};
+ghost use Rattle.tables.specs.Rules.{suits as suits_of, classes, once_rules, fault as fault_of, refused_by};
 ghost use Rattle.tables.specs.Pick.{all};
 ghost use Rattle.tables.specs.Lines.{line_of, kind_in};
 ghost use Rattle.tables.specs.Model.Notes.{given_in, look_in};
@@ -11,7 +11,7 @@ ghost use Rattle.tables.specs.Kinds.{row_of};
 use records::kinds::{ARRAY, ASORT, SORT, STATE, VALUE, WORD, WSORT};
 use records::notes;
 use records::notes::BYTES;
-use tables::{Ty, WORDS};
+use tables::{Refusal, Ty, WORDS};
 
 // A line of the type t may stand where the class k is asked for.
 fn suits(k: u8, t: Ty) -> bool
@@ -67,23 +67,28 @@ fn once(rec: [u64; WORDS], b: Ty, notes: &[[u8; BYTES]]) -> bool
     }
 }
 
-// The first of 8, 9 and 10 that holds of a record after the lines that the notes hold, or 0. The row is that of its kind.
-pub fn fault(program: bool, row: [u8; 16], rec: [u64; WORDS], notes: &[[u8; BYTES]]) -> u64
+// The first of 8, 9 and 10 that holds of a record after the lines that the notes hold. The row is that of its kind.
+pub fn fault(
+    program: bool,
+    row: [u8; 16],
+    rec: [u64; WORDS],
+    notes: &[[u8; BYTES]],
+) -> Result<(), Refusal>
     requires { row ≡ row_of (kind_in rec) }
-    ensures { result ≡ fault_of program (look_in notes.now) (given_in notes.now) rec }
+    ensures { result ≡ refused_by (fault_of program (look_in notes.now) (given_in notes.now) rec) }
 {
     let t = types::sort_at(program, notes, rec[1]);
     let a = notes::look(notes, rec[2]);
     let b = notes::look(notes, rec[3]);
     let c = notes::look(notes, rec[4]);
     if !classed(row, t, a, b, c) {
-        return 8;
+        return Err(Refusal::WrongClass);
     }
     if !widths::fits(rec, t, a, b, c) {
-        return 9;
+        return Err(Refusal::Misfit);
     }
     if !once(rec, b, notes) {
-        return 10;
+        return Err(Refusal::InitOrNext);
     }
-    0
+    Ok(())
 }

@@ -1,4 +1,5 @@
 -- The answers of the check of a table, and the notes it starts from. Assumes nothing.
+use Rattle.std.specs.Prelude.{Result, Ok, Err}
 use Prim.Native.Nat.{ℕ, zero, suc, ◌≤◌, ◌<◌}
 use mathlib.Core.Path.{◌≡◌, refl, sym, ap, ◌∙◌, subst}
 use mathlib.Core.Bool.{Bool, true, false, ◌&&◌}
@@ -9,7 +10,6 @@ use lib.ListN.{length, get_or, replicate, length-replicate}
 use borrow.Author.Tests.{le-leb, lt-leb}
 use Rattle.tables.specs.declared.Refusal.{Refusal}
 use Rattle.tables.specs.declared.Refusal.TheVariants.{NotATable}
-use Rattle.tables.specs.declared.Checked.TheVariants.{Accepted, Refused}
 use Rattle.tables.specs.Layout.{whole, held, room, records_of}
 use Rattle.tables.specs.Ids.{ids_right}
 use Rattle.tables.specs.Types.{ty, no_ty, no_ctx, ty_at, given}
@@ -17,19 +17,19 @@ use Rattle.tables.specs.Tables.{lawful, broken, checked}
 use Rattle.tables.specs.Model.Notes.{blank, note_at, flag_in, given_in, Shows, Fresh}
 
 module _ (p : Bool) (t : List ℕ) (n : ℕ) where
-  pub no_table : whole p (length t) ≡ false → Refused NotATable ≡ checked p t n
+  pub no_table : whole p (length t) ≡ false → Err NotATable ≡ checked p t n
   unfolding checked
   no_table e = rw e
 
-  pub too_many : whole p (length t) ≡ true → room p (length t) < n → Refused (broken p) ≡ checked p t n
+  pub too_many : whole p (length t) ≡ true → room p (length t) < n → Err (broken p) ≡ checked p t n
   unfolding checked
   too_many e h = rw (e, lt-leb n (room p (length t)) h)
 
-  pub unlawful : whole p (length t) ≡ true → n ≤ room p (length t) → false ≡ lawful p no_ctx (records_of p t n) → Refused (broken p) ≡ checked p t n
+  pub unlawful : whole p (length t) ≡ true → n ≤ room p (length t) → false ≡ lawful p no_ctx (records_of p t n) → Err (broken p) ≡ checked p t n
   unfolding checked
   unlawful e h l = rw (e, le-leb n (room p (length t)) h, sym l)
 
-  pub ids_wrong : whole p (length t) ≡ true → n ≤ room p (length t) → false ≡ ids_right p t n → Refused (broken p) ≡ checked p t n
+  pub ids_wrong : whole p (length t) ≡ true → n ≤ room p (length t) → false ≡ ids_right p t n → Err (broken p) ≡ checked p t n
   unfolding checked
   ids_wrong e h l = rw (e, le-leb n (room p (length t)) h, sym l, and_no (lawful p no_ctx (records_of p t n)))
     where
@@ -37,11 +37,11 @@ module _ (p : Bool) (t : List ℕ) (n : ℕ) where
       and_no true = refl
       and_no false = refl
 
-  pub is_lawful : whole p (length t) ≡ true → n ≤ room p (length t) → true ≡ lawful p no_ctx (records_of p t n) → true ≡ ids_right p t n → Accepted ≡ checked p t n
+  pub is_lawful : whole p (length t) ≡ true → n ≤ room p (length t) → true ≡ lawful p no_ctx (records_of p t n) → true ≡ ids_right p t n → Ok tt ≡ checked p t n
   unfolding checked
   is_lawful e h l d = rw (e, le-leb n (room p (length t)) h, sym l, sym d)
 
-pub not_accepted : (r : Refusal) → Refused r ≡ Accepted → ⊥
+pub not_accepted : (r : Refusal) → ◌≡◌ {A = Result (Unit {0}) Refusal} (Err r) (Ok tt) → ⊥
 not_accepted r e = let z : ◌≡◌ {A = ℕ} 0 1 = cc in omega arith
 
 pub roomy : (p : Bool) (len n : ℕ) → n ≤ room p len → (n ≤ 16384) × (n ≤ held p len)

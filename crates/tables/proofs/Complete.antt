@@ -20,7 +20,7 @@ use Rattle.tables.proofs.Every.{at_each, from_to}
 use Rattle.tables.proofs.Shapes.{BinaryKind, each_binary, line_as, shape_unary, shape_binary, fits_as, once_as}
 use Rattle.tables.proofs.Answers.{Passed, all_passed}
 use Rattle.tables.proofs.Kept.{both, either}
-use Rattle.tables.proofs.Facts.{IsValue, IsWord, IsArray, IsSort, IsWordSort, IsArraySort, Same, OneKind, OkExpr, Ok, AllOk}
+use Rattle.tables.proofs.Facts.{IsValue, IsWord, IsArray, IsSort, IsWordSort, IsArraySort, Same, OneKind, OkExpr, OkLine, AllOk}
 use Rattle.tables.proofs.Laws.{or_true}
 use Rattle.tables.proofs.Places.{Sized}
 use Rattle.tables.proofs.Sound.{one_row, two_row}
@@ -61,7 +61,7 @@ unary_shape false k h = shape_unary k h.0 h.1
 unary_shape true k (inl h) = shape_unary k h.0 h.1
 unary_shape true k (inr e) = ap shape_of e
 
-pub again : (p : Bool) (L : ℕ → Ty) (G : Bool → ℕ → Bool) (l : Line) → Ok p L G l → line_of (words_of l) ≡ l
+pub again : (p : Bool) (L : ℕ → Ty) (G : Bool → ℕ → Bool) (l : Line) → OkLine p L G l → line_of (words_of l) ≡ l
 again p L G (Line.bitvec w) k = refl
 again p L G (Line.array i e) k = refl
 again p L G (Line.input s) k = refl
@@ -203,7 +203,7 @@ module _ (p : Bool) (L : ℕ → Ty) (G : Bool → ℕ → Bool) where
         once = refl;
       })
 
-  pub complete : (l : Line) → Ok p L G l → keeps p L G (words_of l) ≡ true
+  pub complete : (l : Line) → OkLine p L G l → keeps p L G (words_of l) ≡ true
   unfolding row_of suits
   complete (Line.bitvec w) k =
       kept p L G (fields 1 0 w 0 0) (circuits p 1 k.form refl) refl (record { class = refl; width = and₂ (and₂ (le-leb 1 w k.least) (le-leb w 64 k.most)) refl; once = refl })

@@ -14,7 +14,7 @@ use Rattle.tables.specs.Types.{sort_at, ty_at, given, no_ctx, grow_all}
 use Rattle.tables.specs.Cone.{line_numbered, uses_expr, uses}
 use Rattle.tables.proofs.Kept.{either, no_yes}
 use Rattle.tables.proofs.Showing.{earlier}
-use Rattle.tables.proofs.Facts.{OkExpr, Ok, AllOk}
+use Rattle.tables.proofs.Facts.{OkExpr, OkLine, AllOk}
 use Rattle.tables.proofs.Entries.{Entry, entry, keeps_type, length_all}
 
 -- every operand of a value is a value
@@ -38,7 +38,7 @@ operands p L t (Expr.write a i v) k = (k.arr.is, (k.index.is, (k.value.is, tt)))
 pub operand_value : (p : Bool) (L : ℕ → Ty) (t : Ty) (e : Expr) → OkExpr p L t e → (a : ℕ) → among a (uses_expr e) ≡ true → 2 ≤ (L a).role
 operand_value p L t e k a m = value_at L (uses_expr e) (operands p L t e k) a m
 
-used_value : (p : Bool) (L : ℕ → Ty) (G : Bool → ℕ → Bool) (l : Line) → Ok p L G l → (a : ℕ) → among a (uses l) ≡ true → 2 ≤ (L a).role
+used_value : (p : Bool) (L : ℕ → Ty) (G : Bool → ℕ → Bool) (l : Line) → OkLine p L G l → (a : ℕ) → among a (uses l) ≡ true → 2 ≤ (L a).role
 used_value p L G (Line.bitvec w) k a m = absurd (no_yes m)
 used_value p L G (Line.array i e) k a m = absurd (no_yes m)
 used_value p L G (Line.input s) k a m = absurd (no_yes m)

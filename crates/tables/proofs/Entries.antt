@@ -8,13 +8,13 @@ use lib.ListN.{length, get_or, length-append, get_or-append}
 use lib.Seq.{get_or_at}
 use Rattle.tables.specs.Lines.{Line}
 use Rattle.tables.specs.Types.{no_ty, line_type, Ctx, ty_at, given, grow, grow_all}
-use Rattle.tables.proofs.Facts.{Ok, AllOk}
+use Rattle.tables.proofs.Facts.{OkLine, AllOk}
 
 pub record Entry (p : Bool) (c : Ctx) (v : ℕ) (l : Line) : Type 0 where
   -- the context before the line
   pub before : Ctx
   pub count : length before.tys ≡ v
-  pub ok : Ok p (ty_at before) (given before) l
+  pub ok : OkLine p (ty_at before) (given before) l
   pub is : ty_at c v ≡ line_type p (ty_at before) l
   pub old : (a : ℕ) → a < v → ty_at c a ≡ ty_at before a
 

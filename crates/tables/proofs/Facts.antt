@@ -1,5 +1,5 @@
 -- What is known of a line that breaks no rule, as named facts: its operands are earlier lines of the right class, sorts and widths fit, a state has at most one init and
--- one next line. `Ok p L G l` says it of the line l after lines whose types are L, and of which G has had an init or a next. Assumes nothing.
+-- one next line. `OkLine p L G l` says it of the line l after lines whose types are L, and of which G has had an init or a next. Assumes nothing.
 use Prim.Native.Nat.{ℕ, ◌^◌, ◌≤◌, ◌<◌}
 use mathlib.Core.Path.{◌≡◌}
 use mathlib.Core.Logic.{◌⊎◌}
@@ -142,18 +142,18 @@ pub record OkSignal (a : Ty) : Type 0 where
   pub word : IsWord a
   pub bit : a.w ≡ 1
 
-abbrev pub Ok : Bool → (ℕ → Ty) → (Bool → ℕ → Bool) → Line → Type 0
-Ok p L G (Line.bitvec w) = OkBitvec p w
-Ok p L G (Line.array i e) = OkArray p (L i) (L e)
-Ok p L G (Line.input s) = IsWordSort (sort_at p L s)
-Ok p L G (Line.state s) = IsSort (sort_at p L s)
-Ok p L G (Line.value s e) = OkExpr p L (sort_at p L s) e
-Ok p L G (Line.init_or_next m s q v) = OkInitOrNext m G (sort_at p L s) (L q) (L v) q v
-Ok p L G (Line.signal m a) = OkSignal (L a)
-Ok p L G (Line.output a) = IsWord (L a)
-Ok p L G Line.unknown = ⊥
+abbrev pub OkLine : Bool → (ℕ → Ty) → (Bool → ℕ → Bool) → Line → Type 0
+OkLine p L G (Line.bitvec w) = OkBitvec p w
+OkLine p L G (Line.array i e) = OkArray p (L i) (L e)
+OkLine p L G (Line.input s) = IsWordSort (sort_at p L s)
+OkLine p L G (Line.state s) = IsSort (sort_at p L s)
+OkLine p L G (Line.value s e) = OkExpr p L (sort_at p L s) e
+OkLine p L G (Line.init_or_next m s q v) = OkInitOrNext m G (sort_at p L s) (L q) (L v) q v
+OkLine p L G (Line.signal m a) = OkSignal (L a)
+OkLine p L G (Line.output a) = IsWord (L a)
+OkLine p L G Line.unknown = ⊥
 
 -- all lines, each after those before it
 abbrev pub AllOk : Bool → Ctx → List Line → Type 0
 AllOk p c [] = Unit {0}
-AllOk p c (l ∷ ls) = Ok p (ty_at c) (given c) l × AllOk p (grow p c l) ls
+AllOk p c (l ∷ ls) = OkLine p (ty_at c) (given c) l × AllOk p (grow p c l) ls

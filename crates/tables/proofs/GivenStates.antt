@@ -9,7 +9,7 @@ use Rattle.tables.specs.Lines.{Line}
 use Rattle.tables.specs.Types.{ty_at, given, given_by, given_after, Ctx, grow}
 use Rattle.tables.proofs.Kept.{no_yes}
 use Rattle.tables.proofs.Showing.{among_join}
-use Rattle.tables.proofs.Facts.{Ok}
+use Rattle.tables.proofs.Facts.{OkLine}
 
 -- the state that the line l gives words, if it gives any
 abbrev pub gives_to : (f : Bool) (l : Line) → List ℕ
@@ -49,7 +49,7 @@ another c true false x q o g = refl
 another c false true x q o g = refl
 another c false false x q o g = rw (ne_eqb q x (λ e. no_yes (sym o ∙ ap (given c false) (sym e) ∙ g))) refl
 
-pub gives_none : (p f : Bool) (c : Ctx) (q : ℕ) → given c f q ≡ true → (l : Line) → Ok p (ty_at c) (given c) l → among q (gives_to f l) ≡ false
+pub gives_none : (p f : Bool) (c : Ctx) (q : ℕ) → given c f q ≡ true → (l : Line) → OkLine p (ty_at c) (given c) l → among q (gives_to f l) ≡ false
 gives_none p f c q g (Line.bitvec w) ok = refl
 gives_none p f c q g (Line.array i e) ok = refl
 gives_none p f c q g (Line.input s) ok = refl

@@ -1,5 +1,6 @@
 -- What the mark marks. Of accepted lines a value line is marked exactly if a line of its cone, itself included, is an input or a state; and a search of the cone finds as
 -- much. Assumes nothing.
+use Rattle.std.specs.Prelude.{Ok}
 use Prim.Native.Nat.{ℕ, zero, suc, ◌≤◌}
 use mathlib.Core.Path.{◌≡◌, refl, sym, ap, ap₂, ◌∙◌, subst}
 use mathlib.Core.Logic.{◌↔◌}
@@ -9,7 +10,6 @@ use native.Mathlib.Omega.{arith}
 use lib.Dec.{leb, eqb}
 use borrow.Author.Tests.{eqb-true, eq-eqb, leb-true}
 use Rattle.tables.specs.declared.Ty.{Ty}
-use Rattle.tables.specs.declared.Checked.TheVariants.{Accepted}
 use Rattle.tables.specs.Pick.{pick, inside, among}
 use Rattle.tables.specs.Lines.{Line, Expr}
 use Rattle.tables.specs.Layout.{lines_of}
@@ -147,6 +147,6 @@ module _ (p : Bool) (C : List Line) (ok : AllOk p no_ctx C) where
   searched_types_lem = λ i v. searched_type v i
 
 -- the same of an accepted table, or of a program
-pub table_marks : (p : Bool) (t : List ℕ) (n : ℕ) → checked p t n ≡ Accepted → (v : ℕ) → is_value (ty_at (context p (lines_of p t n)) v) ≡ true
+pub table_marks : (p : Bool) (t : List ℕ) (n : ℕ) → checked p t n ≡ Ok tt → (v : ℕ) → is_value (ty_at (context p (lines_of p t n)) v) ≡ true
     → (marked (ty_at (context p (lines_of p t n)) v) ≡ true) ↔ SourceInCone (lines_of p t n) v
 table_marks p t n e v h = marks_exactly p (lines_of p t n) (accepted_ok p t n e) v (leb-true 2 _ h)

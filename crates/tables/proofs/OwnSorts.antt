@@ -14,7 +14,7 @@ use Rattle.tables.specs.Tables.{formed, keeps, lawful}
 use Rattle.tables.proofs.Kept.{both}
 use Rattle.tables.proofs.Places.{Sized}
 use Rattle.tables.proofs.Formed.{words_back}
-use Rattle.tables.proofs.Facts.{Same, Ok}
+use Rattle.tables.proofs.Facts.{Same, OkLine}
 use Rattle.tables.proofs.Sound.{sound}
 use Rattle.tables.proofs.Showing.{by_place, earlier, snoc_other}
 
@@ -49,7 +49,7 @@ pub record SortOf (y t : Ty) : Type 0 where
   pub same : Same y t
 
 -- a value line has its sort's widths
-expr_sort : (L : ℕ → Ty) (G : Bool → ℕ → Bool) (s : ℕ) (e : Expr) → Ok false L G (Line.value s e) → (L s).role ≡ 1
+expr_sort : (L : ℕ → Ty) (G : Bool → ℕ → Bool) (s : ℕ) (e : Expr) → OkLine false L G (Line.value s e) → (L s).role ≡ 1
 expr_sort L G s (Expr.const v) k = k.sort.is
 expr_sort L G s (Expr.unary o a x y) k = k.sort.is
 expr_sort L G s (Expr.binary o a b) k = k.sort.is
@@ -67,7 +67,7 @@ expr_named s (Expr.ite c a b) = refl
 expr_named s (Expr.read a i) = refl
 expr_named s (Expr.write a i v) = refl
 
-line_sort : (L : ℕ → Ty) (G : Bool → ℕ → Bool) (l : Line) → Ok false L G l → 2 ≤ (line_type false L l).role → SortOf (line_type false L l) (L (sort_in (words_of l)))
+line_sort : (L : ℕ → Ty) (G : Bool → ℕ → Bool) (l : Line) → OkLine false L G l → 2 ≤ (line_type false L l).role → SortOf (line_type false L l) (L (sort_in (words_of l)))
 line_sort L G (Line.bitvec w) k h = absurd (omega arith)
 line_sort L G (Line.array i e) k h = absurd (omega arith)
 line_sort L G (Line.input s) k h = record { is = k.is; same = record { iw = refl; w = refl } }

@@ -11,7 +11,7 @@ use Rattle.tables.specs.Ids.{ids_right}
 use Rattle.tables.specs.Types.{Ctx, ty_at, given, grow, no_ctx, context}
 use Rattle.tables.specs.Tables.{keeps, lawful, verdict, checked}
 use Rattle.tables.specs.Search.{searched, lawful_by_search, checked_by_search}
-use Rattle.tables.proofs.Facts.{Ok, AllOk}
+use Rattle.tables.proofs.Facts.{OkLine, AllOk}
 use Rattle.tables.proofs.Sound.{sound}
 use Rattle.tables.proofs.Contexts.{grow_snoc}
 use Rattle.tables.proofs.Entries.{ok_append}
@@ -23,7 +23,7 @@ module _ (p : Bool) (C : List Line) (l : Line) where
   unfolding context
   context_more = grow_snoc p no_ctx C l
 
-  pub ok_more : AllOk p no_ctx C → Ok p (ty_at (context p C)) (given (context p C)) l → AllOk p no_ctx (C ++ (l ∷ []))
+  pub ok_more : AllOk p no_ctx C → OkLine p (ty_at (context p C)) (given (context p C)) l → AllOk p no_ctx (C ++ (l ∷ []))
   unfolding context
   ok_more k h = ok_append p no_ctx C (l ∷ []) k (h, tt)
 

@@ -1,10 +1,10 @@
 -- Marks computed on small circuits, which meet the premises of the theorems on marks. Assumes nothing.
+use Rattle.std.specs.Prelude.{Ok, Err}
 use Prim.Native.Nat.{ℕ}
 use mathlib.Core.Path.{◌≡◌, refl}
 use mathlib.Core.Bool.{Bool, true, false, false≢true}
 use mathlib.Core.List.{List, [], ◌∷◌, ◌++◌, map}
 use native.Mathlib.Omega.{arith}
-use Rattle.tables.specs.declared.Checked.TheVariants.{Accepted, Refused}
 use Rattle.tables.specs.declared.Refusal.TheVariants.{BadTable, BadProgram}
 use Rattle.tables.specs.Kinds.{row_of}
 use Rattle.tables.specs.Lines.{Line, fields, line_of}
@@ -72,6 +72,6 @@ program = fields 4 4 0 0 0 ∷ fields 56 4 1 0 0 ∷ fields 5 4 0 0 0 ∷ fields
 
 searches : checked_by_search false (table_with false registers) 8 ∷ checked_by_search false (table_with false (registers ++ (fields 6 1 8 5 0 ∷ []))) 9
     ∷ checked_by_search true (table_with true program) 3 ∷ checked_by_search true (table_with true program) 4 ∷ []
-    ≡ Accepted ∷ Refused BadTable ∷ Accepted ∷ Refused BadProgram ∷ []
+    ≡ Ok tt ∷ Err BadTable ∷ Ok tt ∷ Err BadProgram ∷ []
 unfolding context fault suits row_of filled_by
 searches = refl

@@ -1,4 +1,5 @@
 -- A record that keeps the rules has a line of which the named facts hold. Assumes nothing.
+use Rattle.std.specs.Prelude.{Result, Ok, Err}
 use Prim.Native.Nat.{ℕ, ◌+◌, ◌^◌, ◌≤◌}
 use mathlib.Core.Path.{◌≡◌, refl, sym, ap, ◌∙◌, subst}
 use mathlib.Core.Logic.{◌⊎◌, inl, inr}
@@ -9,8 +10,8 @@ use lib.Dec.{eqb, leb, ltb}
 use lib.ListN.{length}
 use borrow.Author.Tests.{eqb-true, ltb-true, leb-true, not-true}
 use Rattle.tables.specs.declared.Ty.{Ty}
+use Rattle.tables.specs.declared.Refusal.{Refusal}
 use Rattle.tables.specs.declared.Refusal.TheVariants.{NotATable}
-use Rattle.tables.specs.declared.Checked.TheVariants.{Accepted, Refused}
 use Rattle.tables.specs.Pick.{pick, all, inside}
 use Rattle.tables.specs.Kinds.{row_of, sort_class, first_class, second_class, third_class}
 use Rattle.tables.specs.Lines.{Line, Shape, is_bitvec, is_array as array_shape, is_const, is_input, is_state as state_shape, is_output, is_unary, is_binary, is_ite, is_read, is_write, is_unknown, is_init_or_next, is_signal, is_equality, init_or_next_kind, shape_of, build, line_of, kind_in, sort_in, first_in, second_in, third_in}
@@ -24,7 +25,7 @@ use Rattle.tables.proofs.Shapes.{BinaryKind, each_binary, KindOf, kind_of_lem, r
 use Rattle.tables.proofs.Answers.{passed}
 use Rattle.tables.proofs.Kept.{both, no_yes, no_mask}
 use Rattle.tables.proofs.Checking.{not_accepted}
-use Rattle.tables.proofs.Facts.{IsValue, IsWord, IsArray, IsSort, IsWordSort, IsArraySort, Same, OneKind, OkEquality, OkSignal, Ok, AllOk}
+use Rattle.tables.proofs.Facts.{IsValue, IsWord, IsArray, IsSort, IsWordSort, IsArraySort, Same, OneKind, OkEquality, OkSignal, OkLine, AllOk}
 
 -- ---- classes
 
@@ -109,7 +110,7 @@ module _ (p : Bool) (L : ℕ → Ty) (G : Bool → ℕ → Bool) (k s x y z : �
       (h₃.0, h₄.0)
 
   init_next_ok : (m : Bool) → k ≡ init_or_next_kind m → all (fits (Line.init_or_next m s x y) (sort_at p L s) (L x) (L y) (L z)) ≡ true → all (once_rules (Line.init_or_next m s x y) G (L y)) ≡ true
-      → Ok p L G (Line.init_or_next m s x y)
+      → OkLine p L G (Line.init_or_next m s x y)
   unfolding row_of suits
   init_next_ok true q f o =
       let c = row_at 6 q in
@@ -162,7 +163,7 @@ module _ (p : Bool) (L : ℕ → Ty) (G : Bool → ℕ → Bool) (k s x y z : �
       }
 
   shape_ok : (S : Shape) → shape_of k ≡ S → KindOf S k → all (fits (build S k s x y z) (sort_at p L s) (L x) (L y) (L z)) ≡ true → all (once_rules (build S k s x y z) G (L y)) ≡ true
-      → Ok p L G (build S k s x y z)
+      → OkLine p L G (build S k s x y z)
   unfolding row_of suits
   shape_ok is_bitvec e q f o =
       let h = range 1 64 x (both (inside 1 64 x) _ f).0 in
@@ -247,7 +248,7 @@ module _ (p : Bool) (L : ℕ → Ty) (G : Bool → ℕ → Bool) (k s x y z : �
   shape_ok (is_equality false) e q f o = equality_ok 22 q refl refl refl f
 
 -- a record that keeps the rules
-pub sound : (p : Bool) (L : ℕ → Ty) (G : Bool → ℕ → Bool) (r : List ℕ) → keeps p L G r ≡ true → Ok p L G (line_of r)
+pub sound : (p : Bool) (L : ℕ → Ty) (G : Bool → ℕ → Bool) (r : List ℕ) → keeps p L G r ≡ true → OkLine p L G (line_of r)
 sound p L G r h =
     let k : ℕ = kind_in r in
     let h₁ = both (formed p r) _ h in
@@ -268,12 +269,12 @@ pub record Admitted (p : Bool) (t : List ℕ) (n : ℕ) : Type 0 where
   pub law : lawful p no_ctx (records_of p t n) ≡ true
   pub ids : ids_right p t n ≡ true
 
-pub accepted_table : (p : Bool) (t : List ℕ) (n : ℕ) → checked p t n ≡ Accepted → Admitted p t n
+pub accepted_table : (p : Bool) (t : List ℕ) (n : ℕ) → checked p t n ≡ Ok tt → Admitted p t n
 unfolding checked
 accepted_table p t n e = go (whole p (length t)) (leb n (room_of p (length t)) && (lawful p no_ctx (records_of p t n) && ids_right p t n)) refl refl e
   where
     go : (a b : Bool) → whole p (length t) ≡ a → (leb n (room_of p (length t)) && (lawful p no_ctx (records_of p t n) && ids_right p t n)) ≡ b
-        → pick a (pick b Accepted (Refused (broken p))) (Refused NotATable) ≡ Accepted → Admitted p t n
+        → ◌≡◌ {A = Result (Unit {0}) Refusal} (pick a (pick b (Ok tt) (Err (broken p))) (Err NotATable)) (Ok tt) → Admitted p t n
     go true true q r z =
         let x = both (leb n (room_of p (length t))) _ r in
         let y = both (lawful p no_ctx (records_of p t n)) _ x.1 in
@@ -281,11 +282,11 @@ accepted_table p t n e = go (whole p (length t)) (leb n (room_of p (length t)) &
     go true false q r z = absurd (not_accepted (broken p) z)
     go false b q r z = absurd (not_accepted NotATable z)
 
-pub accepted_lawful : (p : Bool) (t : List ℕ) (n : ℕ) → checked p t n ≡ Accepted → lawful p no_ctx (records_of p t n) ≡ true
+pub accepted_lawful : (p : Bool) (t : List ℕ) (n : ℕ) → checked p t n ≡ Ok tt → lawful p no_ctx (records_of p t n) ≡ true
 accepted_lawful p t n e = (accepted_table p t n e).law
 
-pub accepted_room : (p : Bool) (t : List ℕ) (n : ℕ) → checked p t n ≡ Accepted → (whole p (length t) ≡ true) × (n ≤ room_of p (length t))
+pub accepted_room : (p : Bool) (t : List ℕ) (n : ℕ) → checked p t n ≡ Ok tt → (whole p (length t) ≡ true) × (n ≤ room_of p (length t))
 accepted_room p t n e = let k = accepted_table p t n e in (k.table, k.room)
 
-pub accepted_ok : (p : Bool) (t : List ℕ) (n : ℕ) → checked p t n ≡ Accepted → AllOk p no_ctx (lines_of p t n)
+pub accepted_ok : (p : Bool) (t : List ℕ) (n : ℕ) → checked p t n ≡ Ok tt → AllOk p no_ctx (lines_of p t n)
 accepted_ok p t n e = all_sound p no_ctx (records_of p t n) (accepted_lawful p t n e)

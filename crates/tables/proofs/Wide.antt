@@ -13,7 +13,7 @@ use Rattle.tables.specs.Types.{ty, no_ty, sort_at, line_type, Ctx, ty_at, given,
 use Rattle.tables.proofs.Shapes.{range}
 use Rattle.tables.proofs.Showing.{snoc_other, by_place}
 use Rattle.tables.proofs.Values.{val_iw, val_w}
-use Rattle.tables.proofs.Facts.{Ok, OkExpr, AllOk}
+use Rattle.tables.proofs.Facts.{OkLine, OkExpr, AllOk}
 
 pub record Wide (t : Ty) : Type 0 where
   pub least : 1 ≤ t.w
@@ -46,7 +46,7 @@ module _ (p : Bool) (L : ℕ → Ty) (G : Bool → ℕ → Bool) (h : AllWide L)
   like t c k = record { least = k.least; most = k.most; deep = k.deep }
 
   -- the line's own type
-  pub line_wide : (l : Line) → Ok p L G l → 1 ≤ (line_type p L l).role → Wide (line_type p L l)
+  pub line_wide : (l : Line) → OkLine p L G l → 1 ≤ (line_type p L l).role → Wide (line_type p L l)
   line_wide (Line.bitvec w) k q = record { least = k.least; most = k.most; deep = omega arith }
   line_wide (Line.array i e) k q =
       let m = h e (omega (arith, k.element.is)) in
@@ -63,7 +63,7 @@ module _ (p : Bool) (L : ℕ → Ty) (G : Bool → ℕ → Bool) (h : AllWide L)
   line_wide (Line.output a) k q = absurd (omega arith)
   line_wide Line.unknown k q = absurd k
 
-pub grow_wide : (p : Bool) (c : Ctx) (l : Line) → AllWide (ty_at c) → Ok p (ty_at c) (given c) l → AllWide (ty_at (grow p c l))
+pub grow_wide : (p : Bool) (c : Ctx) (l : Line) → AllWide (ty_at c) → OkLine p (ty_at c) (given c) l → AllWide (ty_at (grow p c l))
 grow_wide p c l h k a q =
     by_place a (length c.tys)
     (λ e.

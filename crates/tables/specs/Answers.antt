@@ -1,10 +1,7 @@
 -- What an operation answers and leaves: the request's number and values for each answer, and the lists that were lent for writing. Assumes nothing.
-use Rattle.std.specs.Prelude.{ℕ, Bool, List, [], ◌∷◌, leb, replicate}
+use Rattle.tables.specs.declared.Refusal.{Refusal}
+use Rattle.std.specs.Prelude.{ℕ, Bool, List, [], ◌∷◌, leb, replicate, Result, Ok, Err}
 use Rattle.tables.specs.declared.Refusal.TheVariants.{TargetTooSmall}
-use Rattle.tables.specs.declared.Checked.{Checked}
-use Rattle.tables.specs.declared.Checked.TheVariants.{Accepted, Refused as NotAccepted}
-use Rattle.tables.specs.declared.Answer.{Answer}
-use Rattle.tables.specs.declared.Answer.TheVariants.{Done, Refused}
 use Rattle.tables.specs.Pick.{pick}
 use Rattle.tables.specs.Layout.{room}
 use Rattle.tables.specs.Refusals.{number_of}
@@ -18,23 +15,23 @@ pub record Outcome : Type 0 where
 abbrev pub outcome : ℕ → (a b c : ℕ) → (left : List (List ℕ)) → Outcome
 outcome n a b c left = record { number = n; values = a ∷ b ∷ c ∷ []; left = left }
 
--- of an answer that counts: the count, or the text line of a refusal
-abbrev pub told : Answer → (left : List (List ℕ)) → Outcome
-told (Done n) left = outcome 0 n 0 0 left
-told (Refused r l) left = outcome (number_of r) l 0 0 left
+-- of an answer that counts: the count
+abbrev pub told : Result ℕ Refusal → (left : List (List ℕ)) → Outcome
+told (Ok n) left = outcome 0 n 0 0 left
+told (Err r) left = outcome (number_of r) 0 0 0 left
 
 -- ---- operations that leave records in a target
 
 -- where the table is accepted, the answer a
-abbrev pub if_accepted : Checked → (a : Answer) → Answer
-if_accepted Accepted a = a
-if_accepted (NotAccepted r) a = Refused r 0
+abbrev pub if_accepted : Result (Unit {0}) Refusal → (a : Result ℕ Refusal) → Result ℕ Refusal
+if_accepted (Ok _) a = a
+if_accepted (Err r) a = Err r
 
 -- 12: more records than the target, of len words, or 16,384 holds; else their number m
-abbrev pub fitting : Bool → (m len : ℕ) → Answer
-fitting p m len = pick (leb m (room p len)) (Done m) (Refused TargetTooSmall 0)
+abbrev pub fitting : Bool → (m len : ℕ) → Result ℕ Refusal
+fitting p m len = pick (leb m (room p len)) (Ok m) (Err TargetTooSmall)
 
 -- what a target of len words holds then: the list t, and zeros after a refusal
-abbrev pub left_by : Answer → (len : ℕ) → (t : List ℕ) → List ℕ
-left_by (Done m) len t = t
-left_by (Refused r l) len t = replicate len 0
+abbrev pub left_by : Result ℕ Refusal → (len : ℕ) → (t : List ℕ) → List ℕ
+left_by (Ok m) len t = t
+left_by (Err r) len t = replicate len 0

@@ -1,6 +1,5 @@
 -- The rules computed on small tables. Each has its lines as a comment. Assumes nothing.
-use Rattle.std.specs.Prelude.{ℕ, ◌≡◌, refl, true, false, List, [], ◌∷◌, map}
-use Rattle.tables.specs.declared.Checked.TheVariants.{Accepted, Refused}
+use Rattle.std.specs.Prelude.{ℕ, ◌≡◌, refl, true, false, List, [], ◌∷◌, map, Ok, Err}
 use Rattle.tables.specs.declared.Refusal.TheVariants.{NotATable, BadTable, BadProgram}
 use Rattle.tables.specs.Kinds.{row_of}
 use Rattle.tables.specs.Lines.{fields, line_of}
@@ -38,14 +37,14 @@ judged_small = refl
 -- the request's table with its count; fewer records; too many; a sort that is no line; a word that is not used; a list that is no table
 answers : checked false (table_with false request) 11 ∷ checked false (table_with false request) 4 ∷ checked false (table_with false request) 12
     ∷ checked false (table_with false (fields 4 1 0 0 0 ∷ [])) 1 ∷ checked false (table_with false (fields 1 0 8 0 1 ∷ [])) 1 ∷ checked false (1 ∷ []) 0 ∷ []
-    ≡ Accepted ∷ Accepted ∷ Refused BadTable ∷ Refused BadTable ∷ Refused BadTable ∷ Refused NotATable ∷ []
+    ≡ Ok tt ∷ Ok tt ∷ Err BadTable ∷ Err BadTable ∷ Err BadTable ∷ Err NotATable ∷ []
 unfolding checked fault suits row_of filled_by
 answers = refl
 
 -- 1 input, 2 its mask, both of width 3: a program; with a mask of another width, or with a sort record, it is none
 programs : checked true (table_with true (fields 4 3 0 0 0 ∷ fields 56 3 1 0 0 ∷ [])) 2 ∷ checked true (table_with true (fields 4 3 0 0 0 ∷ fields 56 4 1 0 0 ∷ [])) 2
     ∷ checked true (table_with true (fields 1 0 3 0 0 ∷ [])) 1 ∷ []
-    ≡ Accepted ∷ Refused BadProgram ∷ Refused BadProgram ∷ []
+    ≡ Ok tt ∷ Err BadProgram ∷ Err BadProgram ∷ []
 unfolding checked fault suits row_of filled_by
 programs = refl
 
@@ -69,7 +68,7 @@ of_ids ds = filled false (words_for false 2) (with_ids (fields 1 0 1 0 0 ∷ fie
 -- ids with a gap, up to the largest; equal ids; falling ones; 0; one too large; equal ids of which one counts
 ids : checked false (of_ids (5 ∷ 4294967295 ∷ [])) 2 ∷ checked false (of_ids (5 ∷ 5 ∷ [])) 2 ∷ checked false (of_ids (5 ∷ 4 ∷ [])) 2
     ∷ checked false (of_ids (0 ∷ 1 ∷ [])) 2 ∷ checked false (of_ids (5 ∷ 4294967296 ∷ [])) 2 ∷ checked false (of_ids (5 ∷ 5 ∷ [])) 1 ∷ []
-    ≡ Accepted ∷ Refused BadTable ∷ Refused BadTable ∷ Refused BadTable ∷ Refused BadTable ∷ Accepted ∷ []
+    ≡ Ok tt ∷ Err BadTable ∷ Err BadTable ∷ Err BadTable ∷ Err BadTable ∷ Ok tt ∷ []
 unfolding checked fault suits row_of filled_by
 ids = refl
 
@@ -80,7 +79,7 @@ with_nots ds = filled false (words_for false 4) (with_ids (fields 1 0 1 0 0 ∷ 
 -- nots of id 0, one used by the other and the last by none; a not with an id of its own; an id that does not rise above the last that is not 0; id 0 on an input
 zero_ids : checked false (with_nots (5 ∷ 6 ∷ 0 ∷ 0 ∷ [])) 4 ∷ checked false (with_nots (5 ∷ 6 ∷ 0 ∷ 7 ∷ [])) 4 ∷ checked false (with_nots (5 ∷ 6 ∷ 0 ∷ 6 ∷ [])) 4
     ∷ checked false (with_nots (5 ∷ 0 ∷ 6 ∷ 7 ∷ [])) 4 ∷ []
-    ≡ Accepted ∷ Accepted ∷ Refused BadTable ∷ Refused BadTable ∷ []
+    ≡ Ok tt ∷ Ok tt ∷ Err BadTable ∷ Err BadTable ∷ []
 unfolding checked fault suits row_of filled_by
 zero_ids = refl
 

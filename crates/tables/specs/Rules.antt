@@ -1,6 +1,8 @@
 -- The rules 8, 9 and 10 for one record, after earlier lines. They speak of the record and of the types of its sort, t, and of its three operands, a, b and c.
 -- `fault` answers the lowest number that holds, 0 where none does; reading a text and checking a table both ask it. Assumes nothing.
-use Rattle.std.specs.Prelude.{ℕ, suc, ◌+◌, ◌^◌, Bool, true, false, not, ◌&&◌, ◌||◌, List, [], ◌∷◌, leb, ltb, eqb}
+use Rattle.std.specs.Prelude.{ℕ, suc, ◌+◌, ◌^◌, Bool, true, false, not, ◌&&◌, ◌||◌, List, [], ◌∷◌, leb, ltb, eqb, Result, Ok, Err}
+use Rattle.tables.specs.declared.Refusal.{Refusal}
+use Rattle.tables.specs.declared.Refusal.TheVariants.{WrongClass, Misfit, InitOrNext}
 use Rattle.tables.specs.declared.Ty.{Ty}
 use Rattle.tables.specs.Pick.{pick, inside, all}
 use Rattle.tables.specs.Kinds.{word, array, value, state, word_sort, array_sort, any_sort, row_of, sort_class, first_class, second_class, third_class}
@@ -115,3 +117,7 @@ fault_by r t a b c G = answer (all (classes (row_of (kind_in r)) t a b c)) (all 
 -- the record r after lines whose types are L; p says that it is a program's
 unfoldable pub fault : Bool → (ℕ → Ty) → (Bool → ℕ → Bool) → List ℕ → ℕ
 fault p L G r = fault_by r (sort_at p L (sort_in r)) (L (first_in r)) (L (second_in r)) (L (third_in r)) G
+
+-- that number as an answer
+abbrev pub refused_by : ℕ → Result (Unit {0}) Refusal
+refused_by f = pick (eqb f 0) (Ok tt) (Err (pick (eqb f 8) WrongClass (pick (eqb f 9) Misfit InitOrNext)))

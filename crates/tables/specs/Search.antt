@@ -1,7 +1,7 @@
 -- The init rule by a search of the cone in place of the mark: reading and checking by the mark are held against it. Laws alone cite it. Assumes nothing.
-use Rattle.std.specs.Prelude.{ℕ, zero, suc, Bool, true, false, ◌&&◌, ◌||◌, List, [], ◌∷◌, ◌++◌, length}
+use Rattle.tables.specs.declared.Refusal.{Refusal}
+use Rattle.std.specs.Prelude.{ℕ, zero, suc, Bool, true, false, ◌&&◌, ◌||◌, List, [], ◌∷◌, ◌++◌, length, Result}
 use Rattle.tables.specs.declared.Ty.{Ty}
-use Rattle.tables.specs.declared.Checked.{Checked}
 use Rattle.tables.specs.Pick.{pick, inside}
 use Rattle.tables.specs.Lines.{Line, line_of}
 use Rattle.tables.specs.Layout.{records_of}
@@ -38,5 +38,5 @@ lawful_by_search p C [] = true
 lawful_by_search p C (r ∷ rs) = keeps p (searched C (ty_at (context p C))) (given (context p C)) r && lawful_by_search p (C ++ (line_of r ∷ [])) rs
 
 -- the check of a table (11) or a program (20)
-abbrev pub checked_by_search : Bool → List ℕ → ℕ → Checked
+abbrev pub checked_by_search : Bool → List ℕ → ℕ → Result (Unit {0}) Refusal
 checked_by_search p t n = verdict p (length t) n (lawful_by_search p [] (records_of p t n) && ids_right p t n)

@@ -1,10 +1,8 @@
 -- When a table with its count is accepted: circuits (1, 11) and programs (1, 20). Assumes nothing.
-use Rattle.std.specs.Prelude.{ℕ, Bool, true, false, not, ◌&&◌, ◌||◌, List, [], ◌∷◌, leb, eqb, length}
+use Rattle.std.specs.Prelude.{ℕ, Bool, true, false, not, ◌&&◌, ◌||◌, List, [], ◌∷◌, leb, eqb, length, Result, Ok, Err}
 use Rattle.tables.specs.declared.Ty.{Ty}
 use Rattle.tables.specs.declared.Refusal.{Refusal}
 use Rattle.tables.specs.declared.Refusal.TheVariants.{NotATable, BadTable, BadProgram}
-use Rattle.tables.specs.declared.Checked.{Checked}
-use Rattle.tables.specs.declared.Checked.TheVariants.{Accepted, Refused}
 use Rattle.tables.specs.Pick.{pick, inside, all}
 use Rattle.tables.specs.Kinds.{row_of, sort_class, first_class, second_class, third_class}
 use Rattle.tables.specs.Lines.{line_of, kind_in, sort_in, first_in, second_in, third_in}
@@ -45,12 +43,12 @@ broken false = BadTable
 broken true = BadProgram
 
 -- the answer for a count of records in a list of len words, where the records and their ids keep the rules or not
-abbrev pub verdict : Bool → (len n : ℕ) → Bool → Checked
-verdict p len n kept = pick (whole p len) (pick (leb n (room p len) && kept) Accepted (Refused (broken p))) (Refused NotATable)
+abbrev pub verdict : Bool → (len n : ℕ) → Bool → Result (Unit {0}) Refusal
+verdict p len n kept = pick (whole p len) (pick (leb n (room p len) && kept) (Ok tt) (Err (broken p))) (Err NotATable)
 
 -- the check of a list that holds records by a layout, and that of a table
-abbrev pub checked_by : Placing → Bool → List ℕ → ℕ → Checked
+abbrev pub checked_by : Placing → Bool → List ℕ → ℕ → Result (Unit {0}) Refusal
 checked_by f p t n = verdict p (length t) n (lawful p no_ctx (rows_from f record_words t 0 n) && ids_right_by f p t n)
 
-unfoldable pub checked : Bool → List ℕ → ℕ → Checked
+unfoldable pub checked : Bool → List ℕ → ℕ → Result (Unit {0}) Refusal
 checked p t n = checked_by (placing p) p t n

@@ -5,7 +5,7 @@
 pub const WORDS: usize = 5;
 
 // Why an operation refuses; `checks::number` has the numbers.
-#[derive(Clone, Copy)]
+#[derive(Clone, Copy, Debug, PartialEq, Eq)]
 pub enum Refusal {
     NotATable,
     TextTooLong,
@@ -29,20 +29,6 @@ pub enum Refusal {
     BadProgram,
     TextBuffer,
     NameUsed,
-}
-
-// What an operation answers that counts what it leaves: how much, or the refusal with its text line, 0 where it has none.
-#[derive(Clone, Copy)]
-pub enum Answer {
-    Done(usize),
-    Refused(Refusal, usize),
-}
-
-// What the check of a table answers.
-#[derive(Clone, Copy)]
-pub enum Checked {
-    Accepted,
-    Refused(Refusal),
 }
 
 // What is known of a line: its role (none, sort, unmarked value, marked value, state), its index width and its width.

@@ -20,7 +20,7 @@ use Rattle.tables.proofs.Every.{every, at_each}
 use Rattle.tables.proofs.Kept.{both}
 use Rattle.tables.proofs.Shapes.{binary_range}
 use Rattle.tables.proofs.Formed.{words_back}
-use Rattle.tables.proofs.Facts.{Ok, OkExpr, OkUnary}
+use Rattle.tables.proofs.Facts.{OkLine, OkExpr, OkUnary}
 use Rattle.tables.proofs.Wide.{AllWide, grow_wide}
 use Rattle.tables.proofs.Places.{Sized, length_records, records_sized}
 use Rattle.tables.proofs.Sound.{sound}
@@ -139,7 +139,7 @@ module _ (b : ℕ) (wide : 64 < b) (c : Ctx) (w : AllWide (ty_at c)) (few : leng
   expr_words_lem s (Expr.write a i v) k =
       words 55 s a i v (low (lit≤ tt)) (line s (omega (arith, k.sort.is))) (line a (omega (arith, k.arr.is))) (line i (omega (arith, k.index.is))) (line v (omega (arith, k.value.is)))
 
-  line_words : (l : Line) → Ok false (ty_at c) (given c) l → Short b (words_of l)
+  line_words : (l : Line) → OkLine false (ty_at c) (given c) l → Short b (words_of l)
   line_words (Line.bitvec n) k = words 1 0 n 0 0 (low (lit≤ tt)) none (low k.most) none none
   line_words (Line.array i e) k = words 2 0 i e 0 (low (lit≤ tt)) none (line i (omega (arith, k.index.is))) (line e (omega (arith, k.element.is))) none
   line_words (Line.input s) k = words 4 s 0 0 0 (low (lit≤ tt)) (line s (omega (arith, k.is))) none none none

@@ -13,7 +13,7 @@ use Rattle.tables.specs.Types.{Ctx, no_ctx, ty_at, given, grow, grow_all, contex
 use Rattle.tables.specs.Search.{searched}
 use Rattle.tables.specs.Tables.{keeps, lawful}
 use Rattle.tables.proofs.Kept.{both}
-use Rattle.tables.proofs.Facts.{Ok, AllOk}
+use Rattle.tables.proofs.Facts.{OkLine, AllOk}
 use Rattle.tables.proofs.Sound.{sound}
 use Rattle.tables.proofs.Contexts.{map_snoc}
 use Rattle.tables.proofs.Marks.{searched_types_lem}
@@ -37,8 +37,8 @@ same_types {rs = rs} S = subst (λ (x : Ctx). searched (map line_of rs) (ty_at x
 one_more : {c : Ctx} {rs : List (List ℕ)} (r : List ℕ) → Taken c rs → keeps false (ty_at c) (given c) r ≡ true → Taken (grow false c (line_of r)) (rs ++ (r ∷ []))
 one_more {c} {rs} r S k =
     let C = map line_of rs in
-    let h : Ok false (ty_at (context false C)) (given (context false C)) (line_of r) =
-    subst (λ (x : Ctx). Ok false (ty_at x) (given x) (line_of r)) S.is (sound false (ty_at c) (given c) r k)
+    let h : OkLine false (ty_at (context false C)) (given (context false C)) (line_of r) =
+    subst (λ (x : Ctx). OkLine false (ty_at x) (given x) (line_of r)) S.is (sound false (ty_at c) (given c) r k)
     in
     record {
       is = ap (λ (x : Ctx). grow false x (line_of r)) S.is ∙ sym (context_more false C (line_of r)) ∙ ap (context false) (sym (map_snoc rs r));

@@ -1,4 +1,5 @@
-use mathlib.Core.Path.{sym, ◌∙◌, subst}
+use Rattle.std.specs.Prelude.{Err}
+use mathlib.Core.Path.{sym, ap, ◌∙◌, subst}
 use Prim.Native.Nat.{ℕ, ◌<◌, ◌≤◌}
 use lib.ListN.{length}
 use borrow.Author.Tests.{not-true, not-false}
@@ -15,7 +16,7 @@ returns-then-room_of-count c =
     let s = c.args in
     let whole = sym c.is_table.ensures ∙ not-false _ c.if-not-is_table.false-raw in
     let more = subst (λ (m : ℕ). m < s.count) c.room_of.ensures c.if-room_of-count.true in
-    (c.refused.ensures ∙ too_many s.program s.table.now s.count whole more, λ e. absurd (not_accepted _ (sym c.refused.ensures ∙ e)))
+    (ap Err c.broken.ensures ∙ too_many s.program s.table.now s.count whole more, λ e. absurd (not_accepted _ e))
 
 pub returns-then-not-ids_right : goal.returns-then-not-ids_right
 returns-then-not-ids_right c =
@@ -23,7 +24,7 @@ returns-then-not-ids_right c =
     let whole = sym c.is_table.ensures ∙ not-false _ c.if-not-is_table.false-raw in
     let few = subst (λ (m : ℕ). s.count ≤ m) c.room_of.ensures c.if-room_of-count.false in
     let wrong = sym (not-true _ c.if-not-ids_right.true-raw) ∙ c.ids_right.ensures in
-    (c.refused-then-not-ids_right.ensures ∙ ids_wrong s.program s.table.now s.count whole few wrong, λ e. absurd (not_accepted _ (sym c.refused-then-not-ids_right.ensures ∙ e)))
+    (ap Err c.broken-then-not-ids_right.ensures ∙ ids_wrong s.program s.table.now s.count whole few wrong, λ e. absurd (not_accepted _ e))
 
 pub lines-requires : goal.lines-requires
 lines-requires c =
@@ -38,7 +39,7 @@ returns-then-not-lines c =
     let whole = sym c.is_table.ensures ∙ not-false _ c.if-not-is_table.false-raw in
     let few = subst (λ (m : ℕ). s.count ≤ m) c.room_of.ensures c.if-room_of-count.false in
     let wrong = sym (not-true _ c.if-not-lines.true-raw) ∙ c.lines.ensures.0 in
-    (c.refused-then-not-lines.ensures ∙ unlawful s.program s.table.now s.count whole few wrong, λ e. absurd (not_accepted _ (sym c.refused-then-not-lines.ensures ∙ e)))
+    (ap Err c.broken-then-not-lines.ensures ∙ unlawful s.program s.table.now s.count whole few wrong, λ e. absurd (not_accepted _ e))
 
 pub returns : goal.returns
 returns c =

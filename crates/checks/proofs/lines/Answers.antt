@@ -1,5 +1,4 @@
 use Rattle.tables.proofs.Kept.{no_yes}
-use Prim.Native.Nat.{◌-◌}
 use mathlib.Core.Path.{sym, ◌∙◌}
 use borrow.Author.Tests.{not-true, not-false}
 use Rattle.tables.proofs.Sofar.{stopped, further, all_lawful, all_shown}

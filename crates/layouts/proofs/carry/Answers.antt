@@ -1,4 +1,4 @@
-use Prim.Native.Nat.{ℕ, ◌-◌, ◌*◌, ◌<◌}
+use Prim.Native.Nat.{ℕ, ◌*◌, ◌<◌}
 use mathlib.Core.Path.{◌≡◌, refl, sym, ap, ◌∙◌, subst}
 use mathlib.Core.Bool.{Bool, not}
 use mathlib.Core.List.{List}
@@ -14,7 +14,7 @@ first_inside : (columns p : Bool) (len s r m i : ℕ) → Strided (placing_in co
 first_inside columns p len s r m i q e h = omega (arith, stride_inside (placed_in columns p) len s r m i q e h 0 (omega (arith, e, words_in p)))
 
 pub loop-i-init : goal.loop-i-init
-loop-i-init c = (omega arith, (refl, carry_none (placing_in c.args.columns c.args.program) c.args.target.now c.requires.1.1))
+loop-i-init c = (refl, carry_none (placing_in c.args.columns c.args.program) c.args.target.now c.requires.1.1)
 
 pub overflow_mul-a : goal.overflow_mul-a
 overflow_mul-a c =
@@ -44,7 +44,7 @@ copy-requires c =
       λ j a.
           omega (
             arith,
-            l.invariant.1.0,
+            l.invariant.0,
             stride_inside (placed_in c.args.columns c.args.program) (length c.args.target.now) v.result.word v.result.row z.result l.i v.ensures e (omega (arith, t, c.requires.1.0)) j a,
           ),
     )
@@ -58,13 +58,10 @@ loop-i-preserved c =
     let q = c.copy.ensures in
     let f = placing_in (not c.args.columns) c.args.program in
     let g = placing_in c.args.columns c.args.program in
-    let b : Strided g (length l.target) v.result.word v.result.row = subst (λ (n : ℕ). Strided g n v.result.word v.result.row) (sym l.invariant.1.0) v.ensures in
+    let b : Strided g (length l.target) v.result.word v.result.row = subst (λ (n : ℕ). Strided g n v.result.word v.result.row) (sym l.invariant.0) v.ensures in
     let r = record_size c.args.program in
     let list = c.args.list.now in
     let e = q ∙ copy_record f g list l.target w.result.word w.result.row v.result.word v.result.row z.result r l.i w.ensures b z.ensures in (
-      omega (arith, c.loop-i-test.true),
-      (
-        ap length e ∙ (length_row g l.target l.i (row_by f r list l.i) ∙ l.invariant.1.0),
-        e ∙ (ap (λ (t : List ℕ). row_set g t l.i (row_by f r list l.i)) l.invariant.1.1 ∙ carry_next f g (length c.args.target.now) r list l.i),
-      ),
+      ap length e ∙ (length_row g l.target l.i (row_by f r list l.i) ∙ l.invariant.0),
+      e ∙ (ap (λ (t : List ℕ). row_set g t l.i (row_by f r list l.i)) l.invariant.1 ∙ carry_next f g (length c.args.target.now) r list l.i),
     )

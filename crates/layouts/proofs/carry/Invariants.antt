@@ -1,5 +1,4 @@
 -- The records passed are in the target.
-use Prim.Native.Nat.{◌-◌, ◌≤◌}
 use mathlib.Core.Path.{◌≡◌}
 use mathlib.Core.Bool.{not}
 use lib.ListN.{length}
@@ -9,7 +8,4 @@ use Rattle.layouts.proofs.carry.Given as goal
 
 abbrev pub invariant-loop-i : goal.invariant-loop-i
 invariant-loop-i l =
-    (l.i ≤ l.count) × ((length l.target ≡ length l.initial.target) × (l.target ≡ filled_by (placing_in l.columns l.program) (length l.initial.target) (rows_in (not l.columns) l.program l.list l.i)))
-
-abbrev pub decreases-loop-i : goal.decreases-loop-i
-decreases-loop-i l = l.count - l.i
+    (length l.target ≡ length l.initial.target) × (l.target ≡ filled_by (placing_in l.columns l.program) (length l.initial.target) (rows_in (not l.columns) l.program l.list l.i))

@@ -1,5 +1,6 @@
 -- By the answer: the records go over, or the target stays zero.
 use lib.ListN.{length}
+use Rattle.std.proofs.lemmas.Result.{err_from_is_err_and}
 use Rattle.layouts.proofs.Converting.{carry_ready, convert_done, convert_refused}
 use Rattle.layouts.proofs.convert.Goals as goal
 
@@ -8,19 +9,20 @@ carry-requires c =
     let s = c.args in
     let j = c.judge in
     let k = c.clear in
-    carry_ready s.columns s.program s.list.now s.count (length s.target.now) k.new.table k.ensures j.result j.ensures _ c.in-Done.is
+    carry_ready s.columns s.program s.list.now s.count (length s.target.now) k.new.table k.ensures j.result j.ensures _ c.in_ok-n.was
 
-pub returns-in-Done : goal.returns-in-Done
-returns-in-Done c =
+pub returns : goal.returns
+returns c =
     let s = c.args in
     let j = c.judge in
     let k = c.clear in
     let v = c.carry in
-    convert_done s.columns s.program s.list.now s.count (length s.target.now) k.new.table k.ensures j.result j.ensures _ c.in-Done.is _ v.ensures
+    convert_done s.columns s.program s.list.now s.count (length s.target.now) k.new.table k.ensures j.result j.ensures _ c.in_ok-n.was _ v.ensures
 
-pub returns-in-Refused : goal.returns-in-Refused
-returns-in-Refused c =
+pub returns-in_err-n : goal.returns-in_err-n
+returns-in_err-n c =
     let s = c.args in
     let j = c.judge in
     let k = c.clear in
-    convert_refused s.columns s.program s.list.now s.count (length s.target.now) k.new.table k.ensures j.result j.ensures _ _ c.in-Refused.is
+    let p = err_from_is_err_and c.from_residual.result c.from_residual.ensures.1 in
+    rw (p.1, p.2) (convert_refused s.columns s.program s.list.now s.count (length s.target.now) k.new.table k.ensures j.result j.ensures _ c.in_err-n.was)

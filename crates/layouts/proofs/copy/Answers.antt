@@ -1,7 +1,6 @@
-use Prim.Native.Nat.{ℕ, ◌+◌, ◌-◌, ◌*◌}
+use Prim.Native.Nat.{ℕ, ◌+◌, ◌*◌}
 use mathlib.Core.Path.{ap, ◌∙◌}
 use mathlib.Core.List.{List}
-use native.Mathlib.Omega.{arith}
 use lib.ListN.{get_or, set, length-set}
 use Rattle.layouts.proofs.Copying.{copy_next}
 use Rattle.layouts.proofs.copy.Goals as goal
@@ -12,9 +11,6 @@ loop-j-preserved c =
     let l = c.loop-j in
     let from : ℕ → ℕ = λ (k : ℕ). a.s * k + a.x in
     let to : ℕ → ℕ = λ (k : ℕ). a.z * k + a.y in (
-      omega (arith, c.loop-j-test.true),
-      (
-        simp length-set l.invariant.1.0,
-        ap (λ (t : List ℕ). set t (to l.j) (get_or a.list.now (from l.j) 0)) l.invariant.1.1 ∙ copy_next from to a.list.now a.target.now l.j,
-      ),
+      simp length-set l.invariant.0,
+      ap (λ (t : List ℕ). set t (to l.j) (get_or a.list.now (from l.j) 0)) l.invariant.1 ∙ copy_next from to a.list.now a.target.now l.j,
     )

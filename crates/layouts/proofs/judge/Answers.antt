@@ -1,9 +1,8 @@
 -- The answers one after the other.
+use Rattle.std.specs.Prelude.{Err}
 use Prim.Native.Nat.{ℕ, ◌<◌, ◌≤◌}
 use mathlib.Core.Path.{sym, ap, ◌∙◌, subst}
 use borrow.Author.Tests.{not-true, not-false}
-use Rattle.tables.specs.declared.Refusal.{Refusal}
-use Rattle.tables.specs.declared.Answer.TheVariants.{Refused}
 use Rattle.layouts.proofs.Answers.{no_list, no_target, too_many, too_small, done}
 use Rattle.layouts.proofs.judge.Goals as goal
 
@@ -22,7 +21,7 @@ returns-then-room_of-count c =
     let list = sym c.is_table.ensures ∙ not-false _ c.if-not-is_table.false-raw in
     let target = sym c.is_table-2.ensures ∙ not-false _ c.if-not-is_table-2.false-raw in
     let more = subst (λ (m : ℕ). m < s.count) c.room_of.ensures c.if-room_of-count.true in
-    ap (λ (r : Refusal). Refused r 0) c.broken.ensures ∙ too_many s.program s.words s.count s.len list target more
+    ap Err c.broken.ensures ∙ too_many s.program s.words s.count s.len list target more
 
 pub returns-then-room_of-count-2 : goal.returns-then-room_of-count-2
 returns-then-room_of-count-2 c =

@@ -1,7 +1,6 @@
 use borrow.Author.Tests.{ne_eqb}
 use mathlib.Core.Path.{sym, ◌∙◌, ap}
 use Rattle.tables.specs.Rules.{suits}
-use borrow.Author.Rules.{rules}
 use Rattle.rules.proofs.suits.Goals as goal
 
 pub returns-in-1 : goal.returns-in-1
