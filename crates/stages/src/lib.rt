@@ -5,8 +5,8 @@ ghost use Rattle.std.specs.Prelude.{◌≡◌, ◌-◌, ◌^◌, ◌≤◌, ℕ,
 ghost use Rattle.texts.specs.Forms.{kind_of};
 ghost use Rattle.texts.specs.Operands.{resolved};
 ghost use Rattle.texts.specs.Minus.{minus_fits, minuses_by};
-ghost use Rattle.texts.specs.Reading.{no, settled};
-ghost use Rattle.texts.specs.Model.Stages.{ruled as ruled_by, judged, allowed, concluded, large as large_of, ended, taken_in};
+ghost use Rattle.texts.specs.Reading.{no, got, settled};
+ghost use Rattle.texts.specs.Model.Stages.{judged, allowed, concluded, large as large_of, ended, taken_in};
 ghost use Rattle.texts.specs.Model.Structs.{as_read, as_took, any_sign, several};
 ghost use Rattle.tables.specs.Pick.{all};
 ghost use Rattle.tables.specs.Kinds.{rows, row_of};
@@ -38,25 +38,19 @@ pub fn refuse(r: Refusal) -> Readout
     }
 }
 
-// 9, 10, or the record with its signs.
-fn ruled(a: u64, rec: [u64; WORDS], minus: [bool; WORDS]) -> Readout
-    ensures { result ≡ as_read (ruled_by a rec minus) }
+// The record with its signs.
+fn accept(rec: [u64; WORDS], minus: [bool; WORDS]) -> Readout
+    ensures { result ≡ as_read (got rec minus) }
 {
-    if a == 0 {
-        return Readout {
-            what: 0,
-            code: Refusal::NotATable,
-            rec: rec,
-            minus: minus,
-            id: 0,
-            from: 0,
-            to: 0,
-        };
+    Readout {
+        what: 0,
+        code: Refusal::NotATable,
+        rec: rec,
+        minus: minus,
+        id: 0,
+        from: 0,
+        to: 0,
     }
-    if a == 9 {
-        return refuse(Refusal::Misfit);
-    }
-    refuse(Refusal::InitOrNext)
 }
 
 // 2^w - 1.
@@ -93,18 +87,17 @@ fn judge(
     requires { row ≡ row_of (kind_in rec) }
     ensures { result ≡ as_read (judged (look_in notes.now) (given_in notes.now) f len rec minus) }
 {
-    let a = rules::fault(false, row, rec, notes);
-    if a == 8 {
+    let fault = rules::fault(false, row, rec, notes);
+    if fault == Err(Refusal::WrongClass) {
         return refuse(Refusal::WrongClass);
     }
-    if f == 64 {
-        let w = notes::look(notes, rec[1]).w;
-        if len != w as usize {
-            return refuse(Refusal::Misfit);
-        }
-        return ruled(a, rec, minus);
+    if f == 64 && len != notes::look(notes, rec[1]).w as usize {
+        return refuse(Refusal::Misfit);
     }
-    ruled(a, rec, minus)
+    match fault {
+        Ok(()) => accept(rec, minus),
+        Err(refusal) => refuse(refusal),
+    }
 }
 
 // The line a, in a place of the given class of a record of the kind k, may have the sign that it has: a minus stands before a word, in no init.
@@ -144,10 +137,8 @@ fn allow(
     requires { row ≡ row_of (kind_in rec) }
     ensures { result ≡ as_read (allowed (look_in notes.now) (given_in notes.now) f len rec minus) }
 {
-    if has_signs(minus) {
-        if !signs_fit(row, rec, minus, notes) {
-            return refuse(Refusal::WrongClass);
-        }
+    if has_signs(minus) && !signs_fit(row, rec, minus, notes) {
+        return refuse(Refusal::WrongClass);
     }
     judge(row, f, len, rec, minus, notes)
 }
@@ -226,10 +217,7 @@ pub fn finish(
         × (((a : ℕ) → (look_in notes.now a).w ≤ 64) × Risen table.now n))))) }
     ensures { result ≡ as_read (ended (look_in notes.now) (given_in notes.now) (ids_of table.now n) f (as_took l.now t)) }
 {
-    if !t.ok {
-        return refuse(Refusal::BadOperand);
-    }
-    if crowded {
+    if !t.ok || crowded {
         return refuse(Refusal::BadOperand);
     }
     let own = kinds::row_of(kinds, forms::kind_of(f));

@@ -1,4 +1,5 @@
 -- Bytes that go to a text one after the other, and how long a text can be. Assumes nothing.
+use Rattle.std.specs.Prelude.{Result, Ok, Err}
 use mathlib.Core.Path.{◌≡◌, refl, sym, ap, ◌∙◌, subst}
 use mathlib.Core.Bool.{Bool, true, false}
 use mathlib.Core.List.{List, [], ◌∷◌, ◌++◌, append_assoc, append-nil}
@@ -12,10 +13,6 @@ use lib.Seq.{drop-cons, sets, sets-eq, length-sets}
 use borrow.Author.Tests.{lt-ltb, le-ltb, ltb-false, le-leb, lt-leb, leb-true, leb-false}
 use Rattle.tables.specs.declared.Refusal.{Refusal}
 use Rattle.tables.specs.declared.Refusal.TheVariants.{TextBuffer}
-use Rattle.tables.specs.declared.Checked.{Checked}
-use Rattle.tables.specs.declared.Checked.TheVariants.{Accepted, Refused as RefusedTable}
-use Rattle.tables.specs.declared.Answer.{Answer}
-use Rattle.tables.specs.declared.Answer.TheVariants.{Done, Refused}
 use Rattle.tables.specs.Kinds.{row_of, word_of, operand_count}
 use Rattle.tables.specs.Lines.{line_of, kind_in}
 use Rattle.tables.specs.Layout.{room, record_at, records_of}
@@ -342,22 +339,22 @@ sets_zeros s len h =
     sets-eq s (replicate len 0) 0 z ∙ (ap (λ (i : ℕ). s ++ drop i (replicate len 0)) j ∙ ap (λ (y : List ℕ). s ++ y) (drop_zeros (length s) len))
 
 module _ (t : List ℕ) (n len : ℕ) where
-  out_as : {a : Answer} {x : List ℕ} (o : Out) → write_table t n len ≡ o → a ≡ write_answer o → x ≡ buffer_of len o → told a (x ∷ []) ≡ writes t n len
+  out_as : {a : Result ℕ Refusal} {x : List ℕ} (o : Out) → write_table t n len ≡ o → a ≡ write_answer o → x ≡ buffer_of len o → told a (x ∷ []) ≡ writes t n len
   unfolding writes
   out_as o e h k = told_as h (ap (λ (y : List ℕ). y ∷ []) k) ∙ ap (λ (o : Out). told (write_answer o) (buffer_of len o ∷ [])) (sym e)
 
-  pub out_not : {c : Checked} {r : Refusal} {x : List ℕ} → c ≡ checked false t n → c ≡ RefusedTable r → x ≡ replicate len 0 → told (Refused r 0) (x ∷ []) ≡ writes t n len
+  pub out_not : {c : Result (Unit {0}) Refusal} {r : Refusal} {x : List ℕ} → c ≡ checked false t n → c ≡ Err r → x ≡ replicate len 0 → told (Err r) (x ∷ []) ≡ writes t n len
   unfolding write_table
   out_not {r = r} a b e = out_as (refuse r) (rw (sym a ∙ b) refl) refl e
 
-  pub out_short : {c : Checked} {x : List ℕ} → c ≡ checked false t n → c ≡ Accepted → len < length (write_text (records_of false t n)) → x ≡ replicate len 0
-      → told (Refused TextBuffer 0) (x ∷ []) ≡ writes t n len
+  pub out_short : {c : Result (Unit {0}) Refusal} {x : List ℕ} → c ≡ checked false t n → c ≡ Ok tt → len < length (write_text (records_of false t n)) → x ≡ replicate len 0
+      → told (Err TextBuffer) (x ∷ []) ≡ writes t n len
   unfolding write_table
   out_short a b h e = out_as (refuse TextBuffer) (rw (sym a ∙ b, lt-leb (length (write_text (records_of false t n))) len h, fitted) refl) refl e
 
-  pub out_written : {c : Checked} (m : ℕ) {x : List ℕ} → c ≡ checked false t n → c ≡ Accepted → m ≡ length (write_text (records_of false t n)) → m ≤ len
-      → x ≡ sets (replicate len 0) 0 (write_text (records_of false t n)) → told (Done m) (x ∷ []) ≡ writes t n len
+  pub out_written : {c : Result (Unit {0}) Refusal} (m : ℕ) {x : List ℕ} → c ≡ checked false t n → c ≡ Ok tt → m ≡ length (write_text (records_of false t n)) → m ≤ len
+      → x ≡ sets (replicate len 0) 0 (write_text (records_of false t n)) → told (Ok m) (x ∷ []) ≡ writes t n len
   unfolding write_table
   out_written m a b q h e =
       let k : length (write_text (records_of false t n)) ≤ len = omega arith in
-      out_as (wrote (write_text (records_of false t n))) (rw (sym a ∙ b, le-leb (length (write_text (records_of false t n))) len k, fitted) refl) (ap Done q) (e ∙ sets_zeros (write_text (records_of false t n)) len k)
+      out_as (wrote (write_text (records_of false t n))) (rw (sym a ∙ b, le-leb (length (write_text (records_of false t n))) len k, fitted) refl) (ap Ok q) (e ∙ sets_zeros (write_text (records_of false t n)) len k)

@@ -14,7 +14,7 @@ ghost use Rattle.tables.specs.Tables.{lawful};
 ghost use Rattle.tables.specs.Answers.{told};
 
 use records::{bytes, kinds};
-use tables::{Answer, Checked, Refusal, WORDS};
+use tables::{Refusal, WORDS};
 
 // One byte at a place of the text, where there is room.
 pub fn put(out: &mut [u8], at: usize, b: u8) -> usize
@@ -115,20 +115,15 @@ fn put_lines(out: &mut [u8], table: &[u64], count: usize) -> usize
 }
 
 // Writes the first `count` records of a table as text.
-pub fn write(table: &[u64], count: usize, text: &mut [u8]) -> Answer
+pub fn write(table: &[u64], count: usize, text: &mut [u8]) -> Result<usize, Refusal>
     ensures { told result (text.new ∷ []) ≡ writes table.now count (length text.old) }
 {
     bytes::clear(text);
-    let c = checks::accept(false, table, count);
-    match c {
-        Checked::Refused(r) => Answer::Refused(r, 0),
-        Checked::Accepted => {
-            let n = put_lines(text, table, count);
-            if text.len() < n {
-                bytes::clear(text);
-                return Answer::Refused(Refusal::TextBuffer, 0);
-            }
-            Answer::Done(n)
-        }
+    checks::accept(false, table, count)?;
+    let n = put_lines(text, table, count);
+    if text.len() < n {
+        bytes::clear(text);
+        return Err(Refusal::TextBuffer);
     }
+    Ok(n)
 }
