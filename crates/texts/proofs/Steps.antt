@@ -1,4 +1,6 @@
 -- The stages of reading a line, one law for each case. Assumes nothing.
+use Rattle.std.specs.Prelude.{Result, Ok, Err, Some}
+use Rattle.std.specs.Result.{result_eq}
 use mathlib.Core.Path.{◌≡◌, refl, sym, ap, ◌∙◌}
 use mathlib.Core.Bool.{Bool, true, false}
 use mathlib.Core.List.{List, [], ◌∷◌}
@@ -7,18 +9,18 @@ use native.Mathlib.Omega.{arith}
 use native.Mathlib.Numerals.{add-one}
 use lib.Dec.{eqb, leb}
 use lib.ListN.{length, drop, get_or, set}
-use borrow.Author.Tests.{eq-eqb, ne_eqb, lt-ltb, le-ltb, le-leb, lt-leb}
+use borrow.Author.Tests.{ltb-true, eqb-true, eqb-false, eq-eqb, ne_eqb, lt-ltb, le-ltb, le-leb, lt-leb}
 use Rattle.tables.specs.declared.Ty.{Ty}
+use Rattle.tables.specs.declared.Refusal.{Refusal}
 use Rattle.tables.specs.declared.Refusal.TheVariants.{WrongId, NoRecordLeft, UnknownWord, BadOperand, NumberTooLarge, WrongClass, Misfit, InitOrNext}
-use Rattle.tables.specs.Pick.{inside, all}
+use Rattle.tables.specs.Pick.{pick, inside, all}
 use Rattle.tables.specs.Lines.{kind_in, sort_in, first_in, second_in, third_in}
-use Rattle.tables.specs.Rules.{fault}
+use Rattle.tables.specs.Rules.{fault, refused_by}
 use Rattle.tables.specs.Ids.{follows}
 use Rattle.tables.specs.Types.{is_word}
 use Rattle.tables.proofs.Laws.{and_true, and_false}
 use Rattle.tables.proofs.Kept.{neither}
 use Rattle.texts.specs.Decimal.{Num}
-use Rattle.std.specs.Prelude.{Ok, Err, Some}
 use Rattle.texts.specs.declared.NumberError.TheVariants.{Malformed, TooLarge}
 use Rattle.tables.specs.Kinds.{row_of, sort_class, first_class, second_class, third_class, operand_count}
 use Rattle.texts.specs.Forms.{form_row, kind_of, sorted, first_of, numbers_of}
@@ -74,6 +76,38 @@ module _ (a : ℕ) (rec : List ℕ) (s : List Bool) where
   pub ruled_10 : (a ≡ 0 → ⊥) → (a ≡ 9 → ⊥) → ruled a rec s ≡ no InitOrNext
   unfolding ruled
   ruled_10 h k = rw (ne_eqb a 0 h, ne_eqb a 9 k, ruled) refl
+
+-- what the rules answer is what they say
+module _ (n : ℕ) where
+  pub tells_8 : (U : Unit {0} → Unit {0} → Bool) (E : Refusal → Refusal → Bool) {r : Result (Unit {0}) Refusal} {b : Bool} → r ≡ refused_by n → b ≡ result_eq U E r (Err WrongClass)
+      → E WrongClass WrongClass ≡ true → E Misfit WrongClass ≡ false → E InitOrNext WrongClass ≡ false → b ≡ eqb n 8
+  tells_8 U E h k t m i = k ∙ (ap (λ (r : Result (Unit {0}) Refusal). result_eq U E r (Err WrongClass)) h ∙ go (eqb n 0) refl (eqb n 8) refl (eqb n 9))
+    where
+      go : (a : Bool) → eqb n 0 ≡ a → (b : Bool) → eqb n 8 ≡ b → (c : Bool)
+          → result_eq U E (pick a (Ok tt) (Err (pick b WrongClass (pick c Misfit InitOrNext)))) (Err WrongClass) ≡ b
+      go true e true f c = let x = eqb-true n 0 e in let y = eqb-true n 8 f in absurd (omega arith)
+      go true e false f c = refl
+      go false e true f c = t
+      go false e false f true = m
+      go false e false f false = i
+
+  module _ (rec : List ℕ) (s : List Bool) where
+    pub by_none : {u : Unit {0}} → refused_by n ≡ Ok u → ruled n rec s ≡ got rec s
+    by_none {u} h = go (eqb n 0) refl (pick (eqb n 8) WrongClass (pick (eqb n 9) Misfit InitOrNext)) h
+      where
+        go : (a : Bool) → eqb n 0 ≡ a → (q : Refusal) → ◌≡◌ {A = Result (Unit {0}) Refusal} (pick a (Ok tt) (Err q)) (Ok u) → ruled n rec s ≡ got rec s
+        go true e q k = ruled_got n rec s (eqb-true n 0 e)
+        go false e q k = let z : ◌≡◌ {A = ℕ} 0 1 = cc in absurd (omega arith)
+
+    pub by_other : {r : Refusal} → (n ≡ 8 → ⊥) → refused_by n ≡ Err r → ruled n rec s ≡ no r
+    by_other {r} x h = go (eqb n 0) refl (eqb n 8) refl (eqb n 9) refl h
+      where
+        go : (a : Bool) → eqb n 0 ≡ a → (b : Bool) → eqb n 8 ≡ b → (c : Bool) → eqb n 9 ≡ c
+            → ◌≡◌ {A = Result (Unit {0}) Refusal} (pick a (Ok tt) (Err (pick b WrongClass (pick c Misfit InitOrNext)))) (Err r) → ruled n rec s ≡ no r
+        go true e b i c j k = let z : ◌≡◌ {A = ℕ} 0 1 = cc in absurd (omega arith)
+        go false e true i c j k = absurd (x (eqb-true n 8 i))
+        go false e false i true j k = let q : Misfit ≡ r = cc in ruled_9 n rec s (eqb-true n 9 j) ∙ ap no q
+        go false e false i false j k = let q : InitOrNext ≡ r = cc in ruled_10 n rec s (eqb-false n 0 e) (eqb-false n 9 j) ∙ ap no q
 
 module _ (w f : ℕ) (rec : List ℕ) where
   pub settled_one : f ≡ 67 → settled w f rec ≡ set rec 2 1

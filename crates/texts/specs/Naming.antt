@@ -1,8 +1,7 @@
 -- The name of a line: the one extra token of the first line whose id is the given number. It is empty where that line is missing, has an unknown word or has not
 -- just one extra token. Any text will do. Assumes nothing.
-use Rattle.std.specs.Prelude.{ℕ, ◌+◌, Bool, true, false, List, [], ◌∷◌, eqb, length, get_or}
+use Rattle.std.specs.Prelude.{ℕ, ◌+◌, Bool, true, false, List, [], ◌∷◌, eqb, length, get_or, Ok, Err}
 use Rattle.texts.specs.Decimal.{Num}
-use Rattle.std.specs.Prelude.{Ok, Err}
 use Rattle.texts.specs.Split.{split, up_to}
 use Rattle.texts.specs.Decimal.{decimal}
 use Rattle.texts.specs.Reading.{last_of, line_tokens, line_name}

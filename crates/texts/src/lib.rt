@@ -48,6 +48,13 @@ pub struct Readout {
     pub to: usize,
 }
 
+// Why a text is refused, and at which of its lines: the first is 1, and 0 stands where no line is at fault.
+#[derive(Clone, Copy)]
+pub struct TextRefusal {
+    pub refusal: Refusal,
+    pub line: usize,
+}
+
 // A part of a text: from a place up to another.
 #[derive(Clone, Copy)]
 pub struct Part {

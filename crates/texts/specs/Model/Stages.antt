@@ -1,12 +1,11 @@
 -- Reading a line stage by stage, as the code does: each stage answers its refusal or hands on to the next. `proofs/Staged` shows that this is `read_line`. Assumes nothing.
-use Rattle.std.specs.Prelude.{ℕ, zero, suc, ◌+◌, Bool, true, false, ◌&&◌, not, List, [], ◌∷◌, eqb, ltb, length, set}
+use Rattle.std.specs.Prelude.{ℕ, zero, suc, ◌+◌, Bool, true, false, ◌&&◌, not, List, [], ◌∷◌, eqb, ltb, length, set, Ok, Err}
 use Rattle.tables.specs.declared.Ty.{Ty}
 use Rattle.tables.specs.declared.Refusal.{Refusal}
 use Rattle.tables.specs.declared.Refusal.TheVariants.{WrongId, NoRecordLeft, UnknownWord, BadOperand, NumberTooLarge, WrongClass, Misfit, InitOrNext, NameUsed}
 use Rattle.tables.specs.Pick.{inside, all}
 use Rattle.tables.specs.Lines.{sort_in, first_in}
 use Rattle.tables.specs.Rules.{fault}
-use Rattle.std.specs.Prelude.{Ok, Err}
 use Rattle.texts.specs.declared.NumberError.TheVariants.{Malformed, TooLarge}
 use Rattle.texts.specs.Forms.{form_row, kind_of, first_of, numbers_of}
 use Rattle.texts.specs.Decimal.{decimal}
