@@ -1,4 +1,5 @@
 -- The pass over the records that notes the line of each state's init value. Assumes nothing.
+use Rattle.std.specs.Prelude.{Ok}
 use Prim.Native.Nat.{ℕ, ◌+◌, ◌≤◌, ◌<◌}
 use mathlib.Core.Path.{◌≡◌, refl, sym, ap, ap₂, ◌∙◌}
 use mathlib.Core.Bool.{Bool, true, false}
@@ -9,7 +10,6 @@ use lib.Dec.{eqb}
 use lib.ListN.{length, take, get_or, set, replicate, length-replicate, get_or-replicate}
 use lib.Seq.{get_or-set_same, get_or-set_other, take-length}
 use borrow.Author.Tests.{eq-eqb, ne_eqb}
-use Rattle.tables.specs.declared.Checked.TheVariants.{Accepted}
 use Rattle.tables.specs.Pick.{pick}
 use Rattle.tables.specs.Lines.{Line, Shape, is_bitvec, is_array, is_const, is_input, is_state, is_output, is_unary, is_binary, is_ite, is_read, is_write, is_unknown, is_init_or_next, is_signal, is_equality, shape_of, build, line_of, kind_in, sort_in, first_in, second_in, third_in}
 use Rattle.tables.specs.Layout.{record_at, lines_of}
@@ -72,7 +72,7 @@ pub noting_none : (C : List Line) (n : ℕ) (ini : List ℕ) → ini ≡ replica
 noting_none C n ini e =
     record { most = omega arith; long = ap length e ∙ length-replicate {A = ℕ} 65 0; are = λ q h. ap (λ (x : List ℕ). get_or x q 0) e ∙ get_or-replicate {A = ℕ} 65 q 0 0 h }
 
-module _ (t : List ℕ) (n : ℕ) (acc : checked false t n ≡ Accepted) where
+module _ (t : List ℕ) (n : ℕ) (acc : checked false t n ≡ Ok tt) where
   pub noting_more : {r : List ℕ} (i : ℕ) (ini ini' : List ℕ) → i < n → Noting (lines_of false t n) n i ini → r ≡ record_at false t i → length ini' ≡ length ini
       → ((q : ℕ) → q < length ini → get_or ini' q 0 ≡ note_init q (get_or ini q 0) (line_of r)) → Noting (lines_of false t n) n (i + 1) ini'
   noting_more {r} i ini ini' h s er l e =
