@@ -1,12 +1,12 @@
 -- The answers of a peek, test by test, and the value where none holds. Assumes nothing.
 use Prim.Native.Nat.{ℕ, zero, suc, ◌+◌, ◌≤◌, ◌<◌}
-use mathlib.Core.Path.{◌≡◌, refl, sym, ap, ap₂, ◌∙◌, subst}
+use mathlib.Core.Path.{◌≡◌, refl, sym, ap, ap₂, ◌∙◌}
 use mathlib.Core.Bool.{Bool, true, false}
 use mathlib.Core.List.{List}
 use native.Mathlib.Omega.{arith}
 use lib.Dec.{leb, eqb}
 use lib.ListN.{length, take, get_or, set, replicate, length-replicate}
-use borrow.Author.Tests.{le-leb, lt-leb, lt-ltb, le-ltb, eq-eqb, ne_eqb, leb-true, ltb-true, eqb-true}
+use borrow.Author.Tests.{leb-true, ltb-true, eqb-true}
 use Rattle.std.specs.Prelude.{Option, Some, None, is_some, unwrap_or, Result, Ok, Err}
 use Rattle.tables.specs.declared.Ty.{Ty}
 use Rattle.tables.specs.declared.Refusal.{Refusal}
@@ -35,26 +35,6 @@ use Rattle.circuits.proofs.Placing.{all_sound, lines_here, noted_types}
 use Rattle.peeks.proofs.Looked.{shown, one_cell, more_cells}
 
 -- ---- 14, 15 and 18
-
-module _ (c : Counts) (row : ℕ) (y : Ty) (n k s i : ℕ) where
-  pub may_14 : (s ≡ c.states → ⊥) → Err StartWords ≡ may_peek c row y n k s i
-  may_14 e = rw (ne_eqb s c.states e)
-
-  pub may_15 : s ≡ c.states → (i ≡ row → ⊥) → Err InputWords ≡ may_peek c row y n k s i
-  may_15 e f = rw (eq-eqb s c.states e, ne_eqb i row f)
-
-  module _ (e : s ≡ c.states) (f : i ≡ row) where
-    pub may_many : 64 < n → Err NoSuchCell ≡ may_peek c row y n k s i
-    may_many h = rw (eq-eqb s c.states e, eq-eqb i row f, lt-leb n 64 h)
-
-    pub may_class : n ≤ 64 → y.role < 2 → Err NoSuchCell ≡ may_peek c row y n k s i
-    may_class h q = rw (eq-eqb s c.states e, eq-eqb i row f, le-leb n 64 h, lt-leb 2 y.role q)
-
-    pub may_cell : {m : ℕ} → m ≡ size y → n ≤ 64 → 2 ≤ y.role → m ≤ k → Err NoSuchCell ≡ may_peek c row y n k s i
-    may_cell {m} z h q l = rw (eq-eqb s c.states e, eq-eqb i row f, le-leb n 64 h, le-leb 2 y.role q, le-ltb k (size y) (subst (λ (x : ℕ). x ≤ k) z l))
-
-    pub may_see : {m : ℕ} → m ≡ size y → n ≤ 64 → 2 ≤ y.role → k < m → Ok tt ≡ may_peek c row y n k s i
-    may_see {m} z h q l = rw (eq-eqb s c.states e, eq-eqb i row f, le-leb n 64 h, le-leb 2 y.role q, lt-ltb k (size y) (subst (λ (x : ℕ). k < x) z l))
 
 pub record May (c : Counts) (row : ℕ) (y : Ty) (n k s i : ℕ) : Type 0 where
   pub starts : s ≡ c.states
