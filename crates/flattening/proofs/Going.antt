@@ -7,6 +7,7 @@ use mathlib.Core.List.{List, [], ◌∷◌, map}
 use native.Mathlib.Omega.{arith}
 use native.Mathlib.Decide.{dec_lt}
 use lib.ListN.{length, replicate, length-replicate}
+use Rattle.tables.specs.declared.Note.{Note}
 use Rattle.tables.specs.declared.Refusal.TheVariants.{TargetTooSmall}
 use Rattle.tables.specs.Lines.{Line, line_of, words_of, kind_in}
 use Rattle.tables.specs.Layout.{held, room, record_at, lines_of}
@@ -28,11 +29,11 @@ use Rattle.flattening.proofs.Passing.{line_in, sofar}
 use Rattle.flattening.proofs.Depths.{wide_at, flat_at}
 use Rattle.flattening.proofs.Pass.{Pass, record_known, record_line, deep, too_many, length_target, fit, made_low, passed, shortened, begun, stopped, stopped_target, done, done_target}
 
-abbrev pub Going : (t : List ℕ) (n : ℕ) (types kept₀ : List (List ℕ)) (target₀ : List ℕ) (i p : ℕ) (kept : List (List ℕ)) (target : List ℕ) (u : ℕ) → Type 0
+abbrev pub Going : (t : List ℕ) (n : ℕ) (types : List Note) (kept₀ : List (List ℕ)) (target₀ : List ℕ) (i p : ℕ) (kept : List (List ℕ)) (target : List ℕ) (u : ℕ) → Type 0
 Going t n types kept₀ target₀ i p kept target u =
     (b : Begun t n types kept₀ target₀) → Pass t n b.accepted types b.iw b.w (length target₀) b.size b.wide i p kept target u
 
-module _ {t : List ℕ} {n : ℕ} {types kept₀ : List (List ℕ)} {target₀ : List ℕ} (b : Begun t n types kept₀ target₀) where
+module _ {t : List ℕ} {n : ℕ} {types : List Note} {kept₀ : List (List ℕ)} {target₀ : List ℕ} (b : Begun t n types kept₀ target₀) where
   pub shallow : Shallow types
   shallow = record { deep = λ a. go a (dec_lt 0 (ty_at (context false (lines_of false t n)) a).role) }
     where

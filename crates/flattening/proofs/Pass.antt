@@ -1,5 +1,6 @@
 -- The pass over the lines of a table: what holds after the first i of them, and what is answered. Assumes nothing.
 use Rattle.std.specs.Prelude.{Result, Ok, Err}
+use Rattle.tables.specs.declared.Note.{Note}
 use Rattle.tables.specs.declared.Refusal.{Refusal}
 use Prim.Native.Nat.{ℕ, zero, suc, ◌+◌, ◌≤◌, ◌<◌}
 use mathlib.Core.Path.{◌≡◌, refl, sym, ap, ap₂, ◌∙◌, subst, subst⁻¹}
@@ -104,7 +105,7 @@ module _ (t : List ℕ) (n : ℕ) (acc : checked false t n ≡ Ok tt) where
 
   -- ---- what holds after the first i lines
 
-  module _ (types : List (List ℕ)) (eiw : (a : ℕ) → (look_in types a).iw ≡ (ty_at (context false C) a).iw) (ew : (a : ℕ) → (look_in types a).w ≡ (ty_at (context false C) a).w) (len size : ℕ) (wide : n < size) where
+  module _ (types : List Note) (eiw : (a : ℕ) → (look_in types a).iw ≡ (ty_at (context false C) a).iw) (ew : (a : ℕ) → (look_in types a).w ≡ (ty_at (context false C) a).w) (len size : ℕ) (wide : n < size) where
     pub record Pass (i p : ℕ) (kept : List (List ℕ)) (target : List ℕ) (u : ℕ) : Type 0 where
       pub upto : i ≤ n
       pub of_kept : length kept ≡ size

@@ -5,6 +5,7 @@ use mathlib.Core.Path.{◌≡◌, refl, sym, ap, ◌∙◌}
 use mathlib.Core.Bool.{true, false}
 use mathlib.Core.List.{List, [], ◌∷◌}
 use lib.ListN.{length, replicate, length-replicate}
+use Rattle.tables.specs.declared.Note.{Note}
 use Rattle.tables.specs.declared.Ty.{Ty}
 use Rattle.tables.specs.declared.Refusal.{Refusal}
 use Rattle.tables.specs.declared.Refusal.TheVariants.{NotATable}
@@ -47,7 +48,7 @@ module _ (t : List ℕ) (n : ℕ) {target : List ℕ} where
   pub refused : Clear t target → (r : Refusal) → Err r ≡ checked false t n → told (Err r) (target ∷ []) ≡ flattens t n (length target)
   refused k r q = check_refused t n (length target) k.empty k.first k.even r (sym q)
 
-  pub begin : {types₀ types kept : List (List ℕ)} → Blank t n types₀ kept target → Ok tt ≡ checked false t n → Shows types (context false (lines_of false t n)) → Begun t n types kept target
+  pub begin : {types₀ types : List Note} {kept : List (List ℕ)} → Blank t n types₀ kept target → Ok tt ≡ checked false t n → Shows types (context false (lines_of false t n)) → Begun t n types kept target
   begin k a s =
       record {
         accepted = sym a;
