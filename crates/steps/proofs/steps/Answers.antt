@@ -1,4 +1,4 @@
-use Prim.Native.Nat.{◌+◌, ◌-◌}
+use Prim.Native.Nat.{◌+◌}
 use mathlib.Core.Path.{refl}
 use native.Mathlib.Omega.{arith}
 use Rattle.tables.specs.Layout.{lines_of}
@@ -8,19 +8,19 @@ use Rattle.steps.proofs.steps.Goals as goal
 pub loop-i-init : goal.loop-i-init
 loop-i-init c =
     let a = c.args in
-    stepped_none a.program (lines_of a.program a.table.now a.count) (a.ins + a.fed) a.sigs a.k a.all a.inputs.now a.signals.now a.work.now c.requires.1.1.1.1
+    stepped_none a.plan.program (lines_of a.plan.program a.plan.table.now a.plan.count) (a.plan.totals.inputs + a.plan.totals.free) a.plan.totals.signals a.k a.plan.totals.cells a.inputs.now a.signals.now a.work.now c.requires.1.1.1.1
 
 pub enter-requires : goal.enter-requires
 enter-requires c =
     let l = c.loop-i in
-    let u = running c.args.fed c.args.k c.args.inputs.now c.args.work.now c.requires.1.0 c.requires.1.1.0 c.requires.1.1.1.0 in
+    let u = running c.args.plan.totals.free c.args.k c.args.inputs.now c.args.work.now c.requires.1.0 c.requires.1.1.0 c.requires.1.1.1.0 in
     let h = c.loop-i-test.true in
     (omega (arith, c.requires.0, l.invariant.many), enter_fits u l.invariant h)
 
 pub loop-i-preserved : goal.loop-i-preserved
 loop-i-preserved c =
     let l = c.loop-i in
-    let u = running c.args.fed c.args.k c.args.inputs.now c.args.work.now c.requires.1.0 c.requires.1.1.0 c.requires.1.1.1.0 in
+    let u = running c.args.plan.totals.free c.args.k c.args.inputs.now c.args.work.now c.requires.1.0 c.requires.1.1.0 c.requires.1.1.1.0 in
     let h = c.loop-i-test.true in
     let e = c.enter in
     let w = c.walk in
