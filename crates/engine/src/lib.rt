@@ -6,7 +6,6 @@ ghost use Rattle.tables.specs.Layout.{lines_of};
 ghost use Rattle.circuits.specs.Answers.{lent as lent_of, told_run};
 ghost use Rattle.circuits.specs.Free.{sources, free_count};
 ghost use Rattle.circuits.specs.Run.{run, bytes};
-ghost use Rattle.circuits.specs.Model.Places.{Ready};
 ghost use Rattle.circuits.specs.Model.Passes.{counts_of, Noted};
 ghost use Rattle.circuits.specs.Model.Answers.{RunAsked, started, lent_runs};
 
@@ -49,7 +48,7 @@ fn run_steps(
     work: &mut [u64],
 )
     requires { Noted plan.program plan.table.now plan.count notes.now × ((length work.old ≡ plan.totals.cells + length starts.now)
-        × (Ready plan.program plan.table.now plan.count plan.laid.now plan.totals.cells (length starts.now) plan.totals.inputs plan.totals.signals
+        × ((length starts.now ≡ plan.totals.states)
         × (RunAsked plan.program (lines_of plan.program plan.table.now plan.count) plan.totals k (length inputs.now) (length signals.old)))) }
     ensures { (signals.new ≡ bytes (run plan.entry.program (lines_of plan.entry.program plan.entry.table.now plan.entry.count) k starts.now inputs.now))
         × (work.new ≡ replicate (length work.old) 0) }
@@ -74,11 +73,10 @@ fn run_lent(
     work: &mut [u64],
 ) -> Option<FirstBad>
     requires { Noted plan.program plan.table.now plan.count notes.now
-        × (Ready plan.program plan.table.now plan.count plan.laid.now plan.totals.cells plan.totals.states plan.totals.inputs plan.totals.signals
         × ((plan.totals.free ≡ free_count (sources plan.program (lines_of plan.program plan.table.now plan.count)))
         × ((lent_of (counts_of plan.totals) (plan.totals.inputs + plan.totals.free) k
         (length starts.now) (length inputs.now) (length signals.old) (length work.old) ≡ Ok tt)
-        × (work.old ≡ replicate (length work.old) 0)))) }
+        × (work.old ≡ replicate (length work.old) 0))) }
     ensures { told_run (Ok result) (signals.new ∷ work.new ∷ [])
         ≡ started plan.entry.program (lines_of plan.entry.program plan.entry.table.now plan.entry.count) k starts.now inputs.now (length work.old) }
 {

@@ -2,7 +2,7 @@
 // plan's cells, are the lines' cells, those from it on the state words.
 #![tactic(auto)]
 
-ghost use Rattle.std.specs.Prelude.{◌≡◌, true, List, ℕ, ◌≤◌, ◌+◌, length, drop, Ok};
+ghost use Rattle.std.specs.Prelude.{◌≡◌, false, true, List, ℕ, ◌≤◌, ◌+◌, length, drop, Ok};
 ghost use Rattle.words.specs.Word.{Width};
 ghost use Rattle.tables.specs.Tables.{checked};
 ghost use Rattle.tables.specs.Layout.{lines_of};
@@ -10,7 +10,7 @@ ghost use Rattle.circuits.specs.Cells.{part, put, mask_words};
 ghost use Rattle.circuits.specs.Meaning.{step};
 ghost use Rattle.circuits.specs.Model.Work.{num_in, pos_in, wid_in};
 ghost use Rattle.circuits.specs.Model.Places.{Ready};
-ghost use Rattle.starts.specs.Model.Starting.{has_init, NoInit};
+ghost use Rattle.starts.specs.Model.Starting.{has_init};
 
 use area::LAID;
 use circuits::Totals;
@@ -23,6 +23,8 @@ pub struct Plan<'a> {
     pub count: usize,
     pub laid: &'a [[u32; LAID]; 16385],
     pub totals: Totals,
+    // The table is accepted, and the list and the counts are those of its lines.
+    pub ghost ready: { Ready program table.now count laid.now totals.cells totals.states totals.inputs totals.signals },
 }
 
 // A counted record is an init line. All kinds are looked at, so that the compiled code takes several of them at a time.
@@ -53,7 +55,8 @@ fn mask_state(n: usize, laid: &[[u32; LAID]; 16385], all: usize, work: &mut [u64
 // Without an init line the start needs no value of any line, and so no input row: the words of each state are masked.
 fn mask_starts(plan: Plan, work: &mut [u64])
     requires { (plan.totals.cells ≤ length work.old)
-        × NoInit plan.program plan.table.now plan.count plan.laid.now (length (drop plan.totals.cells work.old)) }
+        × ((length (drop plan.totals.cells work.old) ≡ plan.totals.states)
+        × (has_init (lines_of plan.program plan.table.now plan.count) ≡ false)) }
     ensures { (ι : List ℕ) → drop plan.entry.totals.cells work.new
         ≡ (step plan.entry.program true (lines_of plan.entry.program plan.entry.table.now plan.entry.count) (drop plan.entry.totals.cells work.old) ι).sts }
 {
@@ -67,7 +70,8 @@ fn mask_starts(plan: Plan, work: &mut [u64])
 // The state words that the run starts from: the start words, then what init lines store.
 pub fn begin(plan: Plan, starts: &[u64], row: &[u64], sig: &mut [u8], work: &mut [u64])
     requires { (length work.old ≡ plan.totals.cells + length starts.now)
-        × Ready plan.program plan.table.now plan.count plan.laid.now plan.totals.cells (length starts.now) (length row.now) (length sig.old) }
+        × ((length starts.now ≡ plan.totals.states)
+        × ((length row.now ≡ plan.totals.inputs) × (length sig.old ≡ plan.totals.signals))) }
     ensures { drop plan.entry.totals.cells work.new
         ≡ (step plan.entry.program true (lines_of plan.entry.program plan.entry.table.now plan.entry.count) starts.now row.now).sts }
 {

@@ -4,7 +4,6 @@
 ghost use Rattle.std.specs.Prelude.{◌≡◌, ◌≤◌, ◌*◌, ◌+◌, ◌<◌, length, drop, replicate};
 ghost use Rattle.circuits.specs.Run.{bytes, steps as steps_of, run};
 ghost use Rattle.tables.specs.Layout.{lines_of};
-ghost use Rattle.circuits.specs.Model.Places.{Ready};
 ghost use Rattle.circuits.specs.Model.Feeding.{Rows};
 
 use starts::Plan;
@@ -12,8 +11,7 @@ use starts::Plan;
 // k steps, each from the state words that the last one left, but for those of the free states, whose lines are given. A row has so many inputs, and behind them so many words for
 // free states.
 fn steps(plan: Plan, free: &[u32], k: usize, inputs: &[u64], signals: &mut [u8], work: &mut [u64])
-    requires { (plan.totals.cells ≤ length work.old) × (Ready plan.program plan.table.now plan.count plan.laid.now plan.totals.cells
-        (length (drop plan.totals.cells work.old)) plan.totals.inputs plan.totals.signals
+    requires { (plan.totals.cells ≤ length work.old) × ((length (drop plan.totals.cells work.old) ≡ plan.totals.states)
         × (Rows plan.program (lines_of plan.program plan.table.now plan.count) (plan.totals.inputs + plan.totals.free) free.now
         × ((k * (plan.totals.inputs + plan.totals.free) ≤ length inputs.now) × (length signals.old ≡ k * plan.totals.signals)))) }
     ensures { signals.new ≡ bytes (steps_of plan.entry.program (lines_of plan.entry.program plan.entry.table.now plan.entry.count) k (drop plan.entry.totals.cells work.old) inputs.now) }
@@ -52,8 +50,7 @@ pub fn run_laid(
     signals: &mut [u8],
     work: &mut [u64],
 )
-    requires { (length work.old ≡ plan.totals.cells + length starts.now) × (Ready plan.program plan.table.now plan.count plan.laid.now plan.totals.cells
-        (length starts.now) plan.totals.inputs plan.totals.signals
+    requires { (length work.old ≡ plan.totals.cells + length starts.now) × ((length starts.now ≡ plan.totals.states)
         × (Rows plan.program (lines_of plan.program plan.table.now plan.count) (plan.totals.inputs + plan.totals.free) free.now
         × ((k * (plan.totals.inputs + plan.totals.free) ≤ length inputs.now) × ((length signals.old ≡ k * plan.totals.signals) × (0 < k))))) }
     ensures { (signals.new ≡ bytes (run plan.entry.program (lines_of plan.entry.program plan.entry.table.now plan.entry.count) k starts.now inputs.now))

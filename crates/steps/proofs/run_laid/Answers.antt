@@ -13,6 +13,6 @@ returns c =
     let t = c.steps in (
       t.ensures
           ∙ run_as a.plan.program C a.k a.starts.now a.inputs.now _
-          (g.ensures ∙ start_as a.plan.program C a.starts.now a.inputs.now _ (ap (λ (n : ℕ). take n a.inputs.now) (sym c.requires.1.0.inputs))),
+          (g.ensures ∙ start_as a.plan.program C a.starts.now a.inputs.now _ (ap (λ (n : ℕ). take n a.inputs.now) (sym a.plan.ready.inputs))),
       c.fill.ensures ∙ ap (λ (n : ℕ). replicate n 0) (t.auto.work ∙ g.auto.work),
     )
