@@ -54,9 +54,8 @@ fn mask_state(n: usize, laid: &[[u32; LAID]; 16385], all: usize, work: &mut [u64
 
 // Without an init line the start needs no value of any line, and so no input row: the words of each state are masked.
 fn mask_starts(plan: Plan, work: &mut [u64])
-    requires { (plan.totals.cells ≤ length work.old)
-        × ((length (drop plan.totals.cells work.old) ≡ plan.totals.states)
-        × (has_init (lines_of plan.program plan.table.now plan.count) ≡ false)) }
+    requires { (length work.old ≡ plan.totals.cells + plan.totals.states)
+        × (has_init (lines_of plan.program plan.table.now plan.count) ≡ false) }
     ensures { (ι : List ℕ) → drop plan.entry.totals.cells work.new
         ≡ (step plan.entry.program true (lines_of plan.entry.program plan.entry.table.now plan.entry.count) (drop plan.entry.totals.cells work.old) ι).sts }
 {

@@ -11,9 +11,9 @@ use starts::Plan;
 // k steps, each from the state words that the last one left, but for those of the free states, whose lines are given. A row has so many inputs, and behind them so many words for
 // free states.
 fn steps(plan: Plan, free: &[u32], k: usize, inputs: &[u64], signals: &mut [u8], work: &mut [u64])
-    requires { (plan.totals.cells ≤ length work.old) × ((length (drop plan.totals.cells work.old) ≡ plan.totals.states)
+    requires { (length work.old ≡ plan.totals.cells + plan.totals.states)
         × (Rows plan.program (lines_of plan.program plan.table.now plan.count) (plan.totals.inputs + plan.totals.free) free.now
-        × ((k * (plan.totals.inputs + plan.totals.free) ≤ length inputs.now) × (length signals.old ≡ k * plan.totals.signals)))) }
+        × ((k * (plan.totals.inputs + plan.totals.free) ≤ length inputs.now) × (length signals.old ≡ k * plan.totals.signals))) }
     ensures { signals.new ≡ bytes (steps_of plan.entry.program (lines_of plan.entry.program plan.entry.table.now plan.entry.count) k (drop plan.entry.totals.cells work.old) inputs.now) }
 {
     let t = plan.totals;
