@@ -27,10 +27,7 @@ fn next_place(b: u8, p: usize) -> usize
     requires { p ≤ 16385 }
     ensures { result ≡ pick (eqb b 1) (p + 1) p }
 {
-    if b == 1 {
-        return p + 1;
-    }
-    p
+    if b == 1 { p + 1 } else { p }
 }
 
 // The constraints of a step are met; the step's bytes come first in row.
@@ -38,12 +35,7 @@ fn met(row: &[u8], bad: &[u8]) -> bool
     requires { length bad.now ≤ length row.now }
     ensures { result ≡ met_of (zip_sig bad.now row.now) }
 {
-    for (j, b) in bad.iter().enumerate() {
-        if breaks(*b, row[j]) {
-            return false;
-        }
-    }
-    true
+    bad.iter().zip(row).all(|(b, v)| !breaks(*b, *v))
 }
 
 // The place of the first bad line whose byte is 1, from 1 on; the step's bytes come first in row.
@@ -52,8 +44,8 @@ fn first_hit(row: &[u8], bad: &[u8]) -> Option<usize>
     ensures { MatchOption result (bad_at 1 (zip_sig bad.now row.now) ≡ 0) (λ p. (1 ≤ p) × (bad_at 1 (zip_sig bad.now row.now) ≡ p)) }
 {
     let mut p = 1;
-    for (j, b) in bad.iter().enumerate() {
-        if hits(*b, row[j]) {
+    for (b, v) in bad.iter().zip(row) {
+        if hits(*b, *v) {
             return Some(p);
         }
         p = next_place(*b, p);

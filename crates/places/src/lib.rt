@@ -146,15 +146,11 @@ fn note_mark(k: u64, g: usize, bad: &mut [u8]) -> usize
     requires { g < length bad.old }
     ensures { (rec : List ℕ) → k ≡ kind_in rec → (take result bad.new ≡ take g bad.old ++ bad_mark (line_of rec)) × (result ≡ g + length (bad_mark (line_of rec))) }
 {
-    if k == 8 {
-        bad[g] = 1;
-        return g + 1;
+    if k != 8 && k != 9 {
+        return g;
     }
-    if k == 9 {
-        bad[g] = 0;
-        return g + 1;
-    }
-    g
+    bad[g] = u8::from(k == 8);
+    g + 1
 }
 
 // A mark for each signal, in line order: 1 for a bad line, 0 for a constraint.

@@ -1,8 +1,8 @@
-// The state words that a run starts from: the start words, taken modulo 2 to their states' widths, and what init lines store. The words of the work area before `all` are the
-// lines' cells, those from it on the state words.
+// The state words that a run starts from: the start words, taken modulo 2 to their states' widths, and what init lines store. The words of the work area before `all`, or the
+// plan's cells, are the lines' cells, those from it on the state words.
 #![tactic(auto)]
 
-ghost use Rattle.std.specs.Prelude.{◌≡◌, true, List, ℕ, ◌≤◌, ◌+◌, length, drop, Ok};
+ghost use Rattle.std.specs.Prelude.{◌≡◌, false, true, List, ℕ, ◌≤◌, ◌+◌, length, drop, Ok};
 ghost use Rattle.words.specs.Word.{Width};
 ghost use Rattle.tables.specs.Tables.{checked};
 ghost use Rattle.tables.specs.Layout.{lines_of};
@@ -10,9 +10,22 @@ ghost use Rattle.circuits.specs.Cells.{part, put, mask_words};
 ghost use Rattle.circuits.specs.Meaning.{step};
 ghost use Rattle.circuits.specs.Model.Work.{num_in, pos_in, wid_in};
 ghost use Rattle.circuits.specs.Model.Places.{Ready};
-ghost use Rattle.starts.specs.Model.Starting.{has_init, NoInit};
+ghost use Rattle.starts.specs.Model.Starting.{has_init};
 
 use area::LAID;
+use circuits::Totals;
+
+// What a run goes by: the table with its count, where each line has its cells, and how many there are of what.
+#[derive(Clone, Copy)]
+pub struct Plan<'a> {
+    pub program: bool,
+    pub table: &'a [u64],
+    pub count: usize,
+    pub laid: &'a [[u32; LAID]; 16385],
+    pub totals: Totals,
+    // The table is accepted, and the list and the counts are those of its lines.
+    pub ghost ready: { Ready program table.now count laid.now totals.cells totals.states totals.inputs totals.signals },
+}
 
 // A counted record is an init line. All kinds are looked at, so that the compiled code takes several of them at a time.
 fn has_init(program: bool, table: &[u64], count: usize) -> bool
@@ -40,43 +53,41 @@ fn mask_state(n: usize, laid: &[[u32; LAID]; 16385], all: usize, work: &mut [u64
 }
 
 // Without an init line the start needs no value of any line, and so no input row: the words of each state are masked.
-fn mask_starts(
-    program: bool,
-    table: &[u64],
-    count: usize,
-    laid: &[[u32; LAID]; 16385],
-    all: usize,
-    work: &mut [u64],
-)
-    requires { (all ≤ length work.old) × NoInit program table.now count laid.now (length (drop all work.old)) }
-    ensures { (ι : List ℕ) → drop all work.new ≡ (step program true (lines_of program table.now count) (drop all work.old) ι).sts }
+fn mask_starts(plan: Plan, work: &mut [u64])
+    requires { (length work.old ≡ plan.totals.cells + plan.totals.states)
+        × (has_init (lines_of plan.program plan.table.now plan.count) ≡ false) }
+    ensures { (ι : List ℕ) → drop plan.entry.totals.cells work.new
+        ≡ (step plan.entry.program true (lines_of plan.entry.program plan.entry.table.now plan.entry.count) (drop plan.entry.totals.cells work.old) ι).sts }
 {
-    for i in 0..count {
-        if records::kind(program, table, i) == 5 {
-            mask_state(i + 1, laid, all, work);
+    for i in 0..plan.count {
+        if records::kind(plan.program, plan.table, i) == 5 {
+            mask_state(i + 1, plan.laid, plan.totals.cells, work);
         }
     }
 }
 
 // The state words that the run starts from: the start words, then what init lines store.
-pub fn begin(
-    program: bool,
-    table: &[u64],
-    count: usize,
-    laid: &[[u32; LAID]; 16385],
-    all: usize,
-    starts: &[u64],
-    row: &[u64],
-    sig: &mut [u8],
-    work: &mut [u64],
-)
-    requires { (length work.old ≡ all + length starts.now) × Ready program table.now count laid.now all (length starts.now) (length row.now) (length sig.old) }
-    ensures { drop all work.new ≡ (step program true (lines_of program table.now count) starts.now row.now).sts }
+pub fn begin(plan: Plan, starts: &[u64], row: &[u64], sig: &mut [u8], work: &mut [u64])
+    requires { (length work.old ≡ plan.totals.cells + length starts.now)
+        × ((length starts.now ≡ plan.totals.states)
+        × ((length row.now ≡ plan.totals.inputs) × (length sig.old ≡ plan.totals.signals))) }
+    ensures { drop plan.entry.totals.cells work.new
+        ≡ (step plan.entry.program true (lines_of plan.entry.program plan.entry.table.now plan.entry.count) starts.now row.now).sts }
 {
-    area::load_at(work, all, starts);
-    if has_init(program, table, count) {
-        walks::walk(program, true, table, count, laid, all, row, sig, work);
+    area::load_at(work, plan.totals.cells, starts);
+    if has_init(plan.program, plan.table, plan.count) {
+        walks::walk(
+            plan.program,
+            true,
+            plan.table,
+            plan.count,
+            plan.laid,
+            plan.totals.cells,
+            row,
+            sig,
+            work,
+        );
     } else {
-        mask_starts(program, table, count, laid, all, work);
+        mask_starts(plan, work);
     }
 }

@@ -1,5 +1,4 @@
 -- What the kinds so far say, or what the lines ahead say, is the answer.
-use Prim.Native.Nat.{◌-◌}
 use Rattle.starts.proofs.Inits.{Looked}
 use Rattle.starts.proofs.has_init.Given as goal
 
