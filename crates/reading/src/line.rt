@@ -48,7 +48,9 @@ fn behind_word(
         × (result.what ≡ 0 → (result.id ≡ id) × ((result.from ≤ result.to) × ((result.to ≤ length l.now)
         × (take (result.to - result.from) (drop result.from l.now) ≡ name_in f (tokens_in (drop at l.now)))))) }
 {
-    let t = stages::take(l, kinds, f, at);
+    let Some(t) = stages::take(l, kinds, f, at) else {
+        return stages::refuse(Refusal::BadOperand);
+    };
     let p = tokens::next(l, t.at);
     let from = p.from;
     let to = p.to;

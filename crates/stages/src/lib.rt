@@ -1,7 +1,7 @@
 // What stands behind the word of a line: the refusals 6 to 10 in their order. The table holds the records so far, with their ids, and the notes what is known of their lines.
 #![tactic(auto)]
 
-ghost use Rattle.std.specs.Prelude.{◌≡◌, ◌-◌, ◌^◌, ◌≤◌, ℕ, length, drop};
+ghost use Rattle.std.specs.Prelude.{◌≡◌, ◌-◌, ◌^◌, ◌≤◌, ℕ, length, drop, IfSome, Some};
 ghost use Rattle.texts.specs.Forms.{kind_of};
 ghost use Rattle.texts.specs.Operands.{resolved};
 ghost use Rattle.texts.specs.Minus.{minus_fits, minuses_by};
@@ -188,10 +188,10 @@ fn large(
     conclude(row, f, rec, minus, len, table, n, notes)
 }
 
-// The numbers of a line of the form f, from behind its word on; kinds are the rows of all kinds.
-pub fn take(l: &[u8], kinds: &[[u8; 16]; 63], f: usize, at: usize) -> Taken
+// The numbers of a line of the form f, from behind its word on; none where one is missing or malformed. kinds are the rows of all kinds.
+pub fn take(l: &[u8], kinds: &[[u8; 16]; 63], f: usize, at: usize) -> Option<Taken>
     requires { (kinds.now ≡ rows) × ((at ≤ length l.now) × ((1 ≤ f) × (f ≤ 68))) }
-    ensures { (result.at ≤ length l.now) × ((kind_in result.rec ≡ kind_of f) × (taken_in f (tokens_in (drop at l.now)) ≡ as_took l.now result)) }
+    ensures { IfSome result (λ t. (t.at ≤ length l.now) × (kind_in t.rec ≡ kind_of f)) × (taken_in f (tokens_in (drop at l.now)) ≡ as_took l.now result) }
 {
     let row = forms::row(kinds, f);
     let s = forms::sorted(row);
@@ -214,9 +214,9 @@ pub fn finish(
 ) -> Readout
     requires { (kinds.now ≡ rows) × ((1 ≤ f) × ((f ≤ 68) × ((kind_in t.rec ≡ kind_of f) × ((crowded ≡ several (tokens_in (drop t.at l.now)))
         × (((a : ℕ) → (look_in notes.now a).w ≤ 64) × Risen table.now n))))) }
-    ensures { result ≡ as_read (ended (look_in notes.now) (given_in notes.now) (ids_of table.now n) f (as_took l.now t)) }
+    ensures { result ≡ as_read (ended (look_in notes.now) (given_in notes.now) (ids_of table.now n) f (as_took l.now (Some t))) }
 {
-    if !t.ok || crowded {
+    if crowded {
         return refuse(Refusal::BadOperand);
     }
     let own = kinds::row_of(kinds, forms::kind_of(f));

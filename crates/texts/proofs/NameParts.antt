@@ -1,4 +1,5 @@
 -- Where the name of a line stands: it is the token behind the numbers, where there is one and no other. Assumes nothing.
+use Rattle.std.specs.Prelude.{Some}
 use Prim.Native.Nat.{ℕ, ◌-◌, ◌≤◌, ◌<◌}
 use mathlib.Core.Path.{◌≡◌, refl, sym, ap, ◌∙◌}
 use mathlib.Core.Bool.{Bool, true, false}
@@ -18,7 +19,7 @@ use Rattle.texts.specs.Model.Stages.{taken_in, ended}
 use Rattle.texts.specs.Model.Structs.{as_took, as_read, several, NextToken}
 use Rattle.texts.proofs.Places.{no_token, several_more}
 use Rattle.texts.proofs.Readouts.{refused_what}
-use Rattle.texts.proofs.Steps.{ended_bad, ended_many}
+use Rattle.texts.proofs.Steps.{ended_many}
 use Rattle.texts.proofs.Staged.{taken_rest}
 
 -- ---- the token from a to z, the first from the place i on, and what stands behind it, from the place q on
@@ -62,17 +63,14 @@ is_only l i a z ordered first s = go (eqb a z) refl
 -- ---- a line that gives a record
 
 module _ (L : ℕ → Ty) (G : Bool → ℕ → Bool) (ds : List ℕ) (f : ℕ) (l : List ℕ) (t : Taken) where
-  -- has its numbers, and one token behind them at most
-  record_taken : {r : Readout} → r ≡ as_read (ended L G ds f (as_took l t)) → r.what ≡ 0 → (t.ok ≡ true) × (several (tokens (drop t.at l)) ≡ false)
-  record_taken {r} e h = go t.ok refl (several (tokens (drop t.at l))) refl
+  -- has one token behind its numbers at most
+  record_taken : {r : Readout} → r ≡ as_read (ended L G ds f (as_took l (Some t))) → r.what ≡ 0 → several (tokens (drop t.at l)) ≡ false
+  record_taken {r} e h = go (several (tokens (drop t.at l))) refl
     where
-      go : (p : Bool) → t.ok ≡ p → (q : Bool) → several (tokens (drop t.at l)) ≡ q → (t.ok ≡ true) × (several (tokens (drop t.at l)) ≡ false)
-      go true a false b = (a, b)
-      go false a q b = refused_what _ (e ∙ ap as_read (ended_bad L G f t.rec t.minus t.len ds t.big t.ok (tokens (drop t.at l)) a)) h
-      go true a true b = refused_what _ (e ∙ ap as_read (ended_many L G f t.rec t.minus t.len ds t.big t.ok (tokens (drop t.at l)) a b)) h
+      go : (q : Bool) → several (tokens (drop t.at l)) ≡ q → several (tokens (drop t.at l)) ≡ false
+      go false b = b
+      go true b = refused_what _ (e ∙ ap as_read (ended_many L G f t.rec t.minus t.len ds t.big true (tokens (drop t.at l)) refl b)) h
 
-  pub is_name : {r : Readout} (ts : List (List ℕ)) (a z : ℕ) → taken_in f ts ≡ as_took l t → a ≤ z → NextToken l t.at a z → r ≡ as_read (ended L G ds f (as_took l t)) → r.what ≡ 0
+  pub is_name : {r : Readout} (ts : List (List ℕ)) (a z : ℕ) → taken_in f ts ≡ as_took l (Some t) → a ≤ z → NextToken l t.at a z → r ≡ as_read (ended L G ds f (as_took l (Some t))) → r.what ≡ 0
       → take (z - a) (drop a l) ≡ name_in f ts
-  is_name ts a z k ordered first e h =
-      let p = record_taken e h in
-      is_only l t.at a z ordered first p.1 ∙ ap only (sym (taken_rest f ts l t k p.0))
+  is_name ts a z k ordered first e h = is_only l t.at a z ordered first (record_taken e h) ∙ ap only (sym (taken_rest f ts l t k))

@@ -1,5 +1,5 @@
 -- The stages of reading a line, one law for each case. Assumes nothing.
-use Rattle.std.specs.Prelude.{Result, Ok, Err, Some}
+use Rattle.std.specs.Prelude.{Result, Ok, Err, Some, None}
 use Rattle.std.specs.Result.{result_eq}
 use mathlib.Core.Path.{◌≡◌, refl, sym, ap, ◌∙◌}
 use mathlib.Core.Bool.{Bool, true, false}
@@ -33,7 +33,7 @@ use Rattle.texts.specs.Model.Stages.{Took, took, malformed, operands, taken_in, 
 use Rattle.texts.specs.declared.Readout.{Readout}
 use Rattle.texts.specs.declared.Taken.{Taken}
 use Rattle.texts.specs.declared.Form.{Form}
-use Rattle.texts.specs.Model.Structs.{as_word, took_at, as_took, as_read, NextId, any_sign, several}
+use Rattle.texts.specs.Model.Structs.{as_word, as_took, as_read, NextId, any_sign, several}
 
 -- ---- operands
 
@@ -186,6 +186,11 @@ module _ (row : List ℕ) (L : ℕ → Ty) (s : List Bool) (rec : List ℕ) wher
       pub third_decides : sign_fits (second_class row) 3 (second_in rec) ≡ true → {b : Bool} → b ≡ sign_fits (third_class row) 4 (third_in rec) → b ≡ all (minuses_by row L s rec)
       third_decides h e = e ∙ sym (rw (p, q, h) (and_true (sign_fits (third_class row) 4 (third_in rec))))
 
+-- numbers, where they are well formed
+abbrev pub took_at : Bool → List ℕ → List Bool → Bool → ℕ → List (List ℕ) → Took
+took_at true rec s big len ts = took rec s big len ts
+took_at false rec s big len ts = malformed
+
 module _ (L : ℕ → Ty) (G : Bool → ℕ → Bool) (f : ℕ) (rec : List ℕ) (s : List Bool) (len : ℕ) where
   pub judged_8 : fault false L G rec ≡ 8 → judged L G f len rec s ≡ no WrongClass
   unfolding judged
@@ -266,14 +271,11 @@ module _ (L : ℕ → Ty) (G : Bool → ℕ → Bool) (f : ℕ) (rec : List ℕ)
 
 -- the stage that a Taken stands for
 module _ (L : ℕ → Ty) (G : Bool → ℕ → Bool) (ds : List ℕ) (f : ℕ) (l : List ℕ) (t : Taken) {x : Readout} where
-  pub taken_bad : x ≡ as_read (no BadOperand) → t.ok ≡ false → x ≡ as_read (ended L G ds f (as_took l t))
-  taken_bad e h = e ∙ ap as_read (sym (ended_bad L G f t.rec t.minus t.len ds t.big t.ok (tokens (drop t.at l)) h))
+  pub taken_many : x ≡ as_read (no BadOperand) → several (tokens (drop t.at l)) ≡ true → x ≡ as_read (ended L G ds f (as_took l (Some t)))
+  taken_many e k = e ∙ ap as_read (sym (ended_many L G f t.rec t.minus t.len ds t.big true (tokens (drop t.at l)) refl k))
 
-  pub taken_many : x ≡ as_read (no BadOperand) → t.ok ≡ true → several (tokens (drop t.at l)) ≡ true → x ≡ as_read (ended L G ds f (as_took l t))
-  taken_many e h k = e ∙ ap as_read (sym (ended_many L G f t.rec t.minus t.len ds t.big t.ok (tokens (drop t.at l)) h k))
-
-  pub taken_few : x ≡ as_read (large L G ds f t.rec t.minus t.big t.len) → t.ok ≡ true → several (tokens (drop t.at l)) ≡ false → x ≡ as_read (ended L G ds f (as_took l t))
-  taken_few e h k = e ∙ ap as_read (sym (ended_few L G f t.rec t.minus t.len ds t.big t.ok (tokens (drop t.at l)) h k))
+  pub taken_few : x ≡ as_read (large L G ds f t.rec t.minus t.big t.len) → several (tokens (drop t.at l)) ≡ false → x ≡ as_read (ended L G ds f (as_took l (Some t)))
+  taken_few e k = e ∙ ap as_read (sym (ended_few L G f t.rec t.minus t.len ds t.big true (tokens (drop t.at l)) refl k))
 
 -- the numbers of a line of the form f, whose row is row
 pub taken_from : (f : ℕ) (row start : List ℕ) (k s : ℕ) (ts : List (List ℕ)) {x : Took} → operands f (s + operand_count row) (2 - s) start no_signs false 0 ts ≡ x

@@ -10,7 +10,7 @@ pub enum NumberError {
     TooLarge,
 }
 
-// A line's form, 0 for an unknown word, and the place behind its word.
+// A line's form, and the place behind its word.
 #[derive(Clone, Copy)]
 pub struct Form {
     pub form: usize,
@@ -24,11 +24,9 @@ pub struct Signed {
     pub minus: bool,
 }
 
-// A line's numbers in its record: whether all were there and well formed, whether one was too large, how long the last was, and the place behind it; and which places of
-// the record have a minus.
+// A line's numbers in its record: whether one was too large, how long the last was, and the place behind it; and which places of the record have a minus.
 #[derive(Clone, Copy)]
 pub struct Taken {
-    pub ok: bool,
     pub big: bool,
     pub len: usize,
     pub at: usize,

@@ -25,12 +25,10 @@ abbrev pub as_word : List ℕ → Option Form → Word
 as_word l None = unknown
 as_word l (Some w) = word w.form (tokens (drop w.at l))
 
-abbrev pub took_at : Bool → List ℕ → List Bool → Bool → ℕ → List (List ℕ) → Took
-took_at true rec s big len ts = took rec s big len ts
-took_at false rec s big len ts = malformed
-
-abbrev pub as_took : List ℕ → Taken → Took
-as_took l t = took_at t.ok t.rec t.minus t.big t.len (tokens (drop t.at l))
+-- the numbers of a line; none where one is missing or malformed
+abbrev pub as_took : List ℕ → Option Taken → Took
+as_took l None = malformed
+as_took l (Some t) = took t.rec t.minus t.big t.len (tokens (drop t.at l))
 
 -- 0, the record and its signs, 1 for a blank line, 2 and the refusal; d is what stands for the id, and the name from a to z
 abbrev pub as_line : (d a z : ℕ) → Reply → Readout
