@@ -34,16 +34,19 @@ pub struct Taken {
     pub minus: [bool; WORDS],
 }
 
-// What a line gives: 0, its record with the places that have a minus, its id and its name, a part of the line, 1 for a blank line, 2 and its refusal.
+// A line's record, and which of its places have a minus.
 #[derive(Clone, Copy)]
-pub struct Readout {
-    pub what: u64,
-    pub code: Refusal,
+pub struct SignedRecord {
     pub rec: [u64; WORDS],
     pub minus: [bool; WORDS],
+}
+
+// A line whose word is known: its record or its refusal, its id, and the part of the line that is its name.
+#[derive(Clone, Copy)]
+pub struct LineRead {
+    pub own: Result<SignedRecord, Refusal>,
     pub id: u64,
-    pub from: usize,
-    pub to: usize,
+    pub name: Part,
 }
 
 // Why a text is refused, and at which of its lines: the first is 1, and 0 stands where no line is at fault.
