@@ -1,5 +1,5 @@
 // The numbers of a line, and their signs.
-ghost use Rattle.std.specs.Prelude.{◌≡◌, false, ◌+◌, ◌≤◌, length, drop};
+ghost use Rattle.std.specs.Prelude.{◌≡◌, false, ◌+◌, ◌≤◌, length, drop, IfSome};
 ghost use Rattle.texts.specs.Minus.{no_signs};
 ghost use Rattle.texts.specs.Reading.{sign_at, plain_at, number_at};
 ghost use Rattle.texts.specs.Model.Stages.{operands as operands_of};
@@ -64,7 +64,7 @@ fn token(kinds: &[[u8; 16]; 63], f: usize, j: usize, t: &[u8]) -> Signed
     }
 }
 
-// m numbers from the place i of the line on, to the places j and up of a record of the form f, with their signs; kinds are the rows of all kinds.
+// m numbers from the place i of the line on, to the places j and up of a record of the form f, with their signs; none where one is missing or malformed. kinds are the rows of all kinds.
 pub fn operands(
     l: &[u8],
     i: usize,
@@ -73,10 +73,10 @@ pub fn operands(
     m: usize,
     j: usize,
     start: [u64; WORDS],
-) -> Taken
+) -> Option<Taken>
     requires { (kinds.now ≡ rows) × ((1 ≤ f) × ((f ≤ 68) × ((i ≤ length l.now) × ((1 ≤ j) × (j + m ≤ record_words))))) }
-    ensures { (result.at ≤ length l.now) × ((kind_in result.rec ≡ kind_in start)
-        × (operands_of f m j start no_signs false 0 (tokens_in (drop i l.now)) ≡ as_took l.now result)) }
+    ensures { IfSome result (λ t. (t.at ≤ length l.now) × (kind_in t.rec ≡ kind_in start))
+        × (operands_of f m j start no_signs false 0 (tokens_in (drop i l.now)) ≡ as_took l.now result) }
 {
     let mut rec = start;
     let mut minus = [false; WORDS];
@@ -86,14 +86,7 @@ pub fn operands(
     for p in j..j + m {
         let a = tokens::skip(l, at);
         if a == l.len() {
-            return Taken {
-                ok: false,
-                big: false,
-                len: 0,
-                at: 0,
-                rec: rec,
-                minus: minus,
-            };
+            return None;
         }
         let z = tokens::find_byte(l, a, b' ');
         let t = token(kinds, f, p, &l[a..z]);
@@ -103,24 +96,14 @@ pub fn operands(
         match t.num {
             Ok(v) => rec[p] = v,
             Err(NumberError::TooLarge) => big = true,
-            Err(NumberError::Malformed) => {
-                return Taken {
-                    ok: false,
-                    big: false,
-                    len: 0,
-                    at: 0,
-                    rec: rec,
-                    minus: minus,
-                };
-            }
+            Err(NumberError::Malformed) => return None,
         }
     }
-    Taken {
-        ok: true,
-        big: big,
-        len: len,
-        at: at,
-        rec: rec,
-        minus: minus,
-    }
+    Some(Taken {
+        big,
+        len,
+        at,
+        rec,
+        minus,
+    })
 }

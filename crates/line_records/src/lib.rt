@@ -6,12 +6,13 @@ ghost use Rattle.std.specs.Prelude.{◌≡◌, false, ◌+◌, ◌≤◌, ◌<�
 ghost use Rattle.tables.specs.Lines.{kind_in, first_in};
 ghost use Rattle.tables.specs.Layout.{room as room_of};
 ghost use Rattle.texts.specs.Minus.{minuses};
-ghost use Rattle.texts.specs.Model.Structs.{fitted_read};
+ghost use Rattle.texts.specs.Model.Structs.{signed_reply};
+ghost use Rattle.texts.specs.Model.Stages.{fitted};
 ghost use Rattle.texts.specs.Model.Filling.{filling, added, not_in, added_from, Ready};
 
 use records::kinds::NOT;
 use tables::{Note, Refusal, WORDS};
-use texts::Readout;
+use texts::SignedRecord;
 
 // How many operands have a minus.
 fn count(minus: [bool; WORDS]) -> usize
@@ -21,26 +22,19 @@ fn count(minus: [bool; WORDS]) -> usize
 }
 
 // What a line gives after n records, with room for `room` of them: 4 where there is none left for all of its records.
-pub fn fit(r: Readout, n: usize, room: usize) -> Readout
+pub fn fit(
+    own: Result<SignedRecord, Refusal>,
+    n: usize,
+    room: usize,
+) -> Result<SignedRecord, Refusal>
     requires { n ≤ room }
-    ensures { result ≡ fitted_read n room r }
+    ensures { signed_reply result ≡ fitted n room (signed_reply own) }
 {
-    if r.what != 0 {
-        return r;
+    let own = own?;
+    if count(own.minus) < room - n {
+        return Ok(own);
     }
-    let minus = r.minus;
-    if count(minus) < room - n {
-        return r;
-    }
-    Readout {
-        what: 2,
-        code: Refusal::NoRecordLeft,
-        rec: [0; WORDS],
-        minus: [false; WORDS],
-        id: 0,
-        from: 0,
-        to: 0,
-    }
+    Err(Refusal::NoRecordLeft)
 }
 
 // A record goes to the table behind n others, and its line is noted.

@@ -31,20 +31,19 @@ pub fn read_lines(
     while i < text.len() {
         let e = tokens::find_far(text, i, 10);
         let z = tokens::cut(text, i, e);
-        let own = line::read_line(&text[i..z], kinds, table, n, room, notes);
-        let r = line::admit(text, i, own, n, room, names);
+        let read = line::read_line(&text[i..z], kinds, table, n, room, notes);
+        let admitted = line::admit(text, i, read, n, room, names);
         i = tokens::after(e, text.len());
-        if r.what == 2 {
-            let refusal = r.code;
-            records::clear(table);
-            return Err(TextRefusal { refusal, line });
-        }
+        let given = match admitted {
+            Ok(given) => given,
+            Err(refusal) => {
+                records::clear(table);
+                return Err(TextRefusal { refusal, line });
+            }
+        };
         line += 1;
-        if r.what == 0 {
-            let rec = r.rec;
-            let minus = r.minus;
-            let id = r.id;
-            n = line_records::put_line(table, n, rec, minus, id, notes);
+        if let Some((own, id)) = given {
+            n = line_records::put_line(table, n, own.rec, own.minus, id, notes);
         }
     }
     Ok(n)

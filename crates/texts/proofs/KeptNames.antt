@@ -4,7 +4,7 @@ use mathlib.Core.Path.{◌≡◌, refl, sym, ap, ◌∙◌, subst}
 use mathlib.Core.List.{List, [], ◌∷◌}
 use native.Mathlib.Omega.{arith}
 use lib.ListN.{length, take, drop, replicate, length-replicate, length-take, length-drop}
-use Rattle.texts.specs.declared.Readout.{Readout}
+use Rattle.texts.specs.declared.LineRead.{LineRead}
 use Rattle.texts.specs.Split.{tokens}
 use Rattle.texts.specs.Names.{with_name}
 use Rattle.texts.specs.Reading.{line_name}
@@ -41,35 +41,35 @@ module _ {s w : List ℕ} {i : ℕ} {ns : List (List ℕ)} (K : KeptNames s w i 
   names_skip i' h = record { chained = K.chained; are = K.are; few = λ l. omega (arith, K.few on); ample = K.ample }
 
   -- the line from i to z without its comment, which ends at f
-  module _ (z f i' : ℕ) (from : i ≤ z) (to : z ≤ f) (most : f ≤ length s) (next : i' ≡ min (f + 1) (length s)) (r : Readout) (L : Labelled (take (z - i) (drop i s)) r) where
-    pub line_name_lem : name_from s i r ≡ line_name (tokens (take (z - i) (drop i s)))
-    line_name_lem = sym (same_part s i r) ∙ (part_of s i z r.from r.to from (omega arith) L.within ∙ L.name)
+  module _ (z f i' : ℕ) (from : i ≤ z) (to : z ≤ f) (most : f ≤ length s) (next : i' ≡ min (f + 1) (length s)) (r : LineRead) (L : Labelled (take (z - i) (drop i s)) r) where
+    pub line_name_lem : name_from s i r.name ≡ line_name (tokens (take (z - i) (drop i s)))
+    line_name_lem = sym (same_part s i r.name) ∙ (part_of s i z r.name.from r.name.to from (omega arith) L.within ∙ L.name)
 
     long : length (take (z - i) (drop i s)) ≡ z - i
     long = length-take (z - i) (drop i s) ∙ omega (arith, length-drop i s)
 
-    pub name_ends : i + r.to ≤ length s
+    pub name_ends : i + r.name.to ≤ length s
     name_ends = omega (arith, L.within, long)
 
-    name_long : 0 < length (name_from s i r) → i + 7 ≤ z
+    name_long : 0 < length (name_from s i r.name) → i + 7 ≤ z
     name_long h = omega (arith, named_bytes (take (z - i) (drop i s)) (subst (λ (x : List ℕ). 0 < length x) line_name_lem h), long, on)
 
     -- its name can be entered
-    pub name_room : length s ≤ 65536 → r.from < r.to → HasRoom w
+    pub name_room : length s ≤ 65536 → r.name.from < r.name.to → HasRoom w
     name_room h l =
         let k : count_in w ≡ length ns = sym (names_count s w (count_in w)) ∙ ap length K.are in
-        let o = name_long (omega (arith, length-take (r.to - r.from) (drop (i + r.from) s), length-drop (i + r.from) s, l, name_ends)) in
+        let o = name_long (omega (arith, length-take (r.name.to - r.name.from) (drop (i + r.name.from) s), length-drop (i + r.name.from) s, l, name_ends)) in
         more_room w (count_in w) (omega arith) (omega (arith, k, K.few on, o)) (omega (arith, k, K.few on, o, K.ample))
 
     -- and behind it
-    pub names_more : (w' : List ℕ) → Chained s w' → length w' ≡ length w → names_in s w' ≡ with_name (name_from s i r) (names_in s w)
+    pub names_more : (w' : List ℕ) → Chained s w' → length w' ≡ length w → names_in s w' ≡ with_name (name_from s i r.name) (names_in s w)
         → KeptNames s w' i' (with_name (line_name (tokens (take (z - i) (drop i s)))) ns)
     names_more w' c l e =
         subst (λ (x : List ℕ). KeptNames s w' i' (with_name x ns)) line_name_lem
         (record {
           chained = c;
-          are = e ∙ ap (with_name (name_from s i r)) K.are;
-          few = λ h. counted (name_from s i r) (λ o. name_long o) h;
+          are = e ∙ ap (with_name (name_from s i r.name)) K.are;
+          few = λ h. counted (name_from s i r.name) (λ o. name_long o) h;
           ample = omega (arith, K.ample, l);
         })
       where

@@ -15,7 +15,6 @@ pub mod Nots
 pub mod NextIds
 pub mod Holding
 pub mod Filled
-pub mod Readouts
 pub mod NameParts
 pub mod Admitting
 pub mod NamedLines

@@ -1,4 +1,7 @@
 -- Where the name of a line stands: it is the token behind the numbers, where there is one and no other. Assumes nothing.
+use Rattle.std.specs.Prelude.{Some, Result, Ok}
+use Rattle.tables.specs.declared.Refusal.{Refusal}
+use Rattle.tables.specs.declared.Refusal.TheVariants.{BadOperand}
 use Prim.Native.Nat.{ℕ, ◌-◌, ◌≤◌, ◌<◌}
 use mathlib.Core.Path.{◌≡◌, refl, sym, ap, ◌∙◌}
 use mathlib.Core.Bool.{Bool, true, false}
@@ -10,15 +13,14 @@ use borrow.Author.Tests.{ltb-true, ltb-false, le-ltb, eqb-true, eqb-false}
 use Rattle.tables.specs.declared.Ty.{Ty}
 use Rattle.tables.proofs.Kept.{no_yes}
 use Rattle.texts.specs.declared.Taken.{Taken}
-use Rattle.texts.specs.declared.Readout.{Readout}
+use Rattle.texts.specs.declared.SignedRecord.{SignedRecord}
 use Rattle.texts.specs.Split.{tokens}
 use Rattle.texts.specs.Names.{only}
-use Rattle.texts.specs.Reading.{name_in}
+use Rattle.texts.specs.Reading.{Reply, no, got, name_in}
 use Rattle.texts.specs.Model.Stages.{taken_in, ended}
-use Rattle.texts.specs.Model.Structs.{as_took, as_read, several, NextToken}
+use Rattle.texts.specs.Model.Structs.{as_took, signed_reply, several, NextToken}
 use Rattle.texts.proofs.Places.{no_token, several_more}
-use Rattle.texts.proofs.Readouts.{refused_what}
-use Rattle.texts.proofs.Steps.{ended_bad, ended_many}
+use Rattle.texts.proofs.Steps.{ended_many}
 use Rattle.texts.proofs.Staged.{taken_rest}
 
 -- ---- the token from a to z, the first from the place i on, and what stands behind it, from the place q on
@@ -62,17 +64,14 @@ is_only l i a z ordered first s = go (eqb a z) refl
 -- ---- a line that gives a record
 
 module _ (L : ℕ → Ty) (G : Bool → ℕ → Bool) (ds : List ℕ) (f : ℕ) (l : List ℕ) (t : Taken) where
-  -- has its numbers, and one token behind them at most
-  record_taken : {r : Readout} → r ≡ as_read (ended L G ds f (as_took l t)) → r.what ≡ 0 → (t.ok ≡ true) × (several (tokens (drop t.at l)) ≡ false)
-  record_taken {r} e h = go t.ok refl (several (tokens (drop t.at l))) refl
+  -- has one token behind its numbers at most
+  record_taken : {rec : List ℕ} {s : List Bool} → got rec s ≡ ended L G ds f (as_took l (Some t)) → several (tokens (drop t.at l)) ≡ false
+  record_taken {rec} {s} e = go (several (tokens (drop t.at l))) refl
     where
-      go : (p : Bool) → t.ok ≡ p → (q : Bool) → several (tokens (drop t.at l)) ≡ q → (t.ok ≡ true) × (several (tokens (drop t.at l)) ≡ false)
-      go true a false b = (a, b)
-      go false a q b = refused_what _ (e ∙ ap as_read (ended_bad L G f t.rec t.minus t.len ds t.big t.ok (tokens (drop t.at l)) a)) h
-      go true a true b = refused_what _ (e ∙ ap as_read (ended_many L G f t.rec t.minus t.len ds t.big t.ok (tokens (drop t.at l)) a b)) h
+      go : (q : Bool) → several (tokens (drop t.at l)) ≡ q → several (tokens (drop t.at l)) ≡ false
+      go false b = b
+      go true b = let q : got rec s ≡ no BadOperand = e ∙ ended_many L G f t.rec t.minus t.len ds t.big true (tokens (drop t.at l)) refl b in let z : ◌≡◌ {A = ℕ} 0 1 = cc in absurd (omega arith)
 
-  pub is_name : {r : Readout} (ts : List (List ℕ)) (a z : ℕ) → taken_in f ts ≡ as_took l t → a ≤ z → NextToken l t.at a z → r ≡ as_read (ended L G ds f (as_took l t)) → r.what ≡ 0
-      → take (z - a) (drop a l) ≡ name_in f ts
-  is_name ts a z k ordered first e h =
-      let p = record_taken e h in
-      is_only l t.at a z ordered first p.1 ∙ ap only (sym (taken_rest f ts l t k p.0))
+  pub is_name : {r : Result SignedRecord Refusal} (ts : List (List ℕ)) (a z : ℕ) → taken_in f ts ≡ as_took l (Some t) → a ≤ z → NextToken l t.at a z
+      → signed_reply r ≡ ended L G ds f (as_took l (Some t)) → (o : SignedRecord) → r ≡ Ok o → take (z - a) (drop a l) ≡ name_in f ts
+  is_name ts a z k ordered first e o h = is_only l t.at a z ordered first (record_taken (sym (ap signed_reply h) ∙ e)) ∙ ap only (sym (taken_rest f ts l t k))

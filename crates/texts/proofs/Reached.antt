@@ -1,5 +1,5 @@
 -- Where reading stands before a line: the answer from the start is the answer from here, and the notes hold the context of the lines so far. Assumes nothing.
-use Rattle.std.specs.Prelude.{Ok}
+use Rattle.std.specs.Prelude.{Option, Some, None, Result, Ok, Err}
 use mathlib.Core.Path.{◌≡◌, refl, sym, ap, ap₂, ◌∙◌, subst}
 use mathlib.Core.Bool.{Bool, true, false}
 use mathlib.Core.List.{List, [], ◌∷◌, ◌++◌}
@@ -19,19 +19,20 @@ use Rattle.tables.specs.Ids.{follows}
 use Rattle.tables.specs.Types.{no_ctx, ty_at, given}
 use Rattle.tables.specs.Model.Notes.{look_in, given_in, Shows}
 use Rattle.tables.specs.Answers.{Outcome}
-use Rattle.texts.specs.declared.Readout.{Readout}
+use Rattle.texts.specs.declared.SignedRecord.{SignedRecord}
+use Rattle.texts.specs.declared.LineRead.{LineRead}
 use Rattle.texts.specs.Split.{split, up_to, tokens}
 use Rattle.texts.specs.Names.{with_name}
 use Rattle.texts.specs.Minus.{minuses, line_records, line_ids}
 use Rattle.texts.specs.Reading.{Reply, skip, no, got, last_of, line_id, line_name, line_tokens, read_line, Text, done, refused, Sofar, no_lines, with_line, read_lines_by, reply_after, read_lines, lines_read, read_text_by, read_text, outcome_of, reads, at_line, told_read}
 use Rattle.texts.specs.Model.Stages.{named, fitted, judged_line, staged_line}
-use Rattle.texts.specs.Model.Structs.{Tells, Labelled, Admits}
+use Rattle.texts.specs.Model.Structs.{signed_reply, line_reply, own_reply, Gives, Labelled, Admitted, Admits}
 use Rattle.texts.specs.Model.Chains.{Ample, HasRoom}
 use Rattle.texts.specs.Model.Filling.{Filling, filling, added_from, Ready}
 use Rattle.texts.proofs.Places.{tail, line_first}
 use Rattle.texts.proofs.Staged.{staged}
 use Rattle.texts.proofs.Resolving.{ids_length}
-use Rattle.texts.proofs.Admitting.{admitted, admitted_same, stopped_skip}
+use Rattle.texts.proofs.Admitting.{admitted_reply, stopped_skip}
 use Rattle.texts.proofs.KeptNames.{KeptNames, no_names, names_skip, line_name_lem, name_ends, name_room, names_more}
 use Rattle.texts.proofs.Kept.{GivesAfter, gives_after}
 use Rattle.texts.proofs.Nots.{MinusesFit, minuses_fit_lem}
@@ -77,23 +78,6 @@ module _ (m l : ℕ) (b : Sofar) where
           ap (λ (y : List ℕ). read_lines m l b (tail 10 y)) (drop_of_length-le s k)
           ∙ (none ∙ (sym lines_end ∙ ap (λ (y : List ℕ). read_lines m l b (split 10 y)) (sym (drop_of_length-le s j))))
 
--- ---- what a line's answer tells
-
-pub told_got : (x : Reply) (r : Readout) → Tells r x → r.what ≡ 0 → x ≡ got r.rec r.minus
-told_got skip r e h = let z : ◌≡◌ {A = ℕ} 0 1 = sym h ∙ ap (λ (q : Readout). q.what) e in absurd (omega arith)
-told_got (no k) r e h = let z : ◌≡◌ {A = ℕ} 0 2 = sym h ∙ ap (λ (q : Readout). q.what) e in absurd (omega arith)
-told_got (got rec s) r e h = ap (λ (q : Readout). got q.rec q.minus) (sym e)
-
-pub told_no : (x : Reply) (r : Readout) → Tells r x → r.what ≡ 2 → x ≡ no r.code
-told_no skip r e h = let z : ◌≡◌ {A = ℕ} 2 1 = sym h ∙ ap (λ (q : Readout). q.what) e in absurd (omega arith)
-told_no (no k) r e h = ap (λ (q : Readout). no q.code) (sym e)
-told_no (got rec s) r e h = let z : ◌≡◌ {A = ℕ} 2 0 = sym h ∙ ap (λ (q : Readout). q.what) e in absurd (omega arith)
-
-pub told_skip : (x : Reply) (r : Readout) → Tells r x → (r.what ≡ 0 → ⊥) → (r.what ≡ 2 → ⊥) → x ≡ skip
-told_skip skip r e h k = refl
-told_skip (no j) r e h k = absurd (k (ap (λ (q : Readout). q.what) e))
-told_skip (got rec s) r e h k = absurd (h (ap (λ (q : Readout). q.what) e))
-
 -- ---- before a line
 
 -- s is the text, i the place in it, b what the lines so far have left: n records, ids of which the last is not 0, and the names that w chains
@@ -122,8 +106,9 @@ module _ {s table w : List ℕ} {notes : List Note} {len i n line : ℕ} {b : So
 
   -- the line from i to f, without its comment from i to z; the next one starts at i'
   module _ (m f z i' : ℕ) (em : m ≡ room false len) (on : i < length s) (hf : f ≡ i + length (up_to 10 (drop i s))) (lf : f ≤ length s)
-      (hz : (i ≤ z) × ((z ≤ f) × (take (z - i) (drop i s) ≡ up_to 59 (take (f - i) (drop i s))))) (hi : i' ≡ min (f + 1) (length s)) (own : Readout)
-      (told : Tells own (judged_line (look_in notes) (given_in notes) (ids_of table n) m (tokens (take (z - i) (drop i s)))) × (own.what ≡ 0 → Labelled (take (z - i) (drop i s)) own)) where
+      (hz : (i ≤ z) × ((z ≤ f) × (take (z - i) (drop i s) ≡ up_to 59 (take (f - i) (drop i s))))) (hi : i' ≡ min (f + 1) (length s)) (own : Result (Option LineRead) Refusal)
+      (told : (line_reply own ≡ judged_line (look_in notes) (given_in notes) (ids_of table n) m (tokens (take (z - i) (drop i s))))
+      × ((x : LineRead) (o : SignedRecord) → Gives own x o → Labelled (take (z - i) (drop i s)) x)) where
     abbrev bytes : List ℕ
     bytes = take (z - i) (drop i s)
 
@@ -131,13 +116,13 @@ module _ {s table w : List ℕ} {notes : List Note} {len i n line : ℕ} {b : So
     K = R.names on
 
     -- its name can be entered
-    pub can_enter : length s ≤ 65536 → own.what ≡ 0 → (own.from ≤ own.to) × ((i + own.to ≤ length s) × (own.from < own.to → HasRoom w))
-    can_enter h k =
-        let L = told.1 k in
-        (L.ordered, (name_ends K on z f i' hz.0 hz.1.0 lf hi own L, name_room K on z f i' hz.0 hz.1.0 lf hi own L h))
+    pub can_enter : length s ≤ 65536 → (x : LineRead) (o : SignedRecord) → Gives own x o → (x.name.from ≤ x.name.to) × ((i + x.name.to ≤ length s) × (x.name.from < x.name.to → HasRoom w))
+    can_enter h x o k =
+        let L = told.1 x o k in
+        (L.ordered, (name_ends K on z f i' hz.0 hz.1.0 lf hi x L, name_room K on z f i' hz.0 hz.1.0 lf hi x L h))
 
-    -- what the last two tests leave of it, r, and the names then
-    module _ (w' : List ℕ) (r : Readout) (A : Admits s w w' i n m own r) where
+    -- what the last two tests leave of it, y, and the names then
+    module _ (w' : List ℕ) (y : Result (Option (SignedRecord × ℕ)) Refusal) (A : Admits s w w' i n m own y) where
       abbrev this : List ℕ
       this = take (f - i) (drop i s)
 
@@ -145,10 +130,10 @@ module _ {s table w : List ℕ} {notes : List Note} {len i n line : ℕ} {b : So
       later = tail 10 (drop f s)
 
       -- all tests of the line
-      er : Tells r (staged_line (look_in notes) (given_in notes) (ids_of table n) m b.names (tokens bytes))
+      er : own_reply y ≡ staged_line (look_in notes) (given_in notes) (ids_of table n) m b.names (tokens bytes)
       er =
-          subst (λ (k : ℕ). Tells r (fitted k m (named (line_name (tokens bytes)) b.names (judged_line (look_in notes) (given_in notes) (ids_of table n) m (tokens bytes))))) (sym (ids_length table n))
-          (admitted A (line_name (tokens bytes)) _ K.are told.0 (λ k. line_name_lem K on z f i' hz.0 hz.1.0 lf hi own (told.1 k)))
+          subst (λ (k : ℕ). own_reply y ≡ fitted k m (named (line_name (tokens bytes)) b.names (judged_line (look_in notes) (given_in notes) (ids_of table n) m (tokens bytes)))) (sym (ids_length table n))
+          (admitted_reply A (line_name (tokens bytes)) _ K.are told.0 (λ x o k. line_name_lem K on z f i' hz.0 hz.1.0 lf hi x (told.1 x o k)))
 
       as_line_lem : staged_line (look_in notes) (given_in notes) (ids_of table n) m b.names (tokens bytes) ≡ reply_after (room false len) b (line_tokens this)
       as_line_lem =
@@ -158,85 +143,88 @@ module _ {s table w : List ℕ} {notes : List Note} {len i n line : ℕ} {b : So
       begun : lines_read len s ≡ read_lines (room false len) line b (this ∷ later)
       begun = R.answer ∙ ap (read_lines (room false len) line b) (line_first s i f hf)
 
-      pub at_no : r.what ≡ 2 → lines_read len s ≡ refused r.code line
-      at_no h = begun ∙ step_no (room false len) line b this later r.code (sym as_line_lem ∙ told_no _ r er h)
+      pub at_no : (q : Refusal) → y ≡ Err q → lines_read len s ≡ refused q line
+      at_no q h = begun ∙ step_no (room false len) line b this later q (sym as_line_lem ∙ (sym er ∙ ap own_reply h))
 
-      pub at_skip : (r.what ≡ 0 → ⊥) → (r.what ≡ 2 → ⊥) → Reached s len i' n (line + 1) table notes w' b
-      at_skip h k =
-          let e = told_skip _ r er h k in
+      pub at_skip : y ≡ Ok None → Reached s len i' n (line + 1) table notes w' b
+      at_skip h =
+          let e = sym er ∙ ap own_reply h in
           let blank = stopped_skip _ _ _ (stopped_skip _ _ _ e) in
           record {
             within = omega arith;
             early = omega (arith, R.early, R.within);
             holding = R.holding;
             last = R.last;
-            names = λ o. subst (λ (x : List ℕ). KeptNames s x i' b.names) (sym (A.kept (λ y. absurd (no_record blank y)))) (names_skip K on i' (omega (arith, hz.0, hz.1.0)));
+            names = λ o. subst (λ (x : List ℕ). KeptNames s x i' b.names) (sym (A.kept (λ x o g. no_record blank x o g))) (names_skip K on i' (omega (arith, hz.0, hz.1.0)));
             answer =
                 begun
                 ∙ (step_skip (room false len) line b this later (sym as_line_lem ∙ e)
                 ∙ (ap (λ (m : ℕ). read_lines (room false len) m b later) (sym (add-one line)) ∙ tail_lines (room false len) (line + 1) b s f i' lf hi));
           }
         where
-          no_record : judged_line (look_in notes) (given_in notes) (ids_of table n) m (tokens bytes) ≡ skip → own.what ≡ 0 → ⊥
-          no_record e y = let q : own.what ≡ 1 = ap (λ (x : Readout). x.what) (subst (Tells own) e told.0) in omega (arith, q, y)
+          no_record : judged_line (look_in notes) (given_in notes) (ids_of table n) m (tokens bytes) ≡ skip → (x : LineRead) (o : SignedRecord) → Gives own x o → ⊥
+          no_record e x o g =
+              let q : skip ≡ got o.rec o.minus = sym (told.0 ∙ e) ∙ (ap line_reply g.0 ∙ ap signed_reply g.1) in
+              let k : ◌≡◌ {A = ℕ} 0 1 = cc in
+              omega arith
 
-      module _ (h : r.what ≡ 0) where
-        is_own : (own.what ≡ 0) × (r ≡ own)
-        is_own = admitted_same A h
+      module _ (r : SignedRecord × ℕ) (h : y ≡ Ok (Some r)) where
+        own_line : Admitted s w w' i own r
+        own_line = A.admitted r h
 
-        L : Labelled bytes own
-        L = told.1 is_own.0
+        L : Labelled bytes own_line.line
+        L = told.1 own_line.line r.0 own_line.own
 
-        is_got : reply_after (room false len) b (line_tokens this) ≡ got r.rec r.minus
-        is_got = sym as_line_lem ∙ told_got _ r er h
+        is_got : reply_after (room false len) b (line_tokens this) ≡ got r.0.rec r.0.minus
+        is_got = sym as_line_lem ∙ (sym er ∙ ap own_reply h)
 
-        gives : GivesAfter (room false len) b (line_tokens this) r.rec r.minus
-        gives = gives_after (room false len) b (line_tokens this) r.rec r.minus is_got
+        gives : GivesAfter (room false len) b (line_tokens this) r.0.rec r.0.minus
+        gives = gives_after (room false len) b (line_tokens this) r.0.rec r.0.minus is_got
 
-        fit : MinusesFit (ty_at b.ctx) r.minus r.rec 2
-        fit = minuses_fit_lem (ty_at b.ctx) r.minus r.rec gives.minus
+        fit : MinusesFit (ty_at b.ctx) r.0.minus r.0.rec 2
+        fit = minuses_fit_lem (ty_at b.ctx) r.0.minus r.0.rec gives.minus
 
-        has_room : n + minuses r.minus < room false len
-        has_room = subst (λ (k : ℕ). k + minuses r.minus < room false len) (sym R.holding.same) gives.left
+        has_room : n + minuses r.0.minus < room false len
+        has_room = subst (λ (k : ℕ). k + minuses r.0.minus < room false len) (sym R.holding.same) gives.left
 
         -- the records of the line can be put
-        pub is_ready : Ready r.minus 3 2 n (room false (length table)) r.rec
-        is_ready = line_ready R.holding r.minus r.rec (subst (λ (k : ℕ). n + minuses r.minus < room false k) (sym (table_size R.holding)) has_room) gives.sized gives.rules fit
+        pub is_ready : Ready r.0.minus 3 2 n (room false (length table)) r.0.rec
+        is_ready = line_ready R.holding r.0.minus r.0.rec (subst (λ (k : ℕ). n + minuses r.0.minus < room false k) (sym (table_size R.holding)) has_room) gives.sized gives.rules fit
 
         -- the id and the name are the line's
-        this_id : line_id (line_tokens this) ≡ r.id
-        this_id = sym (ap (λ (x : Readout). x.id) is_own.1 ∙ (L.number ∙ ap (λ (x : List ℕ). line_id (tokens x)) hz.1.1))
+        this_id : line_id (line_tokens this) ≡ r.1
+        this_id = sym (own_line.number ∙ (L.number ∙ ap (λ (x : List ℕ). line_id (tokens x)) hz.1.1))
 
-        follows_last : follows (last_named 0 b.ids) r.id ≡ true
+        follows_last : follows (last_named 0 b.ids) r.1 ≡ true
         follows_last = subst (λ (k : ℕ). follows (last_named 0 b.ids) k ≡ true) this_id (subst (λ (k : ℕ). follows k (line_id (line_tokens this)) ≡ true) R.last gives.next)
 
         abbrev ls : List (List ℕ)
-        ls = line_records r.minus b.records r.rec
+        ls = line_records r.0.minus b.records r.0.rec
 
         -- what the lines have left behind this one
         abbrev pub behind_it : Sofar
-        behind_it = with_line b (line_tokens this) r.rec r.minus
+        behind_it = with_line b (line_tokens this) r.0.rec r.0.minus
 
-        pub at_got : {F : Filling} → length w' ≡ length w → F ≡ added_from r.minus 3 2 (filling table notes n) r.rec r.id
+        pub at_got : {F : Filling} → length w' ≡ length w → F ≡ added_from r.0.minus 3 2 (filling table notes n) r.0.rec r.1
             → Reached s len i' F.count (line + 1) F.table F.notes w' behind_it
         at_got {F} lw e =
-            let k : ℕ = minuses r.minus in
-            let n₀ = follows_some (last_named 0 b.ids) r.id follows_last in
-            let ids : b.ids ++ line_ids r.minus r.id ≡ behind_it.ids = ap (λ (d : ℕ). b.ids ++ line_ids r.minus d) (sym this_id) in
+            let k : ℕ = minuses r.0.minus in
+            let n₀ = follows_some (last_named 0 b.ids) r.1 follows_last in
+            let ids : b.ids ++ line_ids r.0.minus r.1 ≡ behind_it.ids = ap (λ (d : ℕ). b.ids ++ line_ids r.0.minus d) (sym this_id) in
             record {
               within = omega arith;
               early = omega (arith, R.early, R.within);
               holding =
                   subst (λ (ds : List ℕ). Holding len F.count F.table F.notes behind_it.records ds behind_it.ctx) ids
-                  (subst (λ (G : Filling). HoldsAll len G (b.records ++ ls) (b.ids ++ line_ids r.minus r.id) behind_it.ctx) (sym e)
-                  (holding_line r.minus 3 2 (omega arith) refl len r.id (filling table notes n) b.records b.ids b.ctx r.rec R.holding has_room gives.sized gives.rules fit follows_last));
-              last = subst (λ (ds : List ℕ). last_of 0 ds ≡ last_named 0 ds) ids (last_line_lem 0 b.ids k r.id ∙ sym (named_line 0 b.ids k r.id n₀));
+                  (subst (λ (G : Filling). HoldsAll len G (b.records ++ ls) (b.ids ++ line_ids r.0.minus r.1) behind_it.ctx) (sym e)
+                  (holding_line r.0.minus 3 2 (omega arith) refl len r.1 (filling table notes n) b.records b.ids b.ctx r.0.rec R.holding has_room gives.sized gives.rules fit follows_last));
+              last = subst (λ (ds : List ℕ). last_of 0 ds ≡ last_named 0 ds) ids (last_line_lem 0 b.ids k r.1 ∙ sym (named_line 0 b.ids k r.1 n₀));
               names =
                   λ o. subst (λ (x : List ℕ). KeptNames s w' i' (with_name (line_name (tokens x)) b.names)) hz.1.1
-                  (names_more K on z f i' hz.0 hz.1.0 lf hi own L w' (A.chained h) lw (A.names h));
+                  (names_more K on z f i' hz.0 hz.1.0 lf hi own_line.line L w' own_line.chained lw own_line.names);
               answer =
                   begun
-                  ∙ (step_got (room false len) line b this later r.rec r.minus is_got
+                  ∙ (step_got (room false len) line b this later r.0.rec r.0.minus is_got
                   ∙ (ap (λ (m : ℕ). read_lines (room false len) m behind_it later) (sym (add-one line)) ∙ tail_lines (room false len) (line + 1) behind_it s f i' lf hi));
             }
 

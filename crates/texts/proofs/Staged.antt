@@ -18,7 +18,7 @@ use Rattle.tables.specs.Rules.{classes, fits, once_rules, answer, fault}
 use Rattle.tables.proofs.Laws.{or_true, or_false}
 use Rattle.texts.specs.declared.Taken.{Taken}
 use Rattle.texts.specs.Decimal.{Num}
-use Rattle.std.specs.Prelude.{Ok, Err}
+use Rattle.std.specs.Prelude.{Ok, Err, Some}
 use Rattle.texts.specs.declared.NumberError.TheVariants.{Malformed, TooLarge}
 use Rattle.texts.specs.Forms.{form_row, kind_of, first_of, numbers_of}
 use Rattle.texts.specs.Split.{tokens}
@@ -28,9 +28,9 @@ use Rattle.texts.specs.Names.{used}
 use Rattle.texts.specs.Minus.{no_signs, minuses_fit, minuses}
 use Rattle.texts.specs.Reading.{Word, word, unknown, word_in, form_of, behind, number_at, numbers_from, any_bad, any_big, placed, last_of, number_tokens, extra_tokens, numbers_in, sign_at, signs_from, signs_in, fresh, written_record, settled, record_in, name_in, is_next, Reply, got, lowest, reply_in, read_line}
 use Rattle.texts.specs.Model.Stages.{Took, took, operands, taken_in, judged, allowed, concluded, large, ended, worded, stopped, named, fitted, judged_line, staged_line}
-use Rattle.texts.specs.Model.Structs.{took_at, as_took, several}
+use Rattle.texts.specs.Model.Structs.{as_took, several}
 use Rattle.texts.proofs.Words.{InForms, word_forms}
-use Rattle.texts.proofs.Steps.{ruled_got, ruled_9, ruled_10, minus_8, minus_fits_lem, large_big, large_wide, large_fits, large_other, ended_bad, ended_many, ended_few}
+use Rattle.texts.proofs.Steps.{took_at, ruled_got, ruled_9, ruled_10, minus_8, minus_fits_lem, large_big, large_wide, large_fits, large_other, ended_bad, ended_many, ended_few}
 use Rattle.texts.proofs.LineNames.{name_behind_lem}
 use Rattle.texts.proofs.Lowest.{holds, passes, stopped_last}
 
@@ -81,9 +81,9 @@ taken_at f (suc m) j rec s big len (t ∷ ts) =
     go (Ok v) e a b = rw (e, operands) (b v ∙ rw (fewer m t ts) refl)
 
 -- where no number is missing, the extra tokens are left
-pub taken_rest : (f : ℕ) (ts : List (List ℕ)) (l : List ℕ) (t : Taken) → taken_in f ts ≡ as_took l t → t.ok ≡ true → extra_tokens f ts ≡ tokens (drop t.at l)
-taken_rest f ts l t e k =
-    go (not (ltb (length ts) (numbers_of (form_row f)) || any_bad (numbers_in f ts))) _ _ _ _ _ (sym (taken_at f (numbers_of (form_row f)) (first_of (form_row f)) (fresh (kind_of f)) no_signs false 0 ts) ∙ (e ∙ ap (λ (b : Bool). took_at b t.rec t.minus t.big t.len (tokens (drop t.at l))) k))
+pub taken_rest : (f : ℕ) (ts : List (List ℕ)) (l : List ℕ) (t : Taken) → taken_in f ts ≡ as_took l (Some t) → extra_tokens f ts ≡ tokens (drop t.at l)
+taken_rest f ts l t e =
+    go (not (ltb (length ts) (numbers_of (form_row f)) || any_bad (numbers_in f ts))) _ _ _ _ _ (sym (taken_at f (numbers_of (form_row f)) (first_of (form_row f)) (fresh (kind_of f)) no_signs false 0 ts) ∙ e)
   where
     go : (b : Bool) (rec : List ℕ) (s : List Bool) (big : Bool) (len : ℕ) (us : List (List ℕ)) {rec' : List ℕ} {s' : List Bool} {big' : Bool} {len' : ℕ} {us' : List (List ℕ)}
         → took_at b rec s big len us ≡ took rec' s' big' len' us' → us ≡ us'

@@ -1,5 +1,5 @@
 -- The stages of reading a line, one law for each case. Assumes nothing.
-use Rattle.std.specs.Prelude.{Result, Ok, Err, Some}
+use Rattle.std.specs.Prelude.{Result, Ok, Err, Some, None}
 use Rattle.std.specs.Result.{result_eq}
 use mathlib.Core.Path.{◌≡◌, refl, sym, ap, ◌∙◌}
 use mathlib.Core.Bool.{Bool, true, false}
@@ -28,12 +28,11 @@ use Rattle.texts.specs.Split.{tokens}
 use Rattle.texts.specs.Decimal.{decimal}
 use Rattle.texts.specs.Operands.{resolved}
 use Rattle.texts.specs.Minus.{no_signs, minus_at, minus_fits, minuses_by, minuses_fit}
-use Rattle.texts.specs.Reading.{unknown, word_in, sign_at, number_at, fresh, settled, no, got, skip, is_next, value_of, last_of}
+use Rattle.texts.specs.Reading.{unknown, word_in, sign_at, number_at, fresh, settled, Reply, no, got, skip, is_next, value_of, last_of}
 use Rattle.texts.specs.Model.Stages.{Took, took, malformed, operands, taken_in, ruled, judged, allowed, concluded, large, ended, worded, judged_line}
-use Rattle.texts.specs.declared.Readout.{Readout}
 use Rattle.texts.specs.declared.Taken.{Taken}
 use Rattle.texts.specs.declared.Form.{Form}
-use Rattle.texts.specs.Model.Structs.{as_word, took_at, as_took, as_read, NextId, any_sign, several}
+use Rattle.texts.specs.Model.Structs.{as_word, as_took, NextId, any_sign, several}
 
 -- ---- operands
 
@@ -186,6 +185,11 @@ module _ (row : List ℕ) (L : ℕ → Ty) (s : List Bool) (rec : List ℕ) wher
       pub third_decides : sign_fits (second_class row) 3 (second_in rec) ≡ true → {b : Bool} → b ≡ sign_fits (third_class row) 4 (third_in rec) → b ≡ all (minuses_by row L s rec)
       third_decides h e = e ∙ sym (rw (p, q, h) (and_true (sign_fits (third_class row) 4 (third_in rec))))
 
+-- numbers, where they are well formed
+abbrev pub took_at : Bool → List ℕ → List Bool → Bool → ℕ → List (List ℕ) → Took
+took_at true rec s big len ts = took rec s big len ts
+took_at false rec s big len ts = malformed
+
 module _ (L : ℕ → Ty) (G : Bool → ℕ → Bool) (f : ℕ) (rec : List ℕ) (s : List Bool) (len : ℕ) where
   pub judged_8 : fault false L G rec ≡ 8 → judged L G f len rec s ≡ no WrongClass
   unfolding judged
@@ -223,9 +227,9 @@ module _ (L : ℕ → Ty) (G : Bool → ℕ → Bool) (f : ℕ) (rec : List ℕ)
   pub by_own_row : {row : List ℕ} {b : Bool} → row ≡ row_of (kind_in rec) → b ≡ all (minuses_by row L s rec) → b ≡ all (minuses_fit L s rec)
   by_own_row e h = h ∙ ap (λ (r : List ℕ). all (minuses_by r L s rec)) e
 
-  pub is_concluded : {t : List ℕ} {w : ℕ} {x : Readout} → x ≡ as_read (allowed L G f len t s) → t ≡ settled w f rec → w ≡ (L (sort_in rec)).w → x ≡ as_read (concluded L G f len rec s)
+  pub is_concluded : {t : List ℕ} {w : ℕ} {x : Reply} → x ≡ allowed L G f len t s → t ≡ settled w f rec → w ≡ (L (sort_in rec)).w → x ≡ concluded L G f len rec s
   unfolding concluded
-  is_concluded a b c = a ∙ ap (λ (r : List ℕ). as_read (allowed L G f len r s)) (b ∙ ap (λ (v : ℕ). settled v f rec) c)
+  is_concluded a b c = a ∙ ap (λ (r : List ℕ). allowed L G f len r s) (b ∙ ap (λ (v : ℕ). settled v f rec) c)
 
   module _ (ds : List ℕ) where
     pub large_big : (b : Bool) → b ≡ true → large L G ds f rec s b len ≡ no NumberTooLarge
@@ -265,15 +269,12 @@ module _ (L : ℕ → Ty) (G : Bool → ℕ → Bool) (f : ℕ) (rec : List ℕ)
           go (x ∷ y ∷ r) k = let z : ◌≡◌ {A = ℕ} 0 1 = cc in absurd (omega arith)
 
 -- the stage that a Taken stands for
-module _ (L : ℕ → Ty) (G : Bool → ℕ → Bool) (ds : List ℕ) (f : ℕ) (l : List ℕ) (t : Taken) {x : Readout} where
-  pub taken_bad : x ≡ as_read (no BadOperand) → t.ok ≡ false → x ≡ as_read (ended L G ds f (as_took l t))
-  taken_bad e h = e ∙ ap as_read (sym (ended_bad L G f t.rec t.minus t.len ds t.big t.ok (tokens (drop t.at l)) h))
+module _ (L : ℕ → Ty) (G : Bool → ℕ → Bool) (ds : List ℕ) (f : ℕ) (l : List ℕ) (t : Taken) {x : Reply} where
+  pub taken_many : x ≡ no BadOperand → several (tokens (drop t.at l)) ≡ true → x ≡ ended L G ds f (as_took l (Some t))
+  taken_many e k = e ∙ (sym (ended_many L G f t.rec t.minus t.len ds t.big true (tokens (drop t.at l)) refl k))
 
-  pub taken_many : x ≡ as_read (no BadOperand) → t.ok ≡ true → several (tokens (drop t.at l)) ≡ true → x ≡ as_read (ended L G ds f (as_took l t))
-  taken_many e h k = e ∙ ap as_read (sym (ended_many L G f t.rec t.minus t.len ds t.big t.ok (tokens (drop t.at l)) h k))
-
-  pub taken_few : x ≡ as_read (large L G ds f t.rec t.minus t.big t.len) → t.ok ≡ true → several (tokens (drop t.at l)) ≡ false → x ≡ as_read (ended L G ds f (as_took l t))
-  taken_few e h k = e ∙ ap as_read (sym (ended_few L G f t.rec t.minus t.len ds t.big t.ok (tokens (drop t.at l)) h k))
+  pub taken_few : x ≡ large L G ds f t.rec t.minus t.big t.len → several (tokens (drop t.at l)) ≡ false → x ≡ ended L G ds f (as_took l (Some t))
+  taken_few e k = e ∙ (sym (ended_few L G f t.rec t.minus t.len ds t.big true (tokens (drop t.at l)) refl k))
 
 -- the numbers of a line of the form f, whose row is row
 pub taken_from : (f : ℕ) (row start : List ℕ) (k s : ℕ) (ts : List (List ℕ)) {x : Took} → operands f (s + operand_count row) (2 - s) start no_signs false 0 ts ≡ x
@@ -313,20 +314,20 @@ module _ (L : ℕ → Ty) (G : Bool → ℕ → Bool) (ds : List ℕ) (m : ℕ) 
     line_word h k = rw (h, lt-ltb (length ds) m k, judged_line) refl
 
 -- a line whose tokens are known
-module _ (L : ℕ → Ty) (G : Bool → ℕ → Bool) (ds : List ℕ) (m : ℕ) (l : List ℕ) {x : Readout} where
-  pub read_skip : tokens l ≡ [] → x ≡ as_read skip → x ≡ as_read (judged_line L G ds m (tokens l))
-  read_skip e h = h ∙ ap as_read (sym (ap (judged_line L G ds m) e ∙ line_skip L G ds m))
+module _ (L : ℕ → Ty) (G : Bool → ℕ → Bool) (ds : List ℕ) (m : ℕ) (l : List ℕ) {x : Reply} where
+  pub read_skip : tokens l ≡ [] → x ≡ skip → x ≡ judged_line L G ds m (tokens l)
+  read_skip e h = h ∙ (sym (ap (judged_line L G ds m) e ∙ line_skip L G ds m))
 
   module _ (t : List ℕ) (z : ℕ) (e : tokens l ≡ t ∷ tokens (drop z l)) where
-    pub read_3 : is_next (decimal t) (last_of 0 ds) ≡ false → x ≡ as_read (no WrongId) → x ≡ as_read (judged_line L G ds m (tokens l))
-    read_3 a h = h ∙ ap as_read (sym (ap (judged_line L G ds m) e ∙ line_3 L G ds m t (tokens (drop z l)) a))
+    pub read_3 : is_next (decimal t) (last_of 0 ds) ≡ false → x ≡ no WrongId → x ≡ judged_line L G ds m (tokens l)
+    read_3 a h = h ∙ (sym (ap (judged_line L G ds m) e ∙ line_3 L G ds m t (tokens (drop z l)) a))
 
-    pub read_4 : is_next (decimal t) (last_of 0 ds) ≡ true → m ≤ length ds → x ≡ as_read (no NoRecordLeft) → x ≡ as_read (judged_line L G ds m (tokens l))
-    read_4 a b h = h ∙ ap as_read (sym (ap (judged_line L G ds m) e ∙ line_4 L G ds m t (tokens (drop z l)) a b))
+    pub read_4 : is_next (decimal t) (last_of 0 ds) ≡ true → m ≤ length ds → x ≡ no NoRecordLeft → x ≡ judged_line L G ds m (tokens l)
+    read_4 a b h = h ∙ (sym (ap (judged_line L G ds m) e ∙ line_4 L G ds m t (tokens (drop z l)) a b))
 
-    pub read_5 : is_next (decimal t) (last_of 0 ds) ≡ true → length ds < m → word_in (tokens (drop z l)) ≡ unknown → x ≡ as_read (no UnknownWord)
-        → x ≡ as_read (judged_line L G ds m (tokens l))
-    read_5 a b k h = h ∙ ap as_read (sym (ap (judged_line L G ds m) e ∙ (line_word L G ds m t (tokens (drop z l)) a b ∙ ap (worded L G ds) k)))
+    pub read_5 : is_next (decimal t) (last_of 0 ds) ≡ true → length ds < m → word_in (tokens (drop z l)) ≡ unknown → x ≡ no UnknownWord
+        → x ≡ judged_line L G ds m (tokens l)
+    read_5 a b k h = h ∙ (sym (ap (judged_line L G ds m) e ∙ (line_word L G ds m t (tokens (drop z l)) a b ∙ ap (worded L G ds) k)))
 
 -- and whose word is known
 pub judged_on : (L : ℕ → Ty) (G : Bool → ℕ → Bool) (ds : List ℕ) (m : ℕ) (l t : List ℕ) (z : ℕ) → tokens l ≡ t ∷ tokens (drop z l) → is_next (decimal t) (last_of 0 ds) ≡ true → length ds < m

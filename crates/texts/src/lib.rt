@@ -10,7 +10,7 @@ pub enum NumberError {
     TooLarge,
 }
 
-// A line's form, 0 for an unknown word, and the place behind its word.
+// A line's form, and the place behind its word.
 #[derive(Clone, Copy)]
 pub struct Form {
     pub form: usize,
@@ -24,11 +24,9 @@ pub struct Signed {
     pub minus: bool,
 }
 
-// A line's numbers in its record: whether all were there and well formed, whether one was too large, how long the last was, and the place behind it; and which places of
-// the record have a minus.
+// A line's numbers in its record: whether one was too large, how long the last was, and the place behind it; and which places of the record have a minus.
 #[derive(Clone, Copy)]
 pub struct Taken {
-    pub ok: bool,
     pub big: bool,
     pub len: usize,
     pub at: usize,
@@ -36,16 +34,19 @@ pub struct Taken {
     pub minus: [bool; WORDS],
 }
 
-// What a line gives: 0, its record with the places that have a minus, its id and its name, a part of the line, 1 for a blank line, 2 and its refusal.
+// A line's record, and which of its places have a minus.
 #[derive(Clone, Copy)]
-pub struct Readout {
-    pub what: u64,
-    pub code: Refusal,
+pub struct SignedRecord {
     pub rec: [u64; WORDS],
     pub minus: [bool; WORDS],
+}
+
+// A line whose word is known: its record or its refusal, its id, and the part of the line that is its name.
+#[derive(Clone, Copy)]
+pub struct LineRead {
+    pub own: Result<SignedRecord, Refusal>,
     pub id: u64,
-    pub from: usize,
-    pub to: usize,
+    pub name: Part,
 }
 
 // Why a text is refused, and at which of its lines: the first is 1, and 0 stands where no line is at fault.

@@ -1,4 +1,5 @@
-use Prim.Native.Nat.{ℕ, ◌+◌, ◌-◌, ◌<◌, zero-le}
+use Prim.{tt}
+use Prim.Native.Nat.{ℕ, ◌+◌, ◌-◌, ◌<◌}
 use native.Mathlib.Omega.{arith}
 use mathlib.Core.Path.{◌≡◌, sym, ap, ap₂, ◌∙◌}
 use mathlib.Core.Bool.{Bool, true}
@@ -21,7 +22,7 @@ returns-then-a-l c =
     let o = c.loop-p in
     let v = o.invariant in
     let e : ℕ = s.j + s.m in
-    (zero-le, (v.kind, v.left ∙ (ap (λ (ts : List (List ℕ)). operands s.f (e - o.p) o.p o.rec o.minus o.big o.len ts) (sym c.skip-a.ensures.1.1.0 ∙ no_token s.l.now c.skip-a.result (omega (arith, c.if-a-l.true))) ∙ op_none s.f e o.p o.rec o.minus o.big o.len (omega arith))))
+    (tt, v.left ∙ (ap (λ (ts : List (List ℕ)). operands s.f (e - o.p) o.p o.rec o.minus o.big o.len ts) (sym c.skip-a.ensures.1.1.0 ∙ no_token s.l.now c.skip-a.result (omega (arith, c.if-a-l.true))) ∙ op_none s.f e o.p o.rec o.minus o.big o.len (omega arith)))
 
 pub returns-in-Err-Malformed : goal.returns-in-Err-Malformed
 returns-in-Err-Malformed c =
@@ -38,7 +39,7 @@ returns-in-Err-Malformed c =
     let i = c.in-Err-Malformed in
     let g : c.token-t.result.num ≡ Err i.field-0 = i.is in
     let h : i.field-0 ≡ Malformed = rw g at i.field-0-is in
-    (zero-le, (o.invariant.kind, (u ∙ op_bad s.f e o.p o.rec o.minus o.big o.len t (tokens (drop z l)) (omega arith) (sym c.token-t.ensures.0 ∙ (g ∙ ap Err h)))))
+    (tt, u ∙ op_bad s.f e o.p o.rec o.minus o.big o.len t (tokens (drop z l)) (omega arith) (sym c.token-t.ensures.0 ∙ (g ∙ ap Err h)))
 
 pub loop-p-preserved : goal.loop-p-preserved
 loop-p-preserved c =
@@ -84,4 +85,4 @@ returns c =
     let o = c.loop-p in
     let v = o.invariant in
     let e : ℕ = s.j + s.m in
-    (v.there, (v.kind, v.left ∙ op_end s.f e o.p o.rec o.minus o.big o.len (tokens (drop o.at s.l.now)) (omega arith)))
+    ((v.there, v.kind), v.left ∙ op_end s.f e o.p o.rec o.minus o.big o.len (tokens (drop o.at s.l.now)) (omega arith))
