@@ -7,18 +7,6 @@ ghost use Rattle.circuits.specs.Cells.{part, put, mask_words, same_cells};
 ghost use Rattle.words.specs.Word.{Width};
 ghost use Rattle.tables.specs.Pick.{pick};
 
-fn wide(x: u32) -> usize
-    ensures { result ≡ x }
-{
-    x as usize
-}
-
-fn wider(x: u32) -> u64
-    ensures { result ≡ x }
-{
-    x as u64
-}
-
 // The numbers laid out for a line: its first word in the work area, its cells, its place (of a state's first word, an input or a signal) and its width.
 pub const LAID: usize = 4;
 
@@ -27,7 +15,7 @@ pub fn off(laid: &[[u32; LAID]; 16385], i: usize) -> usize
     requires { i ≤ 16384 }
     ensures { result ≡ off_in laid.now i }
 {
-    wide(laid[i][0])
+    laid[i][0] as usize
 }
 
 // The cells of the line i.
@@ -35,7 +23,7 @@ pub fn cells(laid: &[[u32; LAID]; 16385], i: usize) -> usize
     requires { i ≤ 16384 }
     ensures { result ≡ num_in laid.now i }
 {
-    wide(laid[i][1])
+    laid[i][1] as usize
 }
 
 // The place of the line i.
@@ -43,7 +31,7 @@ pub fn place(laid: &[[u32; LAID]; 16385], i: usize) -> usize
     requires { i ≤ 16384 }
     ensures { result ≡ pos_in laid.now i }
 {
-    wide(laid[i][2])
+    laid[i][2] as usize
 }
 
 // The width of the line i.
@@ -51,7 +39,7 @@ pub fn width(laid: &[[u32; LAID]; 16385], i: usize) -> u64
     requires { i ≤ 16384 }
     ensures { result ≡ wid_in laid.now i }
 {
-    wider(laid[i][3])
+    u64::from(laid[i][3])
 }
 
 // Takes each word modulo 2^w.
@@ -59,11 +47,8 @@ fn mask_all(cells: &mut [u64], w: u64)
     requires { Width w }
     ensures { cells.new ≡ mask_words w cells.old }
 {
-    let mut i: usize = 0;
-    while i < cells.len() {
-        let v = cells[i];
-        cells[i] = operators::low(w, v);
-        i += 1;
+    for c in cells.iter_mut() {
+        *c = operators::low(w, *c);
     }
 }
 
@@ -71,11 +56,7 @@ fn mask_all(cells: &mut [u64], w: u64)
 pub fn fill(cells: &mut [u64], v: u64)
     ensures { cells.new ≡ replicate (length cells.old) v }
 {
-    let mut i: usize = 0;
-    while i < cells.len() {
-        cells[i] = v;
-        i += 1;
-    }
+    cells.fill(v);
 }
 
 // Two runs hold the same words.
@@ -83,14 +64,7 @@ pub fn alike(words: &[u64], x: usize, y: usize, n: usize) -> bool
     requires { (x + n ≤ length words.now) × (y + n ≤ length words.now) }
     ensures { result ≡ same_cells (part words.now x n) (part words.now y n) }
 {
-    let mut i: usize = 0;
-    while i < n {
-        if words[x + i] != words[y + i] {
-            return false;
-        }
-        i += 1;
-    }
-    true
+    words[x..x + n] == words[y..y + n]
 }
 
 // The write evaluator for the cell that is written: the cells hold the array written to.
@@ -125,12 +99,7 @@ fn load(to: &mut [u64], from: &[u64])
     requires { length to.old ≡ length from.now }
     ensures { to.new ≡ from.now }
 {
-    let mut i: usize = 0;
-    while i < from.len() {
-        let v = from[i];
-        to[i] = v;
-        i += 1;
-    }
+    to.copy_from_slice(from);
 }
 
 // ---- a run of the work area, lent
@@ -139,8 +108,7 @@ fn mask_run(work: &mut [u64], a: usize, m: usize, w: u64)
     requires { (a + m ≤ length work.old) × Width w }
     ensures { work.new ≡ put work.old a (mask_words w (part work.old a m)) }
 {
-    let e = a + m;
-    mask_all(&mut work[a..e], w);
+    mask_all(&mut work[a..a + m], w);
 }
 
 // The words from a on are taken modulo 2^w, or stay.
@@ -148,34 +116,30 @@ pub fn settle(mask: bool, work: &mut [u64], a: usize, m: usize, w: u64)
     requires { (a + m ≤ length work.old) × Width w }
     ensures { work.new ≡ put work.old a (pick mask (mask_words w (part work.old a m)) (part work.old a m)) }
 {
-    if !mask {
-        return;
+    if mask {
+        mask_run(work, a, m, w);
     }
-    mask_run(work, a, m, w);
 }
 
 pub fn fill_run(work: &mut [u64], a: usize, m: usize, v: u64)
     requires { a + m ≤ length work.old }
     ensures { work.new ≡ put work.old a (replicate m v) }
 {
-    let e = a + m;
-    fill(&mut work[a..e], v);
+    fill(&mut work[a..a + m], v);
 }
 
 pub fn store_run(work: &mut [u64], a: usize, m: usize, i: usize, v: u64)
     requires { (a + m ≤ length work.old) × (i < m) }
     ensures { work.new ≡ put work.old a (set (part work.old a m) i v) }
 {
-    let e = a + m;
-    store(&mut work[a..e], i, v);
+    store(&mut work[a..a + m], i, v);
 }
 
 fn take_run(work: &mut [u64], a: usize, m: usize, i: usize, v: [u64; 4])
     requires { (a + m ≤ length work.old) × (i + 4 ≤ m) }
     ensures { work.new ≡ put work.old (a + i) v }
 {
-    let e = a + m;
-    take_four(&mut work[a..e], i, v);
+    take_four(&mut work[a..a + m], i, v);
 }
 
 // The cells from the given one on, one by one.
@@ -183,27 +147,22 @@ fn copy_rest(work: &mut [u64], x: usize, o: usize, m: usize, from: usize)
     requires { Apart x o m × ((x + m ≤ length work.old) × ((o + m ≤ length work.old) × (from ≤ m))) }
     ensures { work.new ≡ put work.old (o + from) (part work.old (x + from) (m - from)) }
 {
-    let mut i = from;
-    while i < m {
+    for i in from..m {
         let v = work[x + i];
         store_run(work, o, m, i, v);
-        i += 1;
     }
 }
 
-// The cells of an array, of which only work[o..o + m] is lent on. The operand's come by value, four by four:
-// two parts of one slice cannot be lent at once.
+// The cells of an array, four by four: `copy_within`, a word at a time, takes 34 instructions for 4 cells and 470 for 256, this 7 and 372.
 fn copy_cells(work: &mut [u64], x: usize, o: usize, m: usize)
     requires { Apart x o m × ((x + m ≤ length work.old) × (o + m ≤ length work.old)) }
     ensures { work.new ≡ put work.old o (part work.old x m) }
 {
-    let mut i: usize = 0;
-    while 4 <= m - i {
-        let v = four(work, x + i);
-        take_run(work, o, m, i, v);
-        i += 4;
+    for q in 0..m / 4 {
+        let v = four(work, x + 4 * q);
+        take_run(work, o, m, 4 * q, v);
     }
-    copy_rest(work, x, o, m, i);
+    copy_rest(work, x, o, m, m / 4 * 4);
 }
 
 // The m words from x on go to work[o..o + m]. A word, which has one cell, is one load and one store.
@@ -214,9 +173,9 @@ pub fn copy(work: &mut [u64], x: usize, o: usize, m: usize)
     if m == 1 {
         let v = work[x];
         work[o] = v;
-        return;
+    } else {
+        copy_cells(work, x, o, m);
     }
-    copy_cells(work, x, o, m);
 }
 
 // The words of from go to work[a..].

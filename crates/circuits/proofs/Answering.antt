@@ -1,4 +1,5 @@
 -- The answers of a run, test by test, and the first counted bad from the bytes of all steps. Assumes nothing.
+use Rattle.std.specs.Prelude.{Option, None, Result, Ok, Err}
 use Prim.Native.Nat.{ℕ, zero, suc, ◌+◌, ◌*◌, ◌≤◌, ◌<◌}
 use mathlib.Core.Path.{◌≡◌, refl, sym, ap, ap₂, ◌∙◌}
 use mathlib.Core.Bool.{Bool, true, false}
@@ -11,15 +12,12 @@ use borrow.Author.Tests.{le-leb, lt-leb, eq-eqb, ne_eqb, leb-true, eqb-true}
 use Rattle.words.specs.Word.{bit}
 use Rattle.tables.specs.declared.Refusal.{Refusal}
 use Rattle.tables.specs.declared.Refusal.TheVariants.{TooManySteps, StartWords, InputWords, SignalBytes, WorkArea}
-use Rattle.tables.specs.declared.Checked.{Checked}
-use Rattle.tables.specs.declared.Checked.TheVariants.{Accepted, Refused}
 use Rattle.tables.specs.Pick.{pick}
 use Rattle.tables.specs.Lines.{Line}
 use Rattle.tables.specs.Tables.{checked}
 use Rattle.tables.proofs.Checking.{not_accepted}
 use Rattle.circuits.specs.declared.Totals.{Totals}
-use Rattle.circuits.specs.declared.Ran.{Ran}
-use Rattle.circuits.specs.declared.Ran.TheVariants.{Nothing, Refused as RefusedRun}
+use Rattle.circuits.specs.declared.FirstBad.{FirstBad}
 use Rattle.circuits.specs.Layout.{Counts, Layout, no_layout, lay, lay_all, layout, counts_after, size, line_type_in}
 use Rattle.circuits.specs.Meaning.{Signal, signal_byte, Frame, no_frame, eval_line, eval_all, signals_after, step}
 use Rattle.circuits.specs.Run.{row_length, inputs_at, free_at, start, entered, step_from, words_before, steps, run, bytes_of, bytes, first_bad}
@@ -33,22 +31,22 @@ use Rattle.circuits.proofs.Repeated.{steps_many}
 -- ---- 13 to 17
 
 module _ (c : Counts) (row k s i g w : ℕ) where
-  pub is_13 : 4096 < k → Refused TooManySteps ≡ lent c row k s i g w
+  pub is_13 : 4096 < k → Err TooManySteps ≡ lent c row k s i g w
   is_13 h = rw (lt-leb k 4096 h)
 
-  pub is_14 : k ≤ 4096 → (s ≡ c.states → ⊥) → Refused StartWords ≡ lent c row k s i g w
+  pub is_14 : k ≤ 4096 → (s ≡ c.states → ⊥) → Err StartWords ≡ lent c row k s i g w
   is_14 h n = rw (le-leb k 4096 h, ne_eqb s c.states n)
 
-  pub is_15 : k ≤ 4096 → s ≡ c.states → (i ≡ k * row → ⊥) → Refused InputWords ≡ lent c row k s i g w
+  pub is_15 : k ≤ 4096 → s ≡ c.states → (i ≡ k * row → ⊥) → Err InputWords ≡ lent c row k s i g w
   is_15 h e n = rw (le-leb k 4096 h, eq-eqb s c.states e, ne_eqb i (k * row) n)
 
-  pub is_16 : k ≤ 4096 → s ≡ c.states → i ≡ k * row → (g ≡ k * c.signals → ⊥) → Refused SignalBytes ≡ lent c row k s i g w
+  pub is_16 : k ≤ 4096 → s ≡ c.states → i ≡ k * row → (g ≡ k * c.signals → ⊥) → Err SignalBytes ≡ lent c row k s i g w
   is_16 h e f n = rw (le-leb k 4096 h, eq-eqb s c.states e, eq-eqb i (k * row) f, ne_eqb g (k * c.signals) n)
 
-  pub is_17 : k ≤ 4096 → s ≡ c.states → i ≡ k * row → g ≡ k * c.signals → w < c.cells + c.states → Refused WorkArea ≡ lent c row k s i g w
+  pub is_17 : k ≤ 4096 → s ≡ c.states → i ≡ k * row → g ≡ k * c.signals → w < c.cells + c.states → Err WorkArea ≡ lent c row k s i g w
   is_17 h e f q l = rw (le-leb k 4096 h, eq-eqb s c.states e, eq-eqb i (k * row) f, eq-eqb g (k * c.signals) q, lt-leb (c.cells + c.states) w l)
 
-  pub is_lent : k ≤ 4096 → s ≡ c.states → i ≡ k * row → g ≡ k * c.signals → c.cells + c.states ≤ w → Accepted ≡ lent c row k s i g w
+  pub is_lent : k ≤ 4096 → s ≡ c.states → i ≡ k * row → g ≡ k * c.signals → c.cells + c.states ≤ w → Ok tt ≡ lent c row k s i g w
   is_lent h e f q l = rw (le-leb k 4096 h, eq-eqb s c.states e, eq-eqb i (k * row) f, eq-eqb g (k * c.signals) q, le-leb (c.cells + c.states) w l)
 
 pub record Lent (c : Counts) (row k s i g w : ℕ) : Type 0 where
@@ -58,11 +56,11 @@ pub record Lent (c : Counts) (row k s i g w : ℕ) : Type 0 where
   pub signals : g ≡ k * c.signals
   pub work : c.cells + c.states ≤ w
 
-pub lent_facts : (c : Counts) (row k s i g w : ℕ) → lent c row k s i g w ≡ Accepted → Lent c row k s i g w
+pub lent_facts : (c : Counts) (row k s i g w : ℕ) → lent c row k s i g w ≡ Ok tt → Lent c row k s i g w
 lent_facts c row k s i g w = go (leb k 4096) (eqb s c.states) (eqb i (k * row)) (eqb g (k * c.signals)) (leb (c.cells + c.states) w) refl refl refl refl refl
   where
     go : (a b d e f : Bool) → leb k 4096 ≡ a → eqb s c.states ≡ b → eqb i (k * row) ≡ d → eqb g (k * c.signals) ≡ e → leb (c.cells + c.states) w ≡ f
-        → pick a (pick b (pick d (pick e (pick f Accepted (Refused WorkArea)) (Refused SignalBytes)) (Refused InputWords)) (Refused StartWords)) (Refused TooManySteps) ≡ Accepted → Lent c row k s i g w
+        → pick a (pick b (pick d (pick e (pick f (Ok (tt {0})) (Err WorkArea)) (Err SignalBytes)) (Err InputWords)) (Err StartWords)) (Err TooManySteps) ≡ Ok (tt {0}) → Lent c row k s i g w
     go true true true true true a b d e f z =
         record { steps = leb-true k 4096 a; starts = eqb-true s c.states b; inputs = eqb-true i (k * row) d; signals = eqb-true g (k * c.signals) e; work = leb-true (c.cells + c.states) w f }
     go true true true true false a b d e f z = absurd (not_accepted WorkArea z)
@@ -171,7 +169,7 @@ signals_many p C = signals_all p no_layout C ∙ zero-add (length (marks C))
 
 -- ---- no steps
 
-pub none_ran : (p : Bool) (C : List Line) (k : ℕ) (S I : List ℕ) → k ≡ 0 → Nothing ≡ first_bad 0 (run p C k S I)
+pub none_ran : (p : Bool) (C : List Line) (k : ℕ) (S I : List ℕ) → k ≡ 0 → None ≡ first_bad 0 (run p C k S I)
 unfolding run steps
 none_ran p C k S I e = ap (λ (m : ℕ). first_bad 0 (steps p C m (start p C S I) I)) (sym e)
 
@@ -197,24 +195,24 @@ zero_front w q u e h eq = ap₂ (λ (x y : List ℕ). x ++ drop u y) eq e ∙ fr
 -- ---- the answer
 
 -- what is told of a run, and what it leaves
-pub told_run_lem : {r r₁ : Ran} {s s₁ w w₁ : List ℕ} → r ≡ r₁ → s ≡ s₁ → w ≡ w₁ → told_run r (s ∷ w ∷ []) ≡ told_run r₁ (s₁ ∷ w₁ ∷ [])
+pub told_run_lem : {r r₁ : Result (Option FirstBad) Refusal} {s s₁ w w₁ : List ℕ} → r ≡ r₁ → s ≡ s₁ → w ≡ w₁ → told_run r (s ∷ w ∷ []) ≡ told_run r₁ (s₁ ∷ w₁ ∷ [])
 told_run_lem a b c = λ i. told_run (a i) (b i ∷ c i ∷ [])
 
 module _ (p : Bool) (t : List ℕ) (n k : ℕ) (S I : List ℕ) (g w : ℕ) where
   -- the table is refused, or it is accepted and what is lent decides
-  pub runs_refused : {r : Refusal} {s v : List ℕ} → checked p t n ≡ Refused r → s ≡ replicate g 0 → v ≡ replicate w 0 → told_run (RefusedRun r) (s ∷ v ∷ []) ≡ runs p t n k S I g w
+  pub runs_refused : {r : Refusal} {s v : List ℕ} → checked p t n ≡ Err r → s ≡ replicate g 0 → v ≡ replicate w 0 → told_run (Err r) (s ∷ v ∷ []) ≡ runs p t n k S I g w
   unfolding runs ran signals_left ready
   runs_refused e a b = rw (e, a, b) refl
 
-  pub runs_lent : checked p t n ≡ Accepted → lent_runs p t n k S I g w ≡ runs p t n k S I g w
+  pub runs_lent : checked p t n ≡ Ok tt → lent_runs p t n k S I g w ≡ runs p t n k S I g w
   unfolding runs ran signals_left ready
   runs_lent e = rw e refl
 
-  pub lent_refused : {r : Refusal} {s v : List ℕ} → lent (layout p (lines_of p t n)).counts (row_length p (lines_of p t n)) k (length S) (length I) g w ≡ Refused r → s ≡ replicate g 0 → v ≡ replicate w 0
-      → told_run (RefusedRun r) (s ∷ v ∷ []) ≡ lent_runs p t n k S I g w
+  pub lent_refused : {r : Refusal} {s v : List ℕ} → lent (layout p (lines_of p t n)).counts (row_length p (lines_of p t n)) k (length S) (length I) g w ≡ Err r → s ≡ replicate g 0 → v ≡ replicate w 0
+      → told_run (Err r) (s ∷ v ∷ []) ≡ lent_runs p t n k S I g w
   lent_refused e a b = rw (e, a, b) refl
 
-  pub lent_runs_lem : lent (layout p (lines_of p t n)).counts (row_length p (lines_of p t n)) k (length S) (length I) g w ≡ Accepted → started p (lines_of p t n) k S I w ≡ lent_runs p t n k S I g w
+  pub lent_runs_lem : lent (layout p (lines_of p t n)).counts (row_length p (lines_of p t n)) k (length S) (length I) g w ≡ Ok tt → started p (lines_of p t n) k S I w ≡ lent_runs p t n k S I g w
   lent_runs_lem e = rw e refl
 
 pub nonzero : (k : ℕ) → (k ≡ 0 → ⊥) → 0 < k
@@ -222,6 +220,6 @@ nonzero zero n = absurd (n refl)
 nonzero (suc k) n = omega arith
 
 -- the tests 13 to 17 on the counts that the pass has found
-pub lent_on : (c : Counts) (f k s i g w : ℕ) {tot : Totals} {d x : Checked} → tot ≡ totals_of c f → d ≡ lent (counts_of tot) (tot.inputs + tot.free) k s i g w → d ≡ x
+pub lent_on : (c : Counts) (f k s i g w : ℕ) {tot : Totals} {d x : Result (Unit {0}) Refusal} → tot ≡ totals_of c f → d ≡ lent (counts_of tot) (tot.inputs + tot.free) k s i g w → d ≡ x
     → lent c (c.inputs + f) k s i g w ≡ x
 lent_on c f k s i g w et ed ex = sym (ed ∙ ap (λ (y : Totals). lent (counts_of y) (y.inputs + y.free) k s i g w) et) ∙ ex

@@ -1,5 +1,6 @@
 -- "It takes its start word or init value at step 0. From step 1 on it takes words from the row, modulo 2^w, and not the word the last step left": the states of an accepted circuit (p is
 -- false) or program (true) at each step of a run. C are the table's lines, Y is their layout. Assumes nothing.
+use Rattle.std.specs.Prelude.{Ok}
 use Prim.Native.Nat.{ℕ, zero, suc, ◌+◌, ◌*◌, ◌%◌, ◌^◌, ◌≤◌, ◌<◌}
 use mathlib.Core.Path.{◌≡◌, refl, sym, ap, ap₂, ◌∙◌}
 use mathlib.Core.Bool.{Bool, true, false, ◌||◌}
@@ -9,7 +10,6 @@ use native.Mathlib.Nat.{zero-add, zero-mul}
 use lib.ListN.{length, take, drop, get_or, replicate, length-append, length-drop, length-replicate, take-append-drop}
 use lib.Seq.{take_at, drop_at, drop-cons}
 use Rattle.tables.specs.declared.Ty.{Ty}
-use Rattle.tables.specs.declared.Checked.TheVariants.{Accepted}
 use Rattle.tables.specs.Pick.{pick, among, alike}
 use Rattle.tables.specs.Lines.{Line}
 use Rattle.tables.specs.Layout.{lines_of}
@@ -75,7 +75,7 @@ given_at p f Y (l ∷ D) (suc k) s q v h e = given_at p f (lay p Y l) D k s q v 
 abbrev pub free_place : (p : Bool) (C : List Line) (q : ℕ) → ℕ
 free_place p C q = free_count (take (place_at (layout p C) q) (sources p C))
 
-module _ (p : Bool) (t : List ℕ) (n : ℕ) (acc : checked p t n ≡ Accepted) where
+module _ (p : Bool) (t : List ℕ) (n : ℕ) (acc : checked p t n ≡ Ok tt) where
   abbrev C : List Line
   C = lines_of p t n
 

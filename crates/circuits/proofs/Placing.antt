@@ -1,4 +1,5 @@
 -- The pass over the lines before a run: a record's place and count by its kind, and lists that hold the places so far. Assumes nothing.
+use Rattle.std.specs.Prelude.{Ok}
 use Prim.Native.Nat.{ℕ, zero, suc, ◌+◌, ◌*◌, ◌%◌, ◌^◌, ◌≤◌, ◌<◌}
 use mathlib.Core.Path.{◌≡◌, refl, sym, ap, ap₂, ◌∙◌, subst}
 use mathlib.Core.Logic.{inl, inr}
@@ -25,7 +26,6 @@ use Rattle.circuits.specs.Model.Work.{laid_as, laid_in}
 use Rattle.circuits.specs.Model.Places.{off_at, ShowsAll, Ready}
 use Rattle.circuits.specs.Model.Passes.{Noted, counts_of, totals_of, free_here, spot, no_spot, spot_by, Small}
 use Rattle.circuits.specs.Model.Signals.{bad_mark, marks}
-use Rattle.tables.specs.declared.Checked.TheVariants.{Accepted}
 use Rattle.tables.specs.Tables.{checked}
 use Rattle.tables.proofs.Encoding.{fits_table}
 use Rattle.circuits.specs.declared.Totals.{Totals}
@@ -406,7 +406,7 @@ pub record MarksSoFar (C : List Line) (n i g : ℕ) (bad : List ℕ) : Type 0 wh
   pub count : g ≡ length (marks (take i C))
   pub holds : take g bad ≡ marks (take i C)
 
-module _ (p : Bool) (t : List ℕ) (n : ℕ) (acc : checked p t n ≡ Accepted) where
+module _ (p : Bool) (t : List ℕ) (n : ℕ) (acc : checked p t n ≡ Ok tt) where
   pub marks_more : {r : List ℕ} (i g g' : ℕ) (bad bad' : List ℕ) → i < n → MarksSoFar (lines_of p t n) n i g bad → r ≡ record_at p t i → length bad' ≡ length bad
       → take g' bad' ≡ take g bad ++ bad_mark (line_of r) → g' ≡ g + length (bad_mark (line_of r)) → MarksSoFar (lines_of p t n) n (i + 1) g' bad'
   marks_more {r} i g g' bad bad' h s er lb e₁ e₂ =
@@ -431,7 +431,7 @@ module _ (p : Bool) (t : List ℕ) (n : ℕ) (acc : checked p t n ≡ Accepted) 
 
 -- ---- the counts of an accepted table are small
 
-module _ (p : Bool) (t : List ℕ) (n : ℕ) (acc : checked p t n ≡ Accepted) where
+module _ (p : Bool) (t : List ℕ) (n : ℕ) (acc : checked p t n ≡ Ok tt) where
   pub all_sound : Sound (layout p (lines_of p t n))
   all_sound = subst Sound (lay_done p t n acc) (sound_at p t n acc n)
 

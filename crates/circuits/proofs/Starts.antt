@@ -1,5 +1,6 @@
 -- "Start words: one for each state cell in line order, cells rising; unused where there is an init." Two lists of start words that differ only in the words of states that have an init give
 -- the same start, and so the same run. Assumes nothing.
+use Rattle.std.specs.Prelude.{Ok}
 use Prim.Native.Nat.{ℕ, zero, suc, ◌+◌, ◌-◌, ◌%◌, ◌^◌, ◌≤◌, ◌<◌}
 use mathlib.Core.Path.{◌≡◌, refl, sym, ap, ap₂, ◌∙◌, subst}
 use mathlib.Core.Logic.{◌⊎◌, inl, inr, ⊎_elim}
@@ -8,7 +9,6 @@ use mathlib.Core.List.{List, [], ◌∷◌, ◌++◌}
 use native.Mathlib.Omega.{arith}
 use lib.ListN.{length, take, drop, get_or, replicate, length-append, length-drop, length-replicate, get_or-append}
 use lib.Seq.{drop_at, ext_get_or}
-use Rattle.tables.specs.declared.Checked.TheVariants.{Accepted}
 use Rattle.tables.specs.Pick.{among}
 use Rattle.tables.specs.Lines.{Line}
 use Rattle.tables.specs.Layout.{lines_of}
@@ -202,7 +202,7 @@ module _ (p : Bool) (S S' ι : List ℕ) {all : ℕ} (total : ℕ) where
 
 -- ---- the law
 
-module _ (p : Bool) (t : List ℕ) (n : ℕ) (acc : checked p t n ≡ Accepted) where
+module _ (p : Bool) (t : List ℕ) (n : ℕ) (acc : checked p t n ≡ Ok tt) where
   abbrev C : List Line
   C = lines_of p t n
 

@@ -1,5 +1,6 @@
 -- What a step of an accepted circuit (p is false) or program (true) does to its states. Its lines see the state words that it began with, and then all next values are set together.
 -- C are the table's lines, Y is their layout, and σ the state words before the step, ι its input row. Assumes nothing.
+use Rattle.std.specs.Prelude.{Ok}
 use Prim.Native.Nat.{ℕ, suc, ◌^◌, ◌≤◌, ◌<◌}
 use mathlib.Core.Path.{◌≡◌, refl, sym, ap, ap₂, ◌∙◌, subst}
 use mathlib.Core.Bool.{Bool, true, false}
@@ -8,7 +9,6 @@ use native.Mathlib.Omega.{arith}
 use native.Mathlib.Nat.{mod-eq_of_lt}
 use lib.ListN.{length, take, get_or, replicate}
 use Rattle.tables.specs.declared.Ty.{Ty}
-use Rattle.tables.specs.declared.Checked.TheVariants.{Accepted}
 use Rattle.tables.specs.Lines.{Line}
 use Rattle.tables.specs.Layout.{lines_of}
 use Rattle.tables.specs.Types.{state_role, ty_at, given}
@@ -16,7 +16,7 @@ use Rattle.tables.specs.Tables.{checked}
 use Rattle.tables.proofs.Facts.{OkLine}
 use Rattle.tables.proofs.Showing.{earlier}
 use Rattle.circuits.specs.Cells.{mask_words}
-use Rattle.circuits.specs.Layout.{Layout, type_at, size, lay, lay_all, no_layout, layout}
+use Rattle.circuits.specs.Layout.{Layout, type_at, size, lay_all, no_layout, layout}
 use Rattle.circuits.specs.Meaning.{state_words, cells_at, word_at, given_words, eval_all, no_frame, step}
 use Rattle.circuits.proofs.Laid.{type_old, more_types}
 use Rattle.circuits.proofs.Walked.{acc_lay, lines_many, lines_ok, ok_here, sound_at, later_at}
@@ -33,7 +33,7 @@ pub settled : (p : Bool) (w : ℕ) (xs : List ℕ) → (p ≡ false → (j : ℕ
 settled false w xs h = masked_small w xs (h refl)
 settled true w xs h = refl
 
-module _ (p : Bool) (t : List ℕ) (n : ℕ) (acc : checked p t n ≡ Accepted) where
+module _ (p : Bool) (t : List ℕ) (n : ℕ) (acc : checked p t n ≡ Ok tt) where
   abbrev C : List Line
   C = lines_of p t n
 

@@ -1,4 +1,5 @@
 -- All lines of a step on the work area: after i lines it holds what the first i lines mean. Assumes nothing.
+use Rattle.std.specs.Prelude.{Ok}
 use Prim.Native.Nat.{ℕ, zero, suc, ◌+◌, ◌≤◌, ◌<◌}
 use mathlib.Core.Path.{◌≡◌, refl, sym, ap, ap₂, ◌∙◌, subst}
 use mathlib.Core.Bool.{Bool, false}
@@ -7,7 +8,6 @@ use native.Mathlib.Omega.{arith}
 use native.Mathlib.Numerals.{add-one}
 use lib.ListN.{length, take, drop, get_or, set, take-append-drop, get_or-map}
 use lib.Seq.{take-suc, take-suc-set, take-length, drop-length, length-take-le}
-use Rattle.tables.specs.declared.Checked.TheVariants.{Accepted}
 use Rattle.tables.specs.Lines.{Line, line_of}
 use Rattle.tables.specs.Layout.{record_at, records_of, lines_of}
 use Rattle.tables.specs.Types.{ty_at, given}
@@ -51,7 +51,7 @@ lay_rest p C i = ap (lay_all p no_layout) (sym (take-append-drop i C)) ∙ lay_a
 
 -- ---- the lines of an accepted table
 
-module _ (p : Bool) (t : List ℕ) (n : ℕ) (acc : checked p t n ≡ Accepted) where
+module _ (p : Bool) (t : List ℕ) (n : ℕ) (acc : checked p t n ≡ Ok tt) where
   pub lines_many : length (lines_of p t n) ≡ n
   lines_many = length_lines p t n
 

@@ -1,16 +1,15 @@
 -- The request's circuit and its program, computed: three steps give the signals 0 1 0, and the first counted bad is step 1, place 1. Assumes nothing.
-use Rattle.std.specs.Prelude.{ℕ, ◌≡◌, refl, true, false, List, [], ◌∷◌}
+use Rattle.std.specs.Prelude.{ℕ, ◌≡◌, refl, true, false, List, [], ◌∷◌, Ok, Some}
 use Rattle.tables.specs.Kinds.{row_of as kind_row}
 use Rattle.tables.specs.Lines.{fields}
 use Rattle.tables.specs.Layout.{filled_by, with_ids, filled, table_with}
 use Rattle.tables.specs.Rules.{suits, fault}
 use Rattle.tables.specs.Tables.{checked}
-use Rattle.circuits.specs.declared.Ran.TheVariants.{Bad}
 use Rattle.circuits.specs.Cells.{put}
 use Rattle.circuits.specs.Layout.{layout}
 use Rattle.circuits.specs.Meaning.{step}
 use Rattle.circuits.specs.Free.{sources}
-use Rattle.circuits.specs.Run.{start, step_from, words_before, steps, run}
+use Rattle.circuits.specs.Run.{start, step_from, words_before, steps, run, counted}
 use Rattle.circuits.specs.Answers.{ready, ran, signals_left}
 
 -- 1 sort bitvec 1, 2 sort bitvec 3, 3 sort array 1 2, 4 state 3, 5 input 1, 6 constd 2 5, 7 write 3 4 5 6, 8 next 3 4 7, 9 read 2 4 5, 10 eq 1 9 6, 11 bad 10
@@ -37,7 +36,7 @@ circuit_signals : signals_left false circuit 11 3 (0 ∷ 0 ∷ []) (0 ∷ 0 ∷ 
 unfolding filled_by signals_left ready checked fault suits kind_row layout sources run start step_from words_before steps step put
 circuit_signals = refl
 
-circuit_bad : ran false circuit 11 3 (0 ∷ 0 ∷ []) (0 ∷ 0 ∷ 1 ∷ []) 3 17 ≡ Bad 1 1
+circuit_bad : ran false circuit 11 3 (0 ∷ 0 ∷ []) (0 ∷ 0 ∷ 1 ∷ []) 3 17 ≡ Ok (Some (counted 1 1))
 unfolding filled_by ran ready checked fault suits kind_row layout sources run start step_from words_before steps step put
 circuit_bad = refl
 
@@ -45,7 +44,7 @@ program_signals : signals_left true program 17 3 (0 ∷ 0 ∷ []) (0 ∷ 0 ∷ 1
 unfolding filled_by signals_left ready checked fault suits kind_row layout sources run start step_from words_before steps step put
 program_signals = refl
 
-program_bad : ran true program 17 3 (0 ∷ 0 ∷ []) (0 ∷ 0 ∷ 1 ∷ []) 3 17 ≡ Bad 1 1
+program_bad : ran true program 17 3 (0 ∷ 0 ∷ []) (0 ∷ 0 ∷ 1 ∷ []) 3 17 ≡ Ok (Some (counted 1 1))
 unfolding filled_by ran ready checked fault suits kind_row layout sources run start step_from words_before steps step put
 program_bad = refl
 

@@ -1,19 +1,17 @@
 -- States that nobody drives, computed: an array state and a state with an init, both free, and a state that is driven by itself; as circuit, flat circuit and program.
 -- Assumes nothing.
-use Rattle.std.specs.Prelude.{ℕ, ◌≡◌, refl, true, false, List, [], ◌∷◌}
+use Rattle.std.specs.Prelude.{ℕ, ◌≡◌, refl, true, false, List, [], ◌∷◌, Ok, Err, Some}
 use Rattle.tables.specs.declared.Refusal.TheVariants.{InputWords}
-use Rattle.tables.specs.declared.Checked.TheVariants.{Accepted, Refused}
 use Rattle.tables.specs.Kinds.{row_of as kind_row}
 use Rattle.tables.specs.Lines.{Line, fields}
 use Rattle.tables.specs.Layout.{filled_by, lines_of, table_with}
 use Rattle.tables.specs.Rules.{suits, fault}
 use Rattle.tables.specs.Tables.{checked}
-use Rattle.circuits.specs.declared.Ran.TheVariants.{Bad}
 use Rattle.circuits.specs.Cells.{put}
 use Rattle.circuits.specs.Layout.{layout}
 use Rattle.circuits.specs.Meaning.{cells_at, step}
 use Rattle.circuits.specs.Free.{driven, free, sources}
-use Rattle.circuits.specs.Run.{row_length, start, step_from, words_before, steps, run, step_at}
+use Rattle.circuits.specs.Run.{row_length, start, step_from, words_before, steps, run, step_at, counted}
 use Rattle.circuits.specs.Answers.{ready, ran, signals_left}
 
 -- 1 sort bitvec 1, 2 sort bitvec 3, 3 sort array 1 2, 4 constd 2 5, 5 state 3, 6 state 2, 7 init 2 6 4, 8 input 1, 9 state 2, 10 next 2 9 9, 11 read 2 5 8, 12 eq 1 11 6, 13 bad 12,
@@ -27,7 +25,7 @@ circuit =
 abbrev pub lines : List Line
 lines = lines_of false circuit 15
 
-pub circuit_accepted : checked false circuit 15 ≡ Accepted
+pub circuit_accepted : checked false circuit 15 ≡ Ok tt
 unfolding filled_by checked fault suits kind_row
 circuit_accepted = refl
 
@@ -65,12 +63,12 @@ circuit_signals : signals_left false circuit 15 3 starts inputs 6 13 ≡ 0 ∷ 1
 unfolding filled_by signals_left ready checked fault suits kind_row layout sources run start step_from words_before steps step put
 circuit_signals = refl
 
-circuit_bad : ran false circuit 15 3 starts inputs 6 13 ≡ Bad 0 2
+circuit_bad : ran false circuit 15 3 starts inputs 6 13 ≡ Ok (Some (counted 0 2))
 unfolding filled_by ran ready checked fault suits kind_row layout sources run start step_from words_before steps step put
 circuit_bad = refl
 
 -- inputs alone are not enough
-inputs_alone : ready false circuit 15 3 starts (1 ∷ 0 ∷ 1 ∷ []) 6 13 ≡ Refused InputWords
+inputs_alone : ready false circuit 15 3 starts (1 ∷ 0 ∷ 1 ∷ []) 6 13 ≡ Err InputWords
 unfolding filled_by ready checked fault suits kind_row layout sources
 inputs_alone = refl
 

@@ -1,7 +1,7 @@
 -- What the lines of a circuit mean, and those of a program: `program` says which. `starting` is true for the walk over the lines as a run starts, where init lines
 -- give the states their values, and false at each step, where next lines do. A value has 2 ^ iw cells, a word one. What a line's cells are is said over three
 -- lookups of its operands (width, word, cells), so that the same text speaks of the values so far and of a work area that holds them. Assumes nothing.
-use Rattle.std.specs.Prelude.{ℕ, ◌+◌, ◌%◌, ◌^◌, Bool, true, false, not, ◌||◌, List, [], ◌∷◌, ◌++◌, get_or, set, replicate}
+use Rattle.std.specs.Prelude.{ℕ, ◌%◌, ◌^◌, Bool, true, false, not, ◌||◌, List, [], ◌∷◌, ◌++◌, get_or, set, replicate}
 use Rattle.words.specs.Word.{bit}
 use Rattle.words.specs.Op.{op_of}
 use Rattle.words.specs.Circuit.{circ}

@@ -1,10 +1,9 @@
 -- The run of a circuit, or of a program (`program` says which): its steps, their signals and bytes, and the first counted bad. A run of the lines C starts from the start
 -- words S, and each of its steps takes a row of the inputs I. Assumes nothing.
-use Rattle.std.specs.Prelude.{ℕ, zero, suc, ◌+◌, ◌*◌, Bool, true, false, ◌&&◌, List, [], ◌∷◌, ◌++◌, map, eqb, take}
+use Rattle.std.specs.Prelude.{ℕ, zero, suc, ◌+◌, ◌*◌, Bool, true, false, ◌&&◌, List, [], ◌∷◌, ◌++◌, map, eqb, take, Option, None, Some}
 use Rattle.tables.specs.Lines.{Line}
 use Rattle.tables.specs.Layout.{from}
-use Rattle.circuits.specs.declared.Ran.{Ran}
-use Rattle.circuits.specs.declared.Ran.TheVariants.{Nothing, Bad}
+use Rattle.circuits.specs.declared.FirstBad.{FirstBad}
 use Rattle.circuits.specs.Cells.{part}
 use Rattle.circuits.specs.Layout.{layout}
 use Rattle.circuits.specs.Meaning.{Signal, signal_byte, Frame, step}
@@ -81,12 +80,15 @@ bad_at n [] = 0
 bad_at n (signal_byte true v ∷ g) = elim (eqb v 1) [ true ↦ n | false ↦ bad_at (suc n) g ]
 bad_at n (signal_byte false v ∷ g) = bad_at n g
 
+abbrev pub counted : (step place : ℕ) → FirstBad
+counted t n = record { step = t; place = n }
+
 -- at the step t, where all constraints are met so far: the bad at the place n of this step, or what the later steps give where it has none
-abbrev pub bad_or : (t n : ℕ) (later : Ran) → Ran
+abbrev pub bad_or : (t n : ℕ) (later : Option FirstBad) → Option FirstBad
 bad_or t zero later = later
-bad_or t (suc n) later = Bad t (suc n)
+bad_or t (suc n) later = Some (counted t (suc n))
 
 -- The first step from t on, and in it the first bad line, whose byte is 1 while all constraint bytes up to and including that step are 1.
-abbrev pub first_bad : (t : ℕ) → List (List Signal) → Ran
-first_bad t [] = Nothing
-first_bad t (g ∷ gs) = elim (met g) [ false ↦ Nothing | true ↦ bad_or t (bad_at 1 g) (first_bad (suc t) gs) ]
+abbrev pub first_bad : (t : ℕ) → List (List Signal) → Option FirstBad
+first_bad t [] = None
+first_bad t (g ∷ gs) = elim (met g) [ false ↦ None | true ↦ bad_or t (bad_at 1 g) (first_bad (suc t) gs) ]

@@ -1,6 +1,5 @@
 -- States, computed: next values are set together, a state that is driven by itself keeps its value, and start words are unused where there is an init. Assumes nothing.
-use Rattle.std.specs.Prelude.{ℕ, ◌≡◌, refl, true, false, List, [], ◌∷◌}
-use Rattle.tables.specs.declared.Checked.TheVariants.{Accepted}
+use Rattle.std.specs.Prelude.{ℕ, ◌≡◌, refl, true, false, List, [], ◌∷◌, Ok}
 use Rattle.tables.specs.Kinds.{row_of as kind_row}
 use Rattle.tables.specs.Lines.{fields}
 use Rattle.tables.specs.Layout.{filled_by, lines_of, table_with}
@@ -17,7 +16,7 @@ use Rattle.circuits.specs.Answers.{ready, signals_left}
 abbrev pub swap : List ℕ
 swap = table_with false (fields 1 0 3 0 0 ∷ fields 5 1 0 0 0 ∷ fields 5 1 0 0 0 ∷ fields 5 1 0 0 0 ∷ fields 7 1 2 3 0 ∷ fields 7 1 3 2 0 ∷ fields 7 1 4 4 0 ∷ [])
 
-pub swap_accepted : checked false swap 7 ≡ Accepted
+pub swap_accepted : checked false swap 7 ≡ Ok tt
 unfolding filled_by checked fault suits kind_row
 swap_accepted = refl
 
@@ -34,7 +33,7 @@ swap_started = refl
 abbrev pub swap_program : List ℕ
 swap_program = table_with true (fields 5 3 0 0 0 ∷ fields 5 3 0 0 0 ∷ fields 5 3 0 0 0 ∷ fields 7 3 1 2 0 ∷ fields 7 3 2 1 0 ∷ fields 7 3 3 3 0 ∷ [])
 
-pub swap_program_accepted : checked true swap_program 6 ≡ Accepted
+pub swap_program_accepted : checked true swap_program 6 ≡ Ok tt
 unfolding filled_by checked fault suits kind_row
 swap_program_accepted = refl
 
@@ -49,7 +48,7 @@ begins =
     (fields 1 0 1 0 0 ∷ fields 1 0 3 0 0 ∷ fields 3 2 6 0 0 ∷ fields 5 2 0 0 0 ∷ fields 6 2 4 3 0 ∷ fields 5 2 0 0 0 ∷ fields 21 1 4 3 0 ∷ fields 21 1 4 6 0 ∷ fields 8 0 7 0 0 ∷ fields 8 0 8 0 0
     ∷ fields 7 2 4 4 0 ∷ fields 7 2 6 6 0 ∷ [])
 
-pub begins_accepted : checked false begins 12 ≡ Accepted
+pub begins_accepted : checked false begins 12 ≡ Ok tt
 unfolding filled_by checked fault suits kind_row
 begins_accepted = refl
 

@@ -2,14 +2,11 @@
 // The code is in `area`, `places`, `free_states`, `evaluation`, `state_lines`, `step_dispatch`, `steps`, `bad`, `engine` and `runs`.
 #![tactic(auto)]
 
-use tables::Refusal;
-
-// What a run answers: nothing counted, the step and the place of the first counted bad, or a refusal.
+// The first counted bad of a run: its step, and its place among the bad lines, from 1 on.
 #[derive(Clone, Copy)]
-pub enum Ran {
-    Nothing,
-    Bad(usize, usize),
-    Refused(Refusal),
+pub struct FirstBad {
+    pub step: usize,
+    pub place: usize,
 }
 
 // How many there are: cells of value lines, state words, inputs, signals, and state words that are free.

@@ -1,7 +1,7 @@
 // A run of an accepted table: what has to be lent (13 to 17), the places, the steps, the first counted bad. One engine runs circuits and programs.
 #![tactic(auto)]
 
-ghost use Rattle.std.specs.Prelude.{◌≡◌, [], ◌∷◌, ◌+◌, ◌<◌, length, replicate};
+ghost use Rattle.std.specs.Prelude.{◌≡◌, [], ◌∷◌, ◌+◌, ◌<◌, length, replicate, Ok};
 ghost use Rattle.tables.specs.Layout.{lines_of};
 ghost use Rattle.circuits.specs.Answers.{lent as lent_of, told_run};
 ghost use Rattle.circuits.specs.Free.{sources, free_count};
@@ -11,31 +11,31 @@ ghost use Rattle.circuits.specs.Model.Passes.{counts_of, Noted};
 ghost use Rattle.circuits.specs.Model.Answers.{RunAsked, started, lent_runs};
 
 use area::LAID;
-use circuits::{Ran, Totals};
+use circuits::{FirstBad, Totals};
 use records::notes::BYTES;
-use tables::{Checked, Refusal};
+use tables::Refusal;
 
 // 13 to 17: s start words, i input words, g signal bytes and w words of work area are lent for k steps.
-fn lent(t: Totals, k: usize, s: usize, i: usize, g: usize, w: usize) -> Checked
+fn lent(t: Totals, k: usize, s: usize, i: usize, g: usize, w: usize) -> Result<(), Refusal>
     requires { (t.cells + t.states < 4294967296) × ((t.inputs + t.free < 4294967296) × (t.signals < 4294967296)) }
     ensures { result ≡ lent_of (counts_of t) (t.inputs + t.free) k s i g w }
 {
     if 4096 < k {
-        return Checked::Refused(Refusal::TooManySteps);
+        return Err(Refusal::TooManySteps);
     }
     if s != t.states {
-        return Checked::Refused(Refusal::StartWords);
+        return Err(Refusal::StartWords);
     }
     if i != k * (t.inputs + t.free) {
-        return Checked::Refused(Refusal::InputWords);
+        return Err(Refusal::InputWords);
     }
     if g != k * t.signals {
-        return Checked::Refused(Refusal::SignalBytes);
+        return Err(Refusal::SignalBytes);
     }
     if w < t.cells + t.states {
-        return Checked::Refused(Refusal::WorkArea);
+        return Err(Refusal::WorkArea);
     }
-    Checked::Accepted
+    Ok(())
 }
 
 // The steps of a run. Where there are free states, their lines are found first.
@@ -111,16 +111,16 @@ fn run_lent(
     inputs: &[u64],
     signals: &mut [u8],
     work: &mut [u64],
-) -> Ran
+) -> Option<FirstBad>
     requires { Noted program table.now count notes.now × (Ready program table.now count laid.now t.cells t.states t.inputs t.signals
         × ((t.free ≡ free_count (sources program (lines_of program table.now count)))
-        × ((lent_of (counts_of t) (t.inputs + t.free) k (length starts.now) (length inputs.now) (length signals.old) (length work.old) ≡ Checked.Accepted)
+        × ((lent_of (counts_of t) (t.inputs + t.free) k (length starts.now) (length inputs.now) (length signals.old) (length work.old) ≡ Ok tt)
         × (work.old ≡ replicate (length work.old) 0)))) }
-    ensures { told_run result (signals.new ∷ work.new ∷ [])
+    ensures { told_run (Ok result) (signals.new ∷ work.new ∷ [])
         ≡ started program (lines_of program table.now count) k starts.now inputs.now (length work.old) }
 {
     if k == 0 {
-        return Ran::Nothing;
+        return None;
     }
     let used = t.cells + t.states;
     run_steps(
@@ -138,8 +138,7 @@ fn run_lent(
     );
     let mut marks = [0u8; 16385];
     places::bad_marks(program, table, count, &mut marks);
-    let n = t.signals;
-    bad::first_bad(k, signals, &marks[..n])
+    bad::first_bad(k, signals, &marks[..t.signals])
 }
 
 // A run of an accepted table, with the notes of its check; signals and work area are zero.
@@ -153,20 +152,15 @@ pub fn run_checked(
     inputs: &[u64],
     signals: &mut [u8],
     work: &mut [u64],
-) -> Ran
+) -> Result<Option<FirstBad>, Refusal>
     requires { Noted program table.now count notes.now × ((signals.old ≡ replicate (length signals.old) 0) × (work.old ≡ replicate (length work.old) 0)) }
     ensures { told_run result (signals.new ∷ work.new ∷ []) ≡ lent_runs program table.now count k
         starts.now inputs.now (length signals.old) (length work.old) }
 {
     let mut laid = [[0u32; LAID]; 16385];
     let t = places::lay_out(program, table, count, notes, &mut laid);
-    match lent(t, k, starts.len(), inputs.len(), signals.len(), work.len()) {
-        Checked::Refused(r) => {
-            return Ran::Refused(r);
-        }
-        Checked::Accepted => {}
-    }
-    run_lent(
+    lent(t, k, starts.len(), inputs.len(), signals.len(), work.len())?;
+    Ok(run_lent(
         program, table, count, t, notes, &laid, k, starts, inputs, signals, work,
-    )
+    ))
 }

@@ -1,7 +1,7 @@
 // Lines of a step that have a value and are no states: their cells go to their runs of the work area.
 #![tactic(auto)]
 
-ghost use Rattle.std.specs.Prelude.{◌≡◌, false, [], ◌∷◌, length, get_or};
+ghost use Rattle.std.specs.Prelude.{◌≡◌, ◌≤◌, false, [], ◌∷◌, length, get_or};
 ghost use Rattle.circuits.specs.Meaning.{op_word, input_word};
 ghost use Rattle.tables.specs.Lines.{Expr};
 ghost use Rattle.circuits.specs.Model.Work.{off_in, pos_in, wid_in, word_kept, expr_in};
@@ -17,9 +17,99 @@ pub fn word(program: bool, k: u64, w: u64, u: u64, v: u64, a: u64, b: u64, c: u6
     ensures { result ≡ op_word program k u v a b c }
 {
     if program {
-        return instructions::prog_word(k, u, v, a, b, c);
+        instructions::prog_word(k, u, v, a, b, c)
+    } else {
+        instructions::circ_word(k, w, u, v, a, b, c)
     }
-    instructions::circ_word(k, w, u, v, a, b, c)
+}
+
+// An operator of the kind k for the line n, on the word v of the line a and two numbers.
+pub fn unary_word(
+    program: bool,
+    k: u64,
+    a: usize,
+    v: u64,
+    x: u64,
+    y: u64,
+    n: usize,
+    laid: &[[u32; LAID]; 16385],
+) -> u64
+    requires { (n ≤ 16384) × ((a ≤ 16384) × FitWord program k (wid_in laid.now n) (wid_in laid.now a) 64 v x y) }
+    ensures { result ≡ op_word program k (wid_in laid.now a) 64 v x y }
+{
+    word(
+        program,
+        k,
+        area::width(laid, n),
+        area::width(laid, a),
+        64,
+        v,
+        x,
+        y,
+    )
+}
+
+// An operator of the kind k for the line n, on the words v and y of the lines a and b.
+pub fn binary_word(
+    program: bool,
+    k: u64,
+    a: usize,
+    b: usize,
+    v: u64,
+    y: u64,
+    n: usize,
+    laid: &[[u32; LAID]; 16385],
+) -> u64
+    requires { (n ≤ 16384) × ((a ≤ 16384) × ((b ≤ 16384) × FitWord program k (wid_in laid.now n) (wid_in laid.now a) (wid_in laid.now b) v y 0)) }
+    ensures { result ≡ op_word program k (wid_in laid.now a) (wid_in laid.now b) v y 0 }
+{
+    word(
+        program,
+        k,
+        area::width(laid, n),
+        area::width(laid, a),
+        area::width(laid, b),
+        v,
+        y,
+        0,
+    )
+}
+
+// The same of the word that the line a has in the work area.
+pub fn unary(
+    program: bool,
+    k: u64,
+    a: usize,
+    x: usize,
+    y: usize,
+    n: usize,
+    laid: &[[u32; LAID]; 16385],
+    work: &[u64],
+) -> u64
+    requires { WordBelow laid.now (length work.now) n × FitUnary program laid.now work.now n k a x y }
+    ensures { result ≡ op_word program k (wid_in laid.now a) 64 (word_kept laid.now work.now a) x y }
+{
+    let v = work[area::off(laid, a)];
+    unary_word(program, k, a, v, x as u64, y as u64, n, laid)
+}
+
+// And of the words that the lines a and b have there.
+pub fn binary(
+    program: bool,
+    k: u64,
+    a: usize,
+    b: usize,
+    n: usize,
+    laid: &[[u32; LAID]; 16385],
+    work: &[u64],
+) -> u64
+    requires { WordBelow laid.now (length work.now) n × FitBinary program laid.now work.now n k a b }
+    ensures { result ≡ op_word program k (wid_in laid.now a) (wid_in laid.now b) (word_kept laid.now work.now a)
+        (word_kept laid.now work.now b) 0 }
+{
+    let v = work[area::off(laid, a)];
+    let y = work[area::off(laid, b)];
+    binary_word(program, k, a, b, v, y, n, laid)
 }
 
 // An input: modulo 2^w, in a program as it stands.
@@ -27,23 +117,17 @@ fn input_word(program: bool, w: u64, x: u64) -> u64
     requires { Width w }
     ensures { result ≡ input_word program w x }
 {
-    if program {
-        return x;
-    }
-    operators::low(w, x)
+    if program { x } else { operators::low(w, x) }
 }
 
 // What eq (true) and neq say of values that are the same, or not.
 pub fn says(e: bool, r: bool) -> u64
     ensures { result ≡ bit (eq_or_neq e r) }
 {
-    if e {
-        if r { 1 } else { 0 }
-    } else {
-        if r { 0 } else { 1 }
-    }
+    u64::from(e == r)
 }
 
+#[tactic(auto, using(circuits::proofs::Puts::stored))]
 pub fn line_const(a: u64, n: usize, laid: &[[u32; LAID]; 16385], work: &mut [u64])
     requires { WordBelow laid.now (length work.old) n }
     ensures { work.new ≡ put work.old (off_in laid.now n) (a ∷ []) }
@@ -52,6 +136,7 @@ pub fn line_const(a: u64, n: usize, laid: &[[u32; LAID]; 16385], work: &mut [u64
     work[o] = a;
 }
 
+#[tactic(auto, using(circuits::proofs::Puts::stored))]
 pub fn line_input(
     program: bool,
     n: usize,
@@ -69,12 +154,13 @@ pub fn line_input(
     work[o] = input_word(program, area::width(laid, n), v);
 }
 
+#[tactic(auto, using(circuits::proofs::Puts::stored))]
 pub fn line_unary(
     program: bool,
     k: u64,
     a: usize,
-    x: u64,
-    y: u64,
+    x: usize,
+    y: usize,
     n: usize,
     laid: &[[u32; LAID]; 16385],
     work: &mut [u64],
@@ -83,20 +169,10 @@ pub fn line_unary(
     ensures { work.new ≡ put work.old (off_in laid.now n) (expr_in program laid.now work.old (Expr.unary k a x y)) }
 {
     let o = area::off(laid, n);
-    let p = area::off(laid, a);
-    let v = work[p];
-    work[o] = word(
-        program,
-        k,
-        area::width(laid, n),
-        area::width(laid, a),
-        64,
-        v,
-        x,
-        y,
-    );
+    work[o] = unary(program, k, a, x, y, n, laid, work);
 }
 
+#[tactic(auto, using(circuits::proofs::Puts::stored))]
 pub fn line_binary(
     program: bool,
     k: u64,
@@ -110,20 +186,7 @@ pub fn line_binary(
     ensures { work.new ≡ put work.old (off_in laid.now n) (expr_in program laid.now work.old (Expr.binary k a b)) }
 {
     let o = area::off(laid, n);
-    let p = area::off(laid, a);
-    let v = work[p];
-    let q = area::off(laid, b);
-    let y = work[q];
-    work[o] = word(
-        program,
-        k,
-        area::width(laid, n),
-        area::width(laid, a),
-        area::width(laid, b),
-        v,
-        y,
-        0,
-    );
+    work[o] = binary(program, k, a, b, n, laid, work);
 }
 
 pub fn line_equality(
@@ -157,13 +220,11 @@ pub fn line_read(a: usize, i: usize, n: usize, laid: &[[u32; LAID]; 16385], work
     work[o] = y;
 }
 
-// The operand that an ite takes.
-fn chosen(c: usize, a: usize, b: usize, laid: &[[u32; LAID]; 16385], work: &[u64]) -> usize
-    requires { WordBelow laid.now (length work.now) c }
-    ensures { result ≡ if_nonzero (word_kept laid.now work.now c) a b }
+// The operand that an ite takes where its condition is c.
+pub fn chosen(c: u64, a: usize, b: usize) -> usize
+    ensures { result ≡ if_nonzero c a b }
 {
-    let p = area::off(laid, c);
-    if work[p] != 0 { a } else { b }
+    if c != 0 { a } else { b }
 }
 
 pub fn line_ite(
@@ -179,7 +240,7 @@ pub fn line_ite(
 {
     let o = area::off(laid, n);
     let m = area::cells(laid, n);
-    let z = chosen(c, a, b, laid, work);
+    let z = chosen(work[area::off(laid, c)], a, b);
     let x = area::off(laid, z);
     area::copy(work, x, o, m);
 }

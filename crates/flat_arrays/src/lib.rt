@@ -2,71 +2,58 @@
 #![tactic(auto)]
 
 ghost use Rattle.std.specs.Prelude.{◌≡◌, length};
-ghost use Rattle.flattening.specs.Model.Lines.{made_as, notes};
+ghost use Rattle.flattening.specs.Model.Cells.{Sound};
+ghost use Rattle.flattening.specs.Model.Rows.{Tame};
+ghost use Rattle.flattening.specs.Model.Lines.{given_from, notes};
 ghost use Rattle.flattening.specs.Model.Fits.{Fit, MadeFlat};
-ghost use Rattle.tables.specs.Lines.{equality_kind, Line, Expr};
+ghost use Rattle.tables.specs.Lines.{equality_kind, init_or_next_kind, Line, Expr};
 ghost use Rattle.flattening.specs.Flat.{join_kind};
 
-use flat_cells::cells::KEPT;
-use flat_cells::{cells, rows, sources};
-use flattening::Made;
-use records::notes::BYTES;
+use flat_cells::lines::Lines;
+use flat_cells::{cells, made, rows, sources};
+use flattening::{Made, Source};
 
-// Nothing is kept of a line that has no value.
-fn no_value(q: usize) -> Made
-    ensures { result ≡ made_as q 0 0 0 0 0 }
-{
-    Made {
-        next: q,
-        at: 0,
-        bit: 0,
-        old: 0,
-        key: 0,
-        con: 0,
-    }
-}
-
-// The kinds of eq and neq, and of and and or.
+// The kinds of eq and neq, of and and or, and of init and next.
 fn equality_kind(e: bool) -> u64
     ensures { result ≡ equality_kind e }
 {
-    if e {
-        return 21;
-    }
-    22
+    if e { 21 } else { 22 }
 }
 
 fn join_kind(e: bool) -> u64
     ensures { result ≡ join_kind e }
 {
-    if e {
-        return 33;
+    if e { 33 } else { 34 }
+}
+
+fn init_or_next_kind(m: bool) -> u64
+    ensures { result ≡ init_or_next_kind m }
+{
+    if m { 6 } else { 7 }
+}
+
+// An init gives one word to all cells, a next its cells.
+fn given_from(lines: Lines, m: bool, v: u64) -> Source
+    requires { Sound lines.kept.now }
+    ensures given { result ≡ given_from (notes lines.entry.kept.now lines.entry.types.now) m v }
+    ensures tame { Tame result }
+{
+    if m {
+        sources::run(lines.word_line(v), 0)
+    } else {
+        sources::of(v)
     }
-    34
 }
 
 // One state for each cell.
-pub fn line_state(
-    s: u64,
-    kept: &[[u32; KEPT]],
-    types: &[[u8; BYTES]],
-    p: usize,
-    target: &mut [u64],
-) -> Made
-    requires { Fit (notes kept.now types.now) p (Line.state s) (length target.old) }
-    ensures { MadeFlat (notes kept.now types.now) p (Line.state s) target.old target.new result }
+pub fn line_state(s: u64, lines: Lines, p: usize, target: &mut [u64]) -> Made
+    requires { Fit (notes lines.kept.now lines.types.now) p (Line.state s) (length target.old) }
+    ensures { MadeFlat (notes lines.entry.kept.now lines.entry.types.now) p (Line.state s) target.old target.new result }
 {
-    let n = sources::size(types, s);
+    let n = lines.size(s);
     let z = sources::run(0, 0);
-    rows::rows(kept, target, p, n, 5, cells::entry(kept, 0, s), z, z, z);
-    Made {
-        next: p + n,
-        at: (p + 1) as u64,
-        bit: cells::entry(kept, 1, s),
-        old: 0,
-        key: 1,
-        con: 0,
-    }
+    rows::rows(lines.kept, target, p, n, 5, lines.sort_line(s), z, z, z);
+    made::value(p + n, (p + 1) as u64, lines.bit_line(s))
 }
 
 // eq and neq: a test for each cell, then ands or ors.
@@ -75,118 +62,71 @@ pub fn line_equality(
     s: u64,
     x: u64,
     y: u64,
-    kept: &[[u32; KEPT]],
-    types: &[[u8; BYTES]],
+    lines: Lines,
     p: usize,
     target: &mut [u64],
 ) -> Made
-    requires { Fit (notes kept.now types.now) p (Line.value s (Expr.equality e x y)) (length target.old) }
-    ensures { MadeFlat (notes kept.now types.now) p (Line.value s (Expr.equality e x y)) target.old target.new result }
+    requires { Fit (notes lines.kept.now lines.types.now) p (Line.value s (Expr.equality e x y)) (length target.old) }
+    ensures { MadeFlat (notes lines.entry.kept.now lines.entry.types.now) p (Line.value s (Expr.equality e x y)) target.old target.new result }
 {
-    let n = sources::size(types, x);
+    let n = lines.size(x);
     flat_chains::equality_lines(
-        kept,
+        lines.kept,
         equality_kind(e),
         join_kind(e),
-        cells::entry(kept, 0, s),
+        lines.sort_line(s),
         x,
         y,
         n,
         p,
         target,
     );
-    let q = p + (n + sources::less(n, 1));
-    Made {
-        next: q,
-        at: q as u64,
-        bit: cells::entry(kept, 1, s),
-        old: 0,
-        key: 1,
-        con: 0,
-    }
+    let q = p + (n + n.saturating_sub(1));
+    made::value(q, q as u64, lines.bit_line(s))
 }
 
 // One ite for each cell.
-pub fn line_ite(
-    s: u64,
-    c: u64,
-    x: u64,
-    y: u64,
-    kept: &[[u32; KEPT]],
-    types: &[[u8; BYTES]],
-    p: usize,
-    target: &mut [u64],
-) -> Made
-    requires { Fit (notes kept.now types.now) p (Line.value s (Expr.ite c x y)) (length target.old) }
-    ensures { MadeFlat (notes kept.now types.now) p (Line.value s (Expr.ite c x y)) target.old target.new result }
+pub fn line_ite(s: u64, c: u64, x: u64, y: u64, lines: Lines, p: usize, target: &mut [u64]) -> Made
+    requires { Fit (notes lines.kept.now lines.types.now) p (Line.value s (Expr.ite c x y)) (length target.old) }
+    ensures { MadeFlat (notes lines.entry.kept.now lines.entry.types.now) p (Line.value s (Expr.ite c x y)) target.old target.new result }
 {
-    let n = sources::size(types, x);
+    let n = lines.size(x);
     rows::rows(
-        kept,
+        lines.kept,
         target,
         p,
         n,
         53,
-        cells::entry(kept, 0, s),
-        sources::run(cells::cell(kept, c, 0), 0),
+        lines.sort_line(s),
+        sources::run(lines.word_line(c), 0),
         sources::of(x),
         sources::of(y),
     );
-    Made {
-        next: p + n,
-        at: (p + 1) as u64,
-        bit: cells::entry(kept, 1, s),
-        old: 0,
-        key: 1,
-        con: 0,
-    }
+    made::value(p + n, (p + 1) as u64, lines.bit_line(s))
 }
 
 // A read: by a constant index it stands for the cell.
-pub fn line_read(
-    s: u64,
-    a: u64,
-    i: u64,
-    kept: &[[u32; KEPT]],
-    types: &[[u8; BYTES]],
-    p: usize,
-    target: &mut [u64],
-) -> Made
-    requires { Fit (notes kept.now types.now) p (Line.value s (Expr.read a i)) (length target.old) }
-    ensures { MadeFlat (notes kept.now types.now) p (Line.value s (Expr.read a i)) target.old target.new result }
+pub fn line_read(s: u64, a: u64, i: u64, lines: Lines, p: usize, target: &mut [u64]) -> Made
+    requires { Fit (notes lines.kept.now lines.types.now) p (Line.value s (Expr.read a i)) (length target.old) }
+    ensures { MadeFlat (notes lines.entry.kept.now lines.entry.types.now) p (Line.value s (Expr.read a i)) target.old target.new result }
 {
-    let c = cells::entry(kept, 4, i);
-    let b = cells::entry(kept, 1, s);
-    if c != 0 {
-        return Made {
-            next: p,
-            at: cells::cell(kept, a, c - 1),
-            bit: b,
-            old: 0,
-            key: 1,
-            con: 0,
-        };
+    let b = lines.bit_line(s);
+    if let Some(c) = lines.constant(i) {
+        return made::value(p, cells::cell(lines.kept, a, c), b);
     }
-    let n = sources::size(types, a);
+    let n = lines.size(a);
     flat_chains::read_lines(
-        kept,
-        cells::entry(kept, 1, a),
-        cells::cell(kept, i, 0),
-        cells::entry(kept, 0, s),
+        lines.kept,
+        lines.bit_line(a),
+        lines.word_line(i),
+        lines.sort_line(s),
         a,
         n,
         p,
         target,
     );
     let q = p + 2 * (n - 1);
-    Made {
-        next: q,
-        at: q as u64,
-        bit: b,
-        old: 0,
-        key: 1,
-        con: 0,
-    }
+    made::value(q, q as u64, b)
 }
 
 // A write: by a constant index it swaps one cell.
@@ -195,47 +135,38 @@ pub fn line_write(
     a: u64,
     i: u64,
     v: u64,
-    kept: &[[u32; KEPT]],
-    types: &[[u8; BYTES]],
+    lines: Lines,
     p: usize,
     target: &mut [u64],
 ) -> Made
-    requires { Fit (notes kept.now types.now) p (Line.value s (Expr.write a i v)) (length target.old) }
-    ensures { MadeFlat (notes kept.now types.now) p (Line.value s (Expr.write a i v)) target.old target.new result }
+    requires { Fit (notes lines.kept.now lines.types.now) p (Line.value s (Expr.write a i v)) (length target.old) }
+    ensures { MadeFlat (notes lines.entry.kept.now lines.entry.types.now) p (Line.value s (Expr.write a i v)) target.old target.new result }
 {
-    let c = cells::entry(kept, 4, i);
-    let o = cells::entry(kept, 1, s);
-    let x = cells::cell(kept, v, 0);
-    if c != 0 {
+    let o = lines.bit_line(s);
+    let x = lines.word_line(v);
+    if let Some(c) = lines.constant(i) {
         return Made {
-            next: p,
-            at: x,
-            bit: o,
-            old: a,
-            key: c - 1,
-            con: 0,
+            old: Some(a),
+            key: c,
+            ..made::value(p, x, o)
         };
     }
-    let n = sources::size(types, s);
+    let n = lines.size(s);
     rows::pairs(
-        kept,
+        lines.kept,
         target,
         p,
         n,
         o,
-        cells::cell(kept, i, 0),
-        cells::entry(kept, 0, s),
+        lines.word_line(i),
+        lines.sort_line(s),
         sources::run(o + 1, 1),
         sources::run(x, 0),
         sources::of(a),
     );
     Made {
-        next: p + 2 * n,
-        at: (p + 2) as u64,
-        bit: o,
-        old: 0,
         key: 2,
-        con: 0,
+        ..made::value(p + 2 * n, (p + 2) as u64, o)
     }
 }
 
@@ -245,41 +176,25 @@ pub fn line_init_or_next(
     s: u64,
     q: u64,
     v: u64,
-    kept: &[[u32; KEPT]],
-    types: &[[u8; BYTES]],
+    lines: Lines,
     p: usize,
     target: &mut [u64],
 ) -> Made
-    requires { Fit (notes kept.now types.now) p (Line.init_or_next m s q v) (length target.old) }
-    ensures { MadeFlat (notes kept.now types.now) p (Line.init_or_next m s q v) target.old target.new result }
+    requires { Fit (notes lines.kept.now lines.types.now) p (Line.init_or_next m s q v) (length target.old) }
+    ensures { MadeFlat (notes lines.entry.kept.now lines.entry.types.now) p (Line.init_or_next m s q v) target.old target.new result }
 {
-    let n = sources::size(types, q);
-    let t = cells::entry(kept, 0, s);
-    if m {
-        let x = cells::cell(kept, v, 0);
-        rows::rows(
-            kept,
-            target,
-            p,
-            n,
-            6,
-            t,
-            sources::of(q),
-            sources::run(x, 0),
-            sources::run(0, 0),
-        );
-        return no_value(p + n);
-    }
+    let n = lines.size(q);
+    let given = given_from(lines, m, v);
     rows::rows(
-        kept,
+        lines.kept,
         target,
         p,
         n,
-        7,
-        t,
+        init_or_next_kind(m),
+        lines.sort_line(s),
         sources::of(q),
-        sources::of(v),
+        given,
         sources::run(0, 0),
     );
-    no_value(p + n)
+    made::nothing(p + n)
 }

@@ -1,9 +1,9 @@
 // The flat line of a cell.
 ghost use Rattle.std.specs.Prelude.{◌≡◌, ◌<◌};
-ghost use Rattle.flattening.specs.Model.Cells.{kept_of, own_cell, cell_in, Sound};
+ghost use Rattle.flattening.specs.Model.Cells.{kept_of, con_of, constant_of, own_cell, cell_in, Sound};
 ghost use Rattle.flattening.specs.Model.Rows.{turn_at, source_at, Tame};
 
-use flattening::Source;
+use flattening::{Source, Words};
 
 // The numbers kept of a line.
 pub const KEPT: usize = 6;
@@ -13,22 +13,25 @@ pub(crate) const WRITTEN: u64 = 257;
 
 pub(crate) const SPAN: u64 = 131072;
 
-fn wide(x: u32) -> u64
-    ensures { result ≡ x }
-{
-    x as u64
-}
-
 // The number k of what is kept of the line a; 0 past the end.
 pub fn entry(kept: &[[u32; KEPT]], k: usize, a: u64) -> u64
     requires { k < 6 }
     ensures { result ≡ kept_of kept.now k a }
 {
-    if a < kept.len() as u64 {
-        let i = a as usize;
-        return wide(kept[i][k]);
+    match kept.get(a as usize) {
+        Some(numbers) => u64::from(numbers[k]),
+        None => 0,
     }
-    0
+}
+
+// The small constant that is kept of the line a.
+pub fn constant(kept: &[[u32; KEPT]], a: u64) -> Option<u64>
+    ensures { result ≡ constant_of (con_of kept.now a) }
+{
+    match entry(kept, 4, a) {
+        0 => None,
+        number => Some(number - 1),
+    }
 }
 
 // The flat line of the cell j of the line m, which writes over none.
@@ -39,9 +42,10 @@ fn own(kept: &[[u32; KEPT]], m: u64, j: u64) -> u64
     let at = entry(kept, 0, m);
     let key = entry(kept, 3, m);
     if key == WRITTEN {
-        return entry(kept, 5, at + j) % SPAN;
+        entry(kept, 5, at + j) % SPAN
+    } else {
+        at + key * j
     }
-    at + key * j
 }
 
 // The flat line of the cell j of the line a.
@@ -63,13 +67,10 @@ pub fn cell(kept: &[[u32; KEPT]], a: u64, j: u64) -> u64
 fn turn(s: Source, j: u64) -> u64
     ensures { result ≡ turn_at s j }
 {
-    if !s.falling {
-        return j;
+    match s.top {
+        Some(top) => top.saturating_sub(j),
+        None => j,
     }
-    if s.top < j {
-        return 0;
-    }
-    s.top - j
 }
 
 // The word j of a source.
@@ -78,8 +79,8 @@ pub(crate) fn source(kept: &[[u32; KEPT]], s: Source, j: u64) -> u64
     ensures { result ≡ source_at kept.now s j }
 {
     let i = turn(s, j);
-    if s.line == 0 {
-        return s.base + s.step * i;
+    match s.words {
+        Words::Cells(a) => cell(kept, a, i),
+        Words::Numbers { base, step } => base + step * i,
     }
-    cell(kept, s.line, i)
 }

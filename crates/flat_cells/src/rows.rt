@@ -33,8 +33,7 @@ pub fn rows(
     requires { Sound kept.now × (Tame x × (Tame y × (Tame z × ((n ≤ 256) × (p + n ≤ held false (length target.old)))))) }
     ensures { target.new ≡ put_flat target.old p (rows_for n (row_at kept.now k s x y z)) }
 {
-    let mut j: usize = 0;
-    while j < n {
+    for j in 0..n {
         let i = j as u64;
         let rec = records::of(
             k,
@@ -44,7 +43,6 @@ pub fn rows(
             cells::source(kept, z, i),
         );
         put(target, p + j, rec);
-        j += 1;
     }
 }
 
@@ -65,8 +63,7 @@ pub fn pairs(
     requires { Sound kept.now × (Tame c × (Tame x × (Tame y × ((n ≤ 256) × ((p ≤ 65536) × (p + 2 * n ≤ held false (length target.old))))))) }
     ensures { target.new ≡ put_flat target.old p (rows_for n (pair_at kept.now p o i s c x y)) }
 {
-    let mut j: usize = 0;
-    while j < n {
+    for j in 0..n {
         let t = j as u64;
         let q = p + 2 * j;
         let eq = records::of(21, o, i, cells::source(kept, c, t), 0);
@@ -79,6 +76,5 @@ pub fn pairs(
         );
         put(target, q, eq);
         put(target, q + 1, ite);
-        j += 1;
     }
 }

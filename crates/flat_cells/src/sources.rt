@@ -1,9 +1,9 @@
 // Where the words of a row come from, and how many cells a line has.
-ghost use Rattle.std.specs.Prelude.{◌≡◌, ◌^◌, ◌≤◌, ◌-◌};
+ghost use Rattle.std.specs.Prelude.{◌≡◌, ◌^◌, ◌≤◌};
 ghost use Rattle.tables.specs.Model.Notes.{look_in};
 ghost use Rattle.flattening.specs.Model.Rows.{stepping, of, run_down, of_down};
 
-use flattening::Source;
+use flattening::{Source, Words};
 use records::notes;
 use records::notes::BYTES;
 
@@ -12,17 +12,7 @@ fn power(w: u8) -> usize
     requires { w ≤ 8 }
     ensures { result ≡ 2 ^ w }
 {
-    match w {
-        0 => 1,
-        1 => 2,
-        2 => 4,
-        3 => 8,
-        4 => 16,
-        5 => 32,
-        6 => 64,
-        7 => 128,
-        _ => 256,
-    }
+    1 << w
 }
 
 // The cells of the line a.
@@ -30,8 +20,7 @@ pub fn size(types: &[[u8; BYTES]], a: u64) -> usize
     requires { (look_in types.now a).iw ≤ 8 }
     ensures { result ≡ 2 ^ (look_in types.now a).iw }
 {
-    let y = notes::look(types, a);
-    power(y.iw)
+    power(notes::look(types, a).iw)
 }
 
 // The cells of an array whose index sort is the line a.
@@ -39,8 +28,7 @@ pub fn index_size(types: &[[u8; BYTES]], a: u64) -> usize
     requires { (look_in types.now a).w ≤ 8 }
     ensures { result ≡ 2 ^ (look_in types.now a).w }
 {
-    let y = notes::look(types, a);
-    power(y.w)
+    power(notes::look(types, a).w)
 }
 
 // A row of numbers, base + step * j.
@@ -48,11 +36,8 @@ pub fn run(base: u64, step: u64) -> Source
     ensures { result ≡ stepping base step }
 {
     Source {
-        line: 0,
-        base: base,
-        step: step,
-        falling: false,
-        top: 0,
+        words: Words::Numbers { base, step },
+        top: None,
     }
 }
 
@@ -61,11 +46,8 @@ pub fn of(a: u64) -> Source
     ensures { result ≡ of a }
 {
     Source {
-        line: a,
-        base: 0,
-        step: 0,
-        falling: false,
-        top: 0,
+        words: Words::Cells(a),
+        top: None,
     }
 }
 
@@ -74,11 +56,8 @@ pub fn run_down(base: u64, top: u64) -> Source
     ensures { result ≡ run_down base top }
 {
     Source {
-        line: 0,
-        base: base,
-        step: 1,
-        falling: true,
-        top: top,
+        words: Words::Numbers { base, step: 1 },
+        top: Some(top),
     }
 }
 
@@ -86,20 +65,7 @@ pub fn of_down(a: u64, top: u64) -> Source
     ensures { result ≡ of_down a top }
 {
     Source {
-        line: a,
-        base: 0,
-        step: 0,
-        falling: true,
-        top: top,
+        words: Words::Cells(a),
+        top: Some(top),
     }
-}
-
-// n less k, or 0.
-pub fn less(n: usize, k: usize) -> usize
-    ensures { result ≡ n - k }
-{
-    if n < k {
-        return 0;
-    }
-    n - k
 }

@@ -24,14 +24,12 @@ fn put_word(kept: &mut [[u32; KEPT]], i: usize, d: u64, w: u64)
 // The line that is CELLS writes away from the line n, or one at fewer that writes over none.
 fn far(kept: &[[u32; KEPT]], n: u64) -> u64 {
     let mut m = n;
-    let mut k: usize = 0;
-    while k < CELLS {
+    for _ in 0..CELLS {
         let old = cells::entry(kept, 2, m);
         if old == 0 {
-            return m;
+            break;
         }
         m = old;
-        k += 1;
     }
     m
 }
@@ -41,13 +39,11 @@ fn fill(kept: &mut [[u32; KEPT]], m: u64, u: usize)
     requires { Sound kept.old × (Written kept.old u × (u + 256 ≤ length kept.old)) }
     ensures { Filled kept.old kept.new m u 256 }
 {
-    let mut j: usize = 0;
-    while j < CELLS {
+    for j in 0..CELLS {
         let w = cells::cell(kept, m, j as u64);
         let i = u + j;
         let d = cells::entry(kept, 5, i as u64) / SPAN % LONG;
         put_word(kept, i, d, w);
-        j += 1;
     }
 }
 
@@ -65,10 +61,7 @@ fn write_out(kept: &mut [[u32; KEPT]], m: u64, u: usize) -> usize
     requires { Sound kept.old × Written kept.old u }
     ensures { Shortened kept.old kept.new result }
 {
-    if cells::entry(kept, 2, m) == 0 {
-        return u;
-    }
-    if kept.len() - u < CELLS {
+    if cells::entry(kept, 2, m) == 0 || kept.len() - u < CELLS {
         return u;
     }
     fill(kept, m, u);

@@ -103,7 +103,7 @@ pub fn read_lines(
         sources::of_down(a, m as u64),
         sources::run(last, 0),
     );
-    let t = sources::less(n, 3);
+    let t = n.saturating_sub(3);
     rows::pairs(
         kept,
         target,

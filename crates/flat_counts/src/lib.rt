@@ -7,9 +7,8 @@ ghost use Rattle.flattening.specs.Model.Fits.{Deep, Shallow};
 ghost use Rattle.tables.specs.Lines.{line_of, kind_in};
 ghost use Rattle.tables.specs.Tables.{known as known_of};
 
-use flat_cells::cells::KEPT;
-use flat_cells::{cells, sources};
-use records::notes::BYTES;
+use flat_cells::cells;
+use flat_cells::lines::Lines;
 use tables::WORDS;
 
 // A read of n cells, by an index of which c is kept: by a constant it leaves no line.
@@ -17,10 +16,7 @@ fn count_read(c: u64, n: usize) -> usize
     requires { n ≤ 256 }
     ensures { result ≡ read_count c n }
 {
-    if c == 0 {
-        return 2 * sources::less(n, 1);
-    }
-    0
+    if c == 0 { 2 * n.saturating_sub(1) } else { 0 }
 }
 
 // A write of n cells.
@@ -28,31 +24,26 @@ fn count_write(c: u64, n: usize) -> usize
     requires { n ≤ 256 }
     ensures { result ≡ write_count c n }
 {
-    if c == 0 {
-        return 2 * n;
-    }
-    0
+    if c == 0 { 2 * n } else { 0 }
 }
 
 // The line of a record.
-pub fn count_line(rec: [u64; WORDS], kept: &[[u32; KEPT]], types: &[[u8; BYTES]]) -> usize
-    requires { (known_of false (kind_in rec) ≡ true) × (Shallow types.now × Deep (notes kept.now types.now) (line_of rec)) }
-    ensures { result ≡ flat_count (notes kept.now types.now) (line_of rec) }
+pub fn count_line(rec: [u64; WORDS], lines: Lines) -> usize
+    requires { (known_of false (kind_in rec) ≡ true) × (Shallow lines.types.now × Deep (notes lines.kept.now lines.types.now) (line_of rec)) }
+    ensures { result ≡ flat_count (notes lines.entry.kept.now lines.entry.types.now) (line_of rec) }
 {
     let k = rec[0];
     let s = rec[1];
     let a = rec[2];
     let b = rec[3];
     match k {
-        2 => 1 + sources::index_size(types, a),
-        5 => sources::size(types, s),
-        6 => sources::size(types, a),
-        7 => sources::size(types, a),
-        21 => count_tests(sources::size(types, a)),
-        22 => count_tests(sources::size(types, a)),
-        53 => sources::size(types, b),
-        54 => count_read(cells::entry(kept, 4, b), sources::size(types, a)),
-        55 => count_write(cells::entry(kept, 4, b), sources::size(types, s)),
+        2 => 1 + lines.index_size(a),
+        5 => lines.size(s),
+        6 | 7 => lines.size(a),
+        21 | 22 => count_tests(lines.size(a)),
+        53 => lines.size(b),
+        54 => count_read(cells::entry(lines.kept, 4, b), lines.size(a)),
+        55 => count_write(cells::entry(lines.kept, 4, b), lines.size(s)),
         _ => 1,
     }
 }
@@ -62,5 +53,5 @@ fn count_tests(n: usize) -> usize
     requires { n ≤ 256 }
     ensures { result ≡ n + (n - 1) }
 {
-    n + sources::less(n, 1)
+    n + n.saturating_sub(1)
 }

@@ -3,7 +3,7 @@
 
 mod whole; // the pass over the lines
 
-ghost use Rattle.std.specs.Prelude.{◌≡◌, [], ◌∷◌, ◌<◌, length};
+ghost use Rattle.std.specs.Prelude.{◌≡◌, [], ◌∷◌, ◌≤◌, ◌<◌, length};
 ghost use Rattle.tables.specs.Answers.{told};
 ghost use Rattle.flattening.specs.Answers.{flattens};
 ghost use Rattle.flattening.specs.Model.Start.{Clear, Blank};
@@ -12,40 +12,35 @@ use flat_cells::cells::KEPT;
 use records::notes::BYTES;
 use tables::{Answer, Checked, Refusal};
 
+// The entries of the lists of a small circuit, and of any other: one more than a table has lines.
+const FEW: usize = 512;
+
+const MANY: usize = 16385;
+
 // The flat circuit of a table goes to the target. A small circuit takes small lists, which are sooner zero.
 pub fn flatten(table: &[u64], count: usize, target: &mut [u64]) -> Answer
     ensures { told result (target.new ∷ []) ≡ flattens table.now count (length target.old) }
 {
     records::clear(target);
-    if !records::is_table(false, table.len()) {
+    if !records::is_table(false, table.len()) || !records::is_table(false, target.len()) {
         return Answer::Refused(Refusal::NotATable, 0);
     }
-    if !records::is_table(false, target.len()) {
-        return Answer::Refused(Refusal::NotATable, 0);
+    if count < FEW {
+        flatten_in::<FEW>(table, count, target)
+    } else {
+        flatten_in::<MANY>(table, count, target)
     }
-    if count < 512 {
-        return few(table, count, target);
-    }
-    many(table, count, target)
 }
 
-// At most 511 lines.
-fn few(table: &[u64], count: usize, target: &mut [u64]) -> Answer
-    requires { Clear table.now target.old × (count < 512) }
+// In lists of N entries: more than the lines of a table that is accepted.
+fn flatten_in<const N: usize>(table: &[u64], count: usize, target: &mut [u64]) -> Answer
+    requires clear { Clear table.now target.old }
+    requires more { count ≤ 16384 → count < N }
+    requires few { N ≤ 65536 }
     ensures { told result (target.new ∷ []) ≡ flattens table.now count (length target.old) }
 {
-    let mut notes = [[0u8; BYTES]; 512];
-    let mut kept = [[0u32; KEPT]; 512];
-    checked(table, count, &mut notes, &mut kept, target)
-}
-
-// As many lines as a table may have.
-fn many(table: &[u64], count: usize, target: &mut [u64]) -> Answer
-    requires { Clear table.now target.old }
-    ensures { told result (target.new ∷ []) ≡ flattens table.now count (length target.old) }
-{
-    let mut notes = [[0u8; BYTES]; 16385];
-    let mut kept = [[0u32; KEPT]; 16385];
+    let mut notes = [[0u8; BYTES]; N];
+    let mut kept = [[0u32; KEPT]; N];
     checked(table, count, &mut notes, &mut kept, target)
 }
 

@@ -9,6 +9,7 @@ use native.Mathlib.Omega.{arith}
 use lib.ListN.{length, get_or, length-replicate, get_or-replicate}
 use lib.Pow.{pow_pos, pow_mono}
 use borrow.Author.Tests.{eq-eqb, ne_eqb, lt-ltb}
+use Rattle.std.specs.Prelude.{Some, None}
 use Rattle.tables.specs.declared.Ty.{Ty}
 use Rattle.tables.specs.Pick.{pick}
 use Rattle.tables.specs.Lines.{Line, Expr, fields, words_of, init_or_next_kind, equality_kind}
@@ -21,7 +22,7 @@ use Rattle.circuits.specs.Layout.{type_at}
 use Rattle.circuits.specs.Meaning.{Frame, cells_at}
 use Rattle.flattening.specs.declared.Source.{Source}
 use Rattle.flattening.specs.Flat.{Info, info_at, lines_at, line_at, chunk, chunk_read, chunk_write, value_lines, equality_lines, join_kind, join_lines, write_lines, read_chain}
-use Rattle.flattening.specs.Model.Cells.{Held, old_of, cell_in}
+use Rattle.flattening.specs.Model.Cells.{Held, old_of, con_number, cell_in}
 use Rattle.flattening.specs.Model.Rows.{source_at, rows_for, row_at, pair_at, stepping, still, of, run_down, of_down, join_records, read_records, write_records}
 use Rattle.flattening.specs.Model.Lines.{deep_in, wide_in, Notes, sort_line, word_line, bit_in, con_in, size_in, small, given_from, line_records}
 use Rattle.flattening.specs.Model.Fits.{Neat}
@@ -33,7 +34,7 @@ use Rattle.flattening.proofs.Rowing.{rows_ext, rows_more, const_records, state_r
 -- what is kept of a constant
 abbrev pub KnownNote : Option ℕ → ℕ → Type 0
 KnownNote none c = c ≡ 0
-KnownNote (some v) c = c ≡ small v
+KnownNote (some v) c = c ≡ con_number (small v)
 
 -- the numbers kept of the line a, of the type t, tell what the definition keeps of it
 pub record NoteRel (N : Notes) (t : Ty) (a : ℕ) (f : Info) : Type 0 where
@@ -57,11 +58,11 @@ module _ (H : Held) where
   still_at : (c j : ℕ) → c ≡ source_at H (still c) j
   still_at c j = omega arith
 
-  of_at : (a j v : ℕ) → a ≢ 0 → cell_in H a j ≡ v → v ≡ source_at H (of a) j
-  of_at a j v d e = sym e ∙ rw (ne_eqb a 0 d)
+  of_at : (a j v : ℕ) → cell_in H a j ≡ v → v ≡ source_at H (of a) j
+  of_at a j v e = sym e
 
-  down_at : (a t j v : ℕ) → a ≢ 0 → cell_in H a (t - j) ≡ v → v ≡ source_at H (of_down a t) j
-  down_at a t j v d e = sym e ∙ rw (ne_eqb a 0 d)
+  down_at : (a t j v : ℕ) → cell_in H a (t - j) ≡ v → v ≡ source_at H (of_down a t) j
+  down_at a t j v e = sym e
 
   rows_as : (n k s : ℕ) (x y z : Source) (X Y Z : ℕ → ℕ) → ((j : ℕ) → j < n → X j ≡ source_at H x j) → ((j : ℕ) → j < n → Y j ≡ source_at H y j) → ((j : ℕ) → j < n → Z j ≡ source_at H z j)
       → rows_for n (λ j. fields k s (X j) (Y j) (Z j) ∷ []) ≡ rows_for n (row_at H k s x y z)
@@ -95,7 +96,7 @@ module _ (H : Held) where
       write_records_lem o s i v (suc p) (from (suc o) n) ps (length_from (suc o) n ∙ sym e)
       ∙ ap (λ (x : ℕ). rows_for x (write_pair o s i v (suc p) (from (suc o) n) ps)) e
       ∙ pairs_as n p o i s (stepping (o + 1) 1) (still v) (of a) (write_pair o s i v (suc p) (from (suc o) n) ps) (λ j. get_or (from (suc o) n) j 0) (λ j. suc p + 2 * j) (λ j. v) (λ j. get_or ps j 0) (λ j l. refl)
-      (λ j l. from_at (suc o) n j l ∙ omega arith) (λ j l. omega arith) (λ j l. still_at v j) (λ j l. of_at a j (get_or ps j 0) d (h j l))
+      (λ j l. from_at (suc o) n j l ∙ omega arith) (λ j l. omega arith) (λ j l. still_at v j) (λ j l. of_at a j (get_or ps j 0) (h j l))
 
   -- a read of two cells or more
   red_records : (o s i a p m : ℕ) (ps : List ℕ) → a ≢ 0 → ((j : ℕ) → j < suc (suc m) → cell_in H a j ≡ get_or ps j 0)
@@ -110,14 +111,14 @@ module _ (H : Held) where
       read_records_lem o s i ks ps r (suc p) (suc m) ∙ rows_more m g
       ∙ ap₂ (λ (x y : List (List ℕ)). x ++ y)
       (pairs_as 1 p o i s (run_down (o + 1) (n - 2)) (of_down a (n - 2)) (still (cell_in H a (n - 1))) g (λ j. get_or ks (suc m - 1 - j) 0) (λ j. suc p + 2 * j) (λ j. get_or ps (suc m - 1 - j) 0) (λ j. so_far r (suc p) j) (λ j l. refl)
-      (λ j l. from_at (suc o) n (suc m - 1 - j) (omega arith) ∙ omega arith) (λ j l. omega arith) (λ j l. down_at a (n - 2) j (get_or ps (suc m - 1 - j) 0) d (ap (λ (x : ℕ). cell_in H a (x - j)) (omega arith) ∙ h (suc m - 1 - j) (omega arith)))
+      (λ j l. from_at (suc o) n (suc m - 1 - j) (omega arith) ∙ omega arith) (λ j l. omega arith) (λ j l. down_at a (n - 2) j (get_or ps (suc m - 1 - j) 0) (ap (λ (x : ℕ). cell_in H a (x - j)) (omega arith) ∙ h (suc m - 1 - j) (omega arith)))
       (λ j l.
       let z : j ≡ 0 = omega arith in
       ap (so_far r (suc p)) z ∙ sym (h (suc m) (omega arith)) ∙ ap (λ (x : ℕ). cell_in H a x) (sym t₁) ∙ still_at (cell_in H a (n - 1)) j))
       (ap (λ (x : ℕ). rows_for x (λ j. g (suc j))) (sym t)
       ∙ pairs_as (n - 2) (p + 2) o i s (run_down (o + 1) (n - 3)) (of_down a (n - 3)) (stepping (p + 2) 2) (λ j. g (suc j)) (λ j. get_or ks (suc m - 1 - suc j) 0) (λ j. suc p + 2 * suc j) (λ j. get_or ps (suc m - 1 - suc j) 0) (λ j. so_far r (suc p) (suc j)) (λ j l. refl)
       (λ j l. from_at (suc o) n (suc m - 1 - suc j) (omega arith) ∙ omega arith) (λ j l. omega arith)
-      (λ j l. down_at a (n - 3) j (get_or ps (suc m - 1 - suc j) 0) d (ap (λ (x : ℕ). cell_in H a x) (let q : n - 3 - j ≡ suc m - 1 - suc j = omega arith in q) ∙ h (suc m - 1 - suc j) (omega arith)))
+      (λ j l. down_at a (n - 3) j (get_or ps (suc m - 1 - suc j) 0) (ap (λ (x : ℕ). cell_in H a x) (let q : n - 3 - j ≡ suc m - 1 - suc j = omega arith in q) ∙ h (suc m - 1 - suc j) (omega arith)))
       (λ j l. omega arith))
 
 -- ---- one line
@@ -134,7 +135,7 @@ module _ {A B : Frame} {I : List Info} (v : Inv A B I) (N : Notes) (ne : Neat N)
   cell_of a h j l = (nr a).cells j (subst⁻¹ (λ (n : ℕ). j < n) (size_of a h) l) (let z : size_in N a ≤ 256 = pow_mono (ne.deep a) in omega arith)
 
   from_line : (a : ℕ) → 2 ≤ (type_at A.lay a).role → (j : ℕ) → j < size_in N a → get_or (lines_at I a) j 0 ≡ source_at N.held (of a) j
-  from_line a h j l = of_at N.held a j (get_or (lines_at I a) j 0) (is_line a (omega arith)) (cell_of a h j l)
+  from_line a h j l = of_at N.held a j (get_or (lines_at I a) j 0) (cell_of a h j l)
 
   pub word_line_lem : (a : ℕ) → IsWord (type_at A.lay a) → line_at I a ≡ word_line N a
   word_line_lem a k = sym (cell_of a k.is 0 (pow_pos (deep_in N a)))
@@ -233,8 +234,8 @@ module _ {A B : Frame} {I : List Info} (v : Inv A B I) (N : Notes) (ne : Neat N)
       let c : get_or (cells_at A i) 0 0 ≡ k = ap (λ (x : List ℕ). get_or x 0 0) e in
       omega arith
 
-  pub con_some : (i k c : ℕ) → k < 256 → c ≡ small k → c ≡ k + 1
-  con_some i k c h e = e ∙ ap (λ (b : Bool). pick b (k + 1) 0) (lt-ltb k 256 h)
+  pub con_some : (i k c : ℕ) → k < 256 → c ≡ con_number (small k) → c ≡ k + 1
+  con_some i k c h e = e ∙ ap (λ (b : Bool). con_number (pick b (Some k) None)) (lt-ltb k 256 h)
 
   -- the index constants of an array
   index_list : (a : ℕ) (n : ℕ) → length (info_at I a).index ≡ n → (info_at I a).index ≡ from (suc (bit_in N a)) n

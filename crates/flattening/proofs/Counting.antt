@@ -7,9 +7,9 @@ use native.Mathlib.Omega.{arith}
 use lib.Dec.{eqb}
 use lib.ListN.{length, length-append}
 use lib.Pow.{pow_pos}
+use Rattle.std.specs.Prelude.{Some, None}
 use Rattle.tables.specs.Pick.{pick}
 use Rattle.tables.specs.Lines.{Line, Expr, equality_kind, init_or_next_kind}
-use Rattle.tables.specs.Layout.{held}
 use Rattle.flattening.specs.Flat.{join_kind}
 use Rattle.flattening.specs.Model.Cells.{Held, cell_in}
 use Rattle.flattening.specs.Model.Rows.{rows_for, row_at, pair_at, stepping, still, of, run_down, of_down, join_records, read_records, write_records}
@@ -75,7 +75,7 @@ next_of N p (Line.value s (Expr.write a i x)) = go (eqb (con_in N i) 0)
     q : ℕ
     q = p + flat_count N (Line.value s (Expr.write a i x))
 
-    go : (b : Bool) → (pick b (made_as q (p + 2) (bit_in N s) 0 2 0) (made_as q (word_line N x) (bit_in N s) a (con_in N i - 1) 0)).next ≡ q
+    go : (b : Bool) → (pick b (made_as q (p + 2) (bit_in N s) None 2 None) (made_as q (word_line N x) (bit_in N s) (Some a) (con_in N i - 1) None)).next ≡ q
     go true = refl
     go false = refl
 next_of N p (Line.init_or_next m s q a) = refl

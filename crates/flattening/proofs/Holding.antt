@@ -1,6 +1,6 @@
 -- The flat line of a cell along writes by constant indexes, and the words of a source. Assumes nothing.
 use Prim.Native.Nat.{ℕ, zero, suc, ◌+◌, ◌-◌, ◌*◌, ◌≤◌, ◌<◌}
-use mathlib.Core.Path.{◌≡◌, refl, sym, ap, ◌∙◌}
+use mathlib.Core.Path.{◌≡◌, refl, sym, ap, ◌∙◌, subst, subst⁻¹}
 use mathlib.Core.Logic.{◌≢◌}
 use mathlib.Core.Bool.{Bool, true, false}
 use mathlib.Core.List.{[], ◌∷◌}
@@ -10,9 +10,11 @@ use lib.Dec.{eqb}
 use lib.ListN.{length, get_or, replicate}
 use borrow.Author.Tests.{eqb-true, eqb-false, eq-eqb, ne_eqb}
 use Rattle.tables.specs.Pick.{pick}
+use Rattle.std.specs.Prelude.{Option, Some, None, unwrap_or}
+use Rattle.flattening.specs.declared.Words.TheVariants.{Cells, Numbers}
 use Rattle.flattening.specs.declared.Source.{Source}
-use Rattle.flattening.specs.Model.Cells.{Held, nothing, kept_of, at_of, old_of, key_of, written_at, own_cell, cell_by, cell_in, Sound}
-use Rattle.flattening.specs.Model.Rows.{Tame, turn_at, source_at, stepping, of, run_down, of_down}
+use Rattle.flattening.specs.Model.Cells.{Held, nothing, kept_of, at_of, old_of, key_of, written_at, constant_of, own_cell, cell_by, cell_in, Sound}
+use Rattle.flattening.specs.Model.Rows.{Tame, TameWords, TameTop, down_from, turn_at, source_at, stepping, of, run_down, of_down}
 
 -- a step of a row
 pub product : (x j : ℕ) → x ≤ 256 → j < 256 → x * j ≤ 65280
@@ -127,41 +129,60 @@ same_cell H K sH sK j a r f = go (eqb (old_of H a) 0) refl
         swapped K sK a j (λ z. d (sym r.old ∙ z)) ∙ (λ i. pick (eqb (r.key i) j) (r.at i) (cell_in K (r.old i) j))
         ∙ ap (λ (x : ℕ). pick (eqb (key_of H a) j) (at_of H a) x) (f d) ∙ sym (swapped H sH a j d)
 
+-- ---- small constants
+
+pub constant_some : (n v : ℕ) → n ≡ v + 1 → Some v ≡ constant_of n
+constant_some zero v e = absurd (omega arith)
+constant_some (suc u) v e = let q : v ≡ u = omega arith in ap Some q
+
+pub constant_is : (n v : ℕ) → Some v ≡ constant_of n → n ≡ v + 1
+constant_is zero v e = absurd (cc)
+constant_is (suc u) v e = let q : v ≡ u = ap (λ (o : Option ℕ). unwrap_or o 0) e in omega arith
+
+pub constant_none : (n : ℕ) → None ≡ constant_of n → n ≡ 0
+constant_none zero e = refl
+constant_none (suc u) e = absurd (cc)
+
 -- ---- sources
 
-pub turn_up : (s : Source) (j : ℕ) → s.falling ≡ false → j ≡ turn_at s j
+pub turn_up : (s : Source) (j : ℕ) → s.top ≡ None → j ≡ turn_at s j
 turn_up s j e = rw e
 
-pub turn_past : (s : Source) (j : ℕ) → s.falling ≡ true → s.top < j → 0 ≡ turn_at s j
-turn_past s j e h = rw e (omega arith)
-
-pub turn_down : (s : Source) (j : ℕ) → s.falling ≡ true → s.top - j ≡ turn_at s j
-turn_down s j e = rw e
+pub turn_down : (s : Source) (j t : ℕ) → s.top ≡ Some t → t - j ≡ turn_at s j
+turn_down s j t e = rw e
 
 pub turn_lt : (s : Source) (j : ℕ) → Tame s → j < 256 → turn_at s j < 256
-turn_lt s j t h = go s.falling
+turn_lt s j t h = go s.top t.top
   where
-    go : (b : Bool) → pick b (s.top - j) j < 256
-    go true = let k = t.top in omega arith
-    go false = h
+    go : (o : Option ℕ) → TameTop o → down_from o j < 256
+    go None k = h
+    go (Some p) k = omega arith
 
-pub source_own : (H : Held) (s : Source) (j i : ℕ) → i ≡ turn_at s j → s.line ≡ 0 → s.base + s.step * i ≡ source_at H s j
-source_own H s j i t e = ap (λ (x : ℕ). s.base + s.step * x) t ∙ rw (eq-eqb s.line 0 e)
+-- the numbers of a row are small
+pub numbers_low : (s : Source) (j i b d : ℕ) → Tame s → j < 256 → i ≡ turn_at s j → s.words ≡ Numbers b d → (d * i ≤ 65280) × (b + d * i ≤ 1113856)
+numbers_low s j i b d t h e q =
+    let w = subst TameWords q t.words in
+    let l : i < 256 = subst⁻¹ (λ (x : ℕ). x < 256) e (turn_lt s j t h) in
+    let p = product d i w.1 l in
+    (p, omega (arith, w.0))
 
-pub source_cell : (H : Held) (s : Source) (j i r : ℕ) → i ≡ turn_at s j → s.line ≢ 0 → r ≡ cell_in H s.line i → r ≡ source_at H s j
-source_cell H s j i r t d e = e ∙ ap (λ (x : ℕ). cell_in H s.line x) t ∙ rw (ne_eqb s.line 0 d)
+pub source_own : (H : Held) (s : Source) (j i b d : ℕ) → i ≡ turn_at s j → s.words ≡ Numbers b d → b + d * i ≡ source_at H s j
+source_own H s j i b d t e = ap (λ (x : ℕ). b + d * x) t ∙ rw e
+
+pub source_cell : (H : Held) (s : Source) (j i r a : ℕ) → i ≡ turn_at s j → s.words ≡ Cells a → r ≡ cell_in H a i → r ≡ source_at H s j
+source_cell H s j i r a t q e = e ∙ ap (λ (x : ℕ). cell_in H a x) t ∙ rw q
 
 pub tame_run : (b s : ℕ) → b ≤ 1048576 → s ≤ 256 → Tame (stepping b s)
-tame_run b s h l = record { base = h; step = l; top = omega arith }
+tame_run b s h l = record { words = (h, l); top = tt }
 
 pub tame_of : (a : ℕ) → Tame (of a)
-tame_of a = record { base = omega arith; step = omega arith; top = omega arith }
+tame_of a = record { words = tt; top = tt }
 
 pub tame_run_down : (b t : ℕ) → b ≤ 1048576 → t < 256 → Tame (run_down b t)
-tame_run_down b t h l = record { base = h; step = omega arith; top = l }
+tame_run_down b t h l = record { words = (h, omega arith); top = l }
 
 pub tame_of_down : (a t : ℕ) → t < 256 → Tame (of_down a t)
-tame_of_down a t l = record { base = omega arith; step = omega arith; top = l }
+tame_of_down a t l = record { words = tt; top = l }
 
 -- ---- nothing is kept yet
 

@@ -14,7 +14,7 @@ use Rattle.tables.specs.declared.Ty.{Ty}
 use Rattle.tables.specs.Pick.{pick}
 use Rattle.flattening.specs.declared.Made.{Made}
 use Rattle.flattening.specs.Flat.{Info, write_cells}
-use Rattle.flattening.specs.Model.Cells.{Held, nothing, kept_of, at_of, old_of, key_of, written_at, cell_in, Sound, kept_now, keep, SameKept}
+use Rattle.flattening.specs.Model.Cells.{Held, nothing, old_number, kept_of, at_of, old_of, key_of, written_at, cell_in, Sound, kept_now, keep, SameKept}
 use Rattle.flattening.specs.Model.Lines.{Notes, notes}
 use Rattle.flattening.proofs.Holding.{cell_own, own_run, cell_new, cell_old, along, SameLine, same_cell}
 use Rattle.flattening.proofs.Agreeing.{KnownNote, NoteRel}
@@ -53,7 +53,7 @@ module _ (N : Notes) (n : ℕ) (m : Made) where
     at_new : at_of K n ≡ m.at
     at_new = kept_new 0
 
-    old_new : old_of K n ≡ m.old
+    old_new : old_of K n ≡ old_number m.old
     old_new = kept_new 2
 
     key_new : key_of K n ≡ m.key
@@ -101,7 +101,7 @@ module _ (N : Notes) (n : ℕ) (m : Made) where
         by (no h) j l q = absurd (let z : length f.cells ≡ 0 = ap length (e (omega arith)) in omega arith)
 
     -- where the cells of lines are held stays sound
-    pub sound_new : Sound H → (m.old ≢ 0 → m.old < n) → m.at ≤ 65536 → m.key ≤ 256 → Sound K
+    pub sound_new : Sound H → (old_number m.old ≢ 0 → old_number m.old < n) → m.at ≤ 65536 → m.key ≤ 256 → Sound K
     sound_new s f l k =
         record {
           falls = λ a. falls_by a (eqb a n) refl;
@@ -112,7 +112,7 @@ module _ (N : Notes) (n : ℕ) (m : Made) where
         falls_by : (a : ℕ) (b : Bool) → eqb a n ≡ b → old_of K a ≢ 0 → old_of K a < a
         falls_by a true e z =
             let q = eqb-true a n e in
-            let w : old_of K a ≡ m.old = ap (old_of K) q ∙ old_new in
+            let w : old_of K a ≡ old_number m.old = ap (old_of K) q ∙ old_new in
             let y = f (λ x. z (w ∙ x)) in
             omega arith
         falls_by a false e z =
@@ -129,11 +129,11 @@ module _ (N : Notes) (n : ℕ) (m : Made) where
         few_by a false e = let w = key_other a (eqb-false a n e) in let y = s.few a in omega arith
 
     -- the cells of the new line, where it swaps none
-    pub cell_step : m.old ≡ 0 → m.key ≤ 256 → (j : ℕ) → cell_in K n j ≡ m.at + m.key * j
+    pub cell_step : old_number m.old ≡ 0 → m.key ≤ 256 → (j : ℕ) → cell_in K n j ≡ m.at + m.key * j
     cell_step e k j = cell_own K n j (old_new ∙ e) ∙ own_run K n j (λ z. omega (arith, key_new, z)) ∙ ap₂ (λ (x y : ℕ). x + y * j) at_new key_new
 
     -- and where it writes over the line a, whose cells are ps
-    pub cell_swap : Sound K → Sound H → (a k : ℕ) (ps : List ℕ) → m.old ≡ a → a ≢ 0 → a < n → m.key ≡ k → ((j : ℕ) → j < length ps → cell_in H a j ≡ get_or ps j 0)
+    pub cell_swap : Sound K → Sound H → (a k : ℕ) (ps : List ℕ) → old_number m.old ≡ a → a ≢ 0 → a < n → m.key ≡ k → ((j : ℕ) → j < length ps → cell_in H a j ≡ get_or ps j 0)
         → (j : ℕ) → j < length ps → cell_in K n j ≡ get_or (set ps k m.at) j 0
     cell_swap sK sH a k ps e d l ek c j lj = go (eqb k j) refl
       where

@@ -9,6 +9,7 @@ use lib.Dec.{eqb}
 use lib.Pow.{pow_mono}
 use borrow.Author.Tests.{eq-eqb, ne_eqb, eqb-true, eqb-false, le-leb, lt-leb}
 use lib.Arith.{lt_of_le-ne}
+use Rattle.std.specs.Prelude.{Some, None}
 use Rattle.tables.specs.Lines.{Line, Expr, Shape, is_bitvec, is_array, is_const, is_input, is_state, is_output, is_unary, is_binary, is_ite, is_read, is_write, is_unknown, is_init_or_next, is_signal, is_equality, shape_of, build, fields, line_of, kind_in, sort_in as sort_of, first_in, second_in, third_in}
 use Rattle.tables.specs.Tables.{known}
 use Rattle.tables.proofs.Laws.{past, within}
@@ -47,14 +48,14 @@ join_some H p j s n h = rw (le-leb 2 n h)
 
 module _ (N : Notes) (p s a i : ℕ) where
   -- by a constant index
-  pub read_con : con_in N i ≢ 0 → flat_made N p (Line.value s (Expr.read a i)) ≡ made_as p (cell_in N.held a (con_in N i - 1)) (bit_in N s) 0 1 0
-  read_con d = let e : p + 0 ≡ p = omega arith in rw (ne_eqb (con_in N i) 0 d) (ap (λ (q : ℕ). made_as q (cell_in N.held a (con_in N i - 1)) (bit_in N s) 0 1 0) e)
+  pub read_con : con_in N i ≢ 0 → flat_made N p (Line.value s (Expr.read a i)) ≡ made_as p (cell_in N.held a (con_in N i - 1)) (bit_in N s) None 1 None
+  read_con d = let e : p + 0 ≡ p = omega arith in rw (ne_eqb (con_in N i) 0 d) (ap (λ (q : ℕ). made_as q (cell_in N.held a (con_in N i - 1)) (bit_in N s) None 1 None) e)
 
   pub read_con_records : con_in N i ≢ 0 → line_records N p (Line.value s (Expr.read a i)) ≡ []
   read_con_records d = rw (ne_eqb (con_in N i) 0 d)
 
   -- by any other
-  pub read_any : con_in N i ≡ 0 → flat_made N p (Line.value s (Expr.read a i)) ≡ made_as (p + 2 * (size_in N a - 1)) (p + 2 * (size_in N a - 1)) (bit_in N s) 0 1 0
+  pub read_any : con_in N i ≡ 0 → flat_made N p (Line.value s (Expr.read a i)) ≡ made_as (p + 2 * (size_in N a - 1)) (p + 2 * (size_in N a - 1)) (bit_in N s) None 1 None
   read_any e = rw (eq-eqb (con_in N i) 0 e)
 
   pub read_any_count : con_in N i ≡ 0 → flat_count N (Line.value s (Expr.read a i)) ≡ 2 * (size_in N a - 1)
@@ -63,13 +64,13 @@ module _ (N : Notes) (p s a i : ℕ) where
   pub read_any_records : con_in N i ≡ 0 → line_records N p (Line.value s (Expr.read a i)) ≡ read_records N.held p (bit_in N a) (word_line N i) (sort_line N s) a (size_in N a)
   read_any_records e = rw (eq-eqb (con_in N i) 0 e)
 
-  pub write_con : (v : ℕ) → con_in N i ≢ 0 → flat_made N p (Line.value s (Expr.write a i v)) ≡ made_as p (word_line N v) (bit_in N s) a (con_in N i - 1) 0
-  write_con v d = let e : p + 0 ≡ p = omega arith in rw (ne_eqb (con_in N i) 0 d) (ap (λ (q : ℕ). made_as q (word_line N v) (bit_in N s) a (con_in N i - 1) 0) e)
+  pub write_con : (v : ℕ) → con_in N i ≢ 0 → flat_made N p (Line.value s (Expr.write a i v)) ≡ made_as p (word_line N v) (bit_in N s) (Some a) (con_in N i - 1) None
+  write_con v d = let e : p + 0 ≡ p = omega arith in rw (ne_eqb (con_in N i) 0 d) (ap (λ (q : ℕ). made_as q (word_line N v) (bit_in N s) (Some a) (con_in N i - 1) None) e)
 
   pub write_con_records : (v : ℕ) → con_in N i ≢ 0 → line_records N p (Line.value s (Expr.write a i v)) ≡ []
   write_con_records v d = rw (ne_eqb (con_in N i) 0 d)
 
-  pub write_any : (v : ℕ) → con_in N i ≡ 0 → flat_made N p (Line.value s (Expr.write a i v)) ≡ made_as (p + 2 * size_in N s) (p + 2) (bit_in N s) 0 2 0
+  pub write_any : (v : ℕ) → con_in N i ≡ 0 → flat_made N p (Line.value s (Expr.write a i v)) ≡ made_as (p + 2 * size_in N s) (p + 2) (bit_in N s) None 2 None
   write_any v e = rw (eq-eqb (con_in N i) 0 e)
 
   pub write_any_count : (v : ℕ) → con_in N i ≡ 0 → flat_count N (Line.value s (Expr.write a i v)) ≡ 2 * size_in N s

@@ -3,7 +3,6 @@ use Prim.Native.Nat.{ℕ, zero, suc, ◌+◌, ◌≤◌, ◌<◌}
 use mathlib.Core.Path.{◌≡◌, refl, sym, ap, ap₂, ◌∙◌, subst, subst⁻¹}
 use mathlib.Core.Logic.{◌≢◌}
 use mathlib.Core.Bool.{Bool, true, false}
-use mathlib.Core.Option.{none}
 use mathlib.Core.List.{List, [], ◌∷◌, map, map-append}
 use native.Mathlib.Omega.{arith}
 use native.Mathlib.Decide.{dec_lt}
@@ -30,14 +29,14 @@ use Rattle.tables.proofs.Places.{length_records, length_lines, record_at_lem}
 use Rattle.tables.proofs.Facts.{OkLine, AllOk}
 use Rattle.tables.proofs.Sound.{accepted_lawful, accepted_room, accepted_ok}
 use Rattle.tables.proofs.Encoding.{fits_table, length_words}
-use Rattle.circuits.specs.Layout.{Layout, type_at, line_type_in, lay, no_layout, layout}
+use Rattle.circuits.specs.Layout.{Layout, type_at, line_type_in, no_layout, layout}
 use Rattle.circuits.specs.Meaning.{Frame, no_frame}
 use Rattle.circuits.proofs.Placing.{lay_ctx}
 use Rattle.flattening.specs.declared.Made.{Made}
 use Rattle.flattening.specs.Flat.{Info, no_info, info_at, chunk, flatten, flat_lines, flat_records}
 use Rattle.flattening.specs.Placed.{put_flat, flat_filled}
 use Rattle.flattening.specs.Answers.{flattened, flat_left}
-use Rattle.flattening.specs.Model.Cells.{nothing, kept_of, at_of, key_of, Sound, Low, kept_now, keep, Written, Shortened}
+use Rattle.flattening.specs.Model.Cells.{old_number, nothing, kept_of, at_of, key_of, Sound, Low, kept_now, keep, Written, Shortened}
 use Rattle.flattening.specs.Model.Lines.{notes, flat_count, line_records, flat_made}
 use Rattle.flattening.specs.Model.Fits.{Neat, Deep, Fit, MadeFlat}
 use Rattle.flattening.proofs.Walk.{new_type}
@@ -299,11 +298,11 @@ module _ (t : List ℕ) (n : ℕ) (acc : checked false t n ≡ Accepted) where
                 ∙ flat_filled_lem len (map words_of F) p (map words_of L) (s.count ∙ sym (length_words F)) ∙ ap (flat_filled len) (sym (map-append words_of F L))
 
         low_next : Low m
-        low_next = record { at = lk.low; bit = lk.bit; old = go (eqb m.old 0) refl; key = lk.few; con = lk.con }
+        low_next = record { at = lk.low; bit = lk.bit; old = go (eqb (old_number m.old) 0) refl; key = lk.few; con = lk.con }
           where
-            go : (y : Bool) → eqb m.old 0 ≡ y → m.old ≤ 65536
-            go true q = let z = eqb-true m.old 0 q in omega arith
-            go false q = let z = lk.falls (eqb-false m.old 0 q) in let e = many.0 in omega (arith, h)
+            go : (y : Bool) → eqb (old_number m.old) 0 ≡ y → old_number m.old ≤ 65536
+            go true q = let z = eqb-true (old_number m.old) 0 q in omega arith
+            go false q = let z = lk.falls (eqb-false (old_number m.old) 0 q) in let e = many.0 in omega (arith, h)
 
         pub made_low : (r : Made) {target₁ : List ℕ} → MadeFlat (notes kept types) p (line_in C i) target target₁ r → Low r
         made_low r d = subst⁻¹ Low d.kept low_next

@@ -19,7 +19,7 @@ use Rattle.tables.specs.Types.{ty, no_ty, marked, value_role, given_by, given}
 use Rattle.tables.specs.Layout.{from}
 use Rattle.tables.proofs.Values.{role_least, role_most, role_mark, val_most}
 use Rattle.tables.proofs.Facts.{IsWord}
-use Rattle.circuits.specs.Layout.{type_at, place_at, size, line_type_in, place_of}
+use Rattle.circuits.specs.Layout.{type_at, place_at, line_type_in, place_of}
 use Rattle.circuits.specs.Meaning.{Frame, cells_at, word_at, cells_of}
 use Rattle.flattening.specs.Flat.{Info, no_info, info_at, lines_at, line_at, value_info}
 use Rattle.flattening.proofs.Walk as W

@@ -10,6 +10,7 @@ use lib.Dec.{ltb}
 use lib.ListN.{length, get_or, set, length-set}
 use lib.Pow.{pow_pos}
 use borrow.Author.Tests.{ltb-true}
+use Rattle.std.specs.Prelude.{Some, None}
 use Rattle.tables.specs.declared.Ty.{Ty}
 use Rattle.tables.specs.Pick.{pick}
 use Rattle.tables.specs.Lines.{Line, Expr}
@@ -22,7 +23,7 @@ use Rattle.circuits.specs.Layout.{type_at, line_type_in}
 use Rattle.circuits.specs.Meaning.{Frame, cells_at}
 use Rattle.flattening.specs.declared.Made.{Made}
 use Rattle.flattening.specs.Flat.{Info, no_info, info_at, lines_at, line_at, value_info, chunk, chunk_read, chunk_write, write_cells}
-use Rattle.flattening.specs.Model.Cells.{cell_in}
+use Rattle.flattening.specs.Model.Cells.{old_number, con_number, cell_in}
 use Rattle.flattening.specs.Model.Lines.{deep_in, Notes, word_line, bit_in, con_in, size_in, small, made_as, flat_count, flat_made}
 use Rattle.flattening.specs.Model.Fits.{Neat}
 use Rattle.flattening.proofs.Rel.{Inv, KnownRel, word_small}
@@ -33,17 +34,17 @@ use Rattle.flattening.proofs.Keeping.{noted, Holds, kept_new, sound_new, cell_st
 
 -- what is kept of the line n, and that the numbers stay small
 pub record LineKept (N : Notes) (n : ℕ) (m : Made) (t : Ty) (f : Info) : Type 0 where
-  pub falls : m.old ≢ 0 → m.old < n
+  pub falls : old_number m.old ≢ 0 → old_number m.old < n
   pub low : m.at ≤ 65536
   pub few : m.key ≤ 256
   pub bit : m.bit ≤ 65536
-  pub con : m.con ≤ 256
+  pub con : con_number m.con ≤ 256
   pub note : NoteRel (noted N n m) t n f
 
-small_le : (v : ℕ) → small v ≤ 256
+small_le : (v : ℕ) → con_number (small v) ≤ 256
 small_le v = go (ltb v 256) refl
   where
-    go : (b : Bool) → ltb v 256 ≡ b → pick b (v + 1) 0 ≤ 256
+    go : (b : Bool) → ltb v 256 ≡ b → con_number (pick b (Some v) None) ≤ 256
     go true e = let h = ltb-true v 256 e in omega arith
     go false e = omega arith
 
@@ -54,11 +55,11 @@ module _ (N : Notes) (n : ℕ) (h : Holds N n) where
   bit_new : (m : Made) → bit_in (noted N n m) n ≡ m.bit
   bit_new m = kept_new N n m h 1
 
-  con_new : (m : Made) → con_in (noted N n m) n ≡ m.con
+  con_new : (m : Made) → con_in (noted N n m) n ≡ con_number m.con
   con_new m = kept_new N n m h 4
 
   -- a value of the sort f, whose cells are the flat lines ps
-  val_note : (m : Made) (f : Info) (ps : List ℕ) (k : Option ℕ) (t : Ty) → t.role ≢ 1 → m.bit ≡ f.bit → f.index ≡ from (suc f.bit) (length f.index) → KnownNote k m.con
+  val_note : (m : Made) (f : Info) (ps : List ℕ) (k : Option ℕ) (t : Ty) → t.role ≢ 1 → m.bit ≡ f.bit → f.index ≡ from (suc f.bit) (length f.index) → KnownNote k (con_number m.con)
       → ((j : ℕ) → j < length ps → cell_in (noted N n m).held n j ≡ get_or ps j 0) → NoteRel (noted N n m) t n (value_info f ps k)
   val_note m f ps k t d eb ei ek ec =
       record {
@@ -70,12 +71,12 @@ module _ (N : Notes) (n : ℕ) (h : Holds N n) where
         known = subst⁻¹ (λ (c : ℕ). KnownNote k c) (con_new m) ek;
       }
 
-  word_cell : (m : Made) (x : ℕ) → m.old ≡ 0 → m.key ≤ 256 → m.at ≡ x → (j : ℕ) → j < 1 → cell_in (noted N n m).held n j ≡ get_or (x ∷ []) j 0
+  word_cell : (m : Made) (x : ℕ) → old_number m.old ≡ 0 → m.key ≤ 256 → m.at ≡ x → (j : ℕ) → j < 1 → cell_in (noted N n m).held n j ≡ get_or (x ∷ []) j 0
   word_cell m x eo lk ea zero l = cell_step N n m h eo lk 0 ∙ omega arith
   word_cell m x eo lk ea (suc j) l = absurd (omega arith)
 
   -- a line of which nothing is kept
-  none_note : (m : Made) → m.bit ≡ 0 → m.con ≡ 0 → NoteRel (noted N n m) no_ty n no_info
+  none_note : (m : Made) → m.bit ≡ 0 → con_number m.con ≡ 0 → NoteRel (noted N n m) no_ty n no_info
   none_note m eb ek = record { elem = λ e. absurd (omega arith); sort = λ e. absurd (omega arith); bit = bit_new m ∙ eb; index = refl; cells = λ j l q. absurd (omega arith); known = con_new m ∙ ek }
 
 module _ {A B : Frame} {I : List Info} (v : Inv A B I) (N : Notes) (ne : Neat N) (tl : Told A N) (nr : (a : ℕ) → NoteRel N (type_at A.lay a) a (info_at I a)) (p : ℕ) (n : ℕ) (hn : Holds N n)
@@ -88,7 +89,7 @@ module _ {A B : Frame} {I : List Info} (v : Inv A B I) (N : Notes) (ne : Neat N)
       omega arith
 
   -- a word of the sort s, at the flat line x
-  word_kept_lem : (m : Made) (s x : ℕ) (k : Option ℕ) (t : Ty) → t.role ≢ 1 → m.old ≡ 0 → m.key ≡ 1 → m.at ≡ x → m.bit ≡ bit_in N s → KnownNote k m.con → m.con ≤ 256 → x ≤ 65536
+  word_kept_lem : (m : Made) (s x : ℕ) (k : Option ℕ) (t : Ty) → t.role ≢ 1 → old_number m.old ≡ 0 → m.key ≡ 1 → m.at ≡ x → m.bit ≡ bit_in N s → KnownNote k (con_number m.con) → con_number m.con ≤ 256 → x ≤ 65536
       → LineKept N n m t (value_info (info_at I s) (x ∷ []) k)
   word_kept_lem m s x k t d eo ekey ea eb ek ec lx =
       record {
@@ -101,7 +102,7 @@ module _ {A B : Frame} {I : List Info} (v : Inv A B I) (N : Notes) (ne : Neat N)
       }
 
   -- a run of flat lines
-  run_kept : (m : Made) (s c : ℕ) (t : Ty) → t.role ≢ 1 → m.old ≡ 0 → m.key ≡ 1 → m.at ≡ p + 1 → m.bit ≡ bit_in N s → m.con ≡ 0 → p ≤ 60000 → LineKept N n m t (value_info (info_at I s) (from (suc p) c) none)
+  run_kept : (m : Made) (s c : ℕ) (t : Ty) → t.role ≢ 1 → old_number m.old ≡ 0 → m.key ≡ 1 → m.at ≡ p + 1 → m.bit ≡ bit_in N s → con_number m.con ≡ 0 → p ≤ 60000 → LineKept N n m t (value_info (info_at I s) (from (suc p) c) none)
   run_kept m s c t d eo ekey ea eb ek lp =
       record {
         falls = no_old eo;
@@ -116,7 +117,7 @@ module _ {A B : Frame} {I : List Info} (v : Inv A B I) (N : Notes) (ne : Neat N)
             cell_step N n m hn eo (omega arith) j ∙ ap₂ (λ (x y : ℕ). x + y * j) ea ekey ∙ sym (from_at (suc p) c j z ∙ omega arith));
       }
 
-  none_kept : (m : Made) → m.old ≡ 0 → m.key ≡ 0 → m.at ≡ 0 → m.bit ≡ 0 → m.con ≡ 0 → LineKept N n m no_ty no_info
+  none_kept : (m : Made) → old_number m.old ≡ 0 → m.key ≡ 0 → m.at ≡ 0 → m.bit ≡ 0 → con_number m.con ≡ 0 → LineKept N n m no_ty no_info
   none_kept m eo ekey ea eb ek = record { falls = no_old eo; low = omega arith; few = omega arith; bit = omega arith; con = omega arith; note = none_note N n hn m eb ek }
 
   kept_as_lem : {m m' : Made} {t : Ty} {f : Info} → m ≡ m' → LineKept N n m' t f → LineKept N n m t f
@@ -150,7 +151,7 @@ module _ {A B : Frame} {I : List Info} (v : Inv A B I) (N : Notes) (ne : Neat N)
           let at : cell_in N.held a (con_in N i - 1) ≡ get_or (lines_at I a) x 0 = ap (cell_in N.held a) y ∙ cell_of v N ne tl nr p a ha x l in
           let low = line_low a x ha l in
           kept_as_lem (read_con N p s a i (λ w. omega arith))
-          (word_kept_lem (made_as p (cell_in N.held a (con_in N i - 1)) (bit_in N s) 0 1 0) s (get_or (lines_at I a) x 0) none t d refl refl at refl refl (omega arith) (omega (arith, cell_of v N ne tl nr p a ha x l)))
+          (word_kept_lem (made_as p (cell_in N.held a (con_in N i - 1)) (bit_in N s) None 1 None) s (get_or (lines_at I a) x 0) none t d refl refl at refl refl (omega arith) (omega (arith, cell_of v N ne tl nr p a ha x l)))
       go none r z =
           let c = size_in N a in
           let two : 2 ≤ c = size_two (deep_in N a) (let e : deep_in N a ≡ (type_at A.lay a).iw = tl.iw a (omega arith) in let d : 0 < (type_at A.lay a).iw = k.arr.deep in omega arith) in
@@ -158,7 +159,7 @@ module _ {A B : Frame} {I : List Info} (v : Inv A B I) (N : Notes) (ne : Neat N)
           let e : suc p + (2 * last - 1) ≡ p + 2 * (c - 1) = omega (arith, size_of v N ne tl nr p a ha) in
           let f = read_any_count N p s a i z in
           kept_as_lem (read_any N p s a i z)
-          (word_kept_lem (made_as (p + 2 * (c - 1)) (p + 2 * (c - 1)) (bit_in N s) 0 1 0) s (suc p + (2 * last - 1)) none t d refl refl (sym e) refl refl (omega arith) (omega arith))
+          (word_kept_lem (made_as (p + 2 * (c - 1)) (p + 2 * (c - 1)) (bit_in N s) None 1 None) s (suc p + (2 * last - 1)) none t d refl refl (sym e) refl refl (omega arith) (omega arith))
 
   write_kept : (s a i x : ℕ) (t : Ty) → t.role ≢ 1 → OkLine false (ty_at A.lay.ctx) (given A.lay.ctx) (Line.value s (Expr.write a i x)) → p + flat_count N (Line.value s (Expr.write a i x)) ≤ 16384
       → LineKept N n (flat_made N p (Line.value s (Expr.write a i x))) t (chunk I (suc p) (Line.value s (Expr.write a i x))).info
@@ -177,7 +178,7 @@ module _ {A B : Frame} {I : List Info} (v : Inv A B I) (N : Notes) (ne : Neat N)
           let small-y = index_small v N ne tl nr p i y k.index (deep_index s i hs k.iw) r in
           let e : con_in N i - 1 ≡ y = omega arith in
           let w = word_line_lem v N ne tl nr p x k.value in
-          let m = made_as p (word_line N x) (bit_in N s) a (con_in N i - 1) 0 in
+          let m = made_as p (word_line N x) (bit_in N s) (Some a) (con_in N i - 1) None in
           let lo = line_low x 0 k.value.is (pow_pos (deep_in N x)) in
           let an = below a (omega arith) in
           let sK = sound_new N n m hn ne.sound (λ u. an) (omega arith) (omega arith) in
@@ -196,7 +197,7 @@ module _ {A B : Frame} {I : List Info} (v : Inv A B I) (N : Notes) (ne : Neat N)
           })
       go none r z =
           let c = size_in N s in
-          let m = made_as (p + 2 * c) (p + 2) (bit_in N s) 0 2 0 in
+          let m = made_as (p + 2 * c) (p + 2) (bit_in N s) None 2 None in
           let f = write_any_count N p s a i x z in
           kept_as_lem (write_any N p s a i x z)
           (record {

@@ -12,7 +12,7 @@ use lib.Seq.{get_or-set_same, get_or-set_other}
 use borrow.Author.Tests.{eqb-true, eqb-false}
 use Rattle.tables.specs.Pick.{pick}
 use Rattle.flattening.specs.declared.Made.{Made}
-use Rattle.flattening.specs.Model.Cells.{Held, kept_numbers, nothing, kept_of, at_of, bit_of, old_of, key_of, con_of, written_at, own_cell, cell_in, Sound, keep, put_word, put_row, Written, FromWord, SameKept, Shortened, Filled}
+use Rattle.flattening.specs.Model.Cells.{Held, old_number, con_number, kept_numbers, nothing, kept_of, at_of, bit_of, old_of, key_of, con_of, written_at, own_cell, cell_in, Sound, keep, put_word, put_row, Written, FromWord, SameKept, Shortened, Filled}
 use Rattle.flattening.proofs.Holding.{cell_own, own_row, cell_lt, along, SameLine, same_cell, nothing_at, read_kept}
 
 -- a line that writes over another has its place
@@ -142,8 +142,8 @@ pub row_read : (H : Held) (m u : ℕ) → m < length H
     → set H m (kept_numbers u (get_or (get_or H m []) 1 0) 0 257 (get_or (get_or H m []) 4 0) (get_or (get_or H m []) 5 0)) ≡ put_row H m u
 row_read H m u h z = set H m (kept_numbers u (read_kept H 1 m h z) 0 257 (read_kept H 4 m h z) (read_kept H 5 m h z))
 
-pub keep_read : (H : Held) (n : ℕ) (m : Made) → n < length H → set H n (kept_numbers m.at m.bit m.old m.key m.con (get_or (get_or H n []) 5 0)) ≡ keep H n m
-keep_read H n m h z = set H n (kept_numbers m.at m.bit m.old m.key m.con (read_kept H 5 n h z))
+pub keep_read : (H : Held) (n : ℕ) (m : Made) → n < length H → set H n (kept_numbers m.at m.bit (old_number m.old) m.key (con_number m.con) (get_or (get_or H n []) 5 0)) ≡ keep H n m
+keep_read H n m h z = set H n (kept_numbers m.at m.bit (old_number m.old) m.key (con_number m.con) (read_kept H 5 n h z))
 
 -- ---- the cells of one line
 

@@ -20,10 +20,7 @@ fn note_line(k: u64, notes: &[[u8; BYTES]], n: usize, m: usize, lines: &mut [u32
     ensures { ((rec : List ℕ) → k ≡ kind_in rec → take result lines.new ≡ take m lines.old ++ free_line (given_in notes.now false n) n (line_of rec))
         × (result ≤ m + 1) }
 {
-    if k != 5 {
-        return m;
-    }
-    if places::driven(notes, n) {
+    if k != 5 || places::driven(notes, n) {
         return m;
     }
     lines[m] = n as u32;
@@ -41,11 +38,9 @@ pub fn find(
     requires { Noted program table.now count notes.now × (length lines.old ≡ 16385) }
     ensures { (take result lines.new ≡ free_lines program (lines_of program table.now count)) × (result ≤ 16384) }
 {
-    let mut i: usize = 0;
-    let mut m: usize = 0;
-    while i < count {
+    let mut m = 0;
+    for i in 0..count {
         m = note_line(records::kind(program, table, i), notes, i + 1, m, lines);
-        i += 1;
     }
     m
 }
@@ -55,11 +50,9 @@ fn load_masked(to: &mut [u64], from: &[u64], w: u64)
     requires { (length to.old ≡ length from.now) × Width w }
     ensures { to.new ≡ mask_words w from.now }
 {
-    let mut i: usize = 0;
-    while i < from.len() {
-        let v = operators::low(w, from[i]);
-        to[i] = v;
-        i += 1;
+    // By an index: of a slice written through a zip of its elements a proof knows no element.
+    for (i, v) in from.iter().enumerate() {
+        to[i] = operators::low(w, *v);
     }
 }
 
@@ -71,15 +64,7 @@ fn feed_line(q: usize, laid: &[[u32; LAID]; 16385], row: &[u64], r: usize, words
 {
     let m = area::cells(laid, q);
     let a = area::place(laid, q);
-    let e = a + m;
-    let s = r + m;
-    load_masked(&mut words[a..e], &row[r..s], area::width(laid, q));
-}
-
-fn wide(x: u32) -> usize
-    ensures { result ≡ x }
-{
-    x as usize
+    load_masked(&mut words[a..a + m], &row[r..r + m], area::width(laid, q));
 }
 
 // The states on the given lines take the words of the row, one after the other.
@@ -87,13 +72,11 @@ pub fn feed(lines: &[u32], laid: &[[u32; LAID]; 16385], row: &[u64], words: &mut
     requires { AllFed laid.now (length words.old) lines.now × (cells_in laid.now lines.now ≤ length row.now) }
     ensures { words.new ≡ fed_lines laid.now lines.now words.old row.now }
 {
-    let mut j: usize = 0;
-    let mut r: usize = 0;
-    while j < lines.len() {
-        let q = wide(lines[j]);
+    let mut r = 0;
+    for line in lines {
+        let q = *line as usize;
         feed_line(q, laid, row, r, words);
         r += area::cells(laid, q);
-        j += 1;
     }
 }
 
@@ -109,8 +92,7 @@ pub fn enter(
     requires { (all ≤ length work.old) × (AllFed laid.now (length (drop all work.old)) lines.now × (cells_in laid.now lines.now ≤ length row.now)) }
     ensures { drop all work.new ≡ entered_in laid.now lines.now i (drop all work.old) row.now }
 {
-    if i == 0 {
-        return;
+    if i != 0 {
+        feed(lines, laid, row, &mut work[all..]);
     }
-    feed(lines, laid, row, &mut work[all..]);
 }

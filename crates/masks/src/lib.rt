@@ -1,86 +1,74 @@
 // What is kept of a line for later lines, and its instruction.
 #![tactic(auto)]
 
-ghost use Rattle.std.specs.Prelude.{◌≡◌, ◌&&◌, ◌≤◌, ◌<◌, get_or, set};
+ghost use Rattle.std.specs.Prelude.{◌≡◌, ◌&&◌, ◌≤◌, ◌<◌, get_or};
 ghost use Rattle.tables.specs.Lines.{kind_in};
-ghost use Rattle.programs.specs.Model.Kinds.{entry_at, flag_at};
+ghost use Rattle.programs.specs.Translation.{known_at, operand_width, operand_number, loose_of};
 ghost use Rattle.programs.specs.Model.Records.{loose_in, instruction as instruction_of, width_in, number_in, emitted as emitted_of, Taken};
 ghost use Rattle.tables.specs.Pick.{pick};
-ghost use Rattle.words.specs.Word.{bit};
 
+use programs::{Known, NONE_KNOWN};
 use tables::WORDS;
-use uses::flags;
+use uses::entries;
 
-// The entry of the line a; 0 past the end.
-pub fn entry(xs: &[u64], a: u64) -> u64
-    ensures { result ≡ get_or xs.now a 0 }
+// What is known of the line a.
+pub fn of_line(known: &[Known], a: u64) -> Known
+    ensures { result ≡ known_at known.now a }
 {
-    if a < xs.len() as u64 {
-        let i = a as usize;
-        return xs[i];
-    }
-    0
+    entries::at(known, a, NONE_KNOWN)
 }
 
-// An entry of a list; a place past the end is left.
-fn store(xs: &mut [u64], n: u64, v: u64)
-    ensures { xs.new ≡ set xs.old n v }
+// An operand is a line, and a loose one.
+fn loose_operand(line: bool, known: &[Known], a: u64) -> bool
+    ensures { result ≡ (line && loose_of known.now a) }
 {
-    if n < xs.len() as u64 {
-        let i = n as usize;
-        xs[i] = v;
-    }
+    line && of_line(known, a).loose
 }
 
 // The record's line is loose.
-fn loose(rec: [u64; WORDS], wd: &[u64], lo: &[u8]) -> bool
+fn loose(rec: [u64; WORDS], known: &[Known]) -> bool
     requires { kind_in rec ≤ 63 }
-    ensures { result ≡ loose_in (entry_at wd.now) (flag_at lo.now) rec }
+    ensures { result ≡ loose_in (operand_width known.now) (loose_of known.now) rec }
 {
-    if entry(wd, rec[1]) == 64 {
+    if of_line(known, rec[1]).width == 64 {
         return false;
     }
     let k = rec[0];
     let r = uses::row(k);
-    let l1 = uses::used(uses::first_line(k), lo, rec[2]);
-    let l2 = uses::used(uses::second_line(k), lo, rec[3]);
-    let l3 = uses::used(uses::third_line(k), lo, rec[4]);
+    let l1 = loose_operand(uses::first_line(k), known, rec[2]);
+    let l2 = loose_operand(uses::second_line(k), known, rec[3]);
+    let l3 = loose_operand(uses::third_line(k), known, rec[4]);
     uses::loose_how(r[2], l1, l2, l3)
 }
 
 // An operand: a line's instruction number, or the number as it is written.
-fn operand(line: bool, num: &[u64], a: u64) -> u64
-    ensures { result ≡ pick line (get_or num.now a 0) a }
+fn operand(line: bool, known: &[Known], a: u64) -> u64
+    ensures { result ≡ pick line (operand_number known.now a) a }
 {
-    if line {
-        return entry(num, a);
-    }
-    a
+    if line { of_line(known, a).number } else { a }
 }
 
 // The record's instruction.
-pub fn instruction(rec: [u64; WORDS], wd: &[u64], num: &[u64]) -> [u64; WORDS]
-    ensures { result ≡ instruction_of (entry_at wd.now) (entry_at num.now) rec }
+pub fn instruction(rec: [u64; WORDS], known: &[Known]) -> [u64; WORDS]
+    ensures { result ≡ instruction_of (operand_width known.now) (operand_number known.now) rec }
 {
     let k = rec[0];
-    let w = entry(wd, rec[1]);
-    let a = operand(uses::first_line(k), num, rec[2]);
-    let b = operand(uses::second_line(k), num, rec[3]);
-    let c = operand(uses::third_line(k), num, rec[4]);
+    let w = of_line(known, rec[1]).width;
+    let a = operand(uses::first_line(k), known, rec[2]);
+    let b = operand(uses::second_line(k), known, rec[3]);
+    let c = operand(uses::third_line(k), known, rec[4]);
     records::of(k, w, a, b, c)
 }
 
 // The line's width.
-fn width(rec: [u64; WORDS], wd: &[u64]) -> u64
-    ensures { result ≡ width_in (entry_at wd.now) rec }
+fn width(rec: [u64; WORDS], known: &[Known]) -> u64
+    ensures { result ≡ width_in (operand_width known.now) rec }
 {
-    if rec[0] == 1 {
-        return rec[2];
+    match rec[0] {
+        1 => rec[2],
+        k if uses::has_value(k) => of_line(known, rec[1]).width,
+        _ => 0,
     }
-    if uses::has_value(rec[0]) {
-        return entry(wd, rec[1]);
-    }
-    0
 }
 
 // The instruction that uses of the line take.
@@ -88,67 +76,32 @@ fn number(k: u64, b: u64, mask: bool) -> u64
     requires { b < 65536 }
     ensures { result ≡ number_in k b mask }
 {
-    if !uses::has_value(k) {
-        return 0;
+    if uses::has_value(k) {
+        b + u64::from(mask)
+    } else {
+        0
     }
-    if mask {
-        return b + 1;
-    }
-    b
 }
 
 // How many instructions a line has.
 pub fn emitted(k: u64, mask: bool) -> usize
     ensures { result ≡ emitted_of k mask }
 {
-    if k <= 2 {
-        return 0;
-    }
-    if mask {
-        return 2;
-    }
-    1
+    if k <= 2 { 0 } else { 1 + usize::from(mask) }
 }
 
-// Both hold.
-fn both(a: bool, b: bool) -> bool
-    ensures { result ≡ (a && b) }
-{
-    if !a {
-        return false;
-    }
-    b
-}
-
-// A mark for a flag.
-fn flag(t: bool) -> u8
-    ensures { result ≡ bit t }
-{
-    if t {
-        return 1;
-    }
-    0
-}
-
-// The line n goes to the lists; answers whether it gets a mask.
-pub fn take(
-    rec: [u64; WORDS],
-    n: u64,
-    need: bool,
-    b: u64,
-    wd: &mut [u64],
-    num: &mut [u64],
-    lo: &mut [u8],
-) -> bool
+// What is known of the line n goes to the list; answers whether the line gets a mask.
+pub fn take(rec: [u64; WORDS], n: u64, need: bool, b: u64, known: &mut [Known]) -> bool
     requires { (kind_in rec ≤ 63) × (b < 65536) }
-    ensures { Taken rec n need b wd.old num.old lo.old wd.new num.new lo.new result }
+    ensures { Taken rec n need b known.old known.new result }
 {
-    let l = loose(rec, wd, lo);
-    let m = both(l, need);
-    let w = width(rec, wd);
-    let v = number(rec[0], b, m);
-    store(wd, n, w);
-    store(num, n, v);
-    flags::put(lo, n, flag(l));
+    let l = loose(rec, known);
+    let m = l && need;
+    let line = Known {
+        width: width(rec, known),
+        number: number(rec[0], b, m),
+        loose: l,
+    };
+    entries::put(known, n, line);
     m
 }

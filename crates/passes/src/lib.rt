@@ -2,67 +2,55 @@
 #![tactic(auto)]
 
 ghost use Rattle.std.specs.Prelude.{◌≡◌, true, false, ◌+◌, ◌-◌, ◌≤◌, ◌<◌, replicate, length};
-ghost use Rattle.tables.specs.declared.Checked.TheVariants.{Accepted};
 ghost use Rattle.tables.specs.Tables.{checked};
 ghost use Rattle.tables.specs.Layout.{held, lines_of};
 ghost use Rattle.programs.specs.Translation.{has_array};
 ghost use Rattle.programs.specs.Answers.{program_of};
 ghost use Rattle.programs.specs.Model.Passes.{Zeroed, emitted_to, Prepared, Fitted, program_in};
 
+use programs::Known;
 use tables::WORDS;
+use uses::entries;
 
 // A counted record is an array sort. All kinds are looked at, so that the compiled code takes several of them at a time.
 pub fn has_array(table: &[u64], count: usize) -> bool
-    requires { checked false table.now count ≡ Accepted }
+    requires { checked false table.now count ≡ Ok tt }
     ensures { result ≡ has_array (lines_of false table.now count) }
 {
     let mut found = false;
-    let mut i: usize = 0;
-    while i < count {
+    for i in 0..count {
         if records::kind(false, table, i) == 2 {
             found = true;
         }
-        i += 1;
     }
     found
 }
 
 // A mark at each line that has a needing use.
-pub fn needing(table: &[u64], count: usize, marks: &mut [u8])
-    requires { (checked false table.now count ≡ Accepted) × (marks.old ≡ replicate 16385 0) }
+pub fn needing(table: &[u64], count: usize, marks: &mut [bool])
+    requires { (checked false table.now count ≡ Ok tt) × (marks.old ≡ replicate 16385 false) }
     ensures { Prepared table.now count marks.new }
 {
     let h = records::step(false, table.len());
-    let mut i: usize = 0;
-    while i < count {
+    for i in 0..count {
         let rec = records::record(false, table, h, i);
         uses::mark(rec, marks);
-        i += 1;
     }
 }
 
 // How many instructions the program has.
-pub fn count_all(
-    table: &[u64],
-    count: usize,
-    marks: &[u8],
-    wd: &mut [u64],
-    num: &mut [u64],
-    lo: &mut [u8],
-) -> usize
-    requires { Prepared table.now count marks.now × Zeroed count wd.old num.old lo.old }
+pub fn count_all(table: &[u64], count: usize, marks: &[bool], known: &mut [Known]) -> usize
+    requires { Prepared table.now count marks.now × Zeroed count known.old }
     ensures { result ≡ length (program_of table.now count) }
 {
     let h = records::step(false, table.len());
-    let mut i: usize = 0;
     let mut b: usize = 1;
-    while i < count {
+    for i in 0..count {
         let rec = records::record(false, table, h, i);
         let n = (i + 1) as u64;
-        let need = uses::used(true, marks, n);
-        let m = masks::take(rec, n, need, b as u64, wd, num, lo);
+        let need = entries::at(marks, n, false);
+        let m = masks::take(rec, n, need, b as u64, known);
         b += masks::emitted(rec[0], m);
-        i += 1;
     }
     b - 1
 }
@@ -85,28 +73,24 @@ fn emit(e: usize, ins: [u64; WORDS], w: u64, b: usize, target: &mut [u64])
 pub fn write_all(
     table: &[u64],
     count: usize,
-    marks: &[u8],
-    wd: &mut [u64],
-    num: &mut [u64],
-    lo: &mut [u8],
+    marks: &[bool],
+    known: &mut [Known],
     target: &mut [u64],
 )
-    requires { Fitted table.now count marks.now target.old × Zeroed count wd.old num.old lo.old }
+    requires { Fitted table.now count marks.now target.old × Zeroed count known.old }
     ensures { target.new ≡ program_in table.now count (length target.old) }
 {
     let h = records::step(false, table.len());
-    let mut i: usize = 0;
     let mut b: usize = 1;
-    while i < count {
+    for i in 0..count {
         let rec = records::record(false, table, h, i);
         let n = (i + 1) as u64;
-        let need = uses::used(true, marks, n);
-        let ins = masks::instruction(rec, wd, num);
-        let w = masks::entry(wd, rec[1]);
-        let m = masks::take(rec, n, need, b as u64, wd, num, lo);
+        let need = entries::at(marks, n, false);
+        let ins = masks::instruction(rec, known);
+        let w = masks::of_line(known, rec[1]).width;
+        let m = masks::take(rec, n, need, b as u64, known);
         let e = masks::emitted(rec[0], m);
         emit(e, ins, w, b, target);
         b += e;
-        i += 1;
     }
 }

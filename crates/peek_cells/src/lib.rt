@@ -5,83 +5,75 @@ ghost use Rattle.peeks.specs.Model.Looks.{WordAsked, WordFound, CellAsked, CellF
 
 use area::LAID;
 
-// The word of the line n, from the start words `from` and the row. `ini` has the lines of the states' init values, `kept` the word of each line, with 1 where it was
-// found. A line looks at one or two earlier lines; where the first has more than one cell, two arrays are compared. Line 0, which is none, has the word 0.
+// What a peek looks into: an accepted table and its count, what is known of its lines, the lines of the states' init values, the start words and the row.
+#[derive(Clone, Copy)]
+pub struct Circuit<'a> {
+    pub table: &'a [u64],
+    pub count: usize,
+    pub laid: &'a [[u32; LAID]; 16385],
+    pub inits: &'a [u64],
+    pub starts: &'a [u64],
+    pub row: &'a [u64],
+}
+
+// The word of the line n; `kept` has the word of each line whose word was found. A line looks at one or two earlier lines; where the first has more than one cell, two arrays are compared. Line 0, which is none, has the word 0.
 #[cycle(cell_word)]
-pub fn word(
-    table: &[u64],
-    count: usize,
-    laid: &[[u32; LAID]; 16385],
-    ini: &[u64],
-    from: &[u64],
-    row: &[u64],
-    kept: &mut [[u64; 2]; 65],
-    n: usize,
-) -> u64
-    requires { WordAsked table.now count laid.now ini.now from.now row.now kept.old n }
-    ensures { WordFound table.now count from.now row.now kept.new n result }
+pub fn word(circuit: Circuit, kept: &mut [Option<u64>; 65], n: usize) -> u64
+    requires { WordAsked circuit.table.now circuit.count circuit.laid.now circuit.inits.now circuit.starts.now circuit.row.now kept.old n }
+    ensures { WordFound circuit.entry.table.now circuit.entry.count circuit.entry.starts.now circuit.entry.row.now kept.new n result }
 {
-    if kept[n][1] == 1 {
-        return kept[n][0];
+    if let Some(v) = kept[n] {
+        return v;
     }
-    let rec = peek_values::record(table, n - 1);
-    let a = peek_values::first(rec, ini[n]);
-    let m = area::cells(laid, a);
+    let rec = peek_values::record(circuit.table, n - 1);
+    let a = peek_values::first(rec, circuit.inits[n]);
+    let m = area::cells(circuit.laid, a);
     if 1 < m {
         let mut same = true;
-        let mut k: usize = 0;
-        while same && k < m {
-            let x = cell(table, count, laid, ini, from, row, kept, a, k);
-            same = x == cell(table, count, laid, ini, from, row, kept, rec[3] as usize, k);
-            k += 1;
+        for k in 0..m {
+            let x = cell(circuit, kept, a, k);
+            if x != cell(circuit, kept, rec[3] as usize, k) {
+                same = false;
+                break;
+            }
         }
         let v = evaluation::says(rec[0] == 21, same);
         return peek_values::keep(kept, n, v);
     }
-    let x = word(table, count, laid, ini, from, row, kept, a);
+    let x = word(circuit, kept, a);
     let b = peek_values::second(rec, x);
     if rec[0] == 54 {
-        let v = cell(table, count, laid, ini, from, row, kept, b, x as usize);
+        let v = cell(circuit, kept, b, x as usize);
         return peek_values::keep(kept, n, v);
     }
-    let y = word(table, count, laid, ini, from, row, kept, b);
-    let v = peek_values::value(rec, n, a, laid, from, row, x, y);
+    let y = word(circuit, kept, b);
+    let v = peek_values::value(rec, n, a, circuit.laid, circuit.starts, circuit.row, x, y);
     peek_values::keep(kept, n, v)
 }
 
 // The cell k of the array on the line n: a state's, an ite's, or else a write's. A line that looks at no other is a state without an init.
 #[cycle(cell_word)]
-pub fn cell(
-    table: &[u64],
-    count: usize,
-    laid: &[[u32; LAID]; 16385],
-    ini: &[u64],
-    from: &[u64],
-    row: &[u64],
-    kept: &mut [[u64; 2]; 65],
-    n: usize,
-    k: usize,
-) -> u64
-    requires { CellAsked table.now count laid.now ini.now from.now row.now kept.old n k }
-    ensures { CellFound table.now count from.now row.now kept.new n k result }
+pub fn cell(circuit: Circuit, kept: &mut [Option<u64>; 65], n: usize, k: usize) -> u64
+    requires { CellAsked circuit.table.now circuit.count circuit.laid.now circuit.inits.now circuit.starts.now circuit.row.now kept.old n k }
+    ensures { CellFound circuit.entry.table.now circuit.entry.count circuit.entry.starts.now circuit.entry.row.now kept.new n k result }
 {
-    let rec = peek_values::record(table, n - 1);
-    let a = peek_values::first(rec, ini[n]);
+    let rec = peek_values::record(circuit.table, n - 1);
+    let a = peek_values::first(rec, circuit.inits[n]);
     if a == 0 {
-        return peek_values::start_word(n, k, laid, from);
+        return peek_values::start_word(n, k, circuit.laid, circuit.starts);
     }
-    let x = word(table, count, laid, ini, from, row, kept, a);
+    let x = word(circuit, kept, a);
     if rec[0] == 5 {
         return x;
     }
     let b = peek_values::second(rec, x);
     if rec[0] == 53 {
-        return cell(table, count, laid, ini, from, row, kept, b, k);
+        return cell(circuit, kept, b, k);
     }
     let i = x as usize;
     if i == k {
         let v = rec[4] as usize;
-        return word(table, count, laid, ini, from, row, kept, v);
+        return word(circuit, kept, v);
     }
-    cell(table, count, laid, ini, from, row, kept, b, k)
+    cell(circuit, kept, b, k)
 }

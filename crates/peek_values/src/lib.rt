@@ -3,14 +3,13 @@
 
 ghost use Rattle.std.specs.Prelude.{◌≡◌, false, ℕ, ◌<◌, ◌%◌, ◌^◌, ◌≤◌, length, get_or, replicate, set};
 ghost use Rattle.tables.specs.Lines.{line_of, kind_in, first_in, second_in, third_in};
-ghost use Rattle.peeks.specs.Model.Looks.{note_init, init_of, kept_as, FirstLine, SecondLine, StartAsked, start_in, ValueAsked, ValueFound};
+ghost use Rattle.peeks.specs.Model.Looks.{note_init, init_of, FirstLine, SecondLine, StartAsked, start_in, ValueAsked, ValueFound};
 ghost use Rattle.tables.specs.Tables.{checked};
 ghost use Rattle.tables.specs.Layout.{held, record_at, lines_of};
 ghost use Rattle.words.specs.Word.{Width};
 ghost use Rattle.circuits.specs.Model.Work.{pos_in, wid_in};
 ghost use Rattle.circuits.specs.Model.Fits.{FitWord};
 ghost use Rattle.circuits.specs.Meaning.{op_word};
-ghost use Rattle.circuits.specs.Cells.{if_nonzero};
 
 use area::LAID;
 use tables::{Checked, WORDS};
@@ -19,13 +18,8 @@ use tables::{Checked, WORDS};
 fn note_init(rec: [u64; WORDS], ini: &mut [u64])
     ensures { (q : ℕ) → q < length ini.old → get_or ini.new q 0 ≡ note_init q (get_or ini.old q 0) (line_of rec) }
 {
-    if rec[0] != 6 {
-        return;
-    }
-    let q = rec[2];
-    if q < ini.len() as u64 {
-        let i = q as usize;
-        ini[i] = rec[3];
+    if rec[0] == 6 && rec[2] < ini.len() as u64 {
+        ini[rec[2] as usize] = rec[3];
     }
 }
 
@@ -37,17 +31,15 @@ pub fn record(table: &[u64], i: usize) -> [u64; WORDS]
     records::record(false, table, records::step(false, table.len()), i)
 }
 
-// The line of each state's init value, 0 where it has none.
+// The line of each state's init value; 0, which is no line, where it has none, as `first` gives it on.
 pub fn find_inits(table: &[u64], count: usize, ini: &mut [u64])
     requires { (checked false table.now count ≡ Checked.Accepted) × (ini.old ≡ replicate 65 0) }
     ensures { (q : ℕ) → q < 65 → get_or ini.new q 0 ≡ init_of q (lines_of false table.now count) }
 {
     let h = records::step(false, table.len());
-    let mut i: usize = 0;
-    while i < count {
+    for i in 0..count {
         let rec = records::record(false, table, h, i);
         note_init(rec, ini);
-        i += 1;
     }
 }
 
@@ -56,48 +48,32 @@ pub fn find_inits(table: &[u64], count: usize, ini: &mut [u64])
 pub fn first(rec: [u64; WORDS], d: u64) -> usize
     ensures { FirstLine rec d result }
 {
-    let k = rec[0];
-    if k < 5 {
-        return 0;
+    match rec[0] {
+        0..=4 => 0,
+        5 => d as usize,
+        54..=55 => rec[3] as usize,
+        _ => rec[2] as usize,
     }
-    if k == 5 {
-        return d as usize;
-    }
-    if k < 54 {
-        return rec[2] as usize;
-    }
-    if k < 56 {
-        return rec[3] as usize;
-    }
-    rec[2] as usize
 }
 
 // The line that is looked at next, where the first one's word is x: the second operand, what an ite takes, the array of a read or of a write; 0 where one word is all.
 pub fn second(rec: [u64; WORDS], x: u64) -> usize
     ensures { SecondLine rec x result }
 {
-    let k = rec[0];
-    if k < 21 {
-        return 0;
+    match rec[0] {
+        0..=20 => 0,
+        53 => evaluation::chosen(x, rec[3] as usize, rec[4] as usize),
+        54..=55 => rec[2] as usize,
+        _ => rec[3] as usize,
     }
-    if k < 53 {
-        return rec[3] as usize;
-    }
-    if k == 53 {
-        return chosen(x, rec[3], rec[4]);
-    }
-    if k < 56 {
-        return rec[2] as usize;
-    }
-    rec[3] as usize
 }
 
 // The word v of the line n is kept.
-pub fn keep(kept: &mut [[u64; 2]; 65], n: usize, v: u64) -> u64
+pub fn keep(kept: &mut [Option<u64>; 65], n: usize, v: u64) -> u64
     requires { n ≤ 64 }
-    ensures { (result ≡ v) × (kept.new ≡ set kept.old n (kept_as v)) }
+    ensures { (result ≡ v) × (kept.new ≡ set kept.old n (Some v)) }
 {
-    kept[n] = [v, 1];
+    kept[n] = Some(v);
     v
 }
 
@@ -127,9 +103,10 @@ fn state_word(n: usize, a: usize, laid: &[[u32; LAID]; 16385], starts: &[u64], x
     ensures { (a ≡ 0 → result ≡ start_in laid.now starts.now n 0) × ((a ≡ 0 → ⊥) → result ≡ x) }
 {
     if a == 0 {
-        return start_word(n, 0, laid, starts);
+        start_word(n, 0, laid, starts)
+    } else {
+        x
     }
-    x
 }
 
 // An operator of one word, v, on the line n.
@@ -137,9 +114,7 @@ fn unary(rec: [u64; WORDS], n: usize, laid: &[[u32; LAID]; 16385], v: u64) -> u6
     requires { (n ≤ 16384) × ((first_in rec ≤ 16384) × FitWord false (kind_in rec) (wid_in laid.now n) (wid_in laid.now (first_in rec)) 64 v (second_in rec) (third_in rec)) }
     ensures { result ≡ op_word false (kind_in rec) (wid_in laid.now (first_in rec)) 64 v (second_in rec) (third_in rec) }
 {
-    let w = area::width(laid, n);
-    let u = area::width(laid, rec[2] as usize);
-    evaluation::word(false, rec[0], w, u, 64, v, rec[3], rec[4])
+    evaluation::unary_word(false, rec[0], rec[2] as usize, v, rec[3], rec[4], n, laid)
 }
 
 // An operator of two words, x and y, on the line n.
@@ -148,10 +123,16 @@ fn binary(rec: [u64; WORDS], n: usize, laid: &[[u32; LAID]; 16385], x: u64, y: u
         × FitWord false (kind_in rec) (wid_in laid.now n) (wid_in laid.now (first_in rec)) (wid_in laid.now (second_in rec)) x y 0)) }
     ensures { result ≡ op_word false (kind_in rec) (wid_in laid.now (first_in rec)) (wid_in laid.now (second_in rec)) x y 0 }
 {
-    let w = area::width(laid, n);
-    let u = area::width(laid, rec[2] as usize);
-    let v = area::width(laid, rec[3] as usize);
-    evaluation::word(false, rec[0], w, u, v, x, y, 0)
+    evaluation::binary_word(
+        false,
+        rec[0],
+        rec[2] as usize,
+        rec[3] as usize,
+        x,
+        y,
+        n,
+        laid,
+    )
 }
 
 // The word of the constant or of the input on the line n.
@@ -161,19 +142,10 @@ fn given(rec: [u64; WORDS], n: usize, laid: &[[u32; LAID]; 16385], row: &[u64]) 
         × ((kind_in rec ≡ 3 → ⊥) → result ≡ get_or row.now (pos_in laid.now n) 0 % 2 ^ wid_in laid.now n) }
 {
     if rec[0] == 3 {
-        return rec[2];
+        rec[2]
+    } else {
+        input_word(n, laid, row)
     }
-    input_word(n, laid, row)
-}
-
-// The line that an ite takes where its condition is d.
-fn chosen(d: u64, b: u64, c: u64) -> usize
-    ensures { result ≡ if_nonzero d b c }
-{
-    if d != 0 {
-        return b as usize;
-    }
-    c as usize
 }
 
 // The word of the line n, whose operands are words: x and y are those of the lines that are looked at first and next, the first one being on the line a.

@@ -9,6 +9,7 @@ ghost use Rattle.circuits.specs.Model.Passes.{counts_of, Noted};
 
 use area::LAID;
 use circuits::Totals;
+use peek_cells::Circuit;
 use peeks::Peeked;
 use records::notes;
 use records::notes::BYTES;
@@ -29,13 +30,21 @@ fn find(
 {
     let mut ini = [0u64; 65];
     peek_values::find_inits(table, count, &mut ini);
-    let mut kept = [[0u64; 2]; 65];
+    let mut kept = [None; 65];
     // line 0, which is none, has the word 0
-    kept[0] = [0, 1];
+    kept[0] = Some(0);
+    let circuit = Circuit {
+        table,
+        count,
+        laid,
+        inits: &ini,
+        starts,
+        row,
+    };
     if area::cells(laid, n) == 1 {
-        return peek_cells::word(table, count, laid, &ini, starts, row, &mut kept, n);
+        return peek_cells::word(circuit, &mut kept, n);
     }
-    peek_cells::cell(table, count, laid, &ini, starts, row, &mut kept, n, k)
+    peek_cells::cell(circuit, &mut kept, n, k)
 }
 
 // 14, 15 and 18: s start words and i words of a row are lent, for the cell k of a line of the type y.

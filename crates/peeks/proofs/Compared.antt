@@ -1,13 +1,11 @@
 -- Two values of one sort, compared cell by cell. Assumes nothing.
 use Prim.Native.Nat.{ℕ, ◌+◌, ◌^◌, ◌≤◌, ◌<◌}
-use mathlib.Core.Path.{◌≡◌, refl, sym, ap, ap₂, ◌∙◌, subst}
-use mathlib.Core.Logic.{◌⊎◌, inl, inr}
-use mathlib.Core.Bool.{Bool, true, false, ◌&&◌}
+use mathlib.Core.Path.{◌≡◌, refl, sym, ap, ◌∙◌, subst}
+use mathlib.Core.Bool.{Bool, true, false}
 use mathlib.Core.List.{List}
 use native.Mathlib.Omega.{arith}
-use lib.Dec.{eqb}
+use Rattle.std.specs.Prelude.{Option}
 use lib.ListN.{length, drop, get_or, drop_of_length-le}
-use borrow.Author.Tests.{eqb-true, eqb-false}
 use Rattle.words.specs.Word.{bit}
 use Rattle.circuits.specs.Cells.{eq_or_neq, same_cells}
 use Rattle.circuits.specs.Layout.{Layout, type_at, size, layout}
@@ -19,11 +17,16 @@ use Rattle.peeks.specs.Model.Looks.{Looks, KeptWords, CellLine}
 use Rattle.peeks.proofs.Looked.{FactEquality, more_cells, shown, number_of, cells_of_lem}
 use Rattle.circuits.proofs.Puts as laws
 
--- the lines a and b of m cells each, of which the cells before c are the same if `same` says so, and the words found so far
-pub record Alike (A : Frame) (a b : ℕ) (K : List (List ℕ)) (m c : ℕ) (same : Bool) : Type 0 where
+-- the lines a and b of m cells each, whose cells before c are the same, and the words found so far
+pub record Alike (A : Frame) (a b : ℕ) (K : List (Option ℕ)) (m c : ℕ) : Type 0 where
   pub most : c ≤ m
   pub kept : KeptWords A K
-  pub rest : same_cells (cells_at A a) (cells_at A b) ≡ (same && same_cells (drop c (cells_at A a)) (drop c (cells_at A b)))
+  pub rest : same_cells (cells_at A a) (cells_at A b) ≡ same_cells (drop c (cells_at A a)) (drop c (cells_at A b))
+
+-- and what the comparison ends with: the words found, and the word of the line l that compares (f: eq or neq), where all cells are the same or not
+pub record Compared (A : Frame) (l : ℕ) (f : Bool) (K : List (Option ℕ)) (same : Bool) : Type 0 where
+  pub kept : KeptWords A K
+  pub is : bit (eq_or_neq f same) ≡ word_at A l
 
 module _ {t : List ℕ} {n : ℕ} {P : List (List ℕ)} {ini S R : List ℕ} (lk : Looks t n P ini S R) where
   abbrev A : Frame
@@ -57,35 +60,27 @@ module _ {t : List ℕ} {n : ℕ} {P : List (List ℕ)} {ini S R : List ℕ} (lk
           inside = subst (λ (x : ℕ). c < 2 ^ x) (sym k.sorts) l.inside;
         }
 
-    pub alike_none : {K : List (List ℕ)} → KeptWords A K → Alike A a b K m 0 true
+    pub alike_none : {K : List (Option ℕ)} → KeptWords A K → Alike A a b K m 0
     alike_none f = record { most = omega arith; kept = f; rest = refl }
 
-    next : {c : ℕ} → c < m → same_cells (drop c (cells_at A a)) (drop c (cells_at A b))
-        ≡ (eqb (get_or (cells_at A a) c 0) (get_or (cells_at A b) c 0) && same_cells (drop (c + 1) (cells_at A a)) (drop (c + 1) (cells_at A b)))
-    next {c} h = go (eqb (get_or (cells_at A a) c 0) (get_or (cells_at A b) c 0)) refl
-      where
-        go : (e : Bool) → eqb (get_or (cells_at A a) c 0) (get_or (cells_at A b) c 0) ≡ e → same_cells (drop c (cells_at A a)) (drop c (cells_at A b)) ≡ (e && same_cells (drop (c + 1) (cells_at A a)) (drop (c + 1) (cells_at A b)))
-        go true e = laws.same_more (cells_at A a) (cells_at A b) c (omega (arith, many, long_left)) (omega (arith, many, long_right)) (eqb-true (get_or (cells_at A a) c 0) (get_or (cells_at A b) c 0) e)
-        go false e = laws.same_not (cells_at A a) (cells_at A b) c (omega (arith, many, long_left)) (omega (arith, many, long_right)) (eqb-false (get_or (cells_at A a) c 0) (get_or (cells_at A b) c 0) e)
-
-    pub alike_more : {K K' : List (List ℕ)} {c x y : ℕ} {same : Bool} → same ≡ true → c < m → Alike A a b K m c same → KeptWords A K' → x ≡ get_or (cells_at A a) c 0 → y ≡ get_or (cells_at A b) c 0
-        → Alike A a b K' m (c + 1) (eqb x y)
-    alike_more {K} {K'} {c} {x} {y} {same} es h s f ex ey =
+    pub alike_more : {K K' : List (Option ℕ)} {c x y : ℕ} → c < m → Alike A a b K m c → KeptWords A K' → x ≡ get_or (cells_at A a) c 0 → y ≡ get_or (cells_at A b) c 0
+        → x ≡ y → Alike A a b K' m (c + 1)
+    alike_more {c = c} h s f ex ey e =
         record {
           most = omega arith;
           kept = f;
-          rest = s.rest ∙ ap (λ (e : Bool). e && same_cells (drop c (cells_at A a)) (drop c (cells_at A b))) es ∙ next h
-              ∙ ap (λ (e : Bool). e && same_cells (drop (c + 1) (cells_at A a)) (drop (c + 1) (cells_at A b))) (sym (ap₂ eqb ex ey));
+          rest = s.rest ∙ laws.same_more (cells_at A a) (cells_at A b) c (omega (arith, many, long_left)) (omega (arith, many, long_right)) (sym ex ∙ e ∙ ey);
         }
 
-    -- left at a difference, or after all cells
-    pub alike_all : {K : List (List ℕ)} {c : ℕ} {same : Bool} → (same ≡ false) ⊎ (m ≤ c) → Alike A a b K m c same → bit (eq_or_neq f same) ≡ word_at A l
-    alike_all {K} {c} {same} h s = ap (λ (e : Bool). bit (eq_or_neq f e)) (is same refl h) ∙ k.is
-      where
-        ends : m ≤ c → (e : Bool) → e ≡ (e && same_cells (drop c (cells_at A a)) (drop c (cells_at A b)))
-        ends g true = sym (ap (λ (x : List ℕ). same_cells x (drop c (cells_at A b))) (drop_of_length-le (cells_at A a) {i = c} (omega (arith, many, long_left))))
-        ends g false = refl
+    -- left at a difference
+    pub alike_broken : {K K' K'' : List (Option ℕ)} {c x y : ℕ} {same : Bool} → K'' ≡ K' → same ≡ false → c < m → Alike A a b K m c → KeptWords A K' → x ≡ get_or (cells_at A a) c 0 → y ≡ get_or (cells_at A b) c 0
+        → (x ≡ y → ⊥) → Compared A l f K'' same
+    alike_broken {c = c} z e h s g ex ey n =
+        let d : same_cells (cells_at A a) (cells_at A b) ≡ false = s.rest ∙ laws.same_not (cells_at A a) (cells_at A b) c (omega (arith, many, long_left)) (omega (arith, many, long_right)) (λ i. n (ex ∙ i ∙ sym ey)) in
+        record { kept = subst (KeptWords A) (sym z) g; is = ap (λ (u : Bool). bit (eq_or_neq f u)) (e ∙ sym d) ∙ k.is }
 
-        is : (e : Bool) → same ≡ e → (same ≡ false) ⊎ (m ≤ c) → same ≡ same_cells (cells_at A a) (cells_at A b)
-        is e z (inl g) = g ∙ sym (s.rest ∙ ap (λ (u : Bool). u && same_cells (drop c (cells_at A a)) (drop c (cells_at A b))) g)
-        is e z (inr g) = ends g same ∙ sym s.rest
+    -- and after all cells
+    pub alike_all : {K K' : List (Option ℕ)} {c : ℕ} {same : Bool} → K' ≡ K → same ≡ true → m ≤ c → Alike A a b K m c → Compared A l f K' same
+    alike_all {c = c} z e h s =
+        let d : same_cells (cells_at A a) (cells_at A b) ≡ true = s.rest ∙ ap (λ (x : List ℕ). same_cells x (drop c (cells_at A b))) (drop_of_length-le (cells_at A a) {i = c} (omega (arith, many, long_left))) in
+        record { kept = subst (KeptWords A) (sym z) s.kept; is = ap (λ (u : Bool). bit (eq_or_neq f u)) (e ∙ sym d) ∙ k.is }

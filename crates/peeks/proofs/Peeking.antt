@@ -3,12 +3,13 @@ use Prim.Native.Nat.{ℕ, zero, suc, ◌-◌, ◌^◌, ◌≤◌, ◌<◌}
 use mathlib.Core.Path.{◌≡◌, refl, sym, ap, ◌∙◌, subst}
 use mathlib.Core.Logic.{◌⊎◌, inl, inr, ⊎_elim}
 use mathlib.Core.Bool.{true, false}
-use mathlib.Core.List.{List, []}
+use mathlib.Core.List.{List}
 use native.Mathlib.Omega.{arith}
 use lib.Dec.{eqb}
 use lib.Pow.{pow_pos}
 use lib.ListN.{length, get_or, set, length-set}
 use lib.Seq.{get_or-set_same, get_or-set_other}
+use Rattle.std.specs.Prelude.{Option, Some, None, is_some, unwrap_or}
 use Rattle.tables.specs.declared.Checked.TheVariants.{Accepted}
 use Rattle.tables.specs.Lines.{Shape, is_bitvec, is_array, is_const, is_input, is_state, is_output, is_unary, is_binary, is_ite, is_read, is_write, is_unknown, is_init_or_next, is_signal, is_equality, shape_of, build, line_of, kind_in, sort_in, first_in, second_in, third_in}
 use Rattle.tables.specs.Layout.{held}
@@ -22,31 +23,35 @@ use Rattle.circuits.specs.Layout.{Layout, type_at, size, layout}
 use Rattle.circuits.specs.Meaning.{Frame, cells_at, word_at}
 use Rattle.circuits.specs.Model.Work.{num_in}
 use Rattle.peeks.specs.Peek.{step_zero}
-use Rattle.peeks.specs.Model.Looks.{Looks, KeptWords, kept_as, kept_mark, kept_word, WordLine, CellLine, WordFound, CellFound, FirstLine, SecondLine, StartAsked, start_in}
+use Rattle.peeks.specs.Model.Looks.{Looks, KeptWords, kept_at, WordLine, CellLine, WordFound, CellFound, FirstLine, SecondLine, StartAsked, start_in}
 use Rattle.peeks.proofs.Looked.{Arg, FactEquality, FactIte, FactWrite, FactStart, Fact, one_cell, shown, number_of, none_flat, facts}
 
 -- ---- the words found so far
 
 -- one word more
-kept : {A : Frame} {K K' : List (List ℕ)} {n v : ℕ} → n ≤ 64 → KeptWords A K → v ≡ word_at A n → K' ≡ set K n (kept_as v) → KeptWords A K'
+kept : {A : Frame} {K K' : List (Option ℕ)} {n v : ℕ} → n ≤ 64 → KeptWords A K → v ≡ word_at A n → K' ≡ set K n (Some v) → KeptWords A K'
 kept {A} {K} {K'} {n} {v} h f ev e =
-    let here : get_or K' n [] ≡ kept_as v = ap (λ (x : List (List ℕ)). get_or x n []) e ∙ get_or-set_same K n (kept_as v) [] (omega (arith, f.long)) in
-    let there : (a : ℕ) → (a ≡ n → ⊥) → get_or K' a [] ≡ get_or K a [] = λ a ne. ap (λ (x : List (List ℕ)). get_or x a []) e ∙ get_or-set_other K n a (kept_as v) [] ne in
+    let here : kept_at K' n ≡ Some v = ap (λ (x : List (Option ℕ)). kept_at x n) e ∙ get_or-set_same K n (Some v) None (omega (arith, f.long)) in
+    let there : (a : ℕ) → (a ≡ n → ⊥) → kept_at K' a ≡ kept_at K a = λ a ne. ap (λ (x : List (Option ℕ)). kept_at x a) e ∙ get_or-set_other K n a (Some v) None ne in
     record {
-      long = ap length e ∙ length-set K n (kept_as v) ∙ f.long;
-      none = by_place 0 n (λ z. ap (kept_mark K') z ∙ ap (λ (x : List ℕ). get_or x 1 0) here) (λ ne. ap (λ (x : List ℕ). get_or x 1 0) (there 0 ne) ∙ f.none);
-      are = λ a k.
-          by_place a n (λ z. ap (kept_word K') z ∙ ap (λ (x : List ℕ). get_or x 0 0) here ∙ ev ∙ ap (word_at A) (sym z))
-          (λ ne. ap (λ (x : List ℕ). get_or x 0 0) (there a ne) ∙ f.are a (sym (ap (λ (x : List ℕ). get_or x 1 0) (there a ne)) ∙ k));
+      long = ap length e ∙ length-set K n (Some v) ∙ f.long;
+      none = by_place 0 n (λ z. ap (λ (a : ℕ). is_some (kept_at K' a)) z ∙ ap is_some here) (λ ne. ap is_some (there 0 ne) ∙ f.none);
+      are = λ a u k.
+          by_place a n (λ z. ap (λ (o : Option ℕ). unwrap_or o 0) (sym k ∙ ap (kept_at K') z ∙ here) ∙ ev ∙ ap (word_at A) (sym z))
+          (λ ne. f.are a u (sym (there a ne) ∙ k));
     }
 
-pub word_kept_lem : {t : List ℕ} {n : ℕ} {S R : List ℕ} {K K' : List (List ℕ)} {a v r : ℕ} → a ≤ 64 → KeptWords (step_zero (lines_of false t n) S R) K → v ≡ word_at (step_zero (lines_of false t n) S R) a
-    → (r ≡ v) × (K' ≡ set K a (kept_as v)) → WordFound t n S R K' a r
+pub word_kept_lem : {t : List ℕ} {n : ℕ} {S R : List ℕ} {K K' : List (Option ℕ)} {a v r : ℕ} → a ≤ 64 → KeptWords (step_zero (lines_of false t n) S R) K → v ≡ word_at (step_zero (lines_of false t n) S R) a
+    → (r ≡ v) × (K' ≡ set K a (Some v)) → WordFound t n S R K' a r
 word_kept_lem h f ev e = record { is = e.0 ∙ ev; kept = kept h f ev e.1 }
 
 -- a line whose word is not kept is not line 0
-pub not_none : {A : Frame} {K : List (List ℕ)} (a : ℕ) → KeptWords A K → (kept_mark K a ≡ 1 → ⊥) → 1 ≤ a
-not_none zero f z = absurd (z f.none)
+pub not_none : {A : Frame} {K : List (Option ℕ)} (a : ℕ) → KeptWords A K → ((v : ℕ) → kept_at K a ≡ Some v → ⊥) → 1 ≤ a
+not_none {K = K} zero f z = absurd (found (kept_at K 0) refl f.none)
+  where
+    found : (o : Option ℕ) → kept_at K 0 ≡ o → is_some o ≡ true → ⊥
+    found (Some v) e h = z v e
+    found None e h = cc h
 not_none (suc a) f z = omega arith
 
 -- ---- lines of an accepted table
@@ -78,10 +83,10 @@ pub record ThroughWord (A : Frame) (t : List ℕ) (n m c b : ℕ) : Type 0 where
   pub line : WordLine t n b
   pub is : word_at A b ≡ get_or (cells_at A m) c 0
 
-pub cell_through : {t : List ℕ} {n : ℕ} {S R : List ℕ} {K : List (List ℕ)} {m c b i r : ℕ} → ThroughCell (step_zero (lines_of false t n) S R) t n m c b i → CellFound t n S R K b i r → CellFound t n S R K m c r
+pub cell_through : {t : List ℕ} {n : ℕ} {S R : List ℕ} {K : List (Option ℕ)} {m c b i r : ℕ} → ThroughCell (step_zero (lines_of false t n) S R) t n m c b i → CellFound t n S R K b i r → CellFound t n S R K m c r
 cell_through q f = record { is = f.is ∙ q.is; kept = f.kept }
 
-pub cell_through_word : {t : List ℕ} {n : ℕ} {S R : List ℕ} {K : List (List ℕ)} {m c b r : ℕ} → ThroughWord (step_zero (lines_of false t n) S R) t n m c b → WordFound t n S R K b r → CellFound t n S R K m c r
+pub cell_through_word : {t : List ℕ} {n : ℕ} {S R : List ℕ} {K : List (Option ℕ)} {m c b r : ℕ} → ThroughWord (step_zero (lines_of false t n) S R) t n m c b → WordFound t n S R K b r → CellFound t n S R K m c r
 cell_through_word q f = record { is = f.is ∙ q.is; kept = f.kept }
 
 -- a line that an ite on the line m takes for its own value

@@ -2,11 +2,12 @@
 use Prim.Native.Nat.{ℕ, zero, suc, ◌+◌, ◌≤◌, ◌<◌}
 use mathlib.Core.Path.{◌≡◌, refl, sym, ap, ap₂, ◌∙◌, subst}
 use mathlib.Core.Bool.{Bool, true, false}
-use mathlib.Core.List.{List, []}
+use mathlib.Core.List.{List}
 use native.Mathlib.Omega.{arith}
 use lib.Dec.{leb, eqb}
 use lib.ListN.{length, take, get_or, set, replicate, length-replicate}
 use borrow.Author.Tests.{le-leb, lt-leb, lt-ltb, le-ltb, eq-eqb, ne_eqb, leb-true, ltb-true, eqb-true}
+use Rattle.std.specs.Prelude.{Option, Some, None, is_some, unwrap_or}
 use Rattle.tables.specs.declared.Ty.{Ty}
 use Rattle.tables.specs.declared.Refusal.{Refusal}
 use Rattle.tables.specs.declared.Refusal.TheVariants.{StartWords, InputWords, NoSuchCell}
@@ -33,7 +34,7 @@ use Rattle.peeks.specs.Peek.{step_zero, peek_at, has_cell, may_peek, seen_as, pe
 use Rattle.circuits.specs.Model.Work.{num_in}
 use Rattle.circuits.specs.Model.Places.{ShowsAll}
 use Rattle.circuits.specs.Model.Passes.{counts_of, totals_of, Noted}
-use Rattle.peeks.specs.Model.Looks.{init_of, Laid, Looks, KeptWords, kept_as, kept_mark, kept_word, WordLine, CellLine, HasCell, lent_peek}
+use Rattle.peeks.specs.Model.Looks.{init_of, Laid, Looks, KeptWords, kept_at, WordLine, CellLine, HasCell, lent_peek}
 use Rattle.circuits.proofs.Placing.{all_sound, lines_here, noted_types}
 use Rattle.peeks.proofs.Looked.{shown, one_cell, more_cells}
 
@@ -82,24 +83,24 @@ may_facts c row y n k s i = go (eqb s c.states) (eqb i row) (has_cell y n k) ref
 -- ---- what a peek begins with
 
 -- of no line a word is kept but of line 0, which is none
-pub kept_none : (C : List Line) (S R : List ℕ) {K : List (List ℕ)} → K ≡ set (replicate 65 (replicate 2 0)) 0 (kept_as 0) → KeptWords (step_zero C S R) K
+pub kept_none : (C : List Line) (S R : List ℕ) {K : List (Option ℕ)} → K ≡ set (replicate 65 None) 0 (Some 0) → KeptWords (step_zero C S R) K
 unfolding step_zero start
 kept_none C S R {K} e =
-    let at : (a : ℕ) → get_or K a [] ≡ get_or (set (replicate 65 (replicate 2 0)) 0 (kept_as 0)) a [] = λ a. ap (λ (x : List (List ℕ)). get_or x a []) e in
     record {
       long = ap length e;
-      none = ap (λ (x : List ℕ). get_or x 1 0) (at 0);
-      are = λ a k. go a k;
+      none = ap (λ (x : List (Option ℕ)). is_some (kept_at x 0)) e;
+      are = λ a v k. go a v (ap (λ (x : List (Option ℕ)). kept_at x a) (sym e) ∙ k);
     }
   where
-    zeros : (m a : ℕ) → kept_mark (replicate m (replicate 2 0)) a ≡ 0
-    zeros zero a = refl
-    zeros (suc m) zero = refl
-    zeros (suc m) (suc a) = zeros m a
+    nothing : (m a : ℕ) → kept_at (replicate m None) a ≡ None
+    nothing zero a = refl
+    nothing (suc m) zero = refl
+    nothing (suc m) (suc a) = nothing m a
 
-    go : (a : ℕ) → kept_mark K a ≡ 1 → kept_word K a ≡ word_at (step_zero C S R) a
-    go zero k = ap (λ (x : List (List ℕ)). kept_word x 0) e ∙ sym (ap (λ (x : List ℕ). get_or x 0 0) (cells_first false false C (start false C S R) (take (input_count false C) R) 0 0 (omega arith) (omega arith)))
-    go (suc a) k = absurd (omega (arith, sym k ∙ ap (λ (x : List (List ℕ)). kept_mark x (suc a)) e ∙ zeros 64 a))
+    go : (a v : ℕ) → kept_at (set (replicate 65 None) 0 (Some 0)) a ≡ Some v → v ≡ word_at (step_zero C S R) a
+    go zero v k =
+        ap (λ (o : Option ℕ). unwrap_or o 0) (sym k) ∙ sym (ap (λ (x : List ℕ). get_or x 0 0) (cells_first false false C (start false C S R) (take (input_count false C) R) 0 0 (omega arith) (omega arith)))
+    go (suc a) v k = absurd (cc (sym (nothing 64 a) ∙ k))
 
 pub looks_all : {t : List ℕ} {n : ℕ} {P : List (List ℕ)} {ini S R : List ℕ} → Laid t n P S R → length ini ≡ length {A = ℕ} (replicate 65 0)
     → ((q : ℕ) → q < 65 → get_or ini q 0 ≡ init_of q (lines_of false t n)) → Looks t n P ini S R

@@ -1,7 +1,7 @@
 // The pass over the lines before a run: where each line has its cells and its place, and which signals are bad lines.
 #![tactic(auto)]
 
-ghost use Rattle.std.specs.Prelude.{◌≡◌, false, List, ◌++◌, ℕ, ◌≤◌, ◌+◌, ◌<◌, length, set, take};
+ghost use Rattle.std.specs.Prelude.{◌≡◌, false, List, ◌++◌, ℕ, ◌≤◌, ◌+◌, ◌<◌, length, set, take, Ok};
 ghost use Rattle.circuits.specs.Layout.{counting, size, counts_after, layout};
 ghost use Rattle.tables.specs.Lines.{line_of, kind_in};
 ghost use Rattle.circuits.specs.Model.Work.{laid_as};
@@ -17,7 +17,7 @@ use area::LAID;
 use circuits::{Spot, Totals};
 use records::notes;
 use records::notes::BYTES;
-use tables::{Checked, Ty};
+use tables::Ty;
 
 // The cells of a line of the type y.
 fn cells_of(y: Ty) -> usize
@@ -35,42 +35,23 @@ fn count_line(k: u64, m: usize, t: Totals) -> Totals
     match k {
         4 => Totals {
             cells: t.cells + m,
-            states: t.states,
             inputs: t.inputs + 1,
-            signals: t.signals,
-            free: t.free,
+            ..t
         },
         5 => Totals {
             cells: t.cells + m,
             states: t.states + m,
-            inputs: t.inputs,
-            signals: t.signals,
-            free: t.free,
+            ..t
         },
         8..=9 => Totals {
-            cells: t.cells,
-            states: t.states,
-            inputs: t.inputs,
             signals: t.signals + 1,
-            free: t.free,
+            ..t
         },
-        3 => more_cells(m, t),
-        11..=63 => more_cells(m, t),
+        3 | 11..=63 => Totals {
+            cells: t.cells + m,
+            ..t
+        },
         _ => t,
-    }
-}
-
-// The counts with m cells more.
-fn more_cells(m: usize, t: Totals) -> Totals
-    requires { t.cells + m < 4294967296 }
-    ensures { result ≡ totals_of (counting (t.cells + m) t.states t.inputs t.signals) t.free }
-{
-    Totals {
-        cells: t.cells + m,
-        states: t.states,
-        inputs: t.inputs,
-        signals: t.signals,
-        free: t.free,
     }
 }
 
@@ -78,8 +59,7 @@ fn more_cells(m: usize, t: Totals) -> Totals
 pub fn driven(notes: &[[u8; BYTES]], n: usize) -> bool
     ensures { result ≡ given_in notes.now false n }
 {
-    let r = notes::at(notes, n as u64);
-    r[4] == 1
+    notes::at(notes, n as u64)[4] == 1
 }
 
 // The counts with the words of the line n, of the kind k and with m cells, if it is a state that nobody drives.
@@ -87,18 +67,12 @@ fn count_free(k: u64, notes: &[[u8; BYTES]], n: usize, m: usize, t: Totals) -> T
     requires { t.free + m < 4294967296 }
     ensures { (rec : List ℕ) → k ≡ kind_in rec → result ≡ totals_of (counts_of t) (t.free + free_here (given_in notes.now false n) m (line_of rec)) }
 {
-    if k != 5 {
-        return t;
-    }
-    if driven(notes, n) {
+    if k != 5 || driven(notes, n) {
         return t;
     }
     Totals {
-        cells: t.cells,
-        states: t.states,
-        inputs: t.inputs,
-        signals: t.signals,
         free: t.free + m,
+        ..t
     }
 }
 
@@ -119,11 +93,7 @@ fn find_spot(k: u64, t: Totals) -> Spot
             off: 0,
             at: t.signals,
         },
-        3 => Spot {
-            off: t.cells,
-            at: 0,
-        },
-        11..=63 => Spot {
+        3 | 11..=63 => Spot {
             off: t.cells,
             at: 0,
         },
@@ -160,8 +130,7 @@ pub fn lay_out(
         signals: 0,
         free: 0,
     };
-    let mut i: usize = 0;
-    while i < count {
+    for i in 0..count {
         let k = records::kind(program, table, i);
         let y = notes::look(notes, (i + 1) as u64);
         let m = cells_of(y);
@@ -169,7 +138,6 @@ pub fn lay_out(
         put_line(laid, i + 1, s, m, y.w);
         t = count_line(k, m, t);
         t = count_free(k, notes, i + 1, m, t);
-        i += 1;
     }
     t
 }
@@ -192,13 +160,11 @@ fn note_mark(k: u64, g: usize, bad: &mut [u8]) -> usize
 
 // A mark for each signal, in line order: 1 for a bad line, 0 for a constraint.
 pub fn bad_marks(program: bool, table: &[u64], count: usize, bad: &mut [u8])
-    requires { (checked program table.now count ≡ Checked.Accepted) × (length bad.old ≡ 16385) }
+    requires { (checked program table.now count ≡ Ok tt) × (length bad.old ≡ 16385) }
     ensures { take (length (marks (lines_of program table.now count))) bad.new ≡ marks (lines_of program table.now count) }
 {
-    let mut i: usize = 0;
-    let mut g: usize = 0;
-    while i < count {
+    let mut g = 0;
+    for i in 0..count {
         g = note_mark(records::kind(program, table, i), g, bad);
-        i += 1;
     }
 }

@@ -1,4 +1,5 @@
 -- The program of an accepted flat circuit keeps the rules for programs, `translated_ok`, and so its records are an accepted program, `program_accepted`. Assumes nothing.
+use Rattle.std.specs.Prelude.{Ok}
 use Prim.Native.Nat.{ℕ, ◌+◌, ◌≤◌}
 use mathlib.Core.Path.{◌≡◌, refl, sym, ◌∙◌, subst}
 use mathlib.Core.Logic.{inl, inr}
@@ -10,7 +11,6 @@ use lib.Dec.{eqb}
 use lib.ListN.{length}
 use borrow.Author.Tests.{eq-eqb}
 use Rattle.tables.specs.declared.Ty.{Ty}
-use Rattle.tables.specs.declared.Checked.TheVariants.{Accepted}
 use Rattle.tables.specs.Kinds.{row_of}
 use Rattle.tables.specs.Lines.{Line, Expr, bitvec, array, input, state, value, init_or_next, signal, output, unknown, const, unary, binary, equality, ite, read, write, words_of}
 use Rattle.tables.specs.Layout.{whole, held, filled}
@@ -23,7 +23,8 @@ use Rattle.tables.proofs.Encoding.{lines_accepted}
 use Rattle.circuits.specs.Layout.{Layout, type_at, line_type_in, place_of, lay, lay_all}
 use Rattle.circuits.proofs.Placing.{lay_ctx}
 use Rattle.programs.specs.Uses.{loose_line, loose_expr, has_needing_use}
-use Rattle.programs.specs.Translation.{Known, info, none_known, operand_width, operand_number, loose_of, with_mask, renumbered, instructions_of, array_sort_line, has_array, translate_from, translate}
+use Rattle.programs.specs.declared.Known.{Known}
+use Rattle.programs.specs.Translation.{info, none_known, operand_width, operand_number, loose_of, with_mask, renumbered, instructions_of, array_sort_line, has_array, translate_from, translate}
 use Rattle.programs.proofs.Grew.{lines, grew_line, new_type}
 use Rattle.programs.proofs.Laid.{Laid, sort_of_width, Fresh, puts}
 use Rattle.programs.proofs.LaidLines.{and_never, typed, sorted, fresh_input, fresh_state, fresh_val, laid_line, lines_more, laid_start}
@@ -94,7 +95,7 @@ module _ {Y Z : Layout} {J : List Known} (v : Laid Y Z J) (o : Once Y Z J) where
   mask_given true b w i true true e = e
   mask_given false b w i true true e = e
 
-  mask_number : (b w : ℕ) (i : Line) (lo n : Bool) → b ≤ (with_mask b w i lo n).info.num
+  mask_number : (b w : ℕ) (i : Line) (lo n : Bool) → b ≤ (with_mask b w i lo n).info.number
   mask_number b w i false n = le_refl b
   mask_number b w i true false = le_refl b
   mask_number b w i true true = omega arith
@@ -150,5 +151,5 @@ translated_ok F k f = all_ok (has_needing_use F) 1 F laid_start once_start refl 
 
 -- so neither 1 nor 20 holds of a list that holds its records, with their count
 pub program_accepted : (F : List Line) (len : ℕ) → AllOk false no_ctx F → has_array F ≡ false → length (translate F) ≤ held true len → length (translate F) ≤ 16384 → whole true len ≡ true
-    → checked true (filled true len (map words_of (translate F))) (length (translate F)) ≡ Accepted
+    → checked true (filled true len (map words_of (translate F))) (length (translate F)) ≡ Ok tt
 program_accepted F len k f fits few w = lines_accepted true (translate F) len fits (translated_ok F k f) few w

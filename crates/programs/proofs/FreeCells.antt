@@ -20,7 +20,8 @@ use Rattle.circuits.specs.Layout.{Layout, type_at, lay, lay_all, no_layout, layo
 use Rattle.circuits.specs.Free.{Source, driven, free, source_of, cell_sources, sources_here, sources_from, sources, fed}
 use Rattle.circuits.proofs.Sources.{sources_append, fed_many, fed_word, fed_at}
 use Rattle.programs.specs.Uses.{loose_line, has_needing_use}
-use Rattle.programs.specs.Translation.{Known, none_known, operand_width, operand_number, with_mask, instructions_of, array_sort_line, has_array, translate_from, translate}
+use Rattle.programs.specs.declared.Known.{Known}
+use Rattle.programs.specs.Translation.{none_known, operand_width, operand_number, with_mask, instructions_of, array_sort_line, has_array, translate_from, translate}
 use Rattle.programs.proofs.Grew.{lines, new_type}
 use Rattle.programs.proofs.Laid.{Laid}
 use Rattle.programs.proofs.LaidLines.{and_never, sorted, laid_line, lay_all_append, lines_more, laid_start}
@@ -61,7 +62,7 @@ masked_sources h Z b w i true false = append-nil (sources_here true h Z i)
 masked_sources h Z b w i true true = append-nil (sources_here true h Z i)
 
 -- a line that is not loose is known by its own instruction
-own_number : (b w : ℕ) (i : Line) (lo n : Bool) → (lo ≡ true → ⊥) → (with_mask b w i lo n).info.num ≡ b
+own_number : (b w : ℕ) (i : Line) (lo n : Bool) → (lo ≡ true → ⊥) → (with_mask b w i lo n).info.number ≡ b
 own_number b w i false n h = refl
 own_number b w i true n h = absurd (h refl)
 

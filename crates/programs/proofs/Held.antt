@@ -15,7 +15,8 @@ use Rattle.tables.specs.Lines.{Line}
 use Rattle.tables.specs.Types.{no_ty}
 use Rattle.circuits.specs.Layout.{type_at, place_at, line_type_in, place_of, lay}
 use Rattle.circuits.specs.Meaning.{Frame, cells_at, word_at, width_at, cells_of, states_after, signals_after, eval_line, eval_all}
-use Rattle.programs.specs.Translation.{Known, none_known, known_at, mask_of, with_mask}
+use Rattle.programs.specs.declared.Known.{Known}
+use Rattle.programs.specs.Translation.{none_known, known_at, mask_of, with_mask}
 use Rattle.programs.proofs.Lists.{length_snoc, below_snoc, snoc₃}
 use Rattle.programs.proofs.Grew.{lines, Even, Grew, grew_more, line_more, even_line, grew_line, new_type, new_place}
 use Rattle.programs.proofs.Laid.{Laid, Fresh}
@@ -26,10 +27,10 @@ use Rattle.programs.proofs.Operator.{Result}
 pub record Word (W : ℕ → ℕ) (B : Frame) (n : Bool) (t : Ty) (cs : List ℕ) (f : Known) : Type 0 where
   pub single : cs ≡ get_or cs 0 0 ∷ []
   pub small : get_or cs 0 0 < 2 ^ t.w
-  pub alone : cells_at B f.num ≡ word_at B f.num ∷ []
-  pub fits : word_at B f.num < 2 ^ 64
-  pub stands : Stands (at_use n f.loose) t.w (word_at B f.num) (get_or cs 0 0)
-  pub store : t.role ≡ 4 → W (place_at B.lay f.num) ≡ t.w
+  pub alone : cells_at B f.number ≡ word_at B f.number ∷ []
+  pub fits : word_at B f.number < 2 ^ 64
+  pub stands : Stands (at_use n f.loose) t.w (word_at B f.number) (get_or cs 0 0)
+  pub store : t.role ≡ 4 → W (place_at B.lay f.number) ≡ t.w
 
 -- the cells of all lines so far
 pub record Full (B : Frame) : Type 0 where
@@ -59,16 +60,16 @@ more_none g = record { grew = g; cells = λ n h. refl }
 more_more : {A B C : Frame} → More A B → More B C → More A C
 more_more g h = record { grew = grew_more g.grew h.grew; cells = λ n k. h.cells n (le_trans k g.grew.longer) ∙ g.cells n k }
 
-word_more : {W : ℕ → ℕ} {B B' : Frame} {n : Bool} {t : Ty} {cs : List ℕ} {f : Known} → More B B' → f.num < lines B.lay → Word W B n t cs f → Word W B' n t cs f
+word_more : {W : ℕ → ℕ} {B B' : Frame} {n : Bool} {t : Ty} {cs : List ℕ} {f : Known} → More B B' → f.number < lines B.lay → Word W B n t cs f → Word W B' n t cs f
 word_more {W} {f = f} m h w =
-    let e = m.cells f.num h in
+    let e = m.cells f.number h in
     record {
       single = w.single;
       small = w.small;
       alone = rw e w.alone;
       fits = rw e w.fits;
       stands = rw e w.stands;
-      store = λ c. ap (λ (x : ℕ). W x) (m.grew.places f.num h) ∙ w.store c;
+      store = λ c. ap (λ (x : ℕ). W x) (m.grew.places f.number h) ∙ w.store c;
     }
 
 module _ (g : Bool) (σ ι : List ℕ) where
@@ -123,9 +124,9 @@ module _ (g : Bool) (σ ι : List ℕ) where
 
   module _ (W : ℕ → ℕ) {A B : Frame} (u : Full B) (b : ℕ) (e : b ≡ lines B.lay) {i l : Line} {t : Ty} {w : ℕ} where
     first_word : (n lo : Bool) → Fresh B.lay i t (place_of A.lay l) w lo → (h : New A B i l w lo) → Stands (at_use n lo) w h.x h.a
-        → (t.role ≡ 4 → W (place_of B.lay i) ≡ w) → (f : Known) → f.num ≡ b → f.loose ≡ lo → Word W (eval_line true g σ ι B i) n t (cells_of false g σ ι A l) f
+        → (t.role ≡ 4 → W (place_of B.lay i) ≡ w) → (f : Known) → f.number ≡ b → f.loose ≡ lo → Word W (eval_line true g σ ι B i) n t (cells_of false g σ ι A l) f
     first_word n lo k h s st f eq el =
-        let c : cells_at (eval_line true g σ ι B i) f.num ≡ h.x ∷ [] = ap (cells_at (eval_line true g σ ι B i)) eq ∙ new_cells u i b e ∙ h.cells_b in
+        let c : cells_at (eval_line true g σ ι B i) f.number ≡ h.x ∷ [] = ap (cells_at (eval_line true g σ ι B i)) eq ∙ new_cells u i b e ∙ h.cells_b in
         rw h.cells_a
         (record {
           single = refl;

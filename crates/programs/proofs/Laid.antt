@@ -15,29 +15,30 @@ use Rattle.tables.proofs.Values.{role_back}
 use Rattle.tables.proofs.Facts.{OkLine}
 use Rattle.tables.proofs.Wide.{AllWide, grow_wide}
 use Rattle.circuits.specs.Layout.{Layout, type_at, place_at, line_type_in, place_of, lay, lay_all}
-use Rattle.programs.specs.Translation.{Known, info, none_known, known_at, mask_of, with_mask}
+use Rattle.programs.specs.declared.Known.{Known}
+use Rattle.programs.specs.Translation.{none_known, known_at, mask_of, with_mask}
 use Rattle.programs.proofs.Lists.{length_snoc, snoc₃}
 use Rattle.programs.proofs.Grew.{lines, Even, Grew, grew_more, line_more, even_line, grew_line, new_type, new_place}
 
 -- ---- a line's type t and place q, and what the translator knows of it, f
 
 pub record Reg (Z : Layout) (t : Ty) (q : ℕ) (f : Known) : Type 0 where
-  pub inb : f.num < lines Z
-  pub type : type_at Z f.num ≡ t
-  pub at : t.role ≡ 4 → place_at Z f.num ≡ q
+  pub inb : f.number < lines Z
+  pub type : type_at Z f.number ≡ t
+  pub at : t.role ≡ 4 → place_at Z f.number ≡ q
   pub low : t.role ≡ 4 → q < Z.counts.states
 
 pub record Rel (Z : Layout) (t : Ty) (q : ℕ) (f : Known) : Type 0 where
   pub flat : t.iw ≡ 0
-  pub sort : t.role ≡ 1 → f.w ≡ t.w
+  pub sort : t.role ≡ 1 → f.width ≡ t.w
   pub value : 2 ≤ t.role → Reg Z t q f
 
 reg_grew : {Z Z' : Layout} {t : Ty} {q : ℕ} {f : Known} → Grew Z Z' → Reg Z t q f → Reg Z' t q f
 reg_grew {f = f} g r =
     record {
       inb = le_trans r.inb g.longer;
-      type = g.types f.num r.inb ∙ r.type;
-      at = λ e. g.places f.num r.inb ∙ r.at e;
+      type = g.types f.number r.inb ∙ r.type;
+      at = λ e. g.places f.number r.inb ∙ r.at e;
       low = λ e. le_trans (r.low e) g.states;
     }
 
@@ -95,7 +96,7 @@ pub record Fresh (Z : Layout) (l : Line) (t : Ty) (q : ℕ) (w : ℕ) (lo : Bool
   pub low : t.role ≡ 4 → q < (lay true Z l).counts.states
 
 module _ {Z : Layout} (ev : Even Z) {l : Line} {t : Ty} {q : ℕ} {w : ℕ} {lo : Bool} (h : Fresh Z l t q w lo) (b : ℕ) (e : b ≡ lines Z) where
-  fresh_reg : (f : Known) → f.num ≡ b → Reg (lay true Z l) t q f
+  fresh_reg : (f : Known) → f.number ≡ b → Reg (lay true Z l) t q f
   fresh_reg f n =
       record {
         inb = omega (arith, line_more true ev l);
@@ -113,7 +114,7 @@ module _ {Z : Layout} (ev : Even Z) {l : Line} {t : Ty} {q : ℕ} {w : ℕ} {lo 
       let r : ty (value_role (marked t)) 0 w ≡ t = λ i. ty (role_back t.role h.class (h.loose o) i) (sym h.flat i) (sym h.width i) in
       p ∙ r
 
-  mask_reg : lo ≡ true → (f : Known) → f.num ≡ suc b → Reg (lay true (lay true Z l) (mask_of w b)) t q f
+  mask_reg : lo ≡ true → (f : Known) → f.number ≡ suc b → Reg (lay true (lay true Z l) (mask_of w b)) t q f
   mask_reg o f n =
       let ev₁ = even_line true ev l in
       let e₁ : suc b ≡ lines (lay true Z l) = omega (arith, line_more true ev l) in

@@ -15,7 +15,8 @@ use Rattle.tables.proofs.Facts.{OkLine, OkExpr, AllOk}
 use Rattle.tables.proofs.Values.{val_iw, val_w, val_value, val_most}
 use Rattle.circuits.specs.Layout.{Layout, type_at, place_at, line_type_in, place_of, size, lay, lay_all, no_layout, layout}
 use Rattle.programs.specs.Uses.{loose_line, loose_expr, has_needing_use}
-use Rattle.programs.specs.Translation.{Known, info, none_known, known_at, operand_width, operand_number, loose_of, with_mask, renumbered, instructions_of, array_sort_line, has_array, translate_from, translate}
+use Rattle.programs.specs.declared.Known.{Known}
+use Rattle.programs.specs.Translation.{info, none_known, known_at, operand_width, operand_number, loose_of, with_mask, renumbered, instructions_of, array_sort_line, has_array, translate_from, translate}
 use Rattle.programs.proofs.Grew.{lines, Even, grew_none, line_more, even_line, grew_line}
 use Rattle.programs.proofs.Laid.{Rel, rel_none, Laid, laid_end, sort_of_width, Fresh, puts}
 

@@ -1,29 +1,28 @@
 -- The first pass: after i records the marks and the lines ahead name the lines that have a needing use. And the search for an array sort. Assumes nothing.
+use Rattle.std.specs.Prelude.{Ok}
 use Prim.Native.Nat.{ℕ, ◌+◌, ◌≤◌, ◌<◌}
 use mathlib.Core.Path.{◌≡◌, refl, sym, ap, ◌∙◌, subst}
 use mathlib.Core.Bool.{Bool, true, false, ◌&&◌, ◌||◌}
 use mathlib.Core.List.{List, [], ◌∷◌, ◌++◌}
 use native.Mathlib.Omega.{arith}
 use lib.Dec.{eqb}
-use lib.ListN.{length, get_or, set, drop, replicate, length-set}
+use lib.ListN.{length, get_or, set, drop, replicate, length-set, length-replicate}
 use lib.Seq.{get_or-set_same, get_or-set_other}
 use borrow.Author.Tests.{eq-eqb, ne_eqb}
 use Rattle.words.specs.Kinds.{need_kind₁, need_kind₂}
-use Rattle.tables.specs.declared.Checked.TheVariants.{Accepted}
 use Rattle.tables.specs.Pick.{pick, among}
 use Rattle.tables.specs.Lines.{Line, kind_in, first_in, second_in}
 use Rattle.tables.specs.Layout.{record_at, lines_of}
 use Rattle.tables.specs.Tables.{checked}
 use Rattle.tables.proofs.Laws.{or_true, or_false}
-use Rattle.tables.proofs.Checking.{zeros_at}
 use Rattle.tables.proofs.Showing.{by_place}
 use Rattle.programs.specs.Uses.{when, needs, has_needing_use}
 use Rattle.programs.specs.Translation.{array_sort_line, has_array}
-use Rattle.programs.specs.Model.Kinds.{second_line, uses_of, mark_if, uses_marked, flag_at}
+use Rattle.programs.specs.Model.Kinds.{second_line, uses_of, mark_if, uses_marked, mark_at}
 use Rattle.programs.specs.Model.Passes.{Needing}
 use Rattle.programs.proofs.Reading.{need_row₁, need_row₂}
 use Rattle.programs.proofs.Modelled.{needs_words, array_words}
-use Rattle.programs.proofs.Keeping.{zeros_count, line_at, no_line}
+use Rattle.programs.proofs.Keeping.{blank_at, line_at, no_line}
 
 -- ---- one record
 
@@ -35,24 +34,24 @@ among_append : (j : ℕ) (xs ys : List ℕ) → among j (xs ++ ys) ≡ (among j 
 among_append j [] ys = refl
 among_append j (x ∷ xs) ys = ap (λ (t : Bool). eqb j x || t) (among_append j xs ys) ∙ sym (or_assoc (eqb j x) (among j xs) (among j ys))
 
-mark_law : (v a : ℕ) (ms : List ℕ) (t : Bool) → eqb v 1 ≡ t → (j : ℕ) → j < length ms → flag_at (mark_if v a ms) j ≡ (flag_at ms j || among j (when t a))
-mark_law v a ms false e j h = rw e (sym (or_false (flag_at ms j)))
+mark_law : (v a : ℕ) (ms : List Bool) (t : Bool) → eqb v 1 ≡ t → (j : ℕ) → j < length ms → mark_at (mark_if v a ms) j ≡ (mark_at ms j || among j (when t a))
+mark_law v a ms false e j h = rw e (sym (or_false (mark_at ms j)))
 mark_law v a ms true e j h =
     rw e
     (by_place j a
-    (λ z. ap (λ (x : ℕ). flag_at (set ms a 1) x) z ∙ ap (λ (x : ℕ). eqb x 1) (get_or-set_same ms a 1 0 (omega arith)) ∙ sym (ap (λ (t : Bool). flag_at ms j || (t || false)) (eq-eqb j a z) ∙ or_true (flag_at ms j)))
-    (λ z. ap (λ (x : ℕ). eqb x 1) (get_or-set_other ms a j 1 0 z) ∙ sym (ap (λ (t : Bool). flag_at ms j || (t || false)) (ne_eqb j a z) ∙ or_false (flag_at ms j))))
+    (λ z. ap (λ (x : ℕ). mark_at (set ms a true) x) z ∙ get_or-set_same ms a true false (omega arith) ∙ sym (ap (λ (t : Bool). mark_at ms j || (t || false)) (eq-eqb j a z) ∙ or_true (mark_at ms j)))
+    (λ z. get_or-set_other ms a j true false z ∙ sym (ap (λ (t : Bool). mark_at ms j || (t || false)) (ne_eqb j a z) ∙ or_false (mark_at ms j))))
 
-mark_length : (v a : ℕ) (ms : List ℕ) → length (mark_if v a ms) ≡ length ms
+mark_length : (v a : ℕ) (ms : List Bool) → length (mark_if v a ms) ≡ length ms
 mark_length v a ms = go (eqb v 1)
   where
-    go : (t : Bool) → length (pick t (set ms a 1) ms) ≡ length ms
-    go true = length-set ms a 1
+    go : (t : Bool) → length (pick t (set ms a true) ms) ≡ length ms
+    go true = length-set ms a true
     go false = refl
 
 -- the marks of a record are the lines that its line needs clean
-needing_law : (l : Line) (r ms : List ℕ) → needs l ≡ when (need_kind₁ (kind_in r)) (first_in r) ++ when (need_kind₂ (kind_in r) && second_line (kind_in r)) (second_in r) → kind_in r ≤ 63
-    → (j : ℕ) → j < length ms → flag_at (uses_marked r ms) j ≡ (flag_at ms j || among j (needs l))
+needing_law : (l : Line) (r : List ℕ) (ms : List Bool) → needs l ≡ when (need_kind₁ (kind_in r)) (first_in r) ++ when (need_kind₂ (kind_in r) && second_line (kind_in r)) (second_in r) → kind_in r ≤ 63
+    → (j : ℕ) → j < length ms → mark_at (uses_marked r ms) j ≡ (mark_at ms j || among j (needs l))
 needing_law l r ms e k j h =
     let u = uses_of (kind_in r) in
     let m₁ = mark_if (get_or u 0 0) (first_in r) ms in
@@ -60,26 +59,26 @@ needing_law l r ms e k j h =
     let w₂ = when (need_kind₂ (kind_in r) && second_line (kind_in r)) (second_in r) in
     mark_law (get_or u 1 0) (second_in r) m₁ _ (need_row₂ (kind_in r) k) j (omega (arith, mark_length (get_or u 0 0) (first_in r) ms))
     ∙ ap (λ (t : Bool). t || among j w₂) (mark_law (get_or u 0 0) (first_in r) ms _ (need_row₁ (kind_in r) k) j h)
-    ∙ or_assoc (flag_at ms j) (among j w₁) (among j w₂)
-    ∙ ap (λ (t : Bool). flag_at ms j || t) (sym (among_append j w₁ w₂) ∙ sym (ap (among j) e))
+    ∙ or_assoc (mark_at ms j) (among j w₁) (among j w₂)
+    ∙ ap (λ (t : Bool). mark_at ms j || t) (sym (among_append j w₁ w₂) ∙ sym (ap (among j) e))
 
 -- ---- all records
 
-pub record Marking (t : List ℕ) (n i : ℕ) (ms : List ℕ) : Type 0 where
+pub record Marking (t : List ℕ) (n i : ℕ) (ms : List Bool) : Type 0 where
   pub size : length ms ≡ 16385
   pub most : i ≤ n
-  pub at : (j : ℕ) → j < 16385 → (flag_at ms j || has_needing_use (drop i (lines_of false t n)) j) ≡ has_needing_use (lines_of false t n) j
+  pub at : (j : ℕ) → j < 16385 → (mark_at ms j || has_needing_use (drop i (lines_of false t n)) j) ≡ has_needing_use (lines_of false t n) j
 
-pub marking_start : (t : List ℕ) (n : ℕ) {ms : List ℕ} → ms ≡ replicate 16385 0 → Marking t n 0 ms
+pub marking_start : (t : List ℕ) (n : ℕ) {ms : List Bool} → ms ≡ replicate 16385 false → Marking t n 0 ms
 marking_start t n e =
     record {
-      size = zeros_count 16385 e;
+      size = ap length e ∙ length-replicate {A = Bool} 16385 false;
       most = omega arith;
-      at = λ j h. ap (λ (x : List ℕ). flag_at x j || has_needing_use (lines_of false t n) j) e ∙ ap (λ (x : ℕ). eqb x 1 || has_needing_use (lines_of false t n) j) (zeros_at 16385 j);
+      at = λ j h. ap (λ (x : List Bool). mark_at x j || has_needing_use (lines_of false t n) j) e ∙ ap (λ (x : Bool). x || has_needing_use (lines_of false t n) j) (blank_at false 16385 j);
     }
 
-module _ {t : List ℕ} {n i : ℕ} {ms : List ℕ} (M : Marking t n i ms) (e : checked false t n ≡ Accepted) where
-  pub marking_more : {ms₁ : List ℕ} (r : List ℕ) → i < n → r ≡ record_at false t i → ms₁ ≡ uses_marked r ms → Marking t n (i + 1) ms₁
+module _ {t : List ℕ} {n i : ℕ} {ms : List Bool} (M : Marking t n i ms) (e : checked false t n ≡ Ok tt) where
+  pub marking_more : {ms₁ : List Bool} (r : List ℕ) → i < n → r ≡ record_at false t i → ms₁ ≡ uses_marked r ms → Marking t n (i + 1) ms₁
   marking_more {ms₁} r l er q =
       let x = line_at t n i e l in
       let w : needs x.line ≡ when (need_kind₁ (kind_in (record_at false t i))) (first_in (record_at false t i)) ++ when (need_kind₂ (kind_in (record_at false t i)) && second_line (kind_in (record_at false t i))) (second_in (record_at false t i)) =
@@ -90,15 +89,15 @@ module _ {t : List ℕ} {n i : ℕ} {ms : List ℕ} (M : Marking t n i ms) (e : 
         size = ap length p ∙ mark_length (get_or (uses_of (kind_in (record_at false t i))) 1 0) (second_in (record_at false t i)) (mark_if (get_or (uses_of (kind_in (record_at false t i))) 0 0) (first_in (record_at false t i)) ms) ∙ mark_length (get_or (uses_of (kind_in (record_at false t i))) 0 0) (first_in (record_at false t i)) ms ∙ M.size;
         most = omega arith;
         at = λ j h.
-            ap (λ (y : List ℕ). flag_at y j || has_needing_use R j) p
+            ap (λ (y : List Bool). mark_at y j || has_needing_use R j) p
             ∙ ap (λ (b : Bool). b || has_needing_use R j) (needing_law x.line (record_at false t i) ms w x.kind j (omega (arith, M.size)))
-            ∙ or_assoc (flag_at ms j) (among j (needs x.line)) (has_needing_use R j)
-            ∙ sym (ap (λ (y : List Line). flag_at ms j || has_needing_use y j) x.rest)
+            ∙ or_assoc (mark_at ms j) (among j (needs x.line)) (has_needing_use R j)
+            ∙ sym (ap (λ (y : List Line). mark_at ms j || has_needing_use y j) x.rest)
             ∙ M.at j h;
       }
 
-pub marking_end : {t : List ℕ} {n i : ℕ} {ms : List ℕ} → Marking t n i ms → n ≤ i → Needing (lines_of false t n) ms
-marking_end {t} {n} {i} {ms} M l = record { size = M.size; at = λ j h. sym (or_false (flag_at ms j)) ∙ sym (ap (λ (y : List Line). flag_at ms j || has_needing_use y j) (no_line t n i l)) ∙ M.at j h }
+pub marking_end : {t : List ℕ} {n i : ℕ} {ms : List Bool} → Marking t n i ms → n ≤ i → Needing (lines_of false t n) ms
+marking_end {t} {n} {i} {ms} M l = record { size = M.size; at = λ j h. sym (or_false (mark_at ms j)) ∙ sym (ap (λ (y : List Line). mark_at ms j || has_needing_use y j) (no_line t n i l)) ∙ M.at j h }
 
 -- ---- an array sort among the lines
 
@@ -110,7 +109,7 @@ pub record Looked (t : List ℕ) (n i : ℕ) (found : Bool) : Type 0 where
 pub array_start : (t : List ℕ) (n : ℕ) → Looked t n 0 false
 array_start t n = record { most = omega arith; at = refl }
 
-module _ {t : List ℕ} {n i : ℕ} {found : Bool} (Y : Looked t n i found) (e : checked false t n ≡ Accepted) where
+module _ {t : List ℕ} {n i : ℕ} {found : Bool} (Y : Looked t n i found) (e : checked false t n ≡ Ok tt) where
   abbrev ahead : Bool
   ahead = has_array (drop (i + 1) (lines_of false t n))
 

@@ -13,7 +13,8 @@ use Rattle.tables.specs.Lines.{Line, Expr, bitvec, array, input, state, value, i
 use Rattle.tables.proofs.Laws.{or_true, and_true}
 use Rattle.tables.proofs.Shapes.{BinaryKind, binary_range, each_binary}
 use Rattle.programs.specs.Uses.{loose_line, when, needs}
-use Rattle.programs.specs.Translation.{array_sort_line, Known, info, operand_width, operand_number, loose_of, Made, with_mask, instructions_of}
+use Rattle.programs.specs.declared.Known.{Known}
+use Rattle.programs.specs.Translation.{array_sort_line, info, operand_width, operand_number, loose_of, Made, with_mask, instructions_of}
 use Rattle.programs.specs.Model.Kinds.{first_line, second_line, third_line, has_value}
 use Rattle.programs.specs.Model.Records.{loose_in, instruction, mask_record, width_in, number_in, emitted}
 

@@ -14,7 +14,8 @@ use Rattle.tables.specs.Lines.{Line, init_or_next}
 use Rattle.tables.specs.Types.{ty_at, given, given_by, no_ctx}
 use Rattle.tables.proofs.Showing.{by_place, among_snoc, earlier}
 use Rattle.circuits.specs.Layout.{Layout, type_at, line_type_in, lay, no_layout}
-use Rattle.programs.specs.Translation.{Known, none_known, operand_number}
+use Rattle.programs.specs.declared.Known.{Known}
+use Rattle.programs.specs.Translation.{none_known, operand_number}
 use Rattle.programs.proofs.Lists.{below_snoc}
 use Rattle.programs.proofs.Grew.{lines, line_more, grew_line, new_type}
 use Rattle.programs.proofs.Laid.{Laid}
@@ -42,10 +43,10 @@ module _ {Y Z : Layout} {J : List Known} (v : Laid Y Z J) (o : Once Y Z J) (l : 
   old_type i h = (grew_line false v.even_y l).types i h
 
   pub old_number : (i : ℕ) → i < lines Y → operand_number (J ++ (f ∷ [])) i ≡ operand_number J i
-  old_number i h = ap (λ (x : Known). x.num) (below_snoc J f none_known i (omega (arith, v.known)))
+  old_number i h = ap (λ (x : Known). x.number) (below_snoc J f none_known i (omega (arith, v.known)))
 
-  pub new_number : operand_number (J ++ (f ∷ [])) (lines Y) ≡ f.num
-  new_number = ap (λ (x : Known). x.num) (get_or_at J f [] none_known (lines Y) v.known)
+  pub new_number : operand_number (J ++ (f ∷ [])) (lines Y) ≡ f.number
+  new_number = ap (λ (x : Known). x.number) (get_or_at J f [] none_known (lines Y) v.known)
 
   -- a number of the new circuit is an earlier line's or the new one's
   cases : {P : Type 0} (i : ℕ) → 1 ≤ (type_at (lay false Y l) i).role → (i < lines Y → P) → (i ≡ lines Y → P) → P
@@ -53,7 +54,7 @@ module _ {Y Z : Layout} {J : List Known} (v : Laid Y Z J) (o : Once Y Z J) (l : 
       let k : i < lines (lay false Y l) = earlier (lay false Y l).ctx.tys i h in
       by_place i (lines Y) b (λ n. a (omega (arith, line_more false v.even_y l)))
 
-  module _ (num : 2 ≤ (line_type_in false Y l).role → lines Z ≤ f.num) where
+  module _ (num : 2 ≤ (line_type_in false Y l).role → lines Z ≤ f.number) where
     new_value : (i : ℕ) → i ≡ lines Y → 2 ≤ (type_at (lay false Y l) i).role → lines Z ≤ operand_number (J ++ (f ∷ [])) i
     new_value i e h = subst⁻¹ (λ (x : ℕ). lines Z ≤ operand_number (J ++ (f ∷ [])) x) e (subst⁻¹ (λ (x : ℕ). lines Z ≤ x) new_number (num (subst (λ (t : Ty). 2 ≤ t.role) (new_type false v.even_y l i e) h)))
 

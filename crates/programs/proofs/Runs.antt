@@ -18,7 +18,8 @@ use Rattle.circuits.specs.Meaning.{Frame, eval_line, eval_all, no_frame, step}
 use Rattle.circuits.specs.Run.{input_count, row_length, inputs_at, free_at, start, entered, step_from, words_before, run, step_at, bytes, first_bad}
 use Rattle.circuits.proofs.SameRows.{row_same, inputs_same, entered_same, entered_long, run_same}
 use Rattle.programs.specs.Uses.{has_needing_use}
-use Rattle.programs.specs.Translation.{Known, none_known, instructions_of, array_sort_line, has_array, translate_from, translate}
+use Rattle.programs.specs.declared.Known.{Known}
+use Rattle.programs.specs.Translation.{none_known, instructions_of, array_sort_line, has_array, translate_from, translate}
 use Rattle.programs.proofs.Grew.{lines, Even, even_line, grew_line}
 use Rattle.programs.proofs.LaidLines.{laid_start, lines_more, same_counts}
 use Rattle.programs.proofs.FreeCells.{width_here, widths_from, state_width, Tame, sources_program, fed_tame}

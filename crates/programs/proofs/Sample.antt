@@ -1,11 +1,11 @@
 -- The request's flat circuit meets the premises: it and its program run alike, and the program is accepted. Of another the free states are computed, and those of its program.
 -- Assumes nothing.
+use Rattle.std.specs.Prelude.{Ok}
 use Prim.Native.Nat.{ℕ, ◌≤◌}
 use mathlib.Core.Path.{◌≡◌, refl}
 use mathlib.Core.Bool.{true, false}
 use mathlib.Core.List.{List, [], ◌∷◌}
 use lib.ListN.{length}
-use Rattle.tables.specs.declared.Checked.TheVariants.{Accepted}
 use Rattle.tables.specs.Kinds.{row_of}
 use Rattle.tables.specs.Lines.{fields}
 use Rattle.tables.specs.Layout.{filled_by, lines_of, table_with}
@@ -30,14 +30,14 @@ pub sample_alike : (k : ℕ) (S I : List ℕ) → 2 ≤ length S → Small I →
 unfolding layout filled_by
 sample_alike k S I h w = alike (lines_of false request_flat 19) sample_ok refl k S I h w
 
-pub sample_accepted : checked true (program_left request_flat 19 85) 17 ≡ Accepted
+pub sample_accepted : checked true (program_left request_flat 19 85) 17 ≡ Ok tt
 sample_accepted = target_accepted request_flat 19 85 17 exact_answer
 
 -- 1 sort bitvec 8, 2 sort bitvec 5, 3 input 1, 4 state 1, 5 state 1, 6 state 2, 7 next 1 5 3: the states 4 and 6 are free. The input gets a mask, so in the program the states are 3, 4 and 5
 abbrev free_flat : List ℕ
 free_flat = table_with false (fields 1 0 8 0 0 ∷ fields 1 0 5 0 0 ∷ fields 4 1 0 0 0 ∷ fields 5 1 0 0 0 ∷ fields 5 1 0 0 0 ∷ fields 5 2 0 0 0 ∷ fields 7 1 5 3 0 ∷ [])
 
-free_accepted : checked false free_flat 7 ≡ Accepted
+free_accepted : checked false free_flat 7 ≡ Ok tt
 unfolding filled_by checked fault suits row_of
 free_accepted = refl
 

@@ -21,7 +21,8 @@ use Rattle.circuits.specs.Cells.{if_nonzero, part, put as put_words}
 use Rattle.circuits.specs.Layout.{Layout, type_at, place_at, line_type_in, size, lay, lay_all}
 use Rattle.circuits.specs.Meaning.{Signal, signal_byte, Frame, cells_at, word_at, state_words, state_cells, given_words, states_after, eval_line, eval_all}
 use Rattle.programs.specs.Uses.{loose_line, loose_expr, needs, needs_binary}
-use Rattle.programs.specs.Translation.{Known, info, none_known, operand_width, operand_number, loose_of, instructions_of, array_sort_line}
+use Rattle.programs.specs.declared.Known.{Known}
+use Rattle.programs.specs.Translation.{info, none_known, operand_width, operand_number, loose_of, instructions_of, array_sort_line}
 use Rattle.programs.proofs.Grew.{lines, grew_none}
 use Rattle.programs.proofs.Laid.{Laid}
 use Rattle.programs.proofs.LaidLines.{and_never, typed, fresh_input, fresh_state, fresh_val, laid_line}

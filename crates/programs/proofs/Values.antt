@@ -25,7 +25,8 @@ use Rattle.circuits.specs.Cells.{if_nonzero, eq_or_neq, same_cells}
 use Rattle.circuits.specs.Layout.{type_at}
 use Rattle.circuits.specs.Meaning.{Frame, cells_at, word_at, width_at}
 use Rattle.programs.specs.Uses.{loose_expr, when, needs_expr}
-use Rattle.programs.specs.Translation.{Known, operand_width, operand_number, loose_of, renumbered}
+use Rattle.programs.specs.declared.Known.{Known}
+use Rattle.programs.specs.Translation.{operand_width, operand_number, loose_of, renumbered}
 use Rattle.circuits.proofs.Fitting.{Suits, fit_unary, fit_binary, plain_one}
 use Rattle.programs.proofs.LaidLines.{typed}
 use Rattle.programs.proofs.Operator.{at_use_lem, exact_result, operator}

@@ -1,9 +1,8 @@
 -- What translating answers and leaves. "Translating: 1 for either list; 11; 19 a record of kind 2 is present; 12", the first that holds; else the number of records of the
 -- program. Assumes nothing.
-use Rattle.std.specs.Prelude.{ℕ, Bool, true, false, ◌&&◌, List, [], ◌∷◌, map, length}
+use Rattle.tables.specs.declared.Refusal.{Refusal}
+use Rattle.std.specs.Prelude.{ℕ, Bool, true, false, ◌&&◌, List, [], ◌∷◌, map, length, Result, Err}
 use Rattle.tables.specs.declared.Refusal.TheVariants.{NotATable, ArrayPresent}
-use Rattle.tables.specs.declared.Answer.{Answer}
-use Rattle.tables.specs.declared.Answer.TheVariants.{Refused}
 use Rattle.tables.specs.Pick.{pick}
 use Rattle.tables.specs.Lines.{Line, words_of}
 use Rattle.tables.specs.Layout.{whole, lines_of, filled}
@@ -16,16 +15,16 @@ abbrev pub program_of : List ℕ → ℕ → List Line
 program_of t n = translate (lines_of false t n)
 
 -- 19: a counted record of kind 2 is present
-abbrev pub flat_only : Bool → Answer → Answer
-flat_only true r = Refused ArrayPresent 0
+abbrev pub flat_only : Bool → Result ℕ Refusal → Result ℕ Refusal
+flat_only true r = Err ArrayPresent
 flat_only false r = r
 
 -- what translating answers for the table t with its count n, and a target of len words
-unfoldable pub translated : (t : List ℕ) (n len : ℕ) → Answer
+unfoldable pub translated : (t : List ℕ) (n len : ℕ) → Result ℕ Refusal
 translated t n len =
     pick (whole false (length t) && whole true len)
     (if_accepted (checked false t n) (flat_only (has_array (lines_of false t n)) (fitting true (length (program_of t n)) len)))
-    (Refused NotATable 0)
+    (Err NotATable)
 
 -- what the target holds then: the program's records and zeros past their end; zeros after a refusal
 unfoldable pub program_left : (t : List ℕ) (n len : ℕ) → List ℕ

@@ -1,8 +1,6 @@
 -- Flat circuits and their programs, computed. Assumes nothing.
-use Rattle.std.specs.Prelude.{ℕ, ◌-◌, ◌≡◌, refl, true, false, List, [], ◌∷◌, map, length, get_or, replicate}
+use Rattle.std.specs.Prelude.{ℕ, ◌-◌, ◌≡◌, refl, true, false, List, [], ◌∷◌, map, length, get_or, replicate, Ok, Err}
 use Rattle.tables.specs.declared.Refusal.TheVariants.{NotATable, BadTable, ArrayPresent}
-use Rattle.tables.specs.declared.Checked.TheVariants.{Accepted}
-use Rattle.tables.specs.declared.Answer.TheVariants.{Done, Refused}
 use Rattle.tables.specs.Kinds.{row_of}
 use Rattle.tables.specs.Lines.{Line, fields, words_of}
 use Rattle.tables.specs.Layout.{filled_by, records_of, filled, words_for, table_with}
@@ -37,7 +35,7 @@ sixth : get_or (program_of request_flat 19) 5 Line.unknown ≡ mask_of 1 5
 unfolding filled_by translate
 sixth = refl
 
-pub flat_accepted : checked false request_flat 19 ≡ Accepted
+pub flat_accepted : checked false request_flat 19 ≡ Ok tt
 unfolding filled_by checked fault suits row_of
 flat_accepted = refl
 
@@ -61,7 +59,7 @@ second_program =
     ∷ fields 52 16 9 3 0 ∷ fields 53 8 5 9 1 ∷ fields 56 8 11 0 0 ∷ fields 33 8 8 9 0 ∷ fields 56 8 13 0 0 ∷ fields 21 1 14 12 0 ∷ fields 39 64 6 6 0 ∷ fields 10 0 16 0 0 ∷ fields 8 0 15 0 0
     ∷ fields 18 8 10 7 0 ∷ []
 
-second_accepted : checked false second_table 18 ≡ Accepted
+second_accepted : checked false second_table 18 ≡ Ok tt
 unfolding filled_by checked fault suits row_of
 second_accepted = refl
 
@@ -72,7 +70,7 @@ second_program_lem = refl
 -- ---- the answers
 
 -- the program's size is exactly the target's room; a target of one record more; one of one record less
-pub exact_answer : translated request_flat 19 (words_for true 17) ≡ Done 17
+pub exact_answer : translated request_flat 19 (words_for true 17) ≡ Ok 17
 unfolding translated filled_by checked fault suits row_of translate
 exact_answer = refl
 
@@ -89,28 +87,28 @@ flat_words_lem : length request_flat ≡ 114
 unfolding filled_by
 flat_words_lem = refl
 
-program_words_lem : translated request_flat 19 85 ≡ Done 17
+program_words_lem : translated request_flat 19 85 ≡ Ok 17
 unfolding translated filled_by checked fault suits row_of translate
 program_words_lem = refl
 
-uneven_words : translated request_flat 19 84 ≡ Refused NotATable 0
+uneven_words : translated request_flat 19 84 ≡ Err NotATable
 unfolding translated filled_by
 uneven_words = refl
 
 -- 1 comes before 11, 11 before 19, and 19 before 12
-uneven_answer : translated request_flat 20 (words_for true 17 - 1) ≡ Refused NotATable 0
+uneven_answer : translated request_flat 20 (words_for true 17 - 1) ≡ Err NotATable
 unfolding translated filled_by
 uneven_answer = refl
 
-count_answer : translated circuit 12 0 ≡ Refused BadTable 0
+count_answer : translated circuit 12 0 ≡ Err BadTable
 unfolding translated checked fault suits row_of filled_by
 count_answer = refl
 
-array_answer : translated circuit 11 0 ≡ Refused ArrayPresent 0
+array_answer : translated circuit 11 0 ≡ Err ArrayPresent
 unfolding translated checked fault suits row_of filled_by
 array_answer = refl
 
 -- records past the count are not looked at: the array sort is the third
-two_answer : translated circuit 2 0 ≡ Done 0
+two_answer : translated circuit 2 0 ≡ Ok 0
 unfolding translated checked fault suits row_of translate filled_by
 two_answer = refl

@@ -2,6 +2,7 @@
 -- word is the width, operands are instruction numbers, and kind 56 is the mask. Assumes nothing.
 use Rattle.std.specs.Prelude.{ℕ, suc, ◌+◌, Bool, true, false, ◌||◌, List, [], ◌∷◌, ◌++◌, length, get_or}
 use Rattle.tables.specs.Lines.{Line, Expr, bitvec, array, input, state, value, init_or_next, signal, output, unknown, const, unary, binary, equality, ite, read, write}
+use Rattle.programs.specs.declared.Known.{Known}
 use Rattle.programs.specs.Uses.{loose_line, loose_expr, has_needing_use}
 
 -- ---- a flat circuit has no array sort: no record of kind 2
@@ -21,16 +22,10 @@ abbrev pub has_array : List Line → Bool
 has_array [] = false
 has_array (l ∷ ls) = array_sort_line l || has_array ls
 
--- ---- what is known of an earlier line
+-- ---- what is known of an earlier line: its width, its number and whether it is loose, the struct `Known` of src/lib.rt
 
--- the width of a sort or value, the instruction that uses of it take (its mask where it has one), and whether it is loose
-pub record Known : Type 0 where
-  pub w : ℕ
-  pub num : ℕ
-  pub loose : Bool
-
-abbrev pub info : (w num : ℕ) → Bool → Known
-info w n l = record { w = w; num = n; loose = l }
+abbrev pub info : (width number : ℕ) → Bool → Known
+info w n l = record { width = w; number = n; loose = l }
 
 abbrev pub none_known : Known
 none_known = info 0 0 false
@@ -40,10 +35,10 @@ abbrev pub known_at : List Known → ℕ → Known
 known_at J a = get_or J a none_known
 
 abbrev pub operand_width : List Known → ℕ → ℕ
-operand_width J a = (known_at J a).w
+operand_width J a = (known_at J a).width
 
 abbrev pub operand_number : List Known → ℕ → ℕ
-operand_number J a = (known_at J a).num
+operand_number J a = (known_at J a).number
 
 abbrev pub loose_of : List Known → ℕ → Bool
 loose_of J a = (known_at J a).loose

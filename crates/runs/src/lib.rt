@@ -1,39 +1,34 @@
 // Runs of circuits and of programs: the check of the table, then the engine. The work area is zero after any call, and the signals after a refusal.
 #![tactic(auto)]
 
-ghost use Rattle.std.specs.Prelude.{◌≡◌, false, true, [], ◌∷◌, length, replicate};
-ghost use Rattle.tables.specs.Model.Notes.{Fresh};
+ghost use Rattle.std.specs.Prelude.{◌≡◌, ◌≤◌, ◌<◌, false, true, [], ◌∷◌, length, replicate};
 ghost use Rattle.circuits.specs.Answers.{told_run, runs};
 
-use circuits::Ran;
+use circuits::FirstBad;
 use records::bytes;
 use records::notes::BYTES;
-use tables::Checked;
+use tables::Refusal;
 
-// A run with a list for the notes of the check; signals and work area are zero.
-fn run_noted(
+// A run with a list that has room for N - 1 notes of the check: for all that count, or for all that a table may have; signals and work area are zero.
+fn run_with<const N: usize>(
     program: bool,
     table: &[u64],
     count: usize,
-    notes: &mut [[u8; BYTES]],
     k: usize,
     starts: &[u64],
     inputs: &[u64],
     signals: &mut [u8],
     work: &mut [u64],
-) -> Ran
-    requires { Fresh count notes.old × ((signals.old ≡ replicate (length signals.old) 0) × (work.old ≡ replicate (length work.old) 0)) }
+) -> Result<Option<FirstBad>, Refusal>
+    requires { ((count ≤ 16384 → count < N) × (N ≤ 16385))
+        × ((signals.old ≡ replicate (length signals.old) 0) × (work.old ≡ replicate (length work.old) 0)) }
     ensures { told_run result (signals.new ∷ work.new ∷ []) ≡ runs program table.now count k
         starts.now inputs.now (length signals.old) (length work.old) }
 {
-    match checks::check(program, table, count, notes) {
-        Checked::Refused(r) => {
-            return Ran::Refused(r);
-        }
-        Checked::Accepted => {}
-    }
+    let mut notes = [[0u8; BYTES]; N];
+    checks::check(program, table, count, &mut notes)?;
     engine::run_checked(
-        program, table, count, notes, k, starts, inputs, signals, work,
+        program, table, count, &notes, k, starts, inputs, signals, work,
     )
 }
 
@@ -48,22 +43,16 @@ fn run_table(
     inputs: &[u64],
     signals: &mut [u8],
     work: &mut [u64],
-) -> Ran
+) -> Result<Option<FirstBad>, Refusal>
     ensures { told_run result (signals.new ∷ work.new ∷ []) ≡ runs program table.now count k
         starts.now inputs.now (length signals.old) (length work.old) }
 {
     bytes::clear(signals);
     records::clear(work);
     if count < 512 {
-        let mut few = [[0u8; BYTES]; 512];
-        return run_noted(
-            program, table, count, &mut few, k, starts, inputs, signals, work,
-        );
+        return run_with::<512>(program, table, count, k, starts, inputs, signals, work);
     }
-    let mut notes = [[0u8; BYTES]; 16385];
-    run_noted(
-        program, table, count, &mut notes, k, starts, inputs, signals, work,
-    )
+    run_with::<16385>(program, table, count, k, starts, inputs, signals, work)
 }
 
 // A circuit's run.
@@ -75,7 +64,7 @@ pub fn run_circuit(
     inputs: &[u64],
     signals: &mut [u8],
     work: &mut [u64],
-) -> Ran
+) -> Result<Option<FirstBad>, Refusal>
     ensures { told_run result (signals.new ∷ work.new ∷ []) ≡ runs false table.now count k
         starts.now inputs.now (length signals.old) (length work.old) }
 {
@@ -91,7 +80,7 @@ pub fn run_program(
     inputs: &[u64],
     signals: &mut [u8],
     work: &mut [u64],
-) -> Ran
+) -> Result<Option<FirstBad>, Refusal>
     ensures { told_run result (signals.new ∷ work.new ∷ []) ≡ runs true table.now count k
         starts.now inputs.now (length signals.old) (length work.old) }
 {

@@ -1,4 +1,5 @@
 -- The search for an init line among the kinds of a table, and what a line is by its kind. Assumes nothing.
+use Rattle.std.specs.Prelude.{Ok}
 use Prim.Native.Nat.{ℕ, suc, ◌+◌, ◌≤◌, ◌<◌}
 use mathlib.Core.Path.{◌≡◌, refl, sym, ap, ap₂, ◌∙◌}
 use mathlib.Core.Bool.{Bool, true, false, ◌||◌}
@@ -6,7 +7,6 @@ use mathlib.Core.List.{List, []}
 use native.Mathlib.Omega.{arith}
 use lib.ListN.{length, get_or, drop, drop_of_length-le, get_or-map}
 use lib.Seq.{drop-cons}
-use Rattle.tables.specs.declared.Checked.TheVariants.{Accepted}
 use Rattle.tables.specs.Lines.{Line, is_state, is_init_or_next, shape_of, words_of, kind_in, sort_in}
 use Rattle.tables.specs.Layout.{held, record_at, records_of, lines_of}
 use Rattle.tables.specs.Tables.{checked}
@@ -31,7 +31,7 @@ no_init (Line.signal m a) h = refl
 no_init (Line.output a) h = refl
 no_init Line.unknown h = refl
 
-module _ (p : Bool) (t : List ℕ) (n : ℕ) (acc : checked p t n ≡ Accepted) (i : ℕ) (h : i < n) where
+module _ (p : Bool) (t : List ℕ) (n : ℕ) (acc : checked p t n ≡ Ok tt) (i : ℕ) (h : i < n) where
   -- its record is in the table
   pub record_there : i < held p (length t)
   record_there = omega (arith, (fits_table p t n acc).1)
@@ -60,7 +60,7 @@ pub record Looked (p : Bool) (t : List ℕ) (n i : ℕ) (found : Bool) : Type 0 
 pub init_start : (p : Bool) (t : List ℕ) (n : ℕ) → Looked p t n 0 false
 init_start p t n = record { most = omega arith; at = refl }
 
-module _ {p : Bool} {t : List ℕ} {n i : ℕ} {found : Bool} (Y : Looked p t n i found) (acc : checked p t n ≡ Accepted) where
+module _ {p : Bool} {t : List ℕ} {n i : ℕ} {found : Bool} (Y : Looked p t n i found) (acc : checked p t n ≡ Ok tt) where
   from_here : i < n → (b : Bool) → init_line (get_or (lines_of p t n) i Line.unknown) ≡ b → has_init (lines_of p t n) ≡ (found || (b || has_init (drop (i + 1) (lines_of p t n))))
   from_here h b q =
       let C = lines_of p t n in

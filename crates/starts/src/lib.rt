@@ -2,9 +2,8 @@
 // lines' cells, those from it on the state words.
 #![tactic(auto)]
 
-ghost use Rattle.std.specs.Prelude.{◌≡◌, true, List, ℕ, ◌≤◌, ◌+◌, length, drop};
+ghost use Rattle.std.specs.Prelude.{◌≡◌, true, List, ℕ, ◌≤◌, ◌+◌, length, drop, Ok};
 ghost use Rattle.words.specs.Word.{Width};
-ghost use Rattle.tables.specs.declared.Checked.TheVariants.{Accepted};
 ghost use Rattle.tables.specs.Tables.{checked};
 ghost use Rattle.tables.specs.Layout.{lines_of};
 ghost use Rattle.circuits.specs.Cells.{part, put, mask_words};
@@ -17,16 +16,14 @@ use area::LAID;
 
 // A counted record is an init line. All kinds are looked at, so that the compiled code takes several of them at a time.
 fn has_init(program: bool, table: &[u64], count: usize) -> bool
-    requires { checked program table.now count ≡ Accepted }
+    requires { checked program table.now count ≡ Ok tt }
     ensures { result ≡ has_init (lines_of program table.now count) }
 {
     let mut found = false;
-    let mut i: usize = 0;
-    while i < count {
+    for i in 0..count {
         if records::kind(program, table, i) == 6 {
             found = true;
         }
-        i += 1;
     }
     found
 }
@@ -54,12 +51,10 @@ fn mask_starts(
     requires { (all ≤ length work.old) × NoInit program table.now count laid.now (length (drop all work.old)) }
     ensures { (ι : List ℕ) → drop all work.new ≡ (step program true (lines_of program table.now count) (drop all work.old) ι).sts }
 {
-    let mut i: usize = 0;
-    while i < count {
+    for i in 0..count {
         if records::kind(program, table, i) == 5 {
             mask_state(i + 1, laid, all, work);
         }
-        i += 1;
     }
 }
 

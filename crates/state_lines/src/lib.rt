@@ -13,10 +13,7 @@ use area::LAID;
 fn masks(program: bool, first: bool) -> bool
     ensures { result ≡ (first || not program) }
 {
-    if first {
-        return true;
-    }
-    !program
+    first || !program
 }
 
 pub fn line_state(
@@ -99,9 +96,5 @@ pub fn line_signal(
     }
     let x = area::off(laid, a);
     let p = area::place(laid, n);
-    if work[x] != 0 {
-        sig[p] = 1;
-    } else {
-        sig[p] = 0;
-    }
+    sig[p] = u8::from(work[x] != 0);
 }

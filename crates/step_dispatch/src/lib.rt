@@ -35,16 +35,14 @@ pub fn line(
         5 => state_lines::line_state(program, first, n, laid, all, work),
         6 => state_lines::line_init(first, a, b, laid, all, work),
         7 => state_lines::line_next(first, a, b, laid, all, work),
-        8 => state_lines::line_signal(first, a, n, laid, work, sig),
-        9 => state_lines::line_signal(first, a, n, laid, work, sig),
-        11..=20 => evaluation::line_unary(program, k, a, rec[3], rec[4], n, laid, work),
+        8 | 9 => state_lines::line_signal(first, a, n, laid, work, sig),
+        11..=20 | 56 => evaluation::line_unary(program, k, a, b, c, n, laid, work),
         21 => evaluation::line_equality(true, a, b, n, laid, work),
         22 => evaluation::line_equality(false, a, b, n, laid, work),
         23..=52 | 57..=63 => evaluation::line_binary(program, k, a, b, n, laid, work),
         53 => evaluation::line_ite(a, b, c, n, laid, work),
         54 => evaluation::line_read(a, b, n, laid, work),
         55 => evaluation::line_write(a, b, c, n, laid, work),
-        56 => evaluation::line_unary(program, k, a, rec[3], rec[4], n, laid, work),
         _ => {}
     }
 }

@@ -30,10 +30,9 @@ fn steps(
         × (Rows program (lines_of program table.now count) (ins + fed) free.now × ((k * (ins + fed) ≤ length inputs.now) × (length signals.old ≡ k * sigs)))) }
     ensures { signals.new ≡ bytes (steps_of program (lines_of program table.now count) k (drop all work.old) inputs.now) }
 {
-    let mut i: usize = 0;
-    let mut r: usize = 0;
-    let mut g: usize = 0;
-    while i < k {
+    let mut r = 0;
+    let mut g = 0;
+    for i in 0..k {
         let e = r + ins;
         let n = e + fed;
         let h = g + sigs;
@@ -51,7 +50,6 @@ fn steps(
         );
         r = n;
         g = h;
-        i += 1;
     }
 }
 

@@ -7,28 +7,19 @@ ghost use Rattle.std.specs.Prelude.{◌≡◌, [], ◌∷◌, length};
 ghost use Rattle.tables.specs.Answers.{told};
 ghost use Rattle.programs.specs.Answers.{translates};
 
-use tables::{Answer, Checked, Refusal};
+use tables::Refusal;
 
 // Translates the flat circuit of a table's first `count` records into a program, which goes to the target.
-pub fn translate(table: &[u64], count: usize, target: &mut [u64]) -> Answer
+pub fn translate(table: &[u64], count: usize, target: &mut [u64]) -> Result<usize, Refusal>
     ensures { told result (target.new ∷ []) ≡ translates table.now count (length target.old) }
 {
     records::clear(target);
-    if !records::is_table(false, table.len()) {
-        return Answer::Refused(Refusal::NotATable, 0);
+    if !records::is_table(false, table.len()) || !records::is_table(true, target.len()) {
+        return Err(Refusal::NotATable);
     }
-    if !records::is_table(true, target.len()) {
-        return Answer::Refused(Refusal::NotATable, 0);
+    checks::accept(false, table, count)?;
+    if passes::has_array(table, count) {
+        return Err(Refusal::ArrayPresent);
     }
-    match checks::accept(false, table, count) {
-        Checked::Refused(r) => {
-            return Answer::Refused(r, 0);
-        }
-        Checked::Accepted => {
-            if passes::has_array(table, count) {
-                return Answer::Refused(Refusal::ArrayPresent, 0);
-            }
-            return make::make(table, count, target);
-        }
-    }
+    make::make(table, count, target)
 }

@@ -1,10 +1,10 @@
 // Loose lines and needing uses, by kind; and the marks of lines that have a needing use.
 #![tactic(auto)]
 
-pub mod flags; // lists of marks
+pub mod entries; // lists with an entry for each line number
 
-ghost use Rattle.std.specs.Prelude.{◌≡◌, ◌&&◌, ◌≤◌, ◌/◌, ◌%◌, ◌^◌};
-ghost use Rattle.programs.specs.Model.Kinds.{uses_of, loose_how, first_line, second_line, third_line, has_value, flag_at, mark_if, uses_marked};
+ghost use Rattle.std.specs.Prelude.{◌≡◌, ◌≤◌, ◌/◌, ◌%◌, ◌^◌};
+ghost use Rattle.programs.specs.Model.Kinds.{uses_of, loose_how, first_line, second_line, third_line, has_value, mark_if, uses_marked};
 ghost use Rattle.tables.specs.Lines.{kind_in};
 
 use tables::WORDS;
@@ -48,31 +48,14 @@ pub fn row(k: u64) -> [u8; 3]
 pub fn loose_how(h: u8, l1: bool, l2: bool, l3: bool) -> bool
     ensures { result ≡ loose_how h l1 l2 l3 }
 {
-    if h == 1 {
-        return true;
+    match h {
+        1 => true,
+        2 => l1 && l2,
+        3 => l1 || l2,
+        4 => l2 || l3,
+        5 => l1,
+        _ => false,
     }
-    if h == 2 {
-        if l1 {
-            return l2;
-        }
-        return false;
-    }
-    if h == 3 {
-        if l1 {
-            return true;
-        }
-        return l2;
-    }
-    if h == 4 {
-        if l2 {
-            return true;
-        }
-        return l3;
-    }
-    if h == 5 {
-        return l1;
-    }
-    false
 }
 
 // The first operand is a line.
@@ -86,59 +69,34 @@ pub fn first_line(k: u64) -> bool
 pub fn second_line(k: u64) -> bool
     ensures { result ≡ second_line k }
 {
-    if k < 6 {
-        return false;
-    }
-    if k <= 7 {
-        return true;
-    }
-    k >= 21
+    matches!(k, 6..=7 | 21..)
 }
 
 // The third operand is a line.
 pub fn third_line(k: u64) -> bool
     ensures { result ≡ third_line k }
 {
-    if k == 53 {
-        return true;
-    }
-    k == 55
+    matches!(k, 53 | 55)
 }
 
 // The line has a value.
 pub fn has_value(k: u64) -> bool
     ensures { result ≡ has_value k }
 {
-    if k < 3 {
-        return false;
-    }
-    if k <= 5 {
-        return true;
-    }
-    k >= 11
-}
-
-// An operand is a line that has a mark.
-pub fn used(line: bool, lo: &[u8], a: u64) -> bool
-    ensures { result ≡ (line && flag_at lo.now a) }
-{
-    if !line {
-        return false;
-    }
-    flags::at(lo, a) == 1
+    matches!(k, 3..=5 | 11..)
 }
 
 // A mark at the line a, if v is 1.
-fn mark_if(v: u8, a: u64, marks: &mut [u8])
+fn mark_if(v: u8, a: u64, marks: &mut [bool])
     ensures { marks.new ≡ mark_if v a marks.old }
 {
     if v == 1 {
-        flags::put(marks, a, 1);
+        entries::put(marks, a, true);
     }
 }
 
 // A mark at each line that the record needs clean.
-pub fn mark(rec: [u64; WORDS], marks: &mut [u8])
+pub fn mark(rec: [u64; WORDS], marks: &mut [bool])
     requires { kind_in rec ≤ 63 }
     ensures { marks.new ≡ uses_marked rec marks.old }
 {

@@ -60,9 +60,7 @@ pub fn walk(
         × (first ≡ false → sig.new ≡ bytes_of (step program first (lines_of program table.now count) (drop all work.old) row.now).sigs) }
 {
     let h = records::step(program, table.len());
-    let mut i: usize = 0;
-    while i < count {
+    for i in 0..count {
         line(program, first, table, h, i, laid, all, row, sig, work);
-        i += 1;
     }
 }

@@ -3,10 +3,10 @@
 use mathlib.Core.Path.{◌≡◌, refl, sym, ap, ap₂, ◌∙◌, subst}
 use mathlib.Core.Bool.{Bool, true, false, cond, ◌||◌, or-false}
 use Prim.Native.Nat.{ℕ, zero, suc, ◌+◌, ◌-◌, ◌*◌, ◌/◌, ◌^◌, ◌≤◌, ◌<◌, zero-le}
-use native.Mathlib.Nat.{div-one}
+use native.Mathlib.Nat.{div-lt_iff_lt-mul, mul_comm, div-one}
 use native.Mathlib.Numerals.{add-one}
 use native.Mathlib.Omega.{arith}
-use borrow.Author.Tests.{le-ltb, le-leb, lt-leb, ltb-true, ltb-false, leb-true, leb-false}
+use borrow.Author.Tests.{lt-ltb, le-ltb, le-leb, lt-leb, ltb-true, ltb-false, leb-true, leb-false}
 use lib.Dec.{ltb, leb}
 use lib.Pow.{pow_pos}
 use lib.IntN.{ℤ, pos, negsuc, neg_ℤ, ◌+ℤ◌, ◌-ℤ◌, ◌*ℤ◌}
@@ -31,6 +31,15 @@ lt_as_le a b c d f g = same_test (ltb a b) (leb c d) (λ e. le-leb c d (f (ltb-t
 
 le_as_le : (a b c d : ℕ) → (a ≤ b → c ≤ d) → (b < a → d < c) → leb a b ≡ leb c d
 le_as_le a b c d f g = same_test (leb a b) (leb c d) (λ e. le-leb c d (f (leb-true a b e))) (λ e. lt-leb c d (g (leb-false a b e)))
+
+-- a product against a limit, by one division
+pub product_test : (l p q : ℕ) → 0 < p → ltb (l / p) q ≡ ltb l (p * q)
+product_test l p q h =
+    same_test (ltb (l / p) q) (ltb l (p * q)) (λ e. lt-ltb l (p * q) (subst (λ (n : ℕ). l < n) (mul_comm q p) ((div-lt_iff_lt-mul h).0 (ltb-true (l / p) q e))))
+    (λ e. le-ltb l (p * q) (let f : ¬ (l < p * q) = λ k. absurd (not_below_lem ((div-lt_iff_lt-mul h).1 (subst (λ (n : ℕ). l < n) (mul_comm p q) k)) (ltb-false (l / p) q e)) in omega arith))
+  where
+    not_below_lem : {a b : ℕ} → a < b → b ≤ a → ⊥
+    not_below_lem a b = omega arith
 
 -- ---- outside, in one test
 

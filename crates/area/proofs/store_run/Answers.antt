@@ -1,5 +1,5 @@
 use mathlib.Core.List.{List}
-use Prim.Native.Nat.{ℕ, ◌-◌}
+use Prim.Native.Nat.{ℕ}
 use lib.ListN.{set, length-set}
 use Rattle.circuits.proofs.Puts as laws
 use Rattle.area.proofs.store_run.Goals as goal

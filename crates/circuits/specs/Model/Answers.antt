@@ -1,9 +1,10 @@
 -- What a run of an accepted table answers and leaves. Assumes nothing.
-use Rattle.std.specs.Prelude.{ℕ, ◌+◌, ◌*◌, ◌≤◌, ◌<◌, ◌≡◌, Bool, List, [], ◌∷◌, length, replicate}
+use Rattle.std.specs.Prelude.{ℕ, ◌+◌, ◌*◌, ◌≤◌, ◌<◌, ◌≡◌, Bool, List, [], ◌∷◌, length, replicate, Option, Result, Ok}
 use Rattle.tables.specs.Lines.{Line}
 use Rattle.tables.specs.Layout.{lines_of}
 use Rattle.tables.specs.Answers.{Outcome}
-use Rattle.circuits.specs.declared.Ran.{Ran}
+use Rattle.circuits.specs.declared.FirstBad.{FirstBad}
+use Rattle.tables.specs.declared.Refusal.{Refusal}
 use Rattle.circuits.specs.declared.Totals.{Totals}
 use Rattle.circuits.specs.Layout.{layout}
 use Rattle.circuits.specs.Free.{sources, free_count}
@@ -19,10 +20,10 @@ pub record RunAsked (p : Bool) (C : List Line) (t : Totals) (k i g : ℕ) : Type
 
 -- where what is lent lets it start: the first counted bad and the signal bytes of all steps; the work area, of w words, is zero
 abbrev pub started : (program : Bool) (C : List Line) (k : ℕ) (S I : List ℕ) (w : ℕ) → Outcome
-started p C k S I w = told_run (first_bad 0 (run p C k S I)) (bytes (run p C k S I) ∷ replicate w 0 ∷ [])
+started p C k S I w = told_run (Ok (first_bad 0 (run p C k S I))) (bytes (run p C k S I) ∷ replicate w 0 ∷ [])
 
 -- where what is lent decides
-abbrev pub lent_answer : (program : Bool) (t : List ℕ) (n k : ℕ) (S I : List ℕ) (g w : ℕ) → Ran
+abbrev pub lent_answer : (program : Bool) (t : List ℕ) (n k : ℕ) (S I : List ℕ) (g w : ℕ) → Result (Option FirstBad) Refusal
 lent_answer p t n k S I g w = answer_of (lent (layout p (lines_of p t n)).counts (row_length p (lines_of p t n)) k (length S) (length I) g w) (first_bad 0 (run p (lines_of p t n) k S I))
 
 abbrev pub lent_signals : (program : Bool) (t : List ℕ) (n k : ℕ) (S I : List ℕ) (g w : ℕ) → List ℕ

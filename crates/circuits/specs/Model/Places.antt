@@ -1,7 +1,6 @@
 -- Where the cells of each line stand in the work area, and a list that holds what is known of all lines. Assumes nothing.
-use Rattle.std.specs.Prelude.{ℕ, zero, suc, ◌+◌, ◌≤◌, ◌<◌, ◌≡◌, Bool, List, [], ◌∷◌, length}
+use Rattle.std.specs.Prelude.{ℕ, zero, suc, ◌+◌, ◌≤◌, ◌<◌, ◌≡◌, Bool, List, [], ◌∷◌, length, Ok}
 use Rattle.tables.specs.declared.Ty.{Ty}
-use Rattle.tables.specs.declared.Checked.TheVariants.{Accepted}
 use Rattle.tables.specs.Pick.{pick}
 use Rattle.tables.specs.Layout.{lines_of}
 use Rattle.tables.specs.Types.{is_value}
@@ -32,7 +31,7 @@ ShowsAll P Y = (a : ℕ) → a < length Y.places → Shown P a (type_at Y a) (of
 
 -- an accepted table, and a list that holds what is known of its lines
 pub record Ready (p : Bool) (t : List ℕ) (n : ℕ) (P : List (List ℕ)) (all words ins sigs : ℕ) : Type 0 where
-  pub accepted : checked p t n ≡ Accepted
+  pub accepted : checked p t n ≡ Ok tt
   pub shows : ShowsAll P (layout p (lines_of p t n))
   pub cells : (layout p (lines_of p t n)).counts.cells ≡ all
   pub states : (layout p (lines_of p t n)).counts.states ≡ words

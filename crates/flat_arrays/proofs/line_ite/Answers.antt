@@ -5,7 +5,7 @@ use mathlib.Core.Bool.{false}
 use native.Mathlib.Omega.{arith}
 use lib.ListN.{length}
 use Rattle.tables.specs.Layout.{held}
-use Rattle.flattening.specs.Model.Rows.{Tame, of}
+use Rattle.flattening.specs.Model.Rows.{Tame}
 use Rattle.flattening.proofs.Holding.{cell_bound}
 use Rattle.flattening.proofs.Holding.{tame_run, tame_of}
 use Rattle.flattening.proofs.Laying.{size_le}
@@ -13,4 +13,4 @@ use Rattle.tables.specs.Model.Notes.{look_in}
 use Rattle.flat_arrays.proofs.line_ite.Goals as goal
 
 pub rows-requires : goal.rows-requires
-rows-requires c = let a = c.args in (c.requires.neat.sound, (subst⁻¹ Tame c.run.ensures (tame_run c.cell.result 0 (omega (arith, subst⁻¹ (λ (x : ℕ). x ≤ 131072) c.cell.ensures (cell_bound a.kept.now c.requires.neat.sound a.c 0 (omega arith)))) (omega arith)), (subst⁻¹ Tame c.of.ensures (tame_of a.x), (subst⁻¹ Tame c.of-2.ensures (tame_of a.y), (subst⁻¹ (λ (x : ℕ). x ≤ 256) c.size-n.ensures (size_le (look_in a.types.now a.x).iw (c.requires.neat.deep a.x)), subst⁻¹ (λ (x : ℕ). a.p + x ≤ held false (length a.target.now)) c.size-n.ensures c.requires.room)))))
+rows-requires c = let a = c.args in (c.requires.neat.sound, (subst⁻¹ Tame c.run.ensures (tame_run c.word_line.result 0 (omega (arith, subst⁻¹ (λ (x : ℕ). x ≤ 131072) c.word_line.ensures (cell_bound a.lines.kept.now c.requires.neat.sound a.c 0 (omega arith)))) (omega arith)), (subst⁻¹ Tame c.of.ensures (tame_of a.x), (subst⁻¹ Tame c.of-2.ensures (tame_of a.y), (subst⁻¹ (λ (x : ℕ). x ≤ 256) c.size-n.ensures (size_le (look_in a.lines.types.now a.x).iw (c.requires.neat.deep a.x)), subst⁻¹ (λ (x : ℕ). a.p + x ≤ held false (length a.target.now)) c.size-n.ensures c.requires.room)))))

@@ -1,5 +1,5 @@
 -- How the code keeps what later lines need: six numbers for each line, in a list whose index is the line's number. Assumes nothing.
-use Rattle.std.specs.Prelude.{ℕ, zero, suc, ◌+◌, ◌*◌, ◌%◌, ◌≤◌, ◌<◌, ◌≡◌, ◌≢◌, List, [], ◌∷◌, eqb, length, get_or, set}
+use Rattle.std.specs.Prelude.{ℕ, zero, suc, ◌+◌, ◌*◌, ◌%◌, ◌≤◌, ◌<◌, ◌≡◌, ◌≢◌, List, [], ◌∷◌, eqb, length, get_or, set, Option, Some, None}
 use Rattle.tables.specs.Pick.{pick}
 use Rattle.flattening.specs.declared.Made.{Made}
 
@@ -57,17 +57,31 @@ pub record Sound (H : Held) : Type 0 where
   pub low : (m : ℕ) → at_of H m ≤ 65536
   pub few : (m : ℕ) → key_of H m ≤ 257
 
+-- the numbers that are kept of the line written over, and of a small constant: 0 for none
+abbrev pub old_number : Option ℕ → ℕ
+old_number None = 0
+old_number (Some a) = a
+
+abbrev pub con_number : Option ℕ → ℕ
+con_number None = 0
+con_number (Some v) = v + 1
+
+-- the small constant of which the number n is kept
+abbrev pub constant_of : ℕ → Option ℕ
+constant_of zero = None
+constant_of (suc v) = Some v
+
 -- what is kept of a line is small
 pub record Low (m : Made) : Type 0 where
   pub at : m.at ≤ 65536
   pub bit : m.bit ≤ 65536
-  pub old : m.old ≤ 65536
+  pub old : old_number m.old ≤ 65536
   pub key : m.key ≤ 256
-  pub con : m.con ≤ 256
+  pub con : con_number m.con ≤ 256
 
 -- the list with what is kept of the line n; the words stay
 abbrev pub kept_now : Held → ℕ → Made → List ℕ
-kept_now H n m = kept_numbers m.at m.bit m.old m.key m.con (kept_of H 5 n)
+kept_now H n m = kept_numbers m.at m.bit (old_number m.old) m.key (con_number m.con) (kept_of H 5 n)
 
 abbrev pub keep : Held → ℕ → Made → Held
 keep H n m = set H n (kept_now H n m)

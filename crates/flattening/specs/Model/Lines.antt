@@ -1,5 +1,5 @@
 -- What the code makes of one line: the number of its flat lines, their records, and what it keeps. The flat lines so far are p. Assumes nothing.
-use Rattle.std.specs.Prelude.{ℕ, ◌+◌, ◌-◌, ◌*◌, ◌^◌, Bool, true, false, List, [], ◌∷◌, eqb, ltb}
+use Rattle.std.specs.Prelude.{ℕ, ◌+◌, ◌-◌, ◌*◌, ◌^◌, Bool, true, false, List, [], ◌∷◌, eqb, ltb, Option, Some, None}
 use Rattle.tables.specs.Pick.{pick}
 use Rattle.tables.specs.Lines.{Line, Expr, fields, init_or_next_kind, signal_kind, equality_kind}
 use Rattle.tables.specs.Model.Notes.{look_in}
@@ -39,11 +39,11 @@ wide_in N a = (look_in N.types a).w
 abbrev pub size_in : Notes → ℕ → ℕ
 size_in N a = 2 ^ deep_in N a
 
--- a small constant is kept as its value plus one
-abbrev pub small : ℕ → ℕ
-small v = pick (ltb v 256) (v + 1) 0
+-- a constant that is small
+abbrev pub small : ℕ → Option ℕ
+small v = pick (ltb v 256) (Some v) None
 
-abbrev pub made_as : (next at bit old key con : ℕ) → Made
+abbrev pub made_as : (next at bit : ℕ) → (old : Option ℕ) → (key : ℕ) → (con : Option ℕ) → Made
 made_as n a b o k c = record { next = n; at = a; bit = b; old = o; key = k; con = c }
 
 -- the number of flat lines
@@ -101,25 +101,25 @@ line_records N p Line.unknown = fields 0 0 0 0 0 ∷ []
 
 -- what is kept: q is the number of flat lines after the line
 abbrev pub expr_made : Notes → (p q s : ℕ) → Expr → Made
-expr_made N p q s (Expr.const v) = made_as q q (bit_in N s) 0 1 (small v)
-expr_made N p q s (Expr.unary k a x y) = made_as q q (bit_in N s) 0 1 0
-expr_made N p q s (Expr.binary k a b) = made_as q q (bit_in N s) 0 1 0
-expr_made N p q s (Expr.equality e a b) = made_as q q (bit_in N s) 0 1 0
-expr_made N p q s (Expr.ite c a b) = made_as q (p + 1) (bit_in N s) 0 1 0
-expr_made N p q s (Expr.read a i) = made_as q (pick (eqb (con_in N i) 0) q (cell_in N.held a (con_in N i - 1))) (bit_in N s) 0 1 0
+expr_made N p q s (Expr.const v) = made_as q q (bit_in N s) None 1 (small v)
+expr_made N p q s (Expr.unary k a x y) = made_as q q (bit_in N s) None 1 None
+expr_made N p q s (Expr.binary k a b) = made_as q q (bit_in N s) None 1 None
+expr_made N p q s (Expr.equality e a b) = made_as q q (bit_in N s) None 1 None
+expr_made N p q s (Expr.ite c a b) = made_as q (p + 1) (bit_in N s) None 1 None
+expr_made N p q s (Expr.read a i) = made_as q (pick (eqb (con_in N i) 0) q (cell_in N.held a (con_in N i - 1))) (bit_in N s) None 1 None
 expr_made N p q s (Expr.write a i v) =
-    pick (eqb (con_in N i) 0) (made_as q (p + 2) (bit_in N s) 0 2 0) (made_as q (word_line N v) (bit_in N s) a (con_in N i - 1) 0)
+    pick (eqb (con_in N i) 0) (made_as q (p + 2) (bit_in N s) None 2 None) (made_as q (word_line N v) (bit_in N s) (Some a) (con_in N i - 1) None)
 
 abbrev pub line_made : Notes → (p q : ℕ) → Line → Made
-line_made N p q (Line.bitvec w) = made_as q q 0 0 0 0
-line_made N p q (Line.array i e) = made_as q (sort_line N e) (p + 1) 0 0 0
-line_made N p q (Line.input s) = made_as q q (bit_in N s) 0 1 0
-line_made N p q (Line.state s) = made_as q (p + 1) (bit_in N s) 0 1 0
+line_made N p q (Line.bitvec w) = made_as q q 0 None 0 None
+line_made N p q (Line.array i e) = made_as q (sort_line N e) (p + 1) None 0 None
+line_made N p q (Line.input s) = made_as q q (bit_in N s) None 1 None
+line_made N p q (Line.state s) = made_as q (p + 1) (bit_in N s) None 1 None
 line_made N p q (Line.value s e) = expr_made N p q s e
-line_made N p q (Line.init_or_next m s x v) = made_as q 0 0 0 0 0
-line_made N p q (Line.signal m a) = made_as q 0 0 0 0 0
-line_made N p q (Line.output a) = made_as q 0 0 0 0 0
-line_made N p q Line.unknown = made_as q 0 0 0 0 0
+line_made N p q (Line.init_or_next m s x v) = made_as q 0 0 None 0 None
+line_made N p q (Line.signal m a) = made_as q 0 0 None 0 None
+line_made N p q (Line.output a) = made_as q 0 0 None 0 None
+line_made N p q Line.unknown = made_as q 0 0 None 0 None
 
 abbrev pub flat_made : Notes → ℕ → Line → Made
 flat_made N p l = line_made N p (p + flat_count N l) l

@@ -1,7 +1,9 @@
 -- Rows of records as the code makes them, from words that it takes in turn from a source. The flat lines so far are p. Assumes nothing.
-use Rattle.std.specs.Prelude.{ℕ, zero, suc, ◌+◌, ◌-◌, ◌*◌, ◌≤◌, ◌<◌, true, false, List, [], ◌∷◌, ◌++◌, eqb, leb}
+use Rattle.std.specs.Prelude.{ℕ, zero, suc, ◌+◌, ◌-◌, ◌*◌, ◌≤◌, ◌<◌, List, [], ◌∷◌, ◌++◌, leb, Option, Some, None}
 use Rattle.tables.specs.Pick.{pick}
 use Rattle.tables.specs.Lines.{fields}
+use Rattle.flattening.specs.declared.Words.{Words}
+use Rattle.flattening.specs.declared.Words.TheVariants.{Cells, Numbers}
 use Rattle.flattening.specs.declared.Source.{Source}
 use Rattle.flattening.specs.Model.Cells.{Held, cell_in}
 
@@ -9,35 +11,47 @@ use Rattle.flattening.specs.Model.Cells.{Held, cell_in}
 
 -- the numbers base + step * j, one number for all, and the cells of a line; then numbers and cells that fall from the place top
 abbrev pub stepping : (base step : ℕ) → Source
-stepping b s = record { line = 0; base = b; step = s; falling = false; top = 0 }
+stepping b s = record { words = Numbers b s; top = None }
 
 abbrev pub still : ℕ → Source
 still b = stepping b 0
 
 abbrev pub of : ℕ → Source
-of a = record { line = a; base = 0; step = 0; falling = false; top = 0 }
+of a = record { words = Cells a; top = None }
 
 abbrev pub run_down : (base top : ℕ) → Source
-run_down b t = record { line = 0; base = b; step = 1; falling = true; top = t }
+run_down b t = record { words = Numbers b 1; top = Some t }
 
 abbrev pub of_down : (a top : ℕ) → Source
-of_down a t = record { line = a; base = 0; step = 0; falling = true; top = t }
+of_down a t = record { words = Cells a; top = Some t }
 
 -- the place of the word j of a source: a falling one counts down from its top
+abbrev pub down_from : Option ℕ → ℕ → ℕ
+down_from None j = j
+down_from (Some t) j = t - j
+
 abbrev pub turn_at : Source → ℕ → ℕ
-turn_at s j = pick s.falling (s.top - j) j
+turn_at s j = down_from s.top j
 
 -- the word at a place: the flat line of a line's cell, or base + step * i
-abbrev pub word_from : Held → Source → ℕ → ℕ
-word_from H s i = pick (eqb s.line 0) (s.base + s.step * i) (cell_in H s.line i)
+abbrev pub word_from : Held → Words → ℕ → ℕ
+word_from H (Cells a) i = cell_in H a i
+word_from H (Numbers b s) i = b + s * i
 
 abbrev pub source_at : Held → Source → ℕ → ℕ
-source_at H s j = word_from H s (turn_at s j)
+source_at H s j = word_from H s.words (turn_at s j)
+
+abbrev pub TameWords : Words → Type 0
+TameWords (Cells a) = Unit {0}
+TameWords (Numbers b s) = (b ≤ 1048576) × (s ≤ 256)
+
+abbrev pub TameTop : Option ℕ → Type 0
+TameTop None = Unit {0}
+TameTop (Some t) = t < 256
 
 pub record Tame (s : Source) : Type 0 where
-  pub base : s.base ≤ 1048576
-  pub step : s.step ≤ 256
-  pub top : s.top < 256
+  pub words : TameWords s.words
+  pub top : TameTop s.top
 
 -- ---- rows
 

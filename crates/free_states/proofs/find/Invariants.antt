@@ -1,10 +1,6 @@
 -- The lines found so far, and those of the lines to come, are all.
-use Prim.Native.Nat.{◌-◌}
 use Rattle.circuits.proofs.Feeding.{Found}
 use Rattle.free_states.proofs.find.Given as goal
 
 abbrev pub invariant-loop-i : goal.invariant-loop-i
 invariant-loop-i l = Found l.program l.table l.count l.i l.m l.lines
-
-abbrev pub decreases-loop-i : goal.decreases-loop-i
-decreases-loop-i l = l.count - l.i

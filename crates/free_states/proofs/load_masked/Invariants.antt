@@ -1,12 +1,8 @@
 -- So many words are there.
 use mathlib.Core.Path.{◌≡◌}
-use Prim.Native.Nat.{◌-◌, ◌≤◌}
-use lib.ListN.{length, take}
+use lib.ListN.{take}
 use Rattle.circuits.specs.Cells.{mask_words}
 use Rattle.free_states.proofs.load_masked.Given as goal
 
 abbrev pub invariant-loop-i : goal.invariant-loop-i
-invariant-loop-i l = (l.i ≤ length l.from) × ((length l.to ≡ length l.initial.to) × (take l.i l.to ≡ mask_words l.w (take l.i l.from)))
-
-abbrev pub decreases-loop-i : goal.decreases-loop-i
-decreases-loop-i l = length l.from - l.i
+invariant-loop-i l = take l.i l.to ≡ mask_words l.w (take l.i l.from)

@@ -1,4 +1,3 @@
-use Prim.Native.Nat.{◌-◌}
 use native.Mathlib.Omega.{arith}
 use Rattle.programs.proofs.Keeping.{held_here, kind_here}
 use Rattle.programs.proofs.Counting.{walk_start, small_here, walk_more, walk_end, need_here}
@@ -17,7 +16,7 @@ pub loop-i-preserved : goal.loop-i-preserved
 loop-i-preserved c =
     let P = c.requires.0 in
     let l = c.loop-i-test.true in
-    rw c.emitted-b.ensures (walk_more c.loop-i.invariant P.accepted l c.used-need.result (need_here P c.loop-i.i l c.used-need.ensures) c.record-rec.ensures c.take-m.ensures)
+    rw c.emitted-b.ensures (walk_more c.loop-i.invariant P.accepted l c.at-need.result (need_here P c.loop-i.i l c.at-need.ensures) c.record-rec.ensures c.take-m.ensures)
 
 pub returns : goal.returns
 returns c = omega (arith, walk_end c.loop-i.invariant c.loop-i-test.false)

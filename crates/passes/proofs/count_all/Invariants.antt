@@ -1,11 +1,7 @@
 -- The instructions so far and those ahead are the program's.
-use Prim.Native.Nat.{◌-◌}
 use lib.ListN.{length}
 use Rattle.programs.proofs.Counting.{Walk}
 use Rattle.passes.proofs.count_all.Given as goal
 
 abbrev pub invariant-loop-i : goal.invariant-loop-i
-invariant-loop-i l = Walk (length l.initial.wd) l.table l.count l.i l.b l.wd l.num l.lo
-
-abbrev pub decreases-loop-i : goal.decreases-loop-i
-decreases-loop-i l = l.count - l.i
+invariant-loop-i l = Walk (length l.initial.known) l.table l.count l.i l.b l.known

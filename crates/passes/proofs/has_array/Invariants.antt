@@ -1,10 +1,6 @@
 -- What the kinds so far say, or what the lines ahead say, is the answer.
-use Prim.Native.Nat.{◌-◌}
 use Rattle.programs.proofs.Marking.{Looked}
 use Rattle.passes.proofs.has_array.Given as goal
 
 abbrev pub invariant-loop-i : goal.invariant-loop-i
 invariant-loop-i l = Looked l.table l.count l.i l.found
-
-abbrev pub decreases-loop-i : goal.decreases-loop-i
-decreases-loop-i l = l.count - l.i

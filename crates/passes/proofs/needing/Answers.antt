@@ -1,4 +1,3 @@
-use Prim.Native.Nat.{◌-◌}
 use Rattle.programs.proofs.Keeping.{held_here, kind_here}
 use Rattle.programs.proofs.Marking.{marking_start, marking_more, marking_end}
 use Rattle.passes.proofs.needing.Goals as goal

@@ -1,10 +1,6 @@
 -- The marks so far and the lines ahead name the lines with a needing use.
-use Prim.Native.Nat.{◌-◌}
 use Rattle.programs.proofs.Marking.{Marking}
 use Rattle.passes.proofs.needing.Given as goal
 
 abbrev pub invariant-loop-i : goal.invariant-loop-i
 invariant-loop-i l = Marking l.table l.count l.i l.marks
-
-abbrev pub decreases-loop-i : goal.decreases-loop-i
-decreases-loop-i l = l.count - l.i

@@ -1,5 +1,6 @@
-use Prim.Native.Nat.{◌-◌}
+use mathlib.Core.Path.{ap}
 use lib.ListN.{length}
+use Rattle.programs.specs.declared.Known.{Known}
 use Rattle.tables.specs.Lines.{kind_in}
 use Rattle.programs.proofs.Keeping.{held_here, kind_here, few_emitted}
 use Rattle.programs.proofs.Counting.{small_here, need_here}
@@ -24,13 +25,13 @@ emit-requires c =
     let m = c.take-m in
     let P = R.prepared in
     let e = c.emitted-e.ensures in
-    (c.loop-i.invariant.walk.least, (small_here c.loop-i.invariant.walk P.accepted l, (rw e (few_emitted (kind_in c.record-rec.result) m.result), fits_here c.loop-i.invariant P.accepted l c.used-need.result (need_here P c.loop-i.i l c.used-need.ensures) c.record-rec.ensures m.ensures e R.fits)))
+    (c.loop-i.invariant.walk.least, (small_here c.loop-i.invariant.walk P.accepted l, (rw e (few_emitted (kind_in c.record-rec.result) m.result), fits_here c.loop-i.invariant P.accepted l c.at-need.result (need_here P c.loop-i.i l c.at-need.ensures) c.record-rec.ensures m.ensures e R.fits)))
 
 pub loop-i-preserved : goal.loop-i-preserved
 loop-i-preserved c =
     let P = c.requires.0.prepared in
     let l = c.loop-i-test.true in
-    writes_more c.loop-i.invariant P.accepted l c.used-need.result (need_here P c.loop-i.i l c.used-need.ensures) c.record-rec.ensures c.take-m.ensures c.emitted-e.ensures c.instruction-ins.ensures c.entry-w.ensures c.emit.ensures
+    writes_more c.loop-i.invariant P.accepted l c.at-need.result (need_here P c.loop-i.i l c.at-need.ensures) c.record-rec.ensures c.take-m.ensures c.emitted-e.ensures c.instruction-ins.ensures (ap (λ (x : Known). x.width) c.of_line-w.ensures) c.emit.ensures
 
 pub returns : goal.returns
 returns c = writes_end c.loop-i.invariant c.loop-i-test.false

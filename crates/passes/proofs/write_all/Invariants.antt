@@ -1,11 +1,7 @@
 -- The target holds the instructions so far, and zeros.
-use Prim.Native.Nat.{◌-◌}
 use lib.ListN.{length}
 use Rattle.programs.proofs.Writing.{Writes}
 use Rattle.passes.proofs.write_all.Given as goal
 
 abbrev pub invariant-loop-i : goal.invariant-loop-i
-invariant-loop-i l = Writes (length l.initial.wd) l.table l.count l.i l.b (length l.initial.target) l.wd l.num l.lo l.target
-
-abbrev pub decreases-loop-i : goal.decreases-loop-i
-decreases-loop-i l = l.count - l.i
+invariant-loop-i l = Writes (length l.initial.known) l.table l.count l.i l.b (length l.initial.target) l.known l.target

@@ -1,6 +1,7 @@
 -- The measure of both is the line's number, which falls at each call.
 use Prim.Native.Nat.{◌-◌}
-use mathlib.Core.Bool.{false}
+use mathlib.Core.Path.{◌≡◌}
+use mathlib.Core.Bool.{true, false}
 use lib.ListN.{get_or}
 use Rattle.tables.specs.Layout.{lines_of}
 use Rattle.peeks.specs.Peek.{step_zero}
@@ -13,8 +14,8 @@ decreases-cell l = l.n
 abbrev pub decreases-word : goal.decreases-word
 decreases-word l = l.n
 
-abbrev pub invariant-word-loop-same : goal.invariant-word-loop-same
-invariant-word-loop-same l = Alike (step_zero (lines_of false l.table l.count) l.from l.row) l.a (get_or l.rec 3 0) l.kept l.m l.k l.same
+abbrev pub invariant-word-loop-k : goal.invariant-word-loop-k
+invariant-word-loop-k l = (l.same ≡ true) × Alike (step_zero (lines_of false l.circuit.table.now l.circuit.count) l.circuit.starts.now l.circuit.row.now) l.a (get_or l.rec 3 0) l.kept l.m l.k
 
-abbrev pub decreases-word-loop-same : goal.decreases-word-loop-same
-decreases-word-loop-same l = l.m - l.k
+abbrev pub decreases-word-loop-k : goal.decreases-word-loop-k
+decreases-word-loop-k l = l.m - l.k

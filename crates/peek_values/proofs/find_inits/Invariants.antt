@@ -1,4 +1,3 @@
-use Prim.Native.Nat.{◌-◌}
 use mathlib.Core.Bool.{false}
 use Rattle.tables.specs.Layout.{lines_of}
 use Rattle.peeks.proofs.Inits.{Noting}
@@ -6,6 +5,3 @@ use Rattle.peek_values.proofs.find_inits.Given as goal
 
 abbrev pub invariant-loop-i : goal.invariant-loop-i
 invariant-loop-i l = Noting (lines_of false l.table l.count) l.count l.i l.ini
-
-abbrev pub decreases-loop-i : goal.decreases-loop-i
-decreases-loop-i l = l.count - l.i

@@ -1,6 +1,6 @@
 -- What peek keeps while it looks for a value: the value lines of the states' inits, the list that says what is known of each line, and the words found so far.
 -- Assumes nothing.
-use Rattle.std.specs.Prelude.{ℕ, ◌+◌, ◌%◌, ◌^◌, ◌≤◌, ◌<◌, ◌≡◌, true, false, List, [], ◌∷◌, eqb, length, get_or}
+use Rattle.std.specs.Prelude.{ℕ, ◌+◌, ◌%◌, ◌^◌, ◌≤◌, ◌<◌, ◌≡◌, true, false, List, [], ◌∷◌, eqb, length, get_or, is_some, Option, Some, None}
 use Rattle.tables.specs.Pick.{pick}
 use Rattle.tables.specs.Lines.{Line, kind_in, first_in, second_in, third_in}
 use Rattle.tables.specs.Layout.{lines_of}
@@ -52,20 +52,14 @@ pub record Looks (t : List ℕ) (n : ℕ) (P : List (List ℕ)) (ini S R : List 
   pub many : length ini ≡ 65
   pub inits : (q : ℕ) → q ≤ n → get_or ini q 0 ≡ init_of q (lines_of false t n)
 
--- What is kept of a line: its word, and 1 where the word was found. The words found so far are those of the lines A; line 0, which is none, counts as found.
-abbrev pub kept_as : (v : ℕ) → List ℕ
-kept_as v = v ∷ 1 ∷ []
+-- What is kept of a line: its word, where it was found. The words found so far are those of the lines A; line 0, which is none, counts as found.
+abbrev pub kept_at : List (Option ℕ) → ℕ → Option ℕ
+kept_at K a = get_or K a None
 
-abbrev pub kept_word : List (List ℕ) → ℕ → ℕ
-kept_word K a = get_or (get_or K a []) 0 0
-
-abbrev pub kept_mark : List (List ℕ) → ℕ → ℕ
-kept_mark K a = get_or (get_or K a []) 1 0
-
-pub record KeptWords (A : Frame) (K : List (List ℕ)) : Type 0 where
+pub record KeptWords (A : Frame) (K : List (Option ℕ)) : Type 0 where
   pub long : length K ≡ 65
-  pub none : kept_mark K 0 ≡ 1
-  pub are : (a : ℕ) → kept_mark K a ≡ 1 → kept_word K a ≡ word_at A a
+  pub none : is_some (kept_at K 0) ≡ true
+  pub are : (a v : ℕ) → kept_at K a ≡ Some v → v ≡ word_at A a
 
 -- the line a is a word, and the line a is an array that has the cell c
 pub record WordLine (t : List ℕ) (n a : ℕ) : Type 0 where
@@ -87,21 +81,21 @@ pub record HasCell (t : List ℕ) (n a c : ℕ) : Type 0 where
 
 -- ---- what the functions of a peek ask, and what they find
 
-pub record WordAsked (t : List ℕ) (n : ℕ) (P : List (List ℕ)) (ini S R : List ℕ) (K : List (List ℕ)) (a : ℕ) : Type 0 where
+pub record WordAsked (t : List ℕ) (n : ℕ) (P : List (List ℕ)) (ini S R : List ℕ) (K : List (Option ℕ)) (a : ℕ) : Type 0 where
   pub looks : Looks t n P ini S R
   pub line : 1 ≤ a → WordLine t n a
   pub kept : KeptWords (step_zero (lines_of false t n) S R) K
 
-pub record WordFound (t : List ℕ) (n : ℕ) (S R : List ℕ) (K : List (List ℕ)) (a r : ℕ) : Type 0 where
+pub record WordFound (t : List ℕ) (n : ℕ) (S R : List ℕ) (K : List (Option ℕ)) (a r : ℕ) : Type 0 where
   pub is : r ≡ word_at (step_zero (lines_of false t n) S R) a
   pub kept : KeptWords (step_zero (lines_of false t n) S R) K
 
-pub record CellAsked (t : List ℕ) (n : ℕ) (P : List (List ℕ)) (ini S R : List ℕ) (K : List (List ℕ)) (a c : ℕ) : Type 0 where
+pub record CellAsked (t : List ℕ) (n : ℕ) (P : List (List ℕ)) (ini S R : List ℕ) (K : List (Option ℕ)) (a c : ℕ) : Type 0 where
   pub looks : Looks t n P ini S R
   pub line : CellLine t n a c
   pub kept : KeptWords (step_zero (lines_of false t n) S R) K
 
-pub record CellFound (t : List ℕ) (n : ℕ) (S R : List ℕ) (K : List (List ℕ)) (a c r : ℕ) : Type 0 where
+pub record CellFound (t : List ℕ) (n : ℕ) (S R : List ℕ) (K : List (Option ℕ)) (a c r : ℕ) : Type 0 where
   pub is : r ≡ get_or (cells_at (step_zero (lines_of false t n) S R) a) c 0
   pub kept : KeptWords (step_zero (lines_of false t n) S R) K
 

@@ -42,18 +42,15 @@ loose_how h l₁ l₂ l₃ =
     pick (eqb h 4) (l₂ || l₃) (
     pick (eqb h 5) l₁ false))))
 
--- ---- lists with an entry for each line number
+-- ---- marks, an entry for each line number
 
--- the entry of the line a: a number, and a mark
-abbrev pub entry_at : List ℕ → ℕ → ℕ
-entry_at xs a = get_or xs a 0
-
-abbrev pub flag_at : List ℕ → ℕ → Bool
-flag_at xs a = eqb (get_or xs a 0) 1
+-- the line a has a mark
+abbrev pub mark_at : List Bool → ℕ → Bool
+mark_at ms a = get_or ms a false
 
 -- a mark at each line that a record needs clean
-abbrev pub mark_if : (v a : ℕ) → List ℕ → List ℕ
-mark_if v a ms = pick (eqb v 1) (set ms a 1) ms
+abbrev pub mark_if : (v a : ℕ) → List Bool → List Bool
+mark_if v a ms = pick (eqb v 1) (set ms a true) ms
 
-abbrev pub uses_marked : List ℕ → List ℕ → List ℕ
+abbrev pub uses_marked : List ℕ → List Bool → List Bool
 uses_marked r ms = mark_if (get_or (uses_of (kind_in r)) 1 0) (second_in r) (mark_if (get_or (uses_of (kind_in r)) 0 0) (first_in r) ms)

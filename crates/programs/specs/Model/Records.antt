@@ -1,11 +1,12 @@
 -- The translation record by record: what is made of a record after lines whose widths, instruction numbers and looseness are W, M and L, and what is kept of it for later ones.
 -- Assumes nothing.
 use Rattle.std.specs.Prelude.{ℕ, suc, ◌≡◌, Bool, ◌&&◌, List, leb, eqb, set}
-use Rattle.words.specs.Word.{bit}
 use Rattle.tables.specs.Pick.{pick}
 use Rattle.tables.specs.Lines.{fields, kind_in, sort_in, first_in, second_in, third_in}
+use Rattle.programs.specs.declared.Known.{Known}
 use Rattle.programs.specs.Uses.{loose_line}
-use Rattle.programs.specs.Model.Kinds.{first_line, second_line, third_line, has_value, entry_at, flag_at}
+use Rattle.programs.specs.Translation.{info, operand_width, loose_of}
+use Rattle.programs.specs.Model.Kinds.{first_line, second_line, third_line, has_value}
 
 -- its line is loose
 abbrev pub loose_in : (W : ℕ → ℕ) (L : ℕ → Bool) → List ℕ → Bool
@@ -31,9 +32,7 @@ number_in k b m = pick (has_value k) (pick m (suc b) b) 0
 abbrev pub emitted : ℕ → Bool → ℕ
 emitted k m = pick (leb k 2) 0 (pick m 2 1)
 
--- the lists after the line n, of the record r, whose instruction would be number b; nd says whether it has a needing use
-pub record Taken (r : List ℕ) (n : ℕ) (nd : Bool) (b : ℕ) (wd num lo wd₁ num₁ lo₁ : List ℕ) (m : Bool) : Type 0 where
-  pub mask : m ≡ (loose_in (entry_at wd) (flag_at lo) r && nd)
-  pub widths : wd₁ ≡ set wd n (width_in (entry_at wd) r)
-  pub numbers : num₁ ≡ set num n (number_in (kind_in r) b m)
-  pub flags : lo₁ ≡ set lo n (bit (loose_in (entry_at wd) (flag_at lo) r))
+-- The list K of what is known of each line becomes K₁ after the line n, of the record r, whose instruction would be number b; nd says whether it has a needing use
+pub record Taken (r : List ℕ) (n : ℕ) (nd : Bool) (b : ℕ) (K K₁ : List Known) (m : Bool) : Type 0 where
+  pub mask : m ≡ (loose_in (operand_width K) (loose_of K) r && nd)
+  pub kept : K₁ ≡ set K n (info (width_in (operand_width K) r) (number_in (kind_in r) b m) (loose_in (operand_width K) (loose_of K) r))

@@ -1,12 +1,9 @@
 -- The words of the states so far are masked, whatever the row.
-use Prim.Native.Nat.{◌-◌, ◌≤◌}
+use Prim.Native.Nat.{◌-◌}
 use lib.ListN.{drop}
 use Rattle.tables.specs.Layout.{lines_of}
 use Rattle.starts.proofs.Masking.{Masked}
 use Rattle.starts.proofs.mask_starts.Given as goal
 
 abbrev pub invariant-loop-i : goal.invariant-loop-i
-invariant-loop-i l = (l.i ≤ l.count) × Masked l.program (lines_of l.program l.table l.count) l.all (drop l.all l.initial.work) l.work l.i
-
-abbrev pub decreases-loop-i : goal.decreases-loop-i
-decreases-loop-i l = l.count - l.i
+invariant-loop-i l = Masked l.program (lines_of l.program l.table l.count) l.all (drop l.all l.initial.work) l.work l.i

@@ -1,6 +1,5 @@
 -- Init lines, and what the start of a run asks where there are none. Assumes nothing.
-use Rattle.std.specs.Prelude.{ℕ, ◌≡◌, Bool, false, ◌||◌, List, [], ◌∷◌}
-use Rattle.tables.specs.declared.Checked.TheVariants.{Accepted}
+use Rattle.std.specs.Prelude.{ℕ, ◌≡◌, Bool, false, ◌||◌, List, [], ◌∷◌, Ok}
 use Rattle.tables.specs.Lines.{Line}
 use Rattle.tables.specs.Layout.{lines_of}
 use Rattle.tables.specs.Tables.{checked}
@@ -25,7 +24,7 @@ has_init (l ∷ ls) = init_line l || has_init ls
 
 -- an accepted table without an init line, whose states have so many words, and a list that holds what is known of its lines
 pub record NoInit (p : Bool) (t : List ℕ) (n : ℕ) (P : List (List ℕ)) (words : ℕ) : Type 0 where
-  pub accepted : checked p t n ≡ Accepted
+  pub accepted : checked p t n ≡ Ok tt
   pub shows : ShowsAll P (layout p (lines_of p t n))
   pub states : (layout p (lines_of p t n)).counts.states ≡ words
   pub none : has_init (lines_of p t n) ≡ false

@@ -8,6 +8,3 @@ use Rattle.steps.proofs.steps.Given as goal
 abbrev pub invariant-loop-i : goal.invariant-loop-i
 invariant-loop-i l =
     Stepped l.program (lines_of l.program l.table l.count) (l.ins + l.fed) l.sigs l.k l.all (length l.initial.work) (drop l.all l.initial.work) l.inputs l.signals l.work l.i l.r l.g
-
-abbrev pub decreases-loop-i : goal.decreases-loop-i
-decreases-loop-i l = l.k - l.i

@@ -1,5 +1,4 @@
 -- The work area holds what the lines so far mean.
-use Prim.Native.Nat.{◌-◌, ◌≤◌}
 use mathlib.Core.Path.{◌≡◌}
 use lib.ListN.{length, drop}
 use Rattle.tables.specs.Layout.{lines_of}
@@ -7,7 +6,4 @@ use Rattle.circuits.proofs.Walked.{Walked}
 use Rattle.walks.proofs.walk.Given as goal
 
 abbrev pub invariant-loop-i : goal.invariant-loop-i
-invariant-loop-i l = (l.i ≤ l.count) × ((length l.work ≡ length l.initial.work) × Walked l.program l.first (lines_of l.program l.table l.count) l.all l.row (drop l.all l.initial.work) (length l.initial.sig) l.work l.sig l.i)
-
-abbrev pub decreases-loop-i : goal.decreases-loop-i
-decreases-loop-i l = l.count - l.i
+invariant-loop-i l = (length l.work ≡ length l.initial.work) × Walked l.program l.first (lines_of l.program l.table l.count) l.all l.row (drop l.all l.initial.work) (length l.initial.sig) l.work l.sig l.i

@@ -1,7 +1,0 @@
-use mathlib.Core.Path.{refl}
-use Rattle.circuits.proofs.Puts as laws
-use borrow.Author.Rules.{rules}
-use Rattle.evaluation.proofs.line_const.Goals as goal
-
-pub returns : goal.returns
-returns c = laws.stored c.args.work.now c.off-o.ensures refl (search rules)

@@ -1,6 +1,0 @@
--- The lists are zero as they are made.
-use Rattle.programs.proofs.Keeping.{fresh_many}
-use Rattle.translating.proofs.make.count_many.Goals as goal
-
-pub count_all-requires : goal.count_all-requires
-count_all-requires c = (c.requires, fresh_many c.args.table.now c.args.count c.requires.accepted)

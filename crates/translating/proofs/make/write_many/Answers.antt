@@ -1,6 +1,0 @@
--- The lists are zero as they are made.
-use Rattle.programs.proofs.Keeping.{fresh_many}
-use Rattle.translating.proofs.make.write_many.Goals as goal
-
-pub write_all-requires : goal.write_all-requires
-write_all-requires c = (c.requires, fresh_many c.args.table.now c.args.count c.requires.prepared.accepted)
