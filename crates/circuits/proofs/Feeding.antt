@@ -10,6 +10,7 @@ use lib.Pow.{pow_pos}
 use lib.ListN.{length, take, drop, get_or, set, replicate, length-append, length-drop}
 use lib.Seq.{drop-drop, length-take-le, take_all, take_at, take-suc-set, drop-cons, drop-length}
 use Rattle.words.specs.Word.{Width}
+use Rattle.tables.specs.declared.Note.{Note}
 use Rattle.tables.specs.declared.Ty.{Ty}
 use Rattle.tables.specs.Pick.{pick}
 use Rattle.tables.specs.Lines.{Line, line_of}
@@ -228,7 +229,7 @@ pub record Found (p : Bool) (t : List ℕ) (n i m : ℕ) (list : List ℕ) : Typ
   pub long : length list ≡ 16385
   pub holds : take m list ++ free_lines_from (has_next p (lines_of p t n)) (suc i) (drop i (lines_of p t n)) ≡ free_lines p (lines_of p t n)
 
-module _ (p : Bool) (t : List ℕ) (n : ℕ) (xs : List (List ℕ)) (k : Noted p t n xs) where
+module _ (p : Bool) (t : List ℕ) (n : ℕ) (xs : List Note) (k : Noted p t n xs) where
   pub found_none : (list : List ℕ) → length list ≡ 16385 → Found p t n 0 0 list
   unfolding free_lines
   found_none list e = record { most = omega arith; few = omega arith; long = e; holds = refl }

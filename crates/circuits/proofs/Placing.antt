@@ -11,6 +11,7 @@ use native.Mathlib.Nat.{mod-eq_of_lt, one-mul, add-zero, zero-add}
 use lib.Pow.{pow-lt, pow_mono}
 use lib.ListN.{length, take, drop, get_or, set, length-set, length-append}
 use lib.Seq.{get_or-set_same, get_or-set_other, take-suc-set, take-suc, take-length, length-take-le, drop-cons, drop-length}
+use Rattle.tables.specs.declared.Note.{Note}
 use Rattle.tables.specs.declared.Ty.{Ty}
 use Rattle.tables.specs.Lines.{Line, Shape, is_bitvec, is_array, is_const, is_input, is_state, is_output, is_unary, is_binary, is_ite, is_read, is_write, is_unknown, is_init_or_next, is_signal, is_equality, shape_of, build, line_of, kind_in, sort_in, first_in, second_in, third_in}
 use Rattle.tables.specs.Layout.{record_at, lines_of}
@@ -148,7 +149,7 @@ lay_ctx p Y [] = refl
 lay_ctx p Y (l ∷ C) = lay_ctx p (lay p Y l) C
 
 -- the types that the notes hold are those of the layout
-pub noted_types : (p : Bool) (t : List ℕ) (n : ℕ) {xs : List (List ℕ)} → Noted p t n xs → (a : ℕ) → look_in xs a ≡ type_at (layout p (lines_of p t n)) a
+pub noted_types : (p : Bool) (t : List ℕ) (n : ℕ) {xs : List Note} → Noted p t n xs → (a : ℕ) → look_in xs a ≡ type_at (layout p (lines_of p t n)) a
 unfolding context layout
 noted_types p t n k a = k.shows.types a ∙ ap (λ (c : Ctx). ty_at c a) (sym (lay_ctx p no_layout (lines_of p t n)))
 
@@ -205,7 +206,7 @@ pub record Sofar (p : Bool) (t : List ℕ) (n i : ℕ) (tot : Totals) (P : List 
   -- the free words so far, and those of the lines to come
   pub free : tot.free + free_count (sources_from p (has_next p (lines_of p t n)) (lay_all p no_layout (take i (lines_of p t n))) (drop i (lines_of p t n))) ≡ free_count (sources p (lines_of p t n))
 
-module _ (p : Bool) (t : List ℕ) (n : ℕ) (xs : List (List ℕ)) (k : Noted p t n xs) where
+module _ (p : Bool) (t : List ℕ) (n : ℕ) (xs : List Note) (k : Noted p t n xs) where
   pub begun : (P : List (List ℕ)) {P' : List (List ℕ)} → length P ≡ 16385 → P' ≡ set P 0 (laid_as 0 1 0 0) → Sofar p t n 0 (record { cells = 0; states = 0; inputs = 0; signals = 0; free = 0 }) P'
   unfolding sources
   begun P lp e =

@@ -12,8 +12,7 @@ ghost use Rattle.circuits.specs.Model.Answers.{RunAsked, started, lent_runs};
 
 use area::LAID;
 use circuits::{FirstBad, Totals};
-use records::notes::BYTES;
-use tables::Refusal;
+use tables::{Note, Refusal};
 
 // 13 to 17: s start words, i input words, g signal bytes and w words of work area are lent for k steps.
 fn lent(t: Totals, k: usize, s: usize, i: usize, g: usize, w: usize) -> Result<(), Refusal>
@@ -44,7 +43,7 @@ fn run_steps(
     table: &[u64],
     count: usize,
     t: Totals,
-    notes: &[[u8; BYTES]],
+    notes: &[Note],
     laid: &[[u32; LAID]; 16385],
     k: usize,
     starts: &[u64],
@@ -104,7 +103,7 @@ fn run_lent(
     table: &[u64],
     count: usize,
     t: Totals,
-    notes: &[[u8; BYTES]],
+    notes: &[Note],
     laid: &[[u32; LAID]; 16385],
     k: usize,
     starts: &[u64],
@@ -146,7 +145,7 @@ pub fn run_checked(
     program: bool,
     table: &[u64],
     count: usize,
-    notes: &[[u8; BYTES]],
+    notes: &[Note],
     k: usize,
     starts: &[u64],
     inputs: &[u64],

@@ -5,13 +5,13 @@ ghost use Rattle.flattening.specs.Model.Lines.{notes, sort_line, word_line, bit_
 
 use crate::cells::KEPT;
 use crate::{cells, sources};
-use records::notes::BYTES;
+use tables::Note;
 
 // What is kept of each line, and the types of all lines, as a check notes them.
 #[derive(Clone, Copy)]
 pub struct Lines<'a> {
     pub kept: &'a [[u32; KEPT]],
-    pub types: &'a [[u8; BYTES]],
+    pub types: &'a [Note],
 }
 
 impl Lines<'_> {

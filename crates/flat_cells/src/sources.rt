@@ -5,7 +5,7 @@ ghost use Rattle.flattening.specs.Model.Rows.{stepping, of, run_down, of_down};
 
 use flattening::{Source, Words};
 use records::notes;
-use records::notes::BYTES;
+use tables::Note;
 
 // 2 to the power of w.
 fn power(w: u8) -> usize
@@ -16,7 +16,7 @@ fn power(w: u8) -> usize
 }
 
 // The cells of the line a.
-pub fn size(types: &[[u8; BYTES]], a: u64) -> usize
+pub fn size(types: &[Note], a: u64) -> usize
     requires { (look_in types.now a).iw ≤ 8 }
     ensures { result ≡ 2 ^ (look_in types.now a).iw }
 {
@@ -24,7 +24,7 @@ pub fn size(types: &[[u8; BYTES]], a: u64) -> usize
 }
 
 // The cells of an array whose index sort is the line a.
-pub fn index_size(types: &[[u8; BYTES]], a: u64) -> usize
+pub fn index_size(types: &[Note], a: u64) -> usize
     requires { (look_in types.now a).w ≤ 8 }
     ensures { result ≡ 2 ^ (look_in types.now a).w }
 {

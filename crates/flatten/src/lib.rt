@@ -9,8 +9,7 @@ ghost use Rattle.flattening.specs.Answers.{flattens};
 ghost use Rattle.flattening.specs.Model.Start.{Clear, Blank};
 
 use flat_cells::cells::KEPT;
-use records::notes::BYTES;
-use tables::{Answer, Checked, Refusal};
+use tables::{Answer, BLANK, Checked, Note, Refusal};
 
 // The entries of the lists of a small circuit, and of any other: one more than a table has lines.
 const FEW: usize = 512;
@@ -39,7 +38,7 @@ fn flatten_in<const N: usize>(table: &[u64], count: usize, target: &mut [u64]) -
     requires few { N ≤ 65536 }
     ensures { told result (target.new ∷ []) ≡ flattens table.now count (length target.old) }
 {
-    let mut notes = [[0u8; BYTES]; N];
+    let mut notes = [BLANK; N];
     let mut kept = [[0u32; KEPT]; N];
     checked(table, count, &mut notes, &mut kept, target)
 }
@@ -48,7 +47,7 @@ fn flatten_in<const N: usize>(table: &[u64], count: usize, target: &mut [u64]) -
 fn checked(
     table: &[u64],
     count: usize,
-    notes: &mut [[u8; BYTES]],
+    notes: &mut [Note],
     kept: &mut [[u32; KEPT]],
     target: &mut [u64],
 ) -> Answer

@@ -9,8 +9,7 @@ use flat_cells::cells::KEPT;
 use flat_cells::lines::Lines;
 use flat_cells::written;
 use flattening::Made;
-use records::notes::BYTES;
-use tables::{Answer, Refusal};
+use tables::{Answer, Note, Refusal};
 
 // What is kept of the line written over, and of a small constant: 0 for none.
 fn old_number(old: Option<u64>) -> u64
@@ -51,7 +50,7 @@ fn keep_line(kept: &mut [[u32; KEPT]], n: usize, m: Made, used: usize) -> usize
 pub fn all_lines(
     table: &[u64],
     count: usize,
-    types: &[[u8; BYTES]],
+    types: &[Note],
     kept: &mut [[u32; KEPT]],
     target: &mut [u64],
 ) -> Answer

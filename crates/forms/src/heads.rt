@@ -1,5 +1,5 @@
 // The head of a line: its id and its word.
-ghost use Rattle.std.specs.Prelude.{◌≡◌, ◌≤◌, length, drop};
+ghost use Rattle.std.specs.Prelude.{◌≡◌, ◌≤◌, length, drop, IfSome};
 ghost use Rattle.tables.specs.Kinds.{rows};
 ghost use Rattle.texts.specs.Split.{tokens as tokens_in};
 ghost use Rattle.texts.specs.Reading.{word_in};
@@ -9,57 +9,49 @@ ghost use Rattle.texts.specs.Decimal.{decimal};
 
 use crate::{find, find_kind, is_sort};
 use records::ids;
-use texts::{Form, Num};
+use texts::Form;
 use tokens::numbers;
 
 // The line's word, from the place i on; kinds are the rows of all kinds.
-pub fn word(kinds: &[[u8; 16]; 63], l: &[u8], i: usize) -> Form
+pub fn word(kinds: &[[u8; 16]; 63], l: &[u8], i: usize) -> Option<Form>
     requires { (kinds.now ≡ rows) × (i ≤ length l.now) }
-    ensures { (result.at ≤ length l.now) × ((result.form ≤ 68) × (word_in (tokens_in (drop i l.now)) ≡ as_word l.now result)) }
+    ensures { (word_in (tokens_in (drop i l.now)) ≡ as_word l.now result)
+        × IfSome result (λ w. (w.at ≤ length l.now) × ((1 ≤ w.form) × (w.form ≤ 68))) }
 {
     let a = tokens::skip(l, i);
     if a == l.len() {
-        return Form { form: 0, at: 0 };
+        return None;
     }
-    let z = tokens::find_byte(l, a, 32);
-    if is_sort(&l[a..z]) {
-        let b = tokens::skip(l, z);
-        if b == l.len() {
-            return Form { form: 0, at: 0 };
-        }
-        let y = tokens::find_byte(l, b, 32);
-        let f = find_kind(kinds, &l[b..y], 1, 2);
-        return Form { form: f, at: y };
+    let z = tokens::find_byte(l, a, b' ');
+    if !is_sort(&l[a..z]) {
+        let f = find(kinds, &l[a..z])?;
+        return Some(Form { form: f, at: z });
     }
-    let f = find(kinds, &l[a..z]);
-    Form { form: f, at: z }
+    let b = tokens::skip(l, z);
+    if b == l.len() {
+        return None;
+    }
+    let y = tokens::find_byte(l, b, b' ');
+    let f = find_kind(kinds, &l[b..y], 1, 2)?;
+    Some(Form { form: f, at: y })
 }
 
 // The token is the number n.
 pub fn is_id(t: &[u8], n: u64) -> bool
     ensures { result ≡ is_id (decimal t.now) n }
 {
-    let r = numbers::decimal(t);
-    match r {
-        Num::Bad => false,
-        Num::Big => false,
-        Num::Is(v) => v == n,
+    match numbers::decimal(t) {
+        Ok(v) => v == n,
+        Err(_) => false,
     }
 }
 
-// The token as the id of a line behind one whose id is last; 0 where it can be none.
-pub fn next_id(t: &[u8], last: u64) -> u64
+// The token as the id of a line behind one whose id is last.
+pub fn next_id(t: &[u8], last: u64) -> Option<u64>
     ensures { NextId (decimal t.now) last result }
 {
-    let r = numbers::decimal(t);
-    match r {
-        Num::Bad => 0,
-        Num::Big => 0,
-        Num::Is(v) => {
-            if ids::follows(last, v) {
-                return v;
-            }
-            0
-        }
+    match numbers::decimal(t) {
+        Ok(v) if ids::follows(last, v) => Some(v),
+        _ => None,
     }
 }

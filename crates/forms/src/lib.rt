@@ -9,6 +9,7 @@ ghost use Rattle.texts.specs.Forms.{extra, form_row, kind_of, sorted as sorted_o
 ghost use Rattle.tables.specs.Kinds.{rows, word_of};
 ghost use Rattle.texts.specs.Split.{same_bytes};
 ghost use Rattle.texts.specs.Reading.{find_in, find_word};
+ghost use Rattle.texts.specs.Model.Structs.{found};
 
 use records::kinds;
 use records::kinds::letters::*;
@@ -46,20 +47,14 @@ pub fn row(kinds: &[[u8; 16]; 63], f: usize) -> [u8; 16]
 pub fn kind_of(f: usize) -> u64
     ensures { result ≡ kind_of f }
 {
-    if f <= 63 {
-        return f as u64;
-    }
-    3
+    if f <= 63 { f as u64 } else { 3 }
 }
 
 // 1 where a line has a sort, else 0.
 pub fn sorted(row: [u8; 16]) -> usize
     ensures { result ≡ sorted_of row }
 {
-    if row[11] == NONE {
-        return 0;
-    }
-    1
+    usize::from(row[11] != NONE)
 }
 
 // A token is the word of a row.
@@ -67,37 +62,14 @@ fn is_word(t: &[u8], r: [u8; 16]) -> bool
     requires { get_or r 0 0 ≤ 10 }
     ensures { result ≡ same_bytes t.now (word_of r) }
 {
-    let n = r[0] as usize;
-    if t.len() != n {
-        return false;
-    }
-    let mut i: usize = 0;
-    while i < n {
-        if t[i] != r[i + 1] {
-            return false;
-        }
-        i += 1;
-    }
-    true
+    t == &r[1..usize::from(r[0]) + 1]
 }
 
 // The token is `sort`.
 fn is_sort(t: &[u8]) -> bool
     ensures { result ≡ same_bytes t.now sort_word }
 {
-    if t.len() != 4 {
-        return false;
-    }
-    if t[0] != b's' {
-        return false;
-    }
-    if t[1] != b'o' {
-        return false;
-    }
-    if t[2] != b'r' {
-        return false;
-    }
-    t[3] == b't'
+    t == b"sort".as_slice()
 }
 
 // The word of the kind j has the first letter and the length of the token t: so most kinds are passed over by one byte of their rows. A mask, kind 56, has no word.
@@ -105,63 +77,45 @@ fn begins(kinds: &[[u8; 16]; 63], j: usize, t: &[u8]) -> bool
     requires { (kinds.now ≡ rows) × ((1 ≤ j) × ((j ≤ 63) × (j ≡ 56 → ⊥))) }
     ensures { result ≡ false → same_bytes t.now (word_of (form_row j)) ≡ false }
 {
-    if t.len() == 0 {
-        return false;
-    }
     let r = kinds[j - 1];
-    if t[0] != r[1] {
-        return false;
-    }
-    t.len() == r[0] as usize
+    !t.is_empty() && t[0] == r[1] && t.len() == usize::from(r[0])
 }
 
-// The first of n kinds from k on that has the word t, or 0; a mask, which has no word, is none of them. kinds are the rows of all kinds.
-fn find_kind(kinds: &[[u8; 16]; 63], t: &[u8], k: usize, n: usize) -> usize
+// The first of n kinds from k on that has the word t; a mask, which has no word, is none of them. kinds are the rows of all kinds.
+fn find_kind(kinds: &[[u8; 16]; 63], t: &[u8], k: usize, n: usize) -> Option<usize>
     requires { (kinds.now ≡ rows) × ((1 ≤ k) × ((k + n ≤ 64) × (56 < k + n → 56 < k))) }
-    ensures { result ≡ find_in k n t.now }
+    ensures { result ≡ found (find_in k n t.now) }
 {
-    let e = k + n;
-    let mut j = k;
-    while j < e {
-        if begins(kinds, j, t) {
-            let r = kinds[j - 1];
-            if is_word(t, r) {
-                return j;
-            }
+    for j in k..k + n {
+        if begins(kinds, j, t) && is_word(t, kinds[j - 1]) {
+            return Some(j);
         }
-        j += 1;
     }
-    0
+    None
 }
 
-// The first of the forms 64 to 68 that has the word t, or 0.
-fn find_other(t: &[u8]) -> usize
-    ensures { result ≡ find_in 64 5 t.now }
+// The first of the forms 64 to 68 that has the word t.
+fn find_other(t: &[u8]) -> Option<usize>
+    ensures { result ≡ found (find_in 64 5 t.now) }
 {
-    let rows = others();
-    let mut j: usize = 0;
-    while j < 5 {
-        let r = rows[j];
-        if is_word(t, r) {
-            return j + 64;
+    for (j, row) in others().iter().enumerate() {
+        if is_word(t, *row) {
+            return Some(j + 64);
         }
-        j += 1;
     }
-    0
+    None
 }
 
-// The form other than a sort's that has the word t, or 0; kinds are the rows of all kinds. Overflow detectors come last, so that other words are found as fast as without them.
-fn find(kinds: &[[u8; 16]; 63], t: &[u8]) -> usize
+// The form other than a sort's that has the word t; kinds are the rows of all kinds. Overflow detectors come last, so that other words are found as fast as without them.
+fn find(kinds: &[[u8; 16]; 63], t: &[u8]) -> Option<usize>
     requires { kinds.now ≡ rows }
-    ensures { result ≡ find_word t.now }
+    ensures { result ≡ found (find_word t.now) }
 {
-    let f = find_kind(kinds, t, 3, 53);
-    if f != 0 {
-        return f;
+    if let Some(f) = find_kind(kinds, t, 3, 53) {
+        return Some(f);
     }
-    let g = find_other(t);
-    if g != 0 {
-        return g;
+    if let Some(f) = find_other(t) {
+        return Some(f);
     }
     find_kind(kinds, t, 57, 7)
 }

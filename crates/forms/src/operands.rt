@@ -12,23 +12,18 @@ ghost use Rattle.texts.specs.Model.Structs.{as_took};
 use crate::row;
 use records::kinds::{NONE, NUM};
 use tables::WORDS;
-use texts::{Num, Signed, Taken};
+use texts::{NumberError, Signed, Taken};
 use tokens::numbers;
 
 // The number that a token without a sign is, at the place j of a line of the form f.
-fn number(f: usize, j: usize, t: &[u8]) -> Num
+fn number(f: usize, j: usize, t: &[u8]) -> Result<u64, NumberError>
     ensures { result ≡ plain_at f j t.now }
 {
-    if j == 2 {
-        if f == 64 {
-            return numbers::digits_in(t, 2, 64);
-        }
-        if f == 65 {
-            return numbers::digits_in(t, 16, 16);
-        }
-        return numbers::decimal(t);
+    match (f, j) {
+        (64, 2) => numbers::digits_in(t, 2, 64),
+        (65, 2) => numbers::digits_in(t, 16, 16),
+        _ => numbers::decimal(t),
     }
-    numbers::decimal(t)
 }
 
 // The class of the place j of a record, by a row.
@@ -36,10 +31,7 @@ fn class_at(r: [u8; 16], j: usize) -> u8
     requires { (1 ≤ j) × (j ≤ 4) }
     ensures { result ≡ class_at r j }
 {
-    if j == 1 {
-        return r[11];
-    }
-    r[11 + j]
+    if j == 1 { r[11] } else { r[11 + j] }
 }
 
 // A token for the place j of a record of the form f has a minus, which only one that names a line may have; kinds are the rows of all kinds, of which one is looked up only for
@@ -48,17 +40,11 @@ fn has_minus(kinds: &[[u8; 16]; 63], f: usize, j: usize, t: &[u8]) -> bool
     requires { (kinds.now ≡ rows) × ((1 ≤ f) × ((f ≤ 68) × ((1 ≤ j) × (j ≤ 4)))) }
     ensures { result ≡ sign_at f j t.now }
 {
-    if t.len() == 0 {
-        return false;
-    }
-    if t[0] != b'-' {
+    if t.is_empty() || t[0] != b'-' {
         return false;
     }
     let k = class_at(row(kinds, f), j);
-    if k == NONE {
-        return false;
-    }
-    k < NUM
+    k != NONE && k < NUM
 }
 
 // The number and the sign of a token, at the place j of a line of the form f; kinds are the rows of all kinds.
@@ -92,14 +78,12 @@ pub fn operands(
     ensures { (result.at ≤ length l.now) × ((kind_in result.rec ≡ kind_in start)
         × (operands_of f m j start no_signs false 0 (tokens_in (drop i l.now)) ≡ as_took l.now result)) }
 {
-    let e = j + m;
     let mut rec = start;
     let mut minus = [false; WORDS];
     let mut at = i;
     let mut big = false;
     let mut len: usize = 0;
-    let mut p = j;
-    while p < e {
+    for p in j..j + m {
         let a = tokens::skip(l, at);
         if a == l.len() {
             return Taken {
@@ -111,14 +95,15 @@ pub fn operands(
                 minus: minus,
             };
         }
-        let z = tokens::find_byte(l, a, 32);
+        let z = tokens::find_byte(l, a, b' ');
         let t = token(kinds, f, p, &l[a..z]);
-        let r = t.num;
         minus[p] = t.minus;
         len = z - a;
         at = z;
-        match r {
-            Num::Bad => {
+        match t.num {
+            Ok(v) => rec[p] = v,
+            Err(NumberError::TooLarge) => big = true,
+            Err(NumberError::Malformed) => {
                 return Taken {
                     ok: false,
                     big: false,
@@ -127,16 +112,6 @@ pub fn operands(
                     rec: rec,
                     minus: minus,
                 };
-            }
-            Num::Big => {
-                big = true;
-                p += 1;
-                continue;
-            }
-            Num::Is(v) => {
-                rec[p] = v;
-                p += 1;
-                continue;
             }
         }
     }

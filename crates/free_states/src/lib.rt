@@ -12,10 +12,10 @@ ghost use Rattle.circuits.specs.Model.Passes.{Noted};
 ghost use Rattle.circuits.specs.Model.Feeding.{free_line, free_lines, cells_in, fed_lines, entered_in, FitFed, AllFed};
 
 use area::LAID;
-use records::notes::BYTES;
+use tables::Note;
 
 // The line n, of the kind k, goes behind the m lines so far if it is a state that nobody drives. Answers how many there are now.
-fn note_line(k: u64, notes: &[[u8; BYTES]], n: usize, m: usize, lines: &mut [u32]) -> usize
+fn note_line(k: u64, notes: &[Note], n: usize, m: usize, lines: &mut [u32]) -> usize
     requires { (m < length lines.old) × (n < 4294967296) }
     ensures { ((rec : List ℕ) → k ≡ kind_in rec → take result lines.new ≡ take m lines.old ++ free_line (given_in notes.now false n) n (line_of rec))
         × (result ≤ m + 1) }
@@ -32,7 +32,7 @@ pub fn find(
     program: bool,
     table: &[u64],
     count: usize,
-    notes: &[[u8; BYTES]],
+    notes: &[Note],
     lines: &mut [u32],
 ) -> usize
     requires { Noted program table.now count notes.now × (length lines.old ≡ 16385) }

@@ -31,14 +31,12 @@ fn named(table: &[u64], h: usize, n: usize, i: usize) -> usize
     requires { (h ≡ step_of false (length table.now)) × ((i ≤ n) × (n ≤ held false (length table.now))) }
     ensures { FirstNamed (ids_of table.now n) i result }
 {
-    let mut o = i;
-    while o < n {
+    for o in i..n {
         if records::id(table, h, o) != 0 {
             return o;
         }
-        o += 1;
     }
-    o
+    n
 }
 
 // Where a search for the id d goes on from the place i, counted from 0: behind the first record from there on that has an id, where that id is below d; else before i, and the answer is i itself.
@@ -47,10 +45,7 @@ fn past(table: &[u64], h: usize, n: usize, d: u64, i: usize) -> usize
     ensures { GoesOn (ids_of table.now n) d i result }
 {
     let o = named(table, h, n, i);
-    if o == n {
-        return i;
-    }
-    if records::id(table, h, o) < d {
+    if o < n && records::id(table, h, o) < d {
         return o + 1;
     }
     i
@@ -62,10 +57,7 @@ fn found_past(table: &[u64], h: usize, n: usize, d: u64, i: usize) -> u64
     ensures { result ≡ place_by_id (ids_of table.now n) d }
 {
     let o = named(table, h, n, i);
-    if o == n {
-        return 0;
-    }
-    if records::id(table, h, o) == d {
+    if o < n && records::id(table, h, o) == d {
         return o as u64 + 1;
     }
     0
@@ -76,11 +68,8 @@ fn found(table: &[u64], h: usize, n: usize, d: u64, i: usize) -> u64
     requires { (h ≡ step_of false (length table.now)) × ((1 ≤ d) × ((i ≤ n) × (Risen table.now n × Parted (ids_of table.now n) i d))) }
     ensures { result ≡ place_by_id (ids_of table.now n) d }
 {
-    if i < n {
-        if records::id(table, h, i) == d {
-            return i as u64 + 1;
-        }
-        return found_past(table, h, n, d, i);
+    if i < n && records::id(table, h, i) == d {
+        return i as u64 + 1;
     }
     found_past(table, h, n, d, i)
 }
@@ -90,6 +79,7 @@ fn search(table: &[u64], h: usize, n: usize, d: u64) -> u64
     requires { (h ≡ step_of false (length table.now)) × ((1 ≤ d) × Risen table.now n) }
     ensures { result ≡ place_by_id (ids_of table.now n) d }
 {
+    // std's search by halves wants a list in order: here zeros stand between the ids that rise
     let mut lo: usize = 0;
     let mut hi = n;
     while lo < hi {
@@ -122,11 +112,8 @@ fn place_of(table: &[u64], h: usize, n: usize, d: u64) -> u64
         return 0; // no token names 0
     }
     let i = d - 1;
-    if i < n as u64 {
-        if records::id(table, h, i as usize) == d {
-            return d;
-        }
-        return search(table, h, n, d);
+    if i < n as u64 && records::id(table, h, i as usize) == d {
+        return d;
     }
     search(table, h, n, d)
 }
@@ -136,10 +123,7 @@ fn meant(class: u8, table: &[u64], h: usize, n: usize, v: u64) -> u64
     requires { (h ≡ step_of false (length table.now)) × Risen table.now n }
     ensures { result ≡ meant_by class (ids_of table.now n) v }
 {
-    if class == NONE {
-        return v;
-    }
-    if class == NUM { // a plain number stays as it is
+    if class == NONE || class == NUM { // a plain number stays as it is
         return v;
     }
     place_of(table, h, n, v)
@@ -150,20 +134,10 @@ fn stays(class: u8, table: &[u64], h: usize, n: usize, v: u64) -> bool
     requires { (h ≡ step_of false (length table.now)) × Risen table.now n }
     ensures { result ≡ true → v ≡ meant_by class (ids_of table.now n) v }
 {
-    if class == NONE {
+    if class == NONE || class == NUM {
         return true;
     }
-    if class == NUM {
-        return true;
-    }
-    if v == 0 {
-        return false;
-    }
-    let i = v - 1;
-    if i < n as u64 {
-        return records::id(table, h, i as usize) == v;
-    }
-    false
+    v != 0 && v - 1 < n as u64 && records::id(table, h, (v - 1) as usize) == v
 }
 
 // A record as it is written has no number that means another; the row is that of its kind.
@@ -171,16 +145,10 @@ fn all_stay(row: [u8; 16], rec: [u64; WORDS], table: &[u64], h: usize, n: usize)
     requires { (row ≡ row_of (kind_in rec)) × ((h ≡ step_of false (length table.now)) × Risen table.now n) }
     ensures { result ≡ true → rec ≡ resolved (ids_of table.now n) rec }
 {
-    if !stays(row[11], table, h, n, rec[1]) {
-        return false;
-    }
-    if !stays(row[13], table, h, n, rec[2]) {
-        return false;
-    }
-    if !stays(row[14], table, h, n, rec[3]) {
-        return false;
-    }
-    stays(row[15], table, h, n, rec[4])
+    stays(row[11], table, h, n, rec[1])
+        && stays(row[13], table, h, n, rec[2])
+        && stays(row[14], table, h, n, rec[3])
+        && stays(row[15], table, h, n, rec[4])
 }
 
 // A record as it is written, with the places of the lines that its numbers name, each looked up; the row is that of the record's kind.

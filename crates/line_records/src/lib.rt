@@ -3,7 +3,6 @@
 #![tactic(auto)]
 
 ghost use Rattle.std.specs.Prelude.{◌≡◌, false, ◌+◌, ◌≤◌, ◌<◌, length, get_or};
-ghost use Rattle.tables.specs.Pick.{pick};
 ghost use Rattle.tables.specs.Lines.{kind_in, first_in};
 ghost use Rattle.tables.specs.Layout.{room as room_of};
 ghost use Rattle.texts.specs.Minus.{minuses};
@@ -15,21 +14,11 @@ use records::notes::BYTES;
 use tables::{Refusal, WORDS};
 use texts::Readout;
 
-// 1 for an operand with a minus, else 0.
-fn one(minus: bool) -> usize
-    ensures { (result ≡ pick minus 1 0) × (result ≤ 1) }
-{
-    if minus {
-        return 1;
-    }
-    0
-}
-
 // How many operands have a minus.
 fn count(minus: [bool; WORDS]) -> usize
     ensures { result ≡ minuses minus }
 {
-    one(minus[2]) + one(minus[3]) + one(minus[4])
+    usize::from(minus[2]) + usize::from(minus[3]) + usize::from(minus[4])
 }
 
 // What a line gives after n records, with room for `room` of them: 4 where there is none left for all of its records.
@@ -93,14 +82,12 @@ pub fn put_line(
 {
     let mut own = rec;
     let mut k = n;
-    let mut j: usize = 2;
-    while j < WORDS {
+    for j in 2..WORDS {
         if minus[j] {
             put_not(table, k, own, j, notes);
             k += 1;
             own[j] = k as u64;
         }
-        j += 1;
     }
     put(table, k, own, id, notes);
     k + 1

@@ -9,20 +9,6 @@ ghost use Rattle.texts.specs.Model.Chains.{hashes, hash_from, hash_of, count_in,
 // The hashes of names are below this.
 const HASHES: usize = 1024;
 
-fn wide(x: u16) -> usize
-    ensures { result ≡ x }
-{
-    x as usize
-}
-
-// The byte at the place i.
-fn byte(t: &[u8], i: usize) -> usize
-    requires { i < length t.now }
-    ensures { (result ≡ get_or t.now i 0) × (result < 256) }
-{
-    t[i] as usize
-}
-
 // The hash of a name by the bytes before the place `from`, each step-th one, where `start` is that of those behind.
 fn hash_rest(t: &[u8], step: usize, start: usize, from: usize) -> usize
     requires { (1 ≤ step) × (start < hashes) × (from ≤ length t.now) }
@@ -30,8 +16,9 @@ fn hash_rest(t: &[u8], step: usize, start: usize, from: usize) -> usize
 {
     let mut h = start;
     let mut p = from;
+    // a `while`: a range that goes down by `step` as far as `step` says it less plainly
     while step <= p {
-        h = (h * 37 + byte(t, p - 1)) % HASHES;
+        h = (h * 37 + usize::from(t[p - 1])) % HASHES;
         p -= step;
     }
     h
@@ -45,11 +32,12 @@ fn hash(t: &[u8]) -> usize
     let step = t.len() / 32 + 1;
     let mut h = t.len() % HASHES;
     let mut p = t.len();
+    // a `while`, four bytes in a turn for speed: where it ends, hash_rest goes on
     while 4 * step <= p {
-        let a = byte(t, p - 1);
-        let b = byte(t, p - step - 1);
-        let c = byte(t, p - 2 * step - 1);
-        let d = byte(t, p - 3 * step - 1);
+        let a = usize::from(t[p - 1]);
+        let b = usize::from(t[p - step - 1]);
+        let c = usize::from(t[p - 2 * step - 1]);
+        let d = usize::from(t[p - 3 * step - 1]);
         h = (h * 1874161 + a * 50653 + b * 1369 + c * 37 + d) % HASHES;
         p -= 4 * step;
     }
@@ -60,17 +48,7 @@ fn hash(t: &[u8]) -> usize
 fn same(t: &[u8], u: &[u8]) -> bool
     ensures { result ≡ same_bytes t.now u.now }
 {
-    if t.len() != u.len() {
-        return false;
-    }
-    let mut i: usize = 0;
-    while i < t.len() {
-        if t[i] != u[i] {
-            return false; // another byte
-        }
-        i += 1;
-    }
-    true
+    t == u
 }
 
 // Whether the bytes of the text from `from` to `to`, whose hash is h, are one of the names.
@@ -78,15 +56,16 @@ fn seen(text: &[u8], from: usize, to: usize, h: usize, names: &[u16]) -> bool
     requires { (from ≤ to) × (to ≤ length text.now) × (h ≡ hash_of (take (to - from) (drop from text.now))) × (h < hashes) × Chained text.now names.now }
     ensures { result ≡ among (take (to - from) (drop from text.now)) (names_in text.now names.now) }
 {
-    let mut i = wide(names[h]);
+    let mut i = usize::from(names[h]);
+    // a `while` along a chain of the list: there is no heap for a map, and the list's memory is fixed
     while i != 0 {
         let at = HASHES - 2 + 3 * i;
-        let a = wide(names[at + 1]);
-        let z = wide(names[at + 2]);
+        let a = usize::from(names[at + 1]);
+        let z = usize::from(names[at + 2]);
         if same(&text[from..to], &text[a..z + 1]) {
             return true;
         }
-        i = wide(names[at]);
+        i = usize::from(names[at]);
     }
     false
 }
@@ -99,7 +78,7 @@ fn add(text: &[u8], from: usize, to: usize, h: usize, names: &mut [u16])
         × (names_in text.now names.new ≡ take (to - from) (drop from text.now) ∷ names_in text.now names.old)
         × (count_in names.new ≡ count_in names.old + 1) }
 {
-    let n = wide(names[HASHES]) + 1;
+    let n = usize::from(names[HASHES]) + 1;
     let at = HASHES - 2 + 3 * n;
     names[at] = names[h];
     names[at + 1] = from as u16;

@@ -18,14 +18,12 @@ fn pass(l: &[u8], i: usize, m: usize) -> usize
     ensures { (result ≤ length l.now) × (tokens_in (drop result l.now) ≡ drop m (tokens_in (drop i l.now))) }
 {
     let mut at = i;
-    let mut p: usize = 0;
-    while p < m {
+    for _passed in 0..m {
         let a = tokens::skip(l, at);
         if a == l.len() {
             return a;
         }
         at = tokens::find_byte(l, a, 32);
-        p += 1;
     }
     at
 }
@@ -57,10 +55,9 @@ fn part(l: &[u8]) -> Part
 {
     let kinds = kinds::all();
     let i = pass(l, 0, 1);
-    let w = heads::word(&kinds, l, i);
-    if w.form == 0 {
+    let Some(w) = heads::word(&kinds, l, i) else {
         return Part { from: 0, to: 0 };
-    }
+    };
     let row = forms::row(&kinds, w.form);
     let s = forms::sorted(row);
     let c = row[12] as usize;
@@ -73,11 +70,7 @@ fn leads(l: &[u8], n: u64) -> bool
     ensures { result ≡ leads_by n (tokens_in l.now) }
 {
     let a = tokens::skip(l, 0);
-    if a == l.len() {
-        return false;
-    }
-    let z = tokens::find_byte(l, a, 32);
-    heads::is_id(&l[a..z], n)
+    a < l.len() && heads::is_id(&l[a..tokens::find_byte(l, a, 32)], n)
 }
 
 // The name of the first line whose id is n, and where it starts in the text.
@@ -86,7 +79,8 @@ pub fn find(text: &[u8], n: u64) -> Part
         × ((take (result.to - result.from) (drop result.from text.now) ≡ name_of text.now n)
         × (0 < length (name_of text.now n) → result.from ≡ name_place text.now n))) }
 {
-    let mut i: usize = 0;
+    // a `while`: the place goes from line to line, whose ends the search finds
+    let mut i = 0;
     while i < text.len() {
         let e = tokens::find_byte(text, i, 10);
         let z = tokens::cut(text, i, e);
@@ -107,7 +101,5 @@ pub fn name(text: &[u8], id: u64) -> &[u8]
     ensures { result.now ≡ name_of text.now id }
 {
     let p = find(text, id);
-    let from = p.from;
-    let to = p.to;
-    &text[from..to]
+    &text[p.from..p.to]
 }

@@ -12,8 +12,7 @@ use circuits::Totals;
 use peek_cells::Circuit;
 use peeks::Peeked;
 use records::notes;
-use records::notes::BYTES;
-use tables::{Checked, Refusal, Ty};
+use tables::{BLANK, Checked, Note, Refusal, Ty};
 
 // The cell k of the line n, a value that has it.
 fn find(
@@ -76,7 +75,7 @@ fn may_peek(t: Totals, y: Ty, count: usize, k: usize, s: usize, i: usize) -> Che
 fn peek_checked(
     table: &[u64],
     count: usize,
-    notes: &[[u8; BYTES]],
+    notes: &[Note],
     line: usize,
     k: usize,
     starts: &[u64],
@@ -108,7 +107,7 @@ pub fn peek(
 ) -> Peeked
     ensures { told_peek result ≡ peeks table.now count line cell starts.now row.now }
 {
-    let mut notes = [[0u8; BYTES]; 16385];
+    let mut notes = [BLANK; 16385];
     match checks::check(false, table, count, &mut notes) {
         Checked::Refused(r) => {
             return Peeked::Refused(r);

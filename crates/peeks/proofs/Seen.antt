@@ -8,6 +8,7 @@ use lib.Dec.{leb, eqb}
 use lib.ListN.{length, take, get_or, set, replicate, length-replicate}
 use borrow.Author.Tests.{le-leb, lt-leb, lt-ltb, le-ltb, eq-eqb, ne_eqb, leb-true, ltb-true, eqb-true}
 use Rattle.std.specs.Prelude.{Option, Some, None, is_some, unwrap_or}
+use Rattle.tables.specs.declared.Note.{Note}
 use Rattle.tables.specs.declared.Ty.{Ty}
 use Rattle.tables.specs.declared.Refusal.{Refusal}
 use Rattle.tables.specs.declared.Refusal.TheVariants.{StartWords, InputWords, NoSuchCell}
@@ -136,7 +137,7 @@ module _ {t : List ℕ} {n : ℕ} {P : List (List ℕ)} {S R : List ℕ} (l : La
 
 -- ---- an accepted table
 
-module _ {t : List ℕ} {n : ℕ} {xs : List (List ℕ)} (z : Noted false t n xs) (m : ℕ) where
+module _ {t : List ℕ} {n : ℕ} {xs : List Note} (z : Noted false t n xs) (m : ℕ) where
   -- the note of the line peeked at has its type
   type_is : {y : Ty} → y ≡ look_in xs m → y ≡ type_at (layout false (lines_of false t n)) m
   type_is e = e ∙ noted_types false t n z m

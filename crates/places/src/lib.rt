@@ -16,8 +16,7 @@ ghost use Rattle.tables.specs.Tables.{checked};
 use area::LAID;
 use circuits::{Spot, Totals};
 use records::notes;
-use records::notes::BYTES;
-use tables::Ty;
+use tables::{Note, Ty};
 
 // The cells of a line of the type y.
 fn cells_of(y: Ty) -> usize
@@ -56,14 +55,14 @@ fn count_line(k: u64, m: usize, t: Totals) -> Totals
 }
 
 // A next line drives the state on the line n.
-pub fn driven(notes: &[[u8; BYTES]], n: usize) -> bool
+pub fn driven(notes: &[Note], n: usize) -> bool
     ensures { result ≡ given_in notes.now false n }
 {
-    notes::at(notes, n as u64)[4] == 1
+    notes::at(notes, n as u64).has_next
 }
 
 // The counts with the words of the line n, of the kind k and with m cells, if it is a state that nobody drives.
-fn count_free(k: u64, notes: &[[u8; BYTES]], n: usize, m: usize, t: Totals) -> Totals
+fn count_free(k: u64, notes: &[Note], n: usize, m: usize, t: Totals) -> Totals
     requires { t.free + m < 4294967296 }
     ensures { (rec : List ℕ) → k ≡ kind_in rec → result ≡ totals_of (counts_of t) (t.free + free_here (given_in notes.now false n) m (line_of rec)) }
 {
@@ -114,7 +113,7 @@ pub fn lay_out(
     program: bool,
     table: &[u64],
     count: usize,
-    notes: &[[u8; BYTES]],
+    notes: &[Note],
     laid: &mut [[u32; LAID]],
 ) -> Totals
     requires { Noted program table.now count notes.now × (length laid.old ≡ 16385) }

@@ -85,17 +85,15 @@ pub fn read_line(
     }
     let z = tokens::find_byte(l, a, 32);
     let last = ids::last(table, n);
-    let id = heads::next_id(&l[a..z], last);
-    if id == 0 {
+    let Some(id) = heads::next_id(&l[a..z], last) else {
         return stages::refuse(Refusal::WrongId);
-    }
+    };
     if room <= n {
         return stages::refuse(Refusal::NoRecordLeft);
     }
-    let w = heads::word(kinds, l, z);
-    if w.form == 0 {
+    let Some(w) = heads::word(kinds, l, z) else {
         return stages::refuse(Refusal::UnknownWord);
-    }
+    };
     behind_word(l, kinds, w.form, w.at, id, table, n, notes)
 }
 

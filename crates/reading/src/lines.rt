@@ -2,14 +2,13 @@
 ghost use Rattle.std.specs.Prelude.{◌≡◌, [], ◌∷◌, ◌≤◌, length, replicate};
 ghost use Rattle.tables.specs.Kinds.{rows};
 ghost use Rattle.tables.specs.Model.Notes.{Shows};
-ghost use Rattle.tables.specs.Answers.{told};
 ghost use Rattle.tables.specs.Types.{no_ctx};
-ghost use Rattle.texts.specs.Reading.{lines_read, outcome_of};
+ghost use Rattle.texts.specs.Reading.{lines_read, outcome_of, told_read};
 ghost use Rattle.texts.specs.Model.Chains.{Ample};
 
 use crate::line;
 use records::notes::BYTES;
-use tables::Answer;
+use texts::TextRefusal;
 
 // The lines of a text, into a table of zeros; kinds are the rows of all kinds, and the names are kept in a list of zeros.
 pub fn read_lines(
@@ -18,13 +17,14 @@ pub fn read_lines(
     kinds: &[[u8; 16]; 63],
     notes: &mut [[u8; BYTES]],
     names: &mut [u16],
-) -> Answer
+) -> Result<usize, TextRefusal>
     requires { (length text.now ≤ 65536) × ((table.old ≡ replicate (length table.old) 0) × ((length notes.old ≡ 16385)
         × (Shows notes.old no_ctx × ((kinds.now ≡ rows) × ((names.old ≡ replicate (length names.old) 0) × Ample text.now names.old))))) }
-    ensures { told result (table.new ∷ [])
+    ensures { told_read result (table.new ∷ [])
         ≡ outcome_of (length table.old) (lines_read (length table.old) text.now) }
 {
     let room = records::room_of(false, table.len());
+    // a `while`: the place goes from line to line, whose ends the search finds
     let mut i: usize = 0;
     let mut n: usize = 0;
     let mut line: usize = 1;
@@ -35,9 +35,9 @@ pub fn read_lines(
         let r = line::admit(text, i, own, n, room, names);
         i = tokens::after(e, text.len());
         if r.what == 2 {
-            let code = r.code;
+            let refusal = r.code;
             records::clear(table);
-            return Answer::Refused(code, line);
+            return Err(TextRefusal { refusal, line });
         }
         line += 1;
         if r.what == 0 {
@@ -45,8 +45,7 @@ pub fn read_lines(
             let minus = r.minus;
             let id = r.id;
             n = line_records::put_line(table, n, rec, minus, id, notes);
-            continue;
         }
     }
-    Answer::Done(n)
+    Ok(n)
 }

@@ -6,8 +6,7 @@ ghost use Rattle.circuits.specs.Answers.{told_run, runs};
 
 use circuits::FirstBad;
 use records::bytes;
-use records::notes::BYTES;
-use tables::Refusal;
+use tables::{BLANK, Refusal};
 
 // A run with a list that has room for N - 1 notes of the check: for all that count, or for all that a table may have; signals and work area are zero.
 fn run_with<const N: usize>(
@@ -25,7 +24,7 @@ fn run_with<const N: usize>(
     ensures { told_run result (signals.new ∷ work.new ∷ []) ≡ runs program table.now count k
         starts.now inputs.now (length signals.old) (length work.old) }
 {
-    let mut notes = [[0u8; BYTES]; N];
+    let mut notes = [BLANK; N];
     checks::check(program, table, count, &mut notes)?;
     engine::run_checked(
         program, table, count, &notes, k, starts, inputs, signals, work,

@@ -5,8 +5,8 @@ ghost use Rattle.std.specs.Prelude.{◌≡◌, ◌-◌, ◌^◌, ◌≤◌, ℕ,
 ghost use Rattle.texts.specs.Forms.{kind_of};
 ghost use Rattle.texts.specs.Operands.{resolved};
 ghost use Rattle.texts.specs.Minus.{minus_fits, minuses_by};
-ghost use Rattle.texts.specs.Reading.{no, settled};
-ghost use Rattle.texts.specs.Model.Stages.{ruled as ruled_by, judged, allowed, concluded, large as large_of, ended, taken_in};
+ghost use Rattle.texts.specs.Reading.{no, got, settled};
+ghost use Rattle.texts.specs.Model.Stages.{judged, allowed, concluded, large as large_of, ended, taken_in};
 ghost use Rattle.texts.specs.Model.Structs.{as_read, as_took, any_sign, several};
 ghost use Rattle.tables.specs.Pick.{all};
 ghost use Rattle.tables.specs.Kinds.{rows, row_of};
@@ -38,25 +38,19 @@ pub fn refuse(r: Refusal) -> Readout
     }
 }
 
-// 9, 10, or the record with its signs.
-fn ruled(a: u64, rec: [u64; WORDS], minus: [bool; WORDS]) -> Readout
-    ensures { result ≡ as_read (ruled_by a rec minus) }
+// The record with its signs.
+fn accept(rec: [u64; WORDS], minus: [bool; WORDS]) -> Readout
+    ensures { result ≡ as_read (got rec minus) }
 {
-    if a == 0 {
-        return Readout {
-            what: 0,
-            code: Refusal::NotATable,
-            rec: rec,
-            minus: minus,
-            id: 0,
-            from: 0,
-            to: 0,
-        };
+    Readout {
+        what: 0,
+        code: Refusal::NotATable,
+        rec: rec,
+        minus: minus,
+        id: 0,
+        from: 0,
+        to: 0,
     }
-    if a == 9 {
-        return refuse(Refusal::Misfit);
-    }
-    refuse(Refusal::InitOrNext)
 }
 
 // 2^w - 1.
@@ -64,10 +58,7 @@ fn ones(w: u8) -> u64
     requires { w ≤ 64 }
     ensures { result ≡ 2 ^ w - 1 }
 {
-    if w == 0 {
-        return 0;
-    }
-    18446744073709551615 >> (64 - w)
+    if w == 0 { 0 } else { u64::MAX >> (64 - w) }
 }
 
 // The record after the words that give a value; w is the width of the line's sort.
@@ -76,13 +67,10 @@ fn settle(w: u8, f: usize, rec: [u64; WORDS]) -> [u64; WORDS]
     ensures { result ≡ settled w f rec }
 {
     let mut t = rec;
-    if f == 67 {
-        t[2] = 1;
-        return t;
-    }
-    if f == 68 {
-        t[2] = ones(w);
-        return t;
+    match f {
+        67 => t[2] = 1,
+        68 => t[2] = ones(w),
+        _ => {}
     }
     t
 }
@@ -99,37 +87,24 @@ fn judge(
     requires { row ≡ row_of (kind_in rec) }
     ensures { result ≡ as_read (judged (look_in notes.now) (given_in notes.now) f len rec minus) }
 {
-    let a = rules::fault(false, row, rec, notes);
-    if a == 8 {
+    let fault = rules::fault(false, row, rec, notes);
+    if fault == Err(Refusal::WrongClass) {
         return refuse(Refusal::WrongClass);
     }
-    if f == 64 {
-        let w = notes::look(notes, rec[1]).w;
-        if len != w as usize {
-            return refuse(Refusal::Misfit);
-        }
-        return ruled(a, rec, minus);
+    if f == 64 && len != notes::look(notes, rec[1]).w as usize {
+        return refuse(Refusal::Misfit);
     }
-    ruled(a, rec, minus)
+    match fault {
+        Ok(()) => accept(rec, minus),
+        Err(refusal) => refuse(refusal),
+    }
 }
 
 // The line a, in a place of the given class of a record of the kind k, may have the sign that it has: a minus stands before a word, in no init.
 fn sign_fits(k: u64, class: u8, a: u64, minus: bool, notes: &[[u8; BYTES]]) -> bool
     ensures { result ≡ minus_fits k class (look_in notes.now a) minus }
 {
-    if !minus {
-        return true;
-    }
-    if class == NONE {
-        return false;
-    }
-    if VALUE < class {
-        return false;
-    }
-    if k == 6 {
-        return false;
-    }
-    types::is_word(notes::look(notes, a))
+    !minus || class != NONE && class <= VALUE && k != 6 && types::is_word(notes::look(notes, a))
 }
 
 // Each minus of a record stands where it may, by a row.
@@ -137,32 +112,17 @@ fn signs_fit(row: [u8; 16], rec: [u64; WORDS], minus: [bool; WORDS], notes: &[[u
     ensures { result ≡ all (minuses_by row (look_in notes.now) minus rec) }
 {
     let k = rec[0];
-    if !sign_fits(k, row[11], rec[1], minus[1], notes) {
-        return false;
-    }
-    if !sign_fits(k, row[13], rec[2], minus[2], notes) {
-        return false;
-    }
-    if !sign_fits(k, row[14], rec[3], minus[3], notes) {
-        return false;
-    }
-    sign_fits(k, row[15], rec[4], minus[4], notes)
+    sign_fits(k, row[11], rec[1], minus[1], notes)
+        && sign_fits(k, row[13], rec[2], minus[2], notes)
+        && sign_fits(k, row[14], rec[3], minus[3], notes)
+        && sign_fits(k, row[15], rec[4], minus[4], notes)
 }
 
 // Some place of a record has a minus.
 fn has_signs(minus: [bool; WORDS]) -> bool
     ensures { result ≡ any_sign minus }
 {
-    if minus[1] {
-        return true;
-    }
-    if minus[2] {
-        return true;
-    }
-    if minus[3] {
-        return true;
-    }
-    minus[4]
+    minus[1] || minus[2] || minus[3] || minus[4]
 }
 
 // 8 for a minus that stands where none may, and what follows. The row is that of the record's kind.
@@ -177,10 +137,8 @@ fn allow(
     requires { row ≡ row_of (kind_in rec) }
     ensures { result ≡ as_read (allowed (look_in notes.now) (given_in notes.now) f len rec minus) }
 {
-    if has_signs(minus) {
-        if !signs_fit(row, rec, minus, notes) {
-            return refuse(Refusal::WrongClass);
-        }
+    if has_signs(minus) && !signs_fit(row, rec, minus, notes) {
+        return refuse(Refusal::WrongClass);
     }
     judge(row, f, len, rec, minus, notes)
 }
@@ -259,10 +217,7 @@ pub fn finish(
         × (((a : ℕ) → (look_in notes.now a).w ≤ 64) × Risen table.now n))))) }
     ensures { result ≡ as_read (ended (look_in notes.now) (given_in notes.now) (ids_of table.now n) f (as_took l.now t)) }
 {
-    if !t.ok {
-        return refuse(Refusal::BadOperand);
-    }
-    if crowded {
+    if !t.ok || crowded {
         return refuse(Refusal::BadOperand);
     }
     let own = kinds::row_of(kinds, forms::kind_of(f));

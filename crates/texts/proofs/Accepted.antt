@@ -1,4 +1,5 @@
 -- What reading leaves is an accepted table: with the round trip, a table is accepted just where the text printed from it gives it back. Assumes nothing.
+use Rattle.std.specs.Prelude.{Ok}
 use Prim.Native.Nat.{ℕ, suc, ◌≤◌}
 use mathlib.Core.Path.{◌≡◌, refl, sym, ap, ap₂, ◌∙◌, subst}
 use mathlib.Core.Bool.{Bool, true, false, not, ◌||◌}
@@ -8,7 +9,6 @@ use lib.Dec.{eqb, leb}
 use lib.ListN.{length, replicate, length-append, length-replicate}
 use borrow.Author.Tests.{leb-true, leb-false}
 use Rattle.tables.specs.declared.Refusal.{Refusal}
-use Rattle.tables.specs.declared.Checked.TheVariants.{Accepted}
 use Rattle.tables.specs.Lines.{line_of, kind_in}
 use Rattle.tables.specs.Layout.{whole, room, records_of, ids_of, with_ids, filled}
 use Rattle.tables.specs.Ids.{rising, not_kind, zeros_on_nots, right_ids}
@@ -108,13 +108,13 @@ adds m l b (x ∷ xs) out ids O q =
         added_line b (line_tokens x) r s O o (g r s (sorts_all b.ctx b.records (line_records s b.records r) O k.1 k.0) (sym (step_got m l b x xs r s h) ∙ q))
 
 -- the table after reading is accepted with the count that was answered
-pub read_accepted : (len : ℕ) (s : List ℕ) (rs : List (List ℕ)) (ds : List ℕ) → read_text len s ≡ done rs ds → checked false (table_of len (done rs ds)) (length rs) ≡ Accepted
+pub read_accepted : (len : ℕ) (s : List ℕ) (rs : List (List ℕ)) (ds : List ℕ) → read_text len s ≡ done rs ds → checked false (table_of len (done rs ds)) (length rs) ≡ Ok tt
 read_accepted len s rs ds q = go (whole false len) (leb (length s) 65536) refl refl
   where
-    no_text : {r : Refusal} {l : ℕ} → read_text len s ≡ refused r l → checked false (table_of len (done rs ds)) (length rs) ≡ Accepted
+    no_text : {r : Refusal} {l : ℕ} → read_text len s ≡ refused r l → checked false (table_of len (done rs ds)) (length rs) ≡ Ok tt
     no_text {r} {l} h = let z : refused r l ≡ done rs ds = sym h ∙ q in let w : ◌≡◌ {A = ℕ} 0 1 = cc in absurd (omega arith)
 
-    taken : whole false len ≡ true → Added (room false len) no_lines rs ds → checked false (table_of len (done rs ds)) (length rs) ≡ Accepted
+    taken : whole false len ≡ true → Added (room false len) no_lines rs ds → checked false (table_of len (done rs ds)) (length rs) ≡ Ok tt
     taken w a =
         let t : List ℕ = filled false len (with_ids rs ds) in
         let long : length rs ≡ length ds = ap length a.all ∙ (a.same ∙ ap length (sym a.all_ids)) in
@@ -129,7 +129,7 @@ read_accepted len s rs ds q = go (whole false len) (leb (length s) 65536) refl r
         (sym
         (ap₂ right_ids (e ∙ a.all) (d ∙ a.all_ids) ∙ rw a.rise a.zeros)))
 
-    go : (x y : Bool) → whole false len ≡ x → leb (length s) 65536 ≡ y → checked false (table_of len (done rs ds)) (length rs) ≡ Accepted
+    go : (x y : Bool) → whole false len ≡ x → leb (length s) 65536 ≡ y → checked false (table_of len (done rs ds)) (length rs) ≡ Ok tt
     go false y h k = no_text (text_1 len s h)
     go true false h k = no_text (text_2 len s h (leb-false (length s) 65536 k))
     go true true h k = taken h (adds (room false len) 1 no_lines (split 10 s) rs ds sorts_none (sym (text_lines len s h (leb-true (length s) 65536 k)) ∙ q))

@@ -6,7 +6,7 @@ use mathlib.Core.List.{List, [], ◌∷◌, ◌++◌}
 use native.Mathlib.Omega.{arith}
 use lib.Dec.{eqb, ltb}
 use borrow.Author.Tests.{ne_eqb, le-leb, lt-ltb, ltb-true, ltb-false}
-use Rattle.texts.specs.declared.Num.TheVariants.{Is}
+use Rattle.std.specs.Prelude.{Ok}
 use Rattle.texts.specs.Decimal.{digit, all_in, value_from, plain, valued, scanned, decimal, digits_f, digits}
 use Rattle.texts.proofs.Splitting.{CleanByte, Clean, Tok, clean_append}
 
@@ -105,11 +105,11 @@ pub digits_tok : (n : ℕ) → Tok (digits n)
 unfolding digits
 digits_tok n = let d = digits_f_ok (suc n) n (omega arith) in tok_of (digits_f (suc n) n) d.clean d.plain
 
-pub decimal_is : (t : List ℕ) (v : ℕ) → plain t ≡ true → all_in 10 t ≡ true → value_from 10 0 t ≡ v → v < 2 ^ 64 → decimal t ≡ Is v
+pub decimal_is : (t : List ℕ) (v : ℕ) → plain t ≡ true → all_in 10 t ≡ true → value_from 10 0 t ≡ v → v < 2 ^ 64 → decimal t ≡ Ok v
 unfolding decimal scanned valued
-decimal_is t v p a e h = rw (p, decimal) (rw (a, scanned) (rw (e, lt-ltb v (2 ^ 64) h, valued) (ap Is e)))
+decimal_is t v p a e h = rw (p, decimal) (rw (a, scanned) (rw (e, lt-ltb v (2 ^ 64) h, valued) (ap Ok e)))
 
-pub decimal_digits : (n : ℕ) → n < 2 ^ 64 → decimal (digits n) ≡ Is n
+pub decimal_digits : (n : ℕ) → n < 2 ^ 64 → decimal (digits n) ≡ Ok n
 unfolding digits
 decimal_digits n h =
     let d = digits_f_ok (suc n) n (omega arith) in

@@ -1,4 +1,5 @@
 -- The worked example of the request read and written, a text for each refusal 3 to 10, and names. Assumes nothing.
+use Rattle.std.specs.Prelude.{Ok}
 use Prim.Native.Nat.{ℕ}
 use Prim.Native.Char.{code}
 use Prim.Native.String.{String, [] as end, ◌∷◌ as ◌then◌}
@@ -9,7 +10,6 @@ use native.Mathlib.Omega.{arith}
 use lib.Dec.{T, leb, leb→le}
 use lib.ListN.{length, take, drop}
 use Rattle.tables.specs.declared.Refusal.TheVariants.{NotATable, WrongId, NoRecordLeft, UnknownWord, BadOperand, NumberTooLarge, WrongClass, Misfit, InitOrNext}
-use Rattle.tables.specs.declared.Checked.TheVariants.{Accepted}
 use Rattle.tables.specs.Kinds.{row_of}
 use Rattle.tables.specs.Lines.{fields}
 use Rattle.tables.specs.Layout.{records_of, filled_by, from, words_for, table_with}
@@ -51,7 +51,7 @@ sample_written = refl
 abbrev table : List ℕ
 table = table_with false records
 
-pub sample_accepted : checked false table 11 ≡ Accepted
+pub sample_accepted : checked false table 11 ≡ Ok tt
 unfolding checked fault suits row_of filled_by
 sample_accepted = refl
 

@@ -22,8 +22,9 @@ use Rattle.tables.proofs.Laws.{true_of}
 use Rattle.tables.proofs.Every.{every, at_each}
 use Rattle.tables.proofs.Kept.{neither}
 use Rattle.tables.proofs.Places.{fields_of}
-use Rattle.texts.specs.declared.Num.{Num}
-use Rattle.texts.specs.declared.Num.TheVariants.{Bad, Big, Is}
+use Rattle.texts.specs.Decimal.{Num}
+use Rattle.std.specs.Prelude.{Ok, Err}
+use Rattle.texts.specs.declared.NumberError.TheVariants.{Malformed, TooLarge}
 use Rattle.texts.specs.Forms.{form_row, kind_of, first_of, numbers_of}
 use Rattle.texts.specs.Decimal.{decimal}
 use Rattle.texts.specs.Operands.{meant, resolved}
@@ -58,9 +59,9 @@ left_set j m rec v out l =
 
 left_placed : (j : ℕ) (ns : List Num) (rec : List ℕ) → Left j (length ns) rec (placed j ns rec)
 left_placed j [] rec = record { same_length = refl; same_place = λ p o. refl }
-left_placed j (Bad ∷ ns) rec = left_more j (length ns) rec (placed (suc j) ns rec) (left_placed (suc j) ns rec)
-left_placed j (Big ∷ ns) rec = left_more j (length ns) rec (placed (suc j) ns rec) (left_placed (suc j) ns rec)
-left_placed j (Is v ∷ ns) rec = left_set j (length ns) rec v (placed (suc j) ns (set rec j v)) (left_placed (suc j) ns (set rec j v))
+left_placed j (Err Malformed ∷ ns) rec = left_more j (length ns) rec (placed (suc j) ns rec) (left_placed (suc j) ns rec)
+left_placed j (Err TooLarge ∷ ns) rec = left_more j (length ns) rec (placed (suc j) ns rec) (left_placed (suc j) ns rec)
+left_placed j (Ok v ∷ ns) rec = left_set j (length ns) rec v (placed (suc j) ns (set rec j v)) (left_placed (suc j) ns (set rec j v))
 
 length_numbers : (f j : ℕ) (ts : List (List ℕ)) → length (numbers_from f j ts) ≡ length ts
 length_numbers f j [] = refl
@@ -317,9 +318,8 @@ module _ (L : ℕ → Ty) (G : Bool → ℕ → Bool) where
       pub next : follows (last_of 0 ds) (line_id ts) ≡ true
 
     next_value : (x : Num) (l : ℕ) → is_next x l ≡ true → follows l (value_of x) ≡ true
-    next_value Bad l h = let z : ◌≡◌ {A = ℕ} 0 1 = cc in absurd (omega arith)
-    next_value Big l h = let z : ◌≡◌ {A = ℕ} 0 1 = cc in absurd (omega arith)
-    next_value (Is v) l h = h
+    next_value (Err e) l h = let z : ◌≡◌ {A = ℕ} 0 1 = cc in absurd (omega arith)
+    next_value (Ok v) l h = h
 
     pub got_gives : (ts : List (List ℕ)) (rec : List ℕ) (s : List Bool) → read_line L G m ds ns ts ≡ got rec s → Gives ts rec s
     unfolding read_line

@@ -1,5 +1,6 @@
 -- The text of fewer than ten thousand records that keep the rules has at most 40 bytes a record: a line's number and its numbers have at most four digits, but for a
 -- constant's value, which has at most twenty. Assumes nothing.
+use Rattle.std.specs.Prelude.{Ok}
 use Prim.Native.Nat.{ℕ, suc, ◌+◌, ◌*◌, ◌^◌, ◌≤◌, ◌<◌}
 use mathlib.Core.Path.{◌≡◌, sym, subst}
 use mathlib.Core.Bool.{true, false}
@@ -7,7 +8,6 @@ use mathlib.Core.List.{List, [], ◌∷◌, ◌++◌}
 use native.Mathlib.Omega.{arith}
 use lib.Dec.{lit<}
 use lib.ListN.{length, get_or, length-append}
-use Rattle.tables.specs.declared.Checked.TheVariants.{Accepted}
 use Rattle.tables.specs.Kinds.{row_of}
 use Rattle.tables.specs.Lines.{line_of, kind_in, fields}
 use Rattle.tables.specs.Layout.{records_of}
@@ -50,7 +50,7 @@ lines_short c (r ∷ rs) n g e h =
     text_more n r rs 40 (line_short n r (omega arith) (kept_kind c r k.0) g.0) (lines_short (grow false c (line_of r)) rs (suc n) g.1 k.1 (omega arith))
 
 -- the text of an accepted table with fewer than ten thousand records
-pub text_short : (t : List ℕ) (n : ℕ) → checked false t n ≡ Accepted → n < 10 ^ 4 → length (write_text (records_of false t n)) ≤ 40 * n
+pub text_short : (t : List ℕ) (n : ℕ) → checked false t n ≡ Ok tt → n < 10 ^ 4 → length (write_text (records_of false t n)) ≤ 40 * n
 unfolding write_text
 text_short t n a h =
     let k = held t n a in

@@ -10,8 +10,8 @@ use borrow.Author.Tests.{ltb-true, eq-eqb, ne_eqb}
 use Rattle.tables.specs.Layout.{room}
 use Rattle.tables.specs.Ids.{most_id, follows}
 use Rattle.tables.proofs.Kept.{both}
-use Rattle.texts.specs.declared.Num.{Num}
-use Rattle.texts.specs.declared.Num.TheVariants.{Bad, Big, Is}
+use Rattle.texts.specs.Decimal.{Num}
+use Rattle.std.specs.Prelude.{Ok, Err}
 use Rattle.texts.specs.Split.{split, up_to, tokens}
 use Rattle.texts.specs.Decimal.{decimal}
 use Rattle.texts.specs.Minus.{minuses}
@@ -37,18 +37,16 @@ above l d h = ltb-true l d (both (ltb l d) (leb d most_id) h).0
 -- ---- the id of a line, and lines that have another
 
 number_own : (n : Num) → (value_of n ≡ 0 → ⊥) → is_id n (value_of n) ≡ true
-number_own Bad h = absurd (h refl)
-number_own Big h = absurd (h refl)
-number_own (Is v) h = eq-eqb v v refl
+number_own (Err e) h = absurd (h refl)
+number_own (Ok v) h = eq-eqb v v refl
 
 leads_own : (ts : List (List ℕ)) → (line_id ts ≡ 0 → ⊥) → leads (line_id ts) ts ≡ true
 leads_own [] h = absurd (h refl)
 leads_own (t ∷ ts) h = number_own (decimal t) h
 
 number_other : (n : Num) (k : ℕ) → (value_of n ≡ k → ⊥) → is_id n k ≡ false
-number_other Bad k h = refl
-number_other Big k h = refl
-number_other (Is v) k h = ne_eqb v k h
+number_other (Err e) k h = refl
+number_other (Ok v) k h = ne_eqb v k h
 
 leads_other : (ts : List (List ℕ)) (k : ℕ) → (line_id ts ≡ k → ⊥) → leads k ts ≡ false
 leads_other [] k h = refl

@@ -11,10 +11,11 @@ use borrow.Author.Tests.{ltb-true, ltb-false}
 use Rattle.texts.specs.declared.Form.{Form}
 use Rattle.texts.specs.Forms.{form_row, numbers_of}
 use Rattle.texts.specs.Split.{split, up_to, tokens}
-use Rattle.texts.specs.Reading.{word_in, line_tokens, name_behind, line_name}
+use Rattle.std.specs.Prelude.{Some}
+use Rattle.texts.specs.Reading.{unknown, word_in, line_tokens, name_behind, line_name}
 use Rattle.texts.specs.Names.{only}
 use Rattle.texts.specs.Naming.{Located, located, leads, line_from, line_with, name_of}
-use Rattle.texts.specs.Model.Structs.{word_with, as_word}
+use Rattle.texts.specs.Model.Structs.{as_word}
 use Rattle.texts.proofs.Places.{tail, line_first, next_token}
 
 -- ---- tokens passed
@@ -30,16 +31,12 @@ pub only_more : (l : List ℕ) (b : ℕ) (t : List ℕ) → b < length l → (ge
 only_more l b t h n = ap (λ (x : List (List ℕ)). only (t ∷ x)) (next_token l b (b + length (up_to 32 (drop b l))) h n refl)
 
 -- the extra token behind a word
-pub extra_none : (l : List ℕ) (w : Form) (ts : List (List ℕ)) → word_in ts ≡ as_word l w → w.form ≡ 0 → [] ≡ name_behind (word_in ts)
-extra_none l w ts e h = sym (ap name_behind (e ∙ ap (λ (f : ℕ). word_with l f w.at) h))
+pub extra_none : (ts : List (List ℕ)) → word_in ts ≡ unknown → [] ≡ name_behind (word_in ts)
+extra_none ts e = sym (ap name_behind e)
 
-pub extra_of : (l : List ℕ) (w : Form) (ts : List (List ℕ)) (m : ℕ) → word_in ts ≡ as_word l w → (w.form ≡ 0 → ⊥) → m ≡ numbers_of (form_row w.form)
+pub extra_of : (l : List ℕ) (w : Form) (ts : List (List ℕ)) (m : ℕ) → word_in ts ≡ as_word l (Some w) → m ≡ numbers_of (form_row w.form)
     → only (drop m (tokens (drop w.at l))) ≡ name_behind (word_in ts)
-extra_of l w ts m e h q = go w.form h q ∙ sym (ap name_behind e)
-  where
-    go : (f : ℕ) → (f ≡ 0 → ⊥) → m ≡ numbers_of (form_row f) → only (drop m (tokens (drop w.at l))) ≡ name_behind (word_with l f w.at)
-    go zero h q = absurd (h refl)
-    go (suc f) h q = ap (λ (k : ℕ). only (drop k (tokens (drop w.at l)))) q
+extra_of l w ts m e q = ap (λ (k : ℕ). only (drop k (tokens (drop w.at l)))) q ∙ sym (ap name_behind e)
 
 -- ---- a part of a part
 

@@ -11,8 +11,9 @@ use Rattle.tables.specs.Pick.{pick}
 use Rattle.tables.specs.Kinds.{class_at, names_line}
 use Rattle.tables.specs.Lines.{fields}
 use Rattle.tables.proofs.Kept.{both, no_yes}
-use Rattle.texts.specs.declared.Num.{Num}
-use Rattle.texts.specs.declared.Num.TheVariants.{Bad, Big, Is}
+use Rattle.texts.specs.Decimal.{Num}
+use Rattle.std.specs.Prelude.{Ok, Err}
+use Rattle.texts.specs.declared.NumberError.TheVariants.{Malformed, TooLarge}
 use Rattle.texts.specs.Forms.{form_row}
 use Rattle.texts.specs.Decimal.{decimal, digits}
 use Rattle.texts.specs.Operands.{place_by_id_from, place_by_id}
@@ -65,7 +66,7 @@ place_most ds d = go (eqb d 0)
 abbrev pub out_number : (f j : ℕ) (ds : List ℕ) (minus : Bool) (p v : ℕ) → ℕ
 out_number f j ds minus p v = pick (names_line (class_at (form_row f) j)) (pick minus p (place_by_id ds v)) v
 
-module _ (f j p : ℕ) (ds t : List ℕ) (v : ℕ) (e : number_at f j t ≡ Is v) (lp : p < 2 ^ 64) (ld : length ds < 2 ^ 32) where
+module _ (f j p : ℕ) (ds t : List ℕ) (v : ℕ) (e : number_at f j t ≡ Ok v) (lp : p < 2 ^ 64) (ld : length ds < 2 ^ 32) where
   abbrev place : ℕ
   place = pick (sign_at f j t) p (named_place f j ds t)
 
@@ -79,16 +80,16 @@ module _ (f j p : ℕ) (ds t : List ℕ) (v : ℕ) (e : number_at f j t ≡ Is v
   pub named_is : named_place f j ds t ≡ place_by_id ds v
   named_is = ap (λ (x : Num). place_by_id ds (value_of x)) e
 
-  pub number_out : number_at f j (out_token f j p ds t) ≡ Is (out_number f j ds (sign_at f j t) p v)
+  pub number_out : number_at f j (out_token f j p ds t) ≡ Ok (out_number f j ds (sign_at f j t) p v)
   number_out = go (names_line (class_at (form_row f) j)) refl
     where
       go : (b : Bool) → names_line (class_at (form_row f) j) ≡ b
-          → number_at f j (pick b (digits (pick (sign_at f j t) p (named_place f j ds t))) t) ≡ Is (pick b (pick (sign_at f j t) p (place_by_id ds v)) v)
+          → number_at f j (pick b (digits (pick (sign_at f j t) p (named_place f j ds t))) t) ≡ Ok (pick b (pick (sign_at f j t) p (place_by_id ds v)) v)
       go true h =
           let q : ℕ = pick (sign_at f j t) p (named_place f j ds t) in
           let d = decimal_digits q place_small in
           without_sign f j (digits q) (sign_none f j (digits q) (number_plain (digits q) q d))
-          ∙ (plain_line f j (digits q) h ∙ (d ∙ ap (λ (x : ℕ). Is (pick (sign_at f j t) p x)) named_is))
+          ∙ (plain_line f j (digits q) h ∙ (d ∙ ap (λ (x : ℕ). Ok (pick (sign_at f j t) p x)) named_is))
       go false h = e
 
   pub sign_out : sign_at f j (out_token f j p ds t) ≡ false
@@ -159,14 +160,14 @@ pub record Operands (f n : ℕ) (ds : List ℕ) (us : List (List ℕ)) : Type 0 
 -- a number that is neither malformed nor too large has a value
 pub record Value (x : Num) (ns : List Num) : Type 0 where
   pub v : ℕ
-  pub is : x ≡ Is v
+  pub is : x ≡ Ok v
   pub bad : any_bad ns ≡ false
   pub big : any_big ns ≡ false
 
 pub value_of_lem : (x : Num) (ns : List Num) → any_bad (x ∷ ns) ≡ false → any_big (x ∷ ns) ≡ false → Value x ns
-value_of_lem Bad ns h k = absurd (no_yes (sym h))
-value_of_lem Big ns h k = absurd (no_yes (sym k))
-value_of_lem (Is v) ns h k = record { v = v; is = refl; bad = h; big = k }
+value_of_lem (Err Malformed) ns h k = absurd (no_yes (sym h))
+value_of_lem (Err TooLarge) ns h k = absurd (no_yes (sym k))
+value_of_lem (Ok v) ns h k = record { v = v; is = refl; bad = h; big = k }
 
 step : (b : Bool) → pick b 1 0 ≤ 1
 step true = omega arith

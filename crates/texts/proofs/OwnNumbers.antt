@@ -15,8 +15,8 @@ use Rattle.tables.proofs.Every.{every, at_each}
 use Rattle.tables.proofs.Shapes.{range}
 use Rattle.tables.proofs.Kept.{all_at, no_yes}
 use Rattle.tables.proofs.Places.{fields_eq}
-use Rattle.texts.specs.declared.Num.{Num}
-use Rattle.texts.specs.declared.Num.TheVariants.{Is}
+use Rattle.texts.specs.Decimal.{Num}
+use Rattle.std.specs.Prelude.{Ok}
 use Rattle.texts.specs.Forms.{form_row, kind_of, first_of, numbers_of}
 use Rattle.texts.specs.Operands.{place_by_id, meant}
 use Rattle.texts.specs.Minus.{no_signs, minus_at}
@@ -263,7 +263,7 @@ module _ (f n : ℕ) (ds : List ℕ) (ln : n < 2 ^ 32) (ld : length ds < 2 ^ 32)
         written = λ q. ap (λ (x : Num). placed 1 (x ∷ numbers_from f 2 us) (fresh q)) v.is ∙ o.written q v.v;
         signs = o.signs false (sign_at f 1 t);
         out = λ e q.
-            let g = number_out f 1 (suc n) ds t v.v v.is (omega arith) ld ∙ ap (λ (x : Bool). Is (out_number f 1 ds x (suc n) v.v)) e in
+            let g = number_out f 1 (suc n) ds t v.v v.is (omega arith) ld ∙ ap (λ (x : Bool). Ok (out_number f 1 ds x (suc n) v.v)) e in
             ap₂ (λ (x : Num) (i : ℕ). placed 1 (x ∷ numbers_from f 2 (out_tokens f 2 i ds us)) (fresh q)) g (step e) ∙ o.out q p;
         plain = λ e.
             ap₂ (λ (x : Bool) (i : ℕ). signs_from f 2 (out_tokens f 2 i ds us) (false ∷ x ∷ false ∷ false ∷ false ∷ [])) (sign_out f 1 (suc n) ds t v.v v.is (omega arith) ld) (step e)

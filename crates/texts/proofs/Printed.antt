@@ -1,4 +1,5 @@
 -- Bytes that go to a text one after the other, and how long a text can be. Assumes nothing.
+use Rattle.std.specs.Prelude.{Result, Ok, Err}
 use mathlib.Core.Path.{◌≡◌, refl, sym, ap, ◌∙◌, subst}
 use mathlib.Core.Bool.{Bool, true, false}
 use mathlib.Core.List.{List, [], ◌∷◌, ◌++◌, append_assoc, append-nil}
@@ -12,10 +13,6 @@ use lib.Seq.{drop-cons, sets, sets-eq, length-sets}
 use borrow.Author.Tests.{lt-ltb, le-ltb, ltb-false, le-leb, lt-leb, leb-true, leb-false}
 use Rattle.tables.specs.declared.Refusal.{Refusal}
 use Rattle.tables.specs.declared.Refusal.TheVariants.{TextBuffer}
-use Rattle.tables.specs.declared.Checked.{Checked}
-use Rattle.tables.specs.declared.Checked.TheVariants.{Accepted, Refused as RefusedTable}
-use Rattle.tables.specs.declared.Answer.{Answer}
-use Rattle.tables.specs.declared.Answer.TheVariants.{Done, Refused}
 use Rattle.tables.specs.Kinds.{row_of, word_of, operand_count}
 use Rattle.tables.specs.Lines.{line_of, kind_in}
 use Rattle.tables.specs.Layout.{room, record_at, records_of}
@@ -85,30 +82,32 @@ pub spaced_append : (a b : List (List ℕ)) → spaced (a ++ b) ≡ spaced a ++ 
 spaced_append [] b = refl
 spaced_append (t ∷ a) b = ap (λ (x : List ℕ). 32 ∷ x) (ap (λ (x : List ℕ). t ++ x) (spaced_append a b) ∙ sym (append_assoc t (spaced a) (spaced b)))
 
-module _ (e i : ℕ) (rec : List ℕ) where
-  numbers_step : i < e → numbers (e - i) i rec ≡ digits (get_or rec i 0) ∷ numbers (e - (i + 1)) (i + 1) rec
-  numbers_step h =
-      let q : e - i ≡ suc (e - (i + 1)) = omega arith in
-      ap (λ (m : ℕ). numbers m i rec) q ∙ ap (λ (k : ℕ). digits (get_or rec i 0) ∷ numbers (e - (i + 1)) k rec) (sym (add-one i))
+-- of m numbers from the place j on, k are passed
+module _ (m j k : ℕ) (rec : List ℕ) where
+  pub numbers_none : m ≤ k → numbers (m - k) (j + k) rec ≡ []
+  numbers_none h = let q : m - k ≡ 0 = omega arith in ap (λ (n : ℕ). numbers n (j + k) rec) q
 
-  pub numbers_none : e ≤ i → numbers (e - i) i rec ≡ []
-  numbers_none h = let q : e - i ≡ 0 = omega arith in ap (λ (m : ℕ). numbers m i rec) q
-
-  module _ (h : i < e) (l : List ℕ) (p : ℕ) where
+  module _ (h : k < m) (l : List ℕ) (p : ℕ) where
     abbrev num : List ℕ
-    num = digits (get_or rec i 0)
+    num = digits (get_or rec (j + k) 0)
 
     abbrev others : List ℕ
-    others = spaced (numbers (e - (i + 1)) (i + 1) rec)
+    others = spaced (numbers (m - (k + 1)) (j + (k + 1)) rec)
 
-    pub number_less : p + length (spaced (numbers (e - i) i rec)) ≡ p + 1 + length num + length others
-    number_less = omega (arith, ap (λ (x : List (List ℕ)). length (spaced x)) (numbers_step h), length-append num others)
+    numbers_step : numbers (m - k) (j + k) rec ≡ num ∷ numbers (m - (k + 1)) (j + (k + 1)) rec
+    numbers_step =
+        let q : m - k ≡ suc (m - (k + 1)) = omega arith in
+        let i : suc (j + k) ≡ j + (k + 1) = omega arith in
+        ap (λ (n : ℕ). numbers n (j + k) rec) q ∙ ap (λ (n : ℕ). num ∷ numbers (m - (k + 1)) n rec) i
 
-    pub number_out : sets l p (spaced (numbers (e - i) i rec)) ≡ sets (sets (set l p 32) (p + 1) num) (p + 1 + length num) others
+    pub number_less : p + length (spaced (numbers (m - k) (j + k) rec)) ≡ p + 1 + length num + length others
+    number_less = omega (arith, ap (λ (x : List (List ℕ)). length (spaced x)) numbers_step, length-append num others)
+
+    pub number_out : sets l p (spaced (numbers (m - k) (j + k) rec)) ≡ sets (sets (set l p 32) (p + 1) num) (p + 1 + length num) others
     number_out =
-        ap (λ (x : List (List ℕ)). sets l p (spaced x)) (numbers_step h)
+        ap (λ (x : List (List ℕ)). sets l p (spaced x)) numbers_step
         ∙ (sets_append (set l p 32) (suc p) num others
-        ∙ ap (λ (k : ℕ). sets (sets (set l p 32) k num) (k + length num) others) (sym (add-one p)))
+        ∙ ap (λ (n : ℕ). sets (sets (set l p 32) n num) (n + length num) others) (sym (add-one p)))
 
 -- one run of bytes after the other
 pub and_then : (l : List ℕ) (p : ℕ) (a l₁ : List ℕ) (p₁ : ℕ) (b l₂ : List ℕ) (p₂ : ℕ) → (p₁ ≡ p + length a) × (l₁ ≡ sets l p a) → (p₂ ≡ p₁ + length b) × (l₂ ≡ sets l₁ p₁ b)
@@ -340,22 +339,22 @@ sets_zeros s len h =
     sets-eq s (replicate len 0) 0 z ∙ (ap (λ (i : ℕ). s ++ drop i (replicate len 0)) j ∙ ap (λ (y : List ℕ). s ++ y) (drop_zeros (length s) len))
 
 module _ (t : List ℕ) (n len : ℕ) where
-  out_as : {a : Answer} {x : List ℕ} (o : Out) → write_table t n len ≡ o → a ≡ write_answer o → x ≡ buffer_of len o → told a (x ∷ []) ≡ writes t n len
+  out_as : {a : Result ℕ Refusal} {x : List ℕ} (o : Out) → write_table t n len ≡ o → a ≡ write_answer o → x ≡ buffer_of len o → told a (x ∷ []) ≡ writes t n len
   unfolding writes
   out_as o e h k = told_as h (ap (λ (y : List ℕ). y ∷ []) k) ∙ ap (λ (o : Out). told (write_answer o) (buffer_of len o ∷ [])) (sym e)
 
-  pub out_not : {c : Checked} {r : Refusal} {x : List ℕ} → c ≡ checked false t n → c ≡ RefusedTable r → x ≡ replicate len 0 → told (Refused r 0) (x ∷ []) ≡ writes t n len
+  pub out_not : {c : Result (Unit {0}) Refusal} {r : Refusal} {x : List ℕ} → c ≡ checked false t n → c ≡ Err r → x ≡ replicate len 0 → told (Err r) (x ∷ []) ≡ writes t n len
   unfolding write_table
   out_not {r = r} a b e = out_as (refuse r) (rw (sym a ∙ b) refl) refl e
 
-  pub out_short : {c : Checked} {x : List ℕ} → c ≡ checked false t n → c ≡ Accepted → len < length (write_text (records_of false t n)) → x ≡ replicate len 0
-      → told (Refused TextBuffer 0) (x ∷ []) ≡ writes t n len
+  pub out_short : {c : Result (Unit {0}) Refusal} {x : List ℕ} → c ≡ checked false t n → c ≡ Ok tt → len < length (write_text (records_of false t n)) → x ≡ replicate len 0
+      → told (Err TextBuffer) (x ∷ []) ≡ writes t n len
   unfolding write_table
   out_short a b h e = out_as (refuse TextBuffer) (rw (sym a ∙ b, lt-leb (length (write_text (records_of false t n))) len h, fitted) refl) refl e
 
-  pub out_written : {c : Checked} (m : ℕ) {x : List ℕ} → c ≡ checked false t n → c ≡ Accepted → m ≡ length (write_text (records_of false t n)) → m ≤ len
-      → x ≡ sets (replicate len 0) 0 (write_text (records_of false t n)) → told (Done m) (x ∷ []) ≡ writes t n len
+  pub out_written : {c : Result (Unit {0}) Refusal} (m : ℕ) {x : List ℕ} → c ≡ checked false t n → c ≡ Ok tt → m ≡ length (write_text (records_of false t n)) → m ≤ len
+      → x ≡ sets (replicate len 0) 0 (write_text (records_of false t n)) → told (Ok m) (x ∷ []) ≡ writes t n len
   unfolding write_table
   out_written m a b q h e =
       let k : length (write_text (records_of false t n)) ≤ len = omega arith in
-      out_as (wrote (write_text (records_of false t n))) (rw (sym a ∙ b, le-leb (length (write_text (records_of false t n))) len k, fitted) refl) (ap Done q) (e ∙ sets_zeros (write_text (records_of false t n)) len k)
+      out_as (wrote (write_text (records_of false t n))) (rw (sym a ∙ b, le-leb (length (write_text (records_of false t n))) len k, fitted) refl) (ap Ok q) (e ∙ sets_zeros (write_text (records_of false t n)) len k)

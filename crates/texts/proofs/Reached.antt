@@ -1,4 +1,5 @@
 -- Where reading stands before a line: the answer from the start is the answer from here, and the notes hold the context of the lines so far. Assumes nothing.
+use Rattle.std.specs.Prelude.{Ok}
 use mathlib.Core.Path.{◌≡◌, refl, sym, ap, ap₂, ◌∙◌, subst}
 use mathlib.Core.Bool.{Bool, true, false}
 use mathlib.Core.List.{List, [], ◌∷◌, ◌++◌}
@@ -12,17 +13,16 @@ use borrow.Author.Tests.{ltb-true, ltb-false, le-leb, lt-leb}
 use Rattle.tables.specs.declared.Ty.{Ty}
 use Rattle.tables.specs.declared.Refusal.{Refusal}
 use Rattle.tables.specs.declared.Refusal.TheVariants.{NotATable, TextTooLong}
-use Rattle.tables.specs.declared.Answer.TheVariants.{Done, Refused}
 use Rattle.tables.specs.Layout.{whole, room, ids_of, with_ids, filled}
 use Rattle.tables.specs.Ids.{follows}
 use Rattle.tables.specs.Types.{no_ctx, ty_at, given}
 use Rattle.tables.specs.Model.Notes.{look_in, given_in, Shows}
-use Rattle.tables.specs.Answers.{Outcome, told}
+use Rattle.tables.specs.Answers.{Outcome}
 use Rattle.texts.specs.declared.Readout.{Readout}
 use Rattle.texts.specs.Split.{split, up_to, tokens}
 use Rattle.texts.specs.Names.{with_name}
 use Rattle.texts.specs.Minus.{minuses, line_records, line_ids}
-use Rattle.texts.specs.Reading.{Reply, skip, no, got, last_of, line_id, line_name, line_tokens, read_line, Text, done, refused, Sofar, no_lines, with_line, read_lines_by, reply_after, read_lines, lines_read, read_text_by, read_text, outcome_of, reads}
+use Rattle.texts.specs.Reading.{Reply, skip, no, got, last_of, line_id, line_name, line_tokens, read_line, Text, done, refused, Sofar, no_lines, with_line, read_lines_by, reply_after, read_lines, lines_read, read_text_by, read_text, outcome_of, reads, at_line, told_read}
 use Rattle.texts.specs.Model.Stages.{named, fitted, judged_line, staged_line}
 use Rattle.texts.specs.Model.Structs.{Tells, Labelled, Admits}
 use Rattle.texts.specs.Model.Chains.{Ample, HasRoom}
@@ -241,10 +241,10 @@ module _ {s table w : List ℕ} {notes : List (List ℕ)} {len i n line : ℕ} {
 
 -- ---- the answers
 
-pub out_refused : (len : ℕ) {l : ℕ} {r : Refusal} {t : List ℕ} {x : Text} → x ≡ refused r l → t ≡ replicate len 0 → told (Refused r l) (t ∷ []) ≡ outcome_of len x
+pub out_refused : (len : ℕ) {l : ℕ} {r : Refusal} {t : List ℕ} {x : Text} → x ≡ refused r l → t ≡ replicate len 0 → told_read (at_line r l) (t ∷ []) ≡ outcome_of len x
 out_refused len h k = rw (h, k) refl
 
-pub out_done : (len n : ℕ) (rs : List (List ℕ)) (ds : List ℕ) {t : List ℕ} {x : Text} → n ≡ length rs → x ≡ done rs ds → t ≡ filled false len (with_ids rs ds) → told (Done n) (t ∷ []) ≡ outcome_of len x
+pub out_done : (len n : ℕ) (rs : List (List ℕ)) (ds : List ℕ) {t : List ℕ} {x : Text} → n ≡ length rs → x ≡ done rs ds → t ≡ filled false len (with_ids rs ds) → told_read (Ok n) (t ∷ []) ≡ outcome_of len x
 out_done len n rs ds e h k = rw (e, h, k) refl
 
 module _ (len : ℕ) (s : List ℕ) where

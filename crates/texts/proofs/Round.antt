@@ -1,4 +1,6 @@
 -- The round trip: an accepted table, written as text and read again, gives the same records and the same count, with the ids 1, 2, 3. Assumes nothing.
+use Rattle.std.specs.Prelude.{Result, Ok, Err}
+use Rattle.tables.specs.declared.Refusal.{Refusal}
 use Prim.Native.Nat.{ℕ, zero, suc, ◌+◌, ◌-◌, ◌^◌, ◌≤◌, ◌<◌}
 use mathlib.Core.Path.{◌≡◌, refl, sym, ap, ap₂, ◌∙◌, subst}
 use mathlib.Core.Bool.{Bool, true, false, ◌&&◌, ◌||◌, not}
@@ -11,8 +13,6 @@ use mir.Facts.{and_yes}
 use borrow.Author.Tests.{eqb-true, ne_eqb, lt-ltb, le-leb, le-ltb, ltb-true}
 use Rattle.tables.specs.declared.Ty.{Ty}
 use Rattle.tables.specs.declared.Refusal.TheVariants.{TextBuffer}
-use Rattle.tables.specs.declared.Checked.{Checked}
-use Rattle.tables.specs.declared.Checked.TheVariants.{Accepted, Refused}
 use Rattle.tables.specs.Pick.{pick, inside, all}
 use Rattle.tables.specs.Kinds.{row_of, sort_class, operand_count, first_class, second_class, third_class}
 use Rattle.tables.specs.Lines.{is_bitvec, shape_of, line_of, fields, kind_in, sort_in, first_in, second_in, third_in}
@@ -31,8 +31,7 @@ use Rattle.tables.proofs.Places.{fields_of, fields_eq, length_records}
 use Rattle.tables.proofs.Ids.{length_from, from_append}
 use Rattle.tables.proofs.Sound.{accepted_room, accepted_lawful}
 use Rattle.tables.proofs.OwnSorts.{Counted, counted_none, counted_more}
-use Rattle.texts.specs.declared.Num.{Num}
-use Rattle.texts.specs.declared.Num.TheVariants.{Is}
+use Rattle.texts.specs.Decimal.{Num}
 use Rattle.texts.specs.Forms.{form_row, kind_of, first_of, numbers_of}
 use Rattle.texts.specs.Split.{split, join}
 use Rattle.texts.specs.Decimal.{decimal, digits}
@@ -65,7 +64,7 @@ length_numbers (suc m) j rec = ap suc (length_numbers m (suc j) rec)
 -- m words of rec, from the place j on, as numbers
 abbrev values : (m j : ℕ) → List ℕ → List Num
 values zero j rec = []
-values (suc m) j rec = Is (get_or rec j 0) ∷ values m (suc j) rec
+values (suc m) j rec = Ok (get_or rec j 0) ∷ values m (suc j) rec
 
 none_bad : (m j : ℕ) (rec : List ℕ) → any_bad (values m j rec) ≡ false
 none_bad zero j rec = refl
@@ -80,7 +79,7 @@ placed_values zero j rec d = refl
 placed_values (suc m) j rec d = placed_values m (suc j) rec (set d j (get_or rec j 0))
 
 module _ (k : ℕ) (low : k ≤ 63) (rec : List ℕ) (words : (j : ℕ) → get_or rec j 0 < 2 ^ 64) where
-  number_read : (j : ℕ) → number_at k j (digits (get_or rec j 0)) ≡ Is (get_or rec j 0)
+  number_read : (j : ℕ) → number_at k j (digits (get_or rec j 0)) ≡ Ok (get_or rec j 0)
   number_read j =
       let d = decimal_digits (get_or rec j 0) (words j) in
       without_sign k j (digits (get_or rec j 0)) (sign_none k j (digits (get_or rec j 0)) (number_plain (digits (get_or rec j 0)) (get_or rec j 0) d))
@@ -323,12 +322,12 @@ pub record Held (t : List ℕ) (n : ℕ) : Type 0 where
   pub fits : n ≤ room false (length t)
   pub law : lawful false no_ctx (records_of false t n) ≡ true
 
-pub held : (t : List ℕ) (n : ℕ) → checked false t n ≡ Accepted → Held t n
+pub held : (t : List ℕ) (n : ℕ) → checked false t n ≡ Ok tt → Held t n
 held t n e = record { fits = (accepted_room false t n e).1; law = accepted_lawful false t n e }
 
 -- For every accepted table and count whose written text has at most 65,536 bytes: reading that text into any table with room gives the same records and the same count, and
 -- the ids 1, 2, 3.
-pub round_trip : (t : List ℕ) (n len : ℕ) → checked false t n ≡ Accepted → length (write_text (records_of false t n)) ≤ 65536 → whole false len ≡ true → n ≤ room false len
+pub round_trip : (t : List ℕ) (n len : ℕ) → checked false t n ≡ Ok tt → length (write_text (records_of false t n)) ≤ 65536 → whole false len ≡ true → n ≤ room false len
     → read_text len (write_text (records_of false t n)) ≡ done (records_of false t n) (from 1 n)
 unfolding write_text
 round_trip t n len a b d l =
@@ -345,10 +344,10 @@ pub written_read : (t : List ℕ) (n size len : ℕ) (s : List ℕ) → write_ta
 unfolding write_table
 written_read t n size len s e b d l = go (checked false t n) refl (leb (length (write_text (records_of false t n))) size) refl
   where
-    go : (x : Checked) → checked false t n ≡ x → (y : Bool) → leb (length (write_text (records_of false t n))) size ≡ y → read_text len s ≡ done (records_of false t n) (from 1 n)
-    go Accepted p true q =
+    go : (x : Result (Unit {0}) Refusal) → checked false t n ≡ x → (y : Bool) → leb (length (write_text (records_of false t n))) size ≡ y → read_text len s ≡ done (records_of false t n) (from 1 n)
+    go (Ok _) p true q =
         let z : wrote (write_text (records_of false t n)) ≡ wrote s = sym (rw (p, q, fitted) refl) ∙ e in
         let v : write_text (records_of false t n) ≡ s = cc in
         subst (λ (u : List ℕ). read_text len u ≡ done (records_of false t n) (from 1 n)) v (round_trip t n len p (subst (λ (u : List ℕ). length u ≤ 65536) (sym v) b) d l)
-    go Accepted p false q = let z : refuse TextBuffer ≡ wrote s = sym (rw (p, q, fitted) refl) ∙ e in let y : ◌≡◌ {A = ℕ} 0 1 = cc in absurd (omega arith)
-    go (Refused r) p y q = let z : refuse r ≡ wrote s = sym (rw p refl) ∙ e in let y : ◌≡◌ {A = ℕ} 0 1 = cc in absurd (omega arith)
+    go (Ok _) p false q = let z : refuse TextBuffer ≡ wrote s = sym (rw (p, q, fitted) refl) ∙ e in let y : ◌≡◌ {A = ℕ} 0 1 = cc in absurd (omega arith)
+    go (Err r) p y q = let z : refuse r ≡ wrote s = sym (rw p refl) ∙ e in let y : ◌≡◌ {A = ℕ} 0 1 = cc in absurd (omega arith)

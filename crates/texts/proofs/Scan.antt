@@ -12,7 +12,8 @@ use lib.Seq.{drop-cons}
 use borrow.Author.Tests.{eq-eqb, ne_eqb, eqb-true, lt-ltb, le-ltb, le-leb, lt-leb, ltb-true, ltb-false}
 use Rattle.tables.specs.Kinds.{class_at, names_line}
 use Rattle.tables.proofs.Laws.{and_false}
-use Rattle.texts.specs.declared.Num.TheVariants.{Bad, Big, Is}
+use Rattle.std.specs.Prelude.{Ok, Err}
+use Rattle.texts.specs.declared.NumberError.TheVariants.{Malformed, TooLarge}
 use Rattle.texts.specs.Split.{split, up_to, tokens}
 use Rattle.texts.specs.Decimal.{digit, all_in, value_from, valued, scanned, decimal, digits_in}
 use Rattle.texts.specs.Forms.{form_row}
@@ -60,35 +61,6 @@ module _ (b : ℕ) (s : List ℕ) (i : ℕ) where
   unfolding value_from
   value_end v l = rw (drop_of_length-le s l) refl
 
-module _ (c : ℕ) where
-  pub digit_1 : c < 48 → digit c ≡ 99
-  unfolding digit
-  digit_1 h = rw (lt-leb 48 c h, digit) (rw (lt-leb 65 c (omega arith)) (rw (lt-leb 97 c (omega arith)) refl))
-
-  pub digit_2 : 48 ≤ c → c ≤ 57 → digit c ≡ c - 48
-  unfolding digit
-  digit_2 h k = rw (le-leb 48 c h, le-leb c 57 k, digit) refl
-
-  pub digit_3 : 57 < c → c < 65 → digit c ≡ 99
-  unfolding digit
-  digit_3 h k = rw (le-leb 48 c (omega arith), lt-leb c 57 h, digit) (rw (lt-leb 65 c k) (rw (lt-leb 97 c (omega arith)) refl))
-
-  pub digit_4 : 65 ≤ c → c ≤ 70 → digit c ≡ c - 55
-  unfolding digit
-  digit_4 h k = rw (le-leb 48 c (omega arith), lt-leb c 57 (omega arith), digit) (rw (le-leb 65 c h, le-leb c 70 k) refl)
-
-  pub digit_5 : 70 < c → c < 97 → digit c ≡ 99
-  unfolding digit
-  digit_5 h k = rw (le-leb 48 c (omega arith), lt-leb c 57 (omega arith), digit) (rw (le-leb 65 c (omega arith), lt-leb c 70 h) (rw (lt-leb 97 c k) refl))
-
-  pub digit_6 : 97 ≤ c → c ≤ 102 → digit c ≡ c - 87
-  unfolding digit
-  digit_6 h k = rw (le-leb 48 c (omega arith), lt-leb c 57 (omega arith), digit) (rw (le-leb 65 c (omega arith), lt-leb c 70 (omega arith)) (rw (le-leb 97 c h, le-leb c 102 k) refl))
-
-  pub digit_7 : 102 < c → digit c ≡ 99
-  unfolding digit
-  digit_7 h = rw (le-leb 48 c (omega arith), lt-leb c 57 (omega arith), digit) (rw (le-leb 65 c (omega arith), lt-leb c 70 (omega arith)) (rw (le-leb 97 c (omega arith), lt-leb c 102 h) refl))
-
 pub value_least : (b v : ℕ) (t : List ℕ) → 1 ≤ b → v ≤ value_from b v t
 unfolding value_from
 value_least b v [] h = le_refl v
@@ -105,23 +77,23 @@ room_of v d b p h = (le-div_iff_mul-le p).0 h
 pub over_of : (v d b : ℕ) → 1 ≤ b → (18446744073709551615 - d) / b < v → 2 ^ 64 ≤ v * b + d
 over_of v d b p h = let k = (div-lt_iff_lt-mul p).0 h in omega arith
 
-pub value_big : (b : ℕ) (t : List ℕ) → 2 ^ 64 ≤ value_from b 0 t → valued b t ≡ Big
+pub value_big : (b : ℕ) (t : List ℕ) → 2 ^ 64 ≤ value_from b 0 t → valued b t ≡ Err TooLarge
 unfolding valued
 value_big b t h = rw (le-ltb (value_from b 0 t) (2 ^ 64) h, valued) refl
 
-pub value_small : (b : ℕ) (t : List ℕ) (v : ℕ) → value_from b 0 t ≡ v → v < 2 ^ 64 → valued b t ≡ Is v
+pub value_small : (b : ℕ) (t : List ℕ) (v : ℕ) → value_from b 0 t ≡ v → v < 2 ^ 64 → valued b t ≡ Ok v
 unfolding valued
-value_small b t v e h = rw (e, lt-ltb v (2 ^ 64) h, valued) (ap Is e)
+value_small b t v e h = rw (e, lt-ltb v (2 ^ 64) h, valued) (ap Ok e)
 
 pub scan_true : (b : ℕ) (t : List ℕ) → all_in b t ≡ true → scanned b t ≡ valued b t
 unfolding scanned
 scan_true b t h = rw (h, scanned) refl
 
-pub scan_false : (b : ℕ) (t : List ℕ) → all_in b t ≡ false → scanned b t ≡ Bad
+pub scan_false : (b : ℕ) (t : List ℕ) → all_in b t ≡ false → scanned b t ≡ Err Malformed
 unfolding scanned
 scan_false b t h = rw (h, scanned) refl
 
-pub decimal_none : (t : List ℕ) → length t ≡ 0 → decimal t ≡ Bad
+pub decimal_none : (t : List ℕ) → length t ≡ 0 → decimal t ≡ Err Malformed
 unfolding decimal
 decimal_none [] h = refl
 decimal_none (c ∷ t) h = absurd (omega arith)
@@ -132,7 +104,7 @@ decimal_one [] h = absurd (omega arith)
 decimal_one (c ∷ []) h = refl
 decimal_one (c ∷ d ∷ t) h = absurd (omega arith)
 
-pub decimal_lead : (t : List ℕ) → 1 < length t → get_or t 0 0 ≡ 48 → decimal t ≡ Bad
+pub decimal_lead : (t : List ℕ) → 1 < length t → get_or t 0 0 ≡ 48 → decimal t ≡ Err Malformed
 unfolding decimal
 decimal_lead [] h e = absurd (omega arith)
 decimal_lead (c ∷ []) h e = absurd (omega arith)
@@ -146,22 +118,22 @@ decimal_more (c ∷ d ∷ t) h e = rw (ne_eqb c 48 e, decimal) refl
 
 -- ---- digits of other bases, and the numbers of a line
 
-pub digits_none : (b m : ℕ) (t : List ℕ) → length t ≡ 0 → digits_in b m t ≡ Bad
+pub digits_none : (b m : ℕ) (t : List ℕ) → length t ≡ 0 → digits_in b m t ≡ Err Malformed
 unfolding digits_in
 digits_none b m [] h = refl
 digits_none b m (c ∷ t) h = absurd (omega arith)
 
-pub digits_bad : (b m : ℕ) (t : List ℕ) → all_in b t ≡ false → digits_in b m t ≡ Bad
+pub digits_bad : (b m : ℕ) (t : List ℕ) → all_in b t ≡ false → digits_in b m t ≡ Err Malformed
 unfolding digits_in
 digits_bad b m [] h = refl
 digits_bad b m (c ∷ t) h = rw (h, digits_in) refl
 
-pub digits_long : (b m : ℕ) (t : List ℕ) → all_in b t ≡ true → m < length t → digits_in b m t ≡ Big
+pub digits_long : (b m : ℕ) (t : List ℕ) → all_in b t ≡ true → m < length t → digits_in b m t ≡ Err TooLarge
 unfolding digits_in
 digits_long b m [] h l = absurd (omega arith)
 digits_long b m (c ∷ t) h l = rw (h, lt-leb (length (c ∷ t)) m l, digits_in) refl
 
-digits_is : (b m : ℕ) (t : List ℕ) → 0 < length t → all_in b t ≡ true → length t ≤ m → digits_in b m t ≡ Is (value_from b 0 t)
+digits_is : (b m : ℕ) (t : List ℕ) → 0 < length t → all_in b t ≡ true → length t ≤ m → digits_in b m t ≡ Ok (value_from b 0 t)
 unfolding digits_in
 digits_is b m [] p h l = absurd (omega arith)
 digits_is b m (c ∷ t) p h l = rw (h, le-leb (length (c ∷ t)) m l, digits_in) refl
@@ -248,17 +220,17 @@ module _ (f j : ℕ) (t : List ℕ) where
   without_sign e = rw (e, number_at) refl
 
 -- a number in digits has no sign
-pub number_plain : (t : List ℕ) (v : ℕ) → decimal t ≡ Is v → leads_minus t ≡ false
+pub number_plain : (t : List ℕ) (v : ℕ) → decimal t ≡ Ok v → leads_minus t ≡ false
 unfolding decimal scanned all_in digit
 number_plain [] v e = refl
 number_plain (c ∷ t) v e = go (eqb c 45) refl
   where
-    minus_bad : (t : List ℕ) → decimal (45 ∷ t) ≡ Bad
+    minus_bad : (t : List ℕ) → decimal (45 ∷ t) ≡ Err Malformed
     minus_bad [] = refl
     minus_bad (d ∷ t) = refl
 
     go : (b : Bool) → eqb c 45 ≡ b → b ≡ false
-    go true h = let z : Bad ≡ Is v = sym (ap (λ (x : ℕ). decimal (x ∷ t)) (eqb-true c 45 h) ∙ minus_bad t) ∙ e in let w : ◌≡◌ {A = ℕ} 0 1 = cc in absurd (omega arith)
+    go true h = let z : Err Malformed ≡ Ok v = sym (ap (λ (x : ℕ). decimal (x ∷ t)) (eqb-true c 45 h) ∙ minus_bad t) ∙ e in let w : ◌≡◌ {A = ℕ} 0 1 = cc in absurd (omega arith)
     go false h = refl
 
 -- tokens of which none begins with a minus have no signs

@@ -17,8 +17,9 @@ use Rattle.tables.specs.Types.{sort_at}
 use Rattle.tables.specs.Rules.{classes, fits, once_rules, answer, fault}
 use Rattle.tables.proofs.Laws.{or_true, or_false}
 use Rattle.texts.specs.declared.Taken.{Taken}
-use Rattle.texts.specs.declared.Num.{Num}
-use Rattle.texts.specs.declared.Num.TheVariants.{Bad, Big, Is}
+use Rattle.texts.specs.Decimal.{Num}
+use Rattle.std.specs.Prelude.{Ok, Err}
+use Rattle.texts.specs.declared.NumberError.TheVariants.{Malformed, TooLarge}
 use Rattle.texts.specs.Forms.{form_row, kind_of, first_of, numbers_of}
 use Rattle.texts.specs.Split.{tokens}
 use Rattle.texts.specs.Decimal.{decimal}
@@ -75,9 +76,9 @@ taken_at f (suc m) j rec s big len (t ∷ ts) =
         → ((v : ℕ) → operands f m (suc j) (set rec j v) s₁ big (length t) ts ≡ rest (set rec j v) big)
         → operands f (suc m) j rec s big len (t ∷ ts)
         ≡ at_once (ltb (length (t ∷ ts)) (suc m)) j (x ∷ numbers_from f (suc j) (take m ts)) rec (signs_from f (suc j) (take m ts) s₁) big (last_length (length t) (take m ts)) (drop m ts)
-    go Bad e a b = rw (e, operands) (rw (or_true (ltb (length (t ∷ ts)) (suc m))) refl)
-    go Big e a b = rw (e, operands) (a true ∙ rw (fewer m t ts, or_true big) refl)
-    go (Is v) e a b = rw (e, operands) (b v ∙ rw (fewer m t ts) refl)
+    go (Err Malformed) e a b = rw (e, operands) (rw (or_true (ltb (length (t ∷ ts)) (suc m))) refl)
+    go (Err TooLarge) e a b = rw (e, operands) (a true ∙ rw (fewer m t ts, or_true big) refl)
+    go (Ok v) e a b = rw (e, operands) (b v ∙ rw (fewer m t ts) refl)
 
 -- where no number is missing, the extra tokens are left
 pub taken_rest : (f : ℕ) (ts : List (List ℕ)) (l : List ℕ) (t : Taken) → taken_in f ts ≡ as_took l t → t.ok ≡ true → extra_tokens f ts ≡ tokens (drop t.at l)

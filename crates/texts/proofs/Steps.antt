@@ -1,36 +1,39 @@
 -- The stages of reading a line, one law for each case. Assumes nothing.
+use Rattle.std.specs.Prelude.{Result, Ok, Err, Some}
+use Rattle.std.specs.Result.{result_eq}
 use mathlib.Core.Path.{◌≡◌, refl, sym, ap, ◌∙◌}
 use mathlib.Core.Bool.{Bool, true, false}
 use mathlib.Core.List.{List, [], ◌∷◌}
-use Prim.Native.Nat.{ℕ, zero, suc, ◌+◌, ◌-◌, ◌^◌, ◌≤◌, ◌<◌}
+use Prim.Native.Nat.{ℕ, suc, ◌+◌, ◌-◌, ◌^◌, ◌≤◌, ◌<◌}
 use native.Mathlib.Omega.{arith}
 use native.Mathlib.Numerals.{add-one}
-use lib.Dec.{eqb, leb, ltb}
+use lib.Dec.{eqb, leb}
 use lib.ListN.{length, drop, get_or, set}
-use borrow.Author.Tests.{ltb-true, eq-eqb, ne_eqb, lt-ltb, le-ltb, le-leb, lt-leb}
+use borrow.Author.Tests.{ltb-true, eqb-true, eqb-false, eq-eqb, ne_eqb, lt-ltb, le-ltb, le-leb, lt-leb}
 use Rattle.tables.specs.declared.Ty.{Ty}
+use Rattle.tables.specs.declared.Refusal.{Refusal}
 use Rattle.tables.specs.declared.Refusal.TheVariants.{WrongId, NoRecordLeft, UnknownWord, BadOperand, NumberTooLarge, WrongClass, Misfit, InitOrNext}
-use Rattle.tables.specs.Pick.{inside, all}
+use Rattle.tables.specs.Pick.{pick, inside, all}
 use Rattle.tables.specs.Lines.{kind_in, sort_in, first_in, second_in, third_in}
-use Rattle.tables.specs.Rules.{fault}
-use Rattle.tables.specs.Ids.{most_id, follows}
+use Rattle.tables.specs.Rules.{fault, refused_by}
+use Rattle.tables.specs.Ids.{follows}
 use Rattle.tables.specs.Types.{is_word}
 use Rattle.tables.proofs.Laws.{and_true, and_false}
-use Rattle.tables.proofs.Kept.{both, neither}
-use Rattle.texts.specs.declared.Num.{Num}
-use Rattle.texts.specs.declared.Num.TheVariants.{Bad, Big, Is}
+use Rattle.tables.proofs.Kept.{neither}
+use Rattle.texts.specs.Decimal.{Num}
+use Rattle.texts.specs.declared.NumberError.TheVariants.{Malformed, TooLarge}
 use Rattle.tables.specs.Kinds.{row_of, sort_class, first_class, second_class, third_class, operand_count}
 use Rattle.texts.specs.Forms.{form_row, kind_of, sorted, first_of, numbers_of}
 use Rattle.texts.specs.Split.{tokens}
 use Rattle.texts.specs.Decimal.{decimal}
 use Rattle.texts.specs.Operands.{resolved}
 use Rattle.texts.specs.Minus.{no_signs, minus_at, minus_fits, minuses_by, minuses_fit}
-use Rattle.texts.specs.Reading.{word_in, sign_at, number_at, fresh, settled, no, got, skip, is_next, value_of, last_of}
+use Rattle.texts.specs.Reading.{unknown, word_in, sign_at, number_at, fresh, settled, no, got, skip, is_next, value_of, last_of}
 use Rattle.texts.specs.Model.Stages.{Took, took, malformed, operands, taken_in, ruled, judged, allowed, concluded, large, ended, worded, judged_line}
 use Rattle.texts.specs.declared.Readout.{Readout}
 use Rattle.texts.specs.declared.Taken.{Taken}
 use Rattle.texts.specs.declared.Form.{Form}
-use Rattle.texts.specs.Model.Structs.{word_with, as_word, took_at, as_took, as_read, NextId, any_sign, several}
+use Rattle.texts.specs.Model.Structs.{as_word, took_at, as_took, as_read, NextId, any_sign, several}
 
 -- ---- operands
 
@@ -47,15 +50,15 @@ module _ (f e p : ℕ) (rec : List ℕ) (s : List Bool) (big : Bool) (len : ℕ)
     op_step : operands f (e - p) p rec s big len (t ∷ ts) ≡ operands f (suc (e - (p + 1))) p rec s big len (t ∷ ts)
     op_step = let q : e - p ≡ suc (e - (p + 1)) = omega arith in ap (λ (m : ℕ). operands f m p rec s big len (t ∷ ts)) q
 
-    pub op_bad : number_at f p t ≡ Bad → operands f (e - p) p rec s big len (t ∷ ts) ≡ malformed
+    pub op_bad : number_at f p t ≡ Err Malformed → operands f (e - p) p rec s big len (t ∷ ts) ≡ malformed
     unfolding operands
     op_bad k = op_step ∙ rw (k, operands) refl
 
-    pub op_big : number_at f p t ≡ Big → operands f (e - p) p rec s big len (t ∷ ts) ≡ operands f (e - (p + 1)) (p + 1) rec (set s p (sign_at f p t)) true (length t) ts
+    pub op_big : number_at f p t ≡ Err TooLarge → operands f (e - p) p rec s big len (t ∷ ts) ≡ operands f (e - (p + 1)) (p + 1) rec (set s p (sign_at f p t)) true (length t) ts
     unfolding operands
     op_big k = op_step ∙ rw (k, operands) (ap (λ (x : ℕ). operands f (e - (p + 1)) x rec (set s p (sign_at f p t)) true (length t) ts) (sym (add-one p)))
 
-    pub op_is : (v : ℕ) → number_at f p t ≡ Is v → operands f (e - p) p rec s big len (t ∷ ts) ≡ operands f (e - (p + 1)) (p + 1) (set rec p v) (set s p (sign_at f p t)) big (length t) ts
+    pub op_is : (v : ℕ) → number_at f p t ≡ Ok v → operands f (e - p) p rec s big len (t ∷ ts) ≡ operands f (e - (p + 1)) (p + 1) (set rec p v) (set s p (sign_at f p t)) big (length t) ts
     unfolding operands
     op_is v k = op_step ∙ rw (k, operands) (ap (λ (x : ℕ). operands f (e - (p + 1)) x (set rec p v) (set s p (sign_at f p t)) big (length t) ts) (sym (add-one p)))
 
@@ -73,6 +76,38 @@ module _ (a : ℕ) (rec : List ℕ) (s : List Bool) where
   pub ruled_10 : (a ≡ 0 → ⊥) → (a ≡ 9 → ⊥) → ruled a rec s ≡ no InitOrNext
   unfolding ruled
   ruled_10 h k = rw (ne_eqb a 0 h, ne_eqb a 9 k, ruled) refl
+
+-- what the rules answer is what they say
+module _ (n : ℕ) where
+  pub tells_8 : (U : Unit {0} → Unit {0} → Bool) (E : Refusal → Refusal → Bool) {r : Result (Unit {0}) Refusal} {b : Bool} → r ≡ refused_by n → b ≡ result_eq U E r (Err WrongClass)
+      → E WrongClass WrongClass ≡ true → E Misfit WrongClass ≡ false → E InitOrNext WrongClass ≡ false → b ≡ eqb n 8
+  tells_8 U E h k t m i = k ∙ (ap (λ (r : Result (Unit {0}) Refusal). result_eq U E r (Err WrongClass)) h ∙ go (eqb n 0) refl (eqb n 8) refl (eqb n 9))
+    where
+      go : (a : Bool) → eqb n 0 ≡ a → (b : Bool) → eqb n 8 ≡ b → (c : Bool)
+          → result_eq U E (pick a (Ok tt) (Err (pick b WrongClass (pick c Misfit InitOrNext)))) (Err WrongClass) ≡ b
+      go true e true f c = let x = eqb-true n 0 e in let y = eqb-true n 8 f in absurd (omega arith)
+      go true e false f c = refl
+      go false e true f c = t
+      go false e false f true = m
+      go false e false f false = i
+
+  module _ (rec : List ℕ) (s : List Bool) where
+    pub by_none : {u : Unit {0}} → refused_by n ≡ Ok u → ruled n rec s ≡ got rec s
+    by_none {u} h = go (eqb n 0) refl (pick (eqb n 8) WrongClass (pick (eqb n 9) Misfit InitOrNext)) h
+      where
+        go : (a : Bool) → eqb n 0 ≡ a → (q : Refusal) → ◌≡◌ {A = Result (Unit {0}) Refusal} (pick a (Ok tt) (Err q)) (Ok u) → ruled n rec s ≡ got rec s
+        go true e q k = ruled_got n rec s (eqb-true n 0 e)
+        go false e q k = let z : ◌≡◌ {A = ℕ} 0 1 = cc in absurd (omega arith)
+
+    pub by_other : {r : Refusal} → (n ≡ 8 → ⊥) → refused_by n ≡ Err r → ruled n rec s ≡ no r
+    by_other {r} x h = go (eqb n 0) refl (eqb n 8) refl (eqb n 9) refl h
+      where
+        go : (a : Bool) → eqb n 0 ≡ a → (b : Bool) → eqb n 8 ≡ b → (c : Bool) → eqb n 9 ≡ c
+            → ◌≡◌ {A = Result (Unit {0}) Refusal} (pick a (Ok tt) (Err (pick b WrongClass (pick c Misfit InitOrNext)))) (Err r) → ruled n rec s ≡ no r
+        go true e b i c j k = let z : ◌≡◌ {A = ℕ} 0 1 = cc in absurd (omega arith)
+        go false e true i c j k = absurd (x (eqb-true n 8 i))
+        go false e false i true j k = let q : Misfit ≡ r = cc in ruled_9 n rec s (eqb-true n 9 j) ∙ ap no q
+        go false e false i false j k = let q : InitOrNext ≡ r = cc in ruled_10 n rec s (eqb-false n 0 e) (eqb-false n 9 j) ∙ ap no q
 
 module _ (w f : ℕ) (rec : List ℕ) where
   pub settled_one : f ≡ 67 → settled w f rec ≡ set rec 2 1
@@ -254,11 +289,8 @@ taken_from f row start k s ts o eb es er ek =
 -- ---- the id
 
 module _ (n : Num) (last : ℕ) where
-  pub next_none : is_next n last ≡ false → NextId n last 0
-  next_none h = (λ z. h, λ z. absurd (z refl))
-
-  pub next_is : (v : ℕ) → n ≡ Is v → follows last v ≡ true → NextId n last v
-  next_is v e h = (λ z. absurd (omega (arith, ltb-true last v (both (ltb last v) (leb v most_id) h).0)), λ z. (ap (λ (x : Num). is_next x last) e ∙ h, ap value_of (sym e)))
+  pub next_is : (v : ℕ) → n ≡ Ok v → follows last v ≡ true → NextId n last (Some v)
+  next_is v e h = (ap (λ (x : Num). is_next x last) e ∙ h, ap value_of (sym e))
 
 -- ---- lines
 
@@ -280,17 +312,6 @@ module _ (L : ℕ → Ty) (G : Bool → ℕ → Bool) (ds : List ℕ) (m : ℕ) 
     unfolding judged_line
     line_word h k = rw (h, lt-ltb (length ds) m k, judged_line) refl
 
-module _ (L : ℕ → Ty) (G : Bool → ℕ → Bool) (ds : List ℕ) (l : List ℕ) (f z : ℕ) where
-  word_no : f ≡ 0 → worded L G ds (word_with l f z) ≡ no UnknownWord
-  word_no h = rw h refl
-
-  word_form : (f ≡ 0 → ⊥) → worded L G ds (word_with l f z) ≡ ended L G ds f (taken_in f (tokens (drop z l)))
-  word_form h = go f h
-    where
-      go : (f : ℕ) → (f ≡ 0 → ⊥) → worded L G ds (word_with l f z) ≡ ended L G ds f (taken_in f (tokens (drop z l)))
-      go zero h = absurd (h refl)
-      go (suc f) h = refl
-
 -- a line whose tokens are known
 module _ (L : ℕ → Ty) (G : Bool → ℕ → Bool) (ds : List ℕ) (m : ℕ) (l : List ℕ) {x : Readout} where
   pub read_skip : tokens l ≡ [] → x ≡ as_read skip → x ≡ as_read (judged_line L G ds m (tokens l))
@@ -303,13 +324,12 @@ module _ (L : ℕ → Ty) (G : Bool → ℕ → Bool) (ds : List ℕ) (m : ℕ) 
     pub read_4 : is_next (decimal t) (last_of 0 ds) ≡ true → m ≤ length ds → x ≡ as_read (no NoRecordLeft) → x ≡ as_read (judged_line L G ds m (tokens l))
     read_4 a b h = h ∙ ap as_read (sym (ap (judged_line L G ds m) e ∙ line_4 L G ds m t (tokens (drop z l)) a b))
 
-    pub read_5 : is_next (decimal t) (last_of 0 ds) ≡ true → length ds < m → (w : Form) → word_in (tokens (drop z l)) ≡ as_word l w → w.form ≡ 0 → x ≡ as_read (no UnknownWord)
+    pub read_5 : is_next (decimal t) (last_of 0 ds) ≡ true → length ds < m → word_in (tokens (drop z l)) ≡ unknown → x ≡ as_read (no UnknownWord)
         → x ≡ as_read (judged_line L G ds m (tokens l))
-    read_5 a b w k q h =
-        h ∙ ap as_read (sym (ap (judged_line L G ds m) e ∙ (line_word L G ds m t (tokens (drop z l)) a b ∙ (ap (worded L G ds) k ∙ word_no L G ds l w.form w.at q))))
+    read_5 a b k h = h ∙ ap as_read (sym (ap (judged_line L G ds m) e ∙ (line_word L G ds m t (tokens (drop z l)) a b ∙ ap (worded L G ds) k)))
 
 -- and whose word is known
 pub judged_on : (L : ℕ → Ty) (G : Bool → ℕ → Bool) (ds : List ℕ) (m : ℕ) (l t : List ℕ) (z : ℕ) → tokens l ≡ t ∷ tokens (drop z l) → is_next (decimal t) (last_of 0 ds) ≡ true → length ds < m
-    → (w : Form) → word_in (tokens (drop z l)) ≡ as_word l w → (w.form ≡ 0 → ⊥) → ended L G ds w.form (taken_in w.form (tokens (drop w.at l))) ≡ judged_line L G ds m (tokens l)
-judged_on L G ds m l t z e a b w k q =
-    sym (ap (judged_line L G ds m) e ∙ (line_word L G ds m t (tokens (drop z l)) a b ∙ (ap (worded L G ds) k ∙ word_form L G ds l w.form w.at q)))
+    → (w : Form) → word_in (tokens (drop z l)) ≡ as_word l (Some w) → ended L G ds w.form (taken_in w.form (tokens (drop w.at l))) ≡ judged_line L G ds m (tokens l)
+judged_on L G ds m l t z e a b w k =
+    sym (ap (judged_line L G ds m) e ∙ (line_word L G ds m t (tokens (drop z l)) a b ∙ ap (worded L G ds) k))

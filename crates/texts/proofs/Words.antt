@@ -7,6 +7,7 @@ use native.Mathlib.Omega.{arith}
 use native.Mathlib.Numerals.{add-one}
 use lib.Dec.{T, eqb, leb, leb→le, eqb→eq}
 use lib.ListN.{length, drop, get_or, drop_of_length-le, length-drop}
+use lib.Pointwise.{pointwise}
 use lib.Seq.{drop-cons, length-take-le, get_or-take, get_or-drop}
 use mir.Facts.{and_yes}
 use borrow.Author.Tests.{eq-eqb, ne_eqb, le-leb, lt-leb, leb-true, leb-false}
@@ -17,13 +18,21 @@ use Rattle.tables.proofs.Every.{every, at_each}
 use Rattle.tables.proofs.Laws.{not_of_lem, and_false}
 use Rattle.tables.proofs.Kept.{known_range}
 use Rattle.texts.specs.Forms.{extra, form_row, kind_of, sorted, sort_word}
-use Rattle.texts.specs.Split.{same_bytes, tokens}
+use Rattle.texts.specs.Split.{same_bytes}
 use Rattle.texts.specs.Reading.{find_in, or_else, find_word, Word, word, unknown, form_word, sort_words, word_in, form_of}
 use Rattle.texts.specs.Writing.{headed, kind_tokens}
-use Rattle.texts.specs.Model.Structs.{word_with}
+use Rattle.std.specs.Prelude.{Some, None}
+use Rattle.texts.specs.Model.Structs.{found as found_form}
 use Rattle.texts.proofs.Splitting.{Clean, Tok, Toks}
 
 -- ---- a token against a word
+
+-- the library's test of two slices is this one
+pub same_pointwise : (x y : List ℕ) → pointwise eqb x y ≡ same_bytes x y
+same_pointwise [] [] = refl
+same_pointwise [] (b ∷ y) = refl
+same_pointwise (a ∷ x) [] = refl
+same_pointwise (a ∷ x) (b ∷ y) = ap (λ (q : Bool). eqb a b && q) (same_pointwise x y)
 
 pub same_not : (x y : List ℕ) → (length x ≡ length y → ⊥) → same_bytes x y ≡ false
 same_not [] [] h = absurd (h refl)
@@ -85,17 +94,31 @@ pub word_none : word_in [] ≡ unknown
 unfolding word_in
 word_none = refl
 
-pub known_at : (l : List ℕ) (f z : ℕ) → form_word f (tokens (drop z l)) ≡ word_with l f z
-known_at l zero z = refl
-known_at l (suc f) z = refl
+-- what a search found, and the word that it makes
+pub found_some : (m f : ℕ) → found_form m ≡ Some f → (1 ≤ f) × (m ≡ f)
+found_some zero f e = let z : ◌≡◌ {A = ℕ} 0 1 = cc in absurd (omega arith)
+found_some (suc m) f e = let q : suc m ≡ f = cc in (omega arith, q)
+
+pub found_at : (m f : ℕ) → 1 ≤ f → m ≡ f → found_form m ≡ Some f
+found_at zero f h e = absurd (omega arith)
+found_at (suc m) f h e = ap Some e
+
+pub form_some : (m f : ℕ) (ts : List (List ℕ)) → found_form m ≡ Some f → form_word m ts ≡ word f ts
+form_some zero f ts e = cc
+form_some (suc m) f ts e = cc
+
+pub form_none : (m : ℕ) (ts : List (List ℕ)) → found_form m ≡ None → form_word m ts ≡ unknown
+form_none zero ts e = refl
+form_none (suc m) ts e = cc
 
 -- of two searches the second is made where the first finds nothing
-pub else_found : (m n : ℕ) → (m ≡ 0 → ⊥) → or_else m n ≡ m
-else_found zero n h = absurd (h refl)
-else_found (suc m) n h = refl
+pub else_some : (m n f : ℕ) → found_form m ≡ Some f → found_form (or_else m n) ≡ Some f
+else_some zero n f e = cc
+else_some (suc m) n f e = e
 
-pub else_none : (m n : ℕ) → m ≡ 0 → or_else m n ≡ n
-else_none m n e = ap (λ (m : ℕ). or_else m n) e
+pub else_none : (m n : ℕ) → found_form m ≡ None → found_form (or_else m n) ≡ found_form n
+else_none zero n e = refl
+else_none (suc m) n e = cc
 
 -- what a search for a word finds is at most 68, and no mask
 abbrev pub IsForm : ℕ → Type 0

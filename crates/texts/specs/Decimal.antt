@@ -1,7 +1,11 @@
 -- Numbers in decimal, binary and hexadecimal digits, and the decimal digits of a number. Assumes nothing.
-use Rattle.std.specs.Prelude.{ℕ, zero, suc, ◌+◌, ◌-◌, ◌*◌, ◌/◌, ◌%◌, ◌^◌, Bool, true, false, ◌&&◌, not, List, [], ◌∷◌, ◌++◌, eqb, leb, ltb, length}
-use Rattle.texts.specs.declared.Num.{Num}
-use Rattle.texts.specs.declared.Num.TheVariants.{Bad, Big, Is}
+use Rattle.std.specs.Prelude.{ℕ, zero, suc, ◌+◌, ◌-◌, ◌*◌, ◌/◌, ◌%◌, ◌^◌, Bool, true, false, ◌&&◌, not, List, [], ◌∷◌, ◌++◌, eqb, leb, ltb, length, Result, Ok, Err}
+use Rattle.texts.specs.declared.NumberError.{NumberError}
+use Rattle.texts.specs.declared.NumberError.TheVariants.{Malformed, TooLarge}
+
+-- a token as a number: its value, or why it has none
+abbrev pub Num : Type 0
+Num = Result ℕ NumberError
 
 -- what a byte stands for as a digit; 99 where it is none
 unfoldable pub digit : ℕ → ℕ
@@ -32,21 +36,21 @@ some (c ∷ t) = true
 
 -- a number, where it is below 2 ^ 64
 unfoldable pub valued : ℕ → List ℕ → Num
-valued b t = elim (ltb (value_from b 0 t) (2 ^ 64)) [ true ↦ Is (value_from b 0 t) | false ↦ Big ]
+valued b t = elim (ltb (value_from b 0 t) (2 ^ 64)) [ true ↦ Ok (value_from b 0 t) | false ↦ Err TooLarge ]
 
 -- the number that digits have, where there are no other bytes
 unfoldable pub scanned : ℕ → List ℕ → Num
-scanned b t = elim (all_in b t) [ true ↦ valued b t | false ↦ Bad ]
+scanned b t = elim (all_in b t) [ true ↦ valued b t | false ↦ Err Malformed ]
 
 -- a decimal number has no leading zero and is below 2 ^ 64; the others are at most `most` digits long
 unfoldable pub decimal : List ℕ → Num
-decimal t = elim (plain t) [ true ↦ scanned 10 t | false ↦ Bad ]
+decimal t = elim (plain t) [ true ↦ scanned 10 t | false ↦ Err Malformed ]
 
 unfoldable pub digits_in : ℕ → ℕ → List ℕ → Num
 digits_in b most t =
     elim (some t && all_in b t) [
-      | true ↦ elim (leb (length t) most) [ true ↦ Is (value_from b 0 t) | false ↦ Big ]
-      | false ↦ Bad
+      | true ↦ elim (leb (length t) most) [ true ↦ Ok (value_from b 0 t) | false ↦ Err TooLarge ]
+      | false ↦ Err Malformed
     ]
 
 unfoldable pub digits_f : ℕ → ℕ → List ℕ

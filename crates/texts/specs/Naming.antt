@@ -1,8 +1,7 @@
 -- The name of a line: the one extra token of the first line whose id is the given number. It is empty where that line is missing, has an unknown word or has not
 -- just one extra token. Any text will do. Assumes nothing.
-use Rattle.std.specs.Prelude.{ℕ, ◌+◌, Bool, true, false, List, [], ◌∷◌, eqb, length, get_or}
-use Rattle.texts.specs.declared.Num.{Num}
-use Rattle.texts.specs.declared.Num.TheVariants.{Bad, Big, Is}
+use Rattle.std.specs.Prelude.{ℕ, ◌+◌, Bool, true, false, List, [], ◌∷◌, eqb, length, get_or, Ok, Err}
+use Rattle.texts.specs.Decimal.{Num}
 use Rattle.texts.specs.Split.{split, up_to}
 use Rattle.texts.specs.Decimal.{decimal}
 use Rattle.texts.specs.Reading.{last_of, line_tokens, line_name}
@@ -19,9 +18,8 @@ located i x = record { place = i; content = x }
 
 -- a token is the number n
 abbrev pub is_id : Num → ℕ → Bool
-is_id Bad n = false
-is_id Big n = false
-is_id (Is v) n = eqb v n
+is_id (Err e) n = false
+is_id (Ok v) n = eqb v n
 
 -- the line's id is the number n
 abbrev pub leads : ℕ → List (List ℕ) → Bool

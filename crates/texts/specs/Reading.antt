@@ -1,11 +1,9 @@
 -- Reading a text: its lines are parted at LF, cut at the first semicolon, and parted into tokens at spaces. Of a line the first of the refusals 3 to 10, 22, and 4 again, that
 -- holds is answered, of a text the first line's that has one. A line gives its own record and, before it, a not record for each minus operand. Assumes nothing.
-use Rattle.std.specs.Prelude.{ℕ, zero, suc, ◌+◌, ◌-◌, ◌^◌, Bool, true, false, ◌&&◌, ◌||◌, not, List, [], ◌∷◌, ◌++◌, map, eqb, leb, ltb, length, take, drop, set, replicate}
+use Rattle.std.specs.Prelude.{ℕ, zero, suc, ◌+◌, ◌-◌, ◌^◌, Bool, true, false, ◌&&◌, ◌||◌, not, List, [], ◌∷◌, ◌++◌, map, eqb, leb, ltb, length, take, drop, set, replicate, Result, Ok, Err}
 use Rattle.tables.specs.declared.Ty.{Ty}
 use Rattle.tables.specs.declared.Refusal.{Refusal}
 use Rattle.tables.specs.declared.Refusal.TheVariants.{NotATable, TextTooLong, WrongId, NoRecordLeft, UnknownWord, BadOperand, NumberTooLarge, WrongClass, Misfit, InitOrNext, NameUsed}
-use Rattle.tables.specs.declared.Answer.{Answer}
-use Rattle.tables.specs.declared.Answer.TheVariants.{Done, Refused}
 use Rattle.tables.specs.Pick.{inside, all}
 use Rattle.tables.specs.Kinds.{word_of, class_at, names_line}
 use Rattle.tables.specs.Lines.{line_of, fields, sort_in, first_in}
@@ -13,9 +11,11 @@ use Rattle.tables.specs.Types.{Ctx, no_ctx, ty_at, given, grow_all}
 use Rattle.tables.specs.Rules.{fault}
 use Rattle.tables.specs.Layout.{whole, room, with_ids, filled}
 use Rattle.tables.specs.Ids.{follows}
-use Rattle.tables.specs.Answers.{Outcome, told}
-use Rattle.texts.specs.declared.Num.{Num}
-use Rattle.texts.specs.declared.Num.TheVariants.{Bad, Big, Is}
+use Rattle.tables.specs.Answers.{Outcome, outcome}
+use Rattle.tables.specs.Refusals.{number_of}
+use Rattle.texts.specs.Decimal.{Num}
+use Rattle.texts.specs.declared.NumberError.TheVariants.{Malformed, TooLarge}
+use Rattle.texts.specs.declared.TextRefusal.{TextRefusal}
 use Rattle.texts.specs.Forms.{form_row, kind_of, first_of, numbers_of, sort_word}
 use Rattle.texts.specs.Split.{split, up_to, tokens, same_bytes}
 use Rattle.texts.specs.Decimal.{decimal, digits_in}
@@ -98,22 +98,22 @@ numbers_from f j (t ∷ ts) = number_at f j t ∷ numbers_from f (suc j) ts
 -- one of the numbers is malformed; one is too large
 abbrev pub any_bad : List Num → Bool
 any_bad [] = false
-any_bad (Bad ∷ ns) = true
-any_bad (Big ∷ ns) = any_bad ns
-any_bad (Is v ∷ ns) = any_bad ns
+any_bad (Err Malformed ∷ ns) = true
+any_bad (Err TooLarge ∷ ns) = any_bad ns
+any_bad (Ok v ∷ ns) = any_bad ns
 
 abbrev pub any_big : List Num → Bool
 any_big [] = false
-any_big (Bad ∷ ns) = any_big ns
-any_big (Big ∷ ns) = true
-any_big (Is v ∷ ns) = any_big ns
+any_big (Err Malformed ∷ ns) = any_big ns
+any_big (Err TooLarge ∷ ns) = true
+any_big (Ok v ∷ ns) = any_big ns
 
 -- numbers at the places j and up of a record; one that has no value leaves its place as it is
 abbrev pub placed : (j : ℕ) → List Num → List ℕ → List ℕ
 placed j [] rec = rec
-placed j (Bad ∷ ns) rec = placed (suc j) ns rec
-placed j (Big ∷ ns) rec = placed (suc j) ns rec
-placed j (Is v ∷ ns) rec = placed (suc j) ns (set rec j v)
+placed j (Err Malformed ∷ ns) rec = placed (suc j) ns rec
+placed j (Err TooLarge ∷ ns) rec = placed (suc j) ns rec
+placed j (Ok v ∷ ns) rec = placed (suc j) ns (set rec j v)
 
 -- which places of a record have a minus: the signs of tokens at the places j and up, the other places as in s
 abbrev pub signs_from : (f j : ℕ) → List (List ℕ) → List Bool → List Bool
@@ -175,15 +175,13 @@ line_name ts = name_behind (word_in (drop 1 ts))
 
 -- a token may be the id of a line behind one whose id is last
 abbrev pub is_next : Num → (last : ℕ) → Bool
-is_next Bad last = false
-is_next Big last = false
-is_next (Is v) last = follows last v
+is_next (Err e) last = false
+is_next (Ok v) last = follows last v
 
 -- the value of a number, 0 where it has none; the id of a line is that of its first token
 abbrev pub value_of : Num → ℕ
-value_of Bad = 0
-value_of Big = 0
-value_of (Is v) = v
+value_of (Err e) = 0
+value_of (Ok v) = v
 
 abbrev pub line_id : List (List ℕ) → ℕ
 line_id [] = 0
@@ -346,17 +344,26 @@ lines_read = lines_read_by kept_types
 abbrev pub read_text : (len : ℕ) → List ℕ → Text
 read_text = read_text_by kept_types
 
--- what is answered, and the words of the table afterwards: zero past the records, and zero after a refusal
-abbrev pub text_answer : Text → Answer
-text_answer (done rs ds) = Done (length rs)
-text_answer (refused r l) = Refused r l
+-- what is answered: the count, or a refusal with its text line
+abbrev pub at_line : (r : Refusal) (l : ℕ) → Result ℕ TextRefusal
+at_line r l = Err (record { refusal = r; line = l })
+
+abbrev pub text_answer : Text → Result ℕ TextRefusal
+text_answer (done rs ds) = Ok (length rs)
+text_answer (refused r l) = at_line r l
+
+abbrev pub told_read : Result ℕ TextRefusal → (left : List (List ℕ)) → Outcome
+told_read (Ok n) left = outcome 0 n 0 0 left
+told_read (Err x) left = outcome (number_of x.refusal) x.line 0 0 left
+
+-- and the words of the table afterwards: zero past the records, and zero after a refusal
 
 abbrev pub table_of : (len : ℕ) → Text → List ℕ
 table_of len (done rs ds) = filled false len (with_ids rs ds)
 table_of len (refused r l) = replicate len 0
 
 abbrev pub outcome_of : (len : ℕ) → Text → Outcome
-outcome_of len x = told (text_answer x) (table_of len x ∷ [])
+outcome_of len x = told_read (text_answer x) (table_of len x ∷ [])
 
 -- the outcome of reading the text s into a table of len words
 unfoldable pub reads : (len : ℕ) → List ℕ → Outcome

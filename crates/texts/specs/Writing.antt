@@ -1,11 +1,7 @@
 -- Writing a table as text: one space between tokens, every constant as constd, no names, LF after each line. Assumes nothing.
-use Rattle.std.specs.Prelude.{ℕ, zero, suc, ◌-◌, Bool, true, false, List, [], ◌∷◌, ◌++◌, leb, length, get_or, replicate}
+use Rattle.std.specs.Prelude.{ℕ, zero, suc, ◌-◌, Bool, true, false, List, [], ◌∷◌, ◌++◌, leb, length, get_or, replicate, Result, Ok, Err}
 use Rattle.tables.specs.declared.Refusal.{Refusal}
 use Rattle.tables.specs.declared.Refusal.TheVariants.{TextBuffer}
-use Rattle.tables.specs.declared.Checked.{Checked}
-use Rattle.tables.specs.declared.Checked.TheVariants.{Accepted, Refused as RefusedTable}
-use Rattle.tables.specs.declared.Answer.{Answer}
-use Rattle.tables.specs.declared.Answer.TheVariants.{Done, Refused}
 use Rattle.tables.specs.Kinds.{row_of, word_of}
 use Rattle.tables.specs.Lines.{kind_in}
 use Rattle.tables.specs.Layout.{records_of}
@@ -50,17 +46,17 @@ pub data Out : Type 0 where
 abbrev pub fitted : ℕ → List ℕ → Out
 fitted len s = elim (leb (length s) len) [ true ↦ wrote s | false ↦ refuse TextBuffer ]
 
-abbrev pub written_by : Checked → ℕ → List ℕ → Out
-written_by Accepted len s = fitted len s
-written_by (RefusedTable r) len s = refuse r
+abbrev pub written_by : Result (Unit {0}) Refusal → ℕ → List ℕ → Out
+written_by (Ok _) len s = fitted len s
+written_by (Err r) len s = refuse r
 
 unfoldable pub write_table : (t : List ℕ) (n len : ℕ) → Out
 write_table t n len = written_by (checked false t n) len (write_text (records_of false t n))
 
 -- what is answered, and the bytes of the buffer afterwards: zero past the text, and zero after a refusal
-abbrev pub write_answer : Out → Answer
-write_answer (wrote s) = Done (length s)
-write_answer (refuse r) = Refused r 0
+abbrev pub write_answer : Out → Result ℕ Refusal
+write_answer (wrote s) = Ok (length s)
+write_answer (refuse r) = Err r
 
 abbrev pub buffer_of : (len : ℕ) → Out → List ℕ
 buffer_of len (wrote s) = s ++ replicate (len - length s) 0

@@ -3,12 +3,11 @@
 
 use tables::{Refusal, WORDS};
 
-// A token as a number: malformed, above 2^64 - 1, or its value.
-#[derive(Clone, Copy)]
-pub enum Num {
-    Bad,
-    Big,
-    Is(u64),
+// Why a token is no number: malformed, or above 2^64 - 1.
+#[derive(Clone, Copy, Debug, PartialEq, Eq)]
+pub enum NumberError {
+    Malformed,
+    TooLarge,
 }
 
 // A line's form, 0 for an unknown word, and the place behind its word.
@@ -21,7 +20,7 @@ pub struct Form {
 // A token as a number and whether it has a minus.
 #[derive(Clone, Copy)]
 pub struct Signed {
-    pub num: Num,
+    pub num: Result<u64, NumberError>,
     pub minus: bool,
 }
 
@@ -47,6 +46,13 @@ pub struct Readout {
     pub id: u64,
     pub from: usize,
     pub to: usize,
+}
+
+// Why a text is refused, and at which of its lines: the first is 1, and 0 stands where no line is at fault.
+#[derive(Clone, Copy)]
+pub struct TextRefusal {
+    pub refusal: Refusal,
+    pub line: usize,
 }
 
 // A part of a text: from a place up to another.

@@ -14,14 +14,12 @@ pub fn find_byte(s: &[u8], i: usize, b: u8) -> usize
     requires { i ≤ length s.now }
     ensures { (i ≤ result) × ((result ≤ length s.now) × (result ≡ i + length (up_to b (drop i s.now)))) }
 {
-    let mut j = i;
-    while j < s.len() {
+    for j in i..s.len() {
         if s[j] == b {
             return j;
         }
-        j += 1;
     }
-    j
+    s.len()
 }
 
 // The same, two bytes at a time.
@@ -34,6 +32,7 @@ fn find_two(s: &[u8], i: usize, b: u8) -> usize
     }
     let e = s.len() - 1;
     let mut j = i;
+    // a `while`, two bytes in a turn for speed: where it ends, find_byte goes on
     while j < e {
         if s[j] == b {
             return j;
@@ -53,12 +52,10 @@ fn lacks(s: &[u8], i: usize, b: u8) -> bool
     ensures { result ≡ true → length (up_to b (drop i s.now)) ≡ 16 + length (up_to b (drop (i + 16) s.now)) }
 {
     let mut none = true;
-    let mut k: usize = 0;
-    while k < 16 {
-        if s[i + k] == b {
+    for x in &s[i..i + 16] {
+        if *x == b {
             none = false;
         }
-        k += 1;
     }
     none
 }
@@ -69,13 +66,8 @@ fn pass_blocks(s: &[u8], i: usize, e: usize, b: u8) -> usize
     ensures { (i ≤ result) × ((result ≤ length s.now) × (i + length (up_to b (drop i s.now)) ≡ result + length (up_to b (drop result s.now)))) }
 {
     let mut j = i;
-    while j < e {
-        if s.len() - j < 16 {
-            return j;
-        }
-        if !lacks(s, j, b) {
-            return j;
-        }
+    // a `while`, a block in a turn for speed: the place where it ends is the answer
+    while j < e && 16 <= s.len() - j && lacks(s, j, b) {
         j += 16;
     }
     j
@@ -95,13 +87,7 @@ fn rest_lacks(s: &[u8], i: usize, j: usize, b: u8) -> bool
     requires { (i ≤ j) × (j ≤ length s.now) }
     ensures { result ≡ true → j + length (up_to b (drop j s.now)) ≡ length s.now }
 {
-    if j - i < 16 {
-        return false;
-    }
-    if 16 <= s.len() - j {
-        return false;
-    }
-    lacks(s, s.len() - 16, b)
+    16 <= j - i && s.len() - j < 16 && lacks(s, s.len() - 16, b)
 }
 
 // The same as find_far, where b is likely to be missing.
@@ -123,14 +109,12 @@ pub fn skip(s: &[u8], i: usize) -> usize
         × ((tokens (drop result s.now) ≡ tokens (drop i s.now))
         × (result < length s.now → get_or s.now result 0 ≡ 32 → ⊥))) }
 {
-    let mut j = i;
-    while j < s.len() {
-        if s[j] != 32 {
+    for j in i..s.len() {
+        if s[j] != b' ' {
             return j;
         }
-        j += 1;
     }
-    j
+    s.len()
 }
 
 // Where the comment of the line from i to e starts, or e.
@@ -138,22 +122,18 @@ pub fn cut(s: &[u8], i: usize, e: usize) -> usize
     requires { (i ≤ e) × (e ≤ length s.now) }
     ensures { (i ≤ result) × ((result ≤ e) × (take (result - i) (drop i s.now) ≡ up_to 59 (take (e - i) (drop i s.now)))) }
 {
-    let j = pass_blocks(s, i, e, 59);
+    let j = pass_blocks(s, i, e, b';');
     if e <= j {
         return e;
     }
-    let c = find_two(&s[j..e], 0, 59);
-    j + c
+    j + find_two(&s[j..e], 0, b';')
 }
 
 // The place behind a line that ends at e.
 pub fn after(e: usize, len: usize) -> usize
     ensures { result ≡ min (e + 1) len }
 {
-    if e < len {
-        return e + 1;
-    }
-    len
+    if e < len { e + 1 } else { len }
 }
 
 // The first token from the place i on; an empty part at the line's end where there is none.
@@ -165,6 +145,6 @@ pub fn next(l: &[u8], i: usize) -> Part
     if a == l.len() {
         return Part { from: a, to: a };
     }
-    let z = find_rare(l, a, 32);
+    let z = find_rare(l, a, b' ');
     Part { from: a, to: z }
 }

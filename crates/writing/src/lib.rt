@@ -14,7 +14,7 @@ ghost use Rattle.tables.specs.Tables.{lawful};
 ghost use Rattle.tables.specs.Answers.{told};
 
 use records::{bytes, kinds};
-use tables::{Answer, Checked, Refusal, WORDS};
+use tables::{Refusal, WORDS};
 
 // One byte at a place of the text, where there is room.
 pub fn put(out: &mut [u8], at: usize, b: u8) -> usize
@@ -23,7 +23,6 @@ pub fn put(out: &mut [u8], at: usize, b: u8) -> usize
 {
     if at < out.len() {
         out[at] = b;
-        return at + 1;
     }
     at + 1
 }
@@ -45,13 +44,9 @@ pub fn put_word(out: &mut [u8], at: usize, r: [u8; 16]) -> usize
     requires { (get_or r 0 0 ≤ 10) × (at + length (word_of r) < 2 ^ 63) }
     ensures { (result ≡ at + length (word_of r)) × (out.new ≡ sets out.old at (word_of r)) }
 {
-    let n = r[0] as usize;
     let mut p = at;
-    let mut i: usize = 0;
-    while i < n {
-        let b = r[i + 1];
-        p = put(out, p, b);
-        i += 1;
+    for letter in &r[1..1 + usize::from(r[0])] {
+        p = put(out, p, *letter);
     }
     p
 }
@@ -80,14 +75,10 @@ pub fn put_numbers(out: &mut [u8], at: usize, m: usize, j: usize, rec: [u64; WOR
     requires { (j + m ≤ record_words) × (at + length (spaced (numbers m j rec)) < 2 ^ 63) }
     ensures { (result ≡ at + length (spaced (numbers m j rec))) × (out.new ≡ sets out.old at (spaced (numbers m j rec))) }
 {
-    let e = j + m;
     let mut p = at;
-    let mut i = j;
-    while i < e {
-        let v = rec[i];
+    for v in &rec[j..j + m] {
         p = put(out, p, 32);
-        p = put_number(out, p, v);
-        i += 1;
+        p = put_number(out, p, *v);
     }
     p
 }
@@ -115,31 +106,24 @@ fn put_lines(out: &mut [u8], table: &[u64], count: usize) -> usize
 {
     let kinds = kinds::all();
     let h = records::step(false, table.len());
-    let mut at: usize = 0;
-    let mut p: usize = 0;
-    while p < count {
+    let mut at = 0;
+    for p in 0..count {
         let rec = records::record(false, table, h, p);
-        p += 1;
-        at = put_line(&kinds, out, at, p as u64, rec);
+        at = put_line(&kinds, out, at, (p + 1) as u64, rec);
     }
     at
 }
 
 // Writes the first `count` records of a table as text.
-pub fn write(table: &[u64], count: usize, text: &mut [u8]) -> Answer
+pub fn write(table: &[u64], count: usize, text: &mut [u8]) -> Result<usize, Refusal>
     ensures { told result (text.new ∷ []) ≡ writes table.now count (length text.old) }
 {
     bytes::clear(text);
-    let c = checks::accept(false, table, count);
-    match c {
-        Checked::Refused(r) => Answer::Refused(r, 0),
-        Checked::Accepted => {
-            let n = put_lines(text, table, count);
-            if text.len() < n {
-                bytes::clear(text);
-                return Answer::Refused(Refusal::TextBuffer, 0);
-            }
-            Answer::Done(n)
-        }
+    checks::accept(false, table, count)?;
+    let n = put_lines(text, table, count);
+    if text.len() < n {
+        bytes::clear(text);
+        return Err(Refusal::TextBuffer);
     }
+    Ok(n)
 }

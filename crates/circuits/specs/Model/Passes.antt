@@ -1,5 +1,6 @@
 -- The pass over the lines before a run: what it counts, and where it puts a line. Assumes nothing.
 use Rattle.std.specs.Prelude.{ℕ, ◌+◌, ◌<◌, ◌≡◌, Bool, List, Ok}
+use Rattle.tables.specs.declared.Note.{Note}
 use Rattle.tables.specs.Pick.{pick}
 use Rattle.tables.specs.Lines.{Line}
 use Rattle.tables.specs.Layout.{lines_of}
@@ -12,7 +13,7 @@ use Rattle.circuits.specs.Layout.{Counts, counting}
 use Rattle.circuits.specs.Free.{if_state}
 
 -- the notes are those of an accepted table's check
-pub record Noted (p : Bool) (t : List ℕ) (n : ℕ) (xs : List (List ℕ)) : Type 0 where
+pub record Noted (p : Bool) (t : List ℕ) (n : ℕ) (xs : List Note) : Type 0 where
   pub accepted : checked p t n ≡ Ok tt
   pub shows : Shows xs (context p (lines_of p t n))
 

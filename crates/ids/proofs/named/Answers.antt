@@ -1,4 +1,4 @@
-use Prim.Native.Nat.{ℕ, ◌-◌, ◌≤◌}
+use Prim.Native.Nat.{ℕ, ◌≤◌}
 use mathlib.Core.Path.{◌≡◌, sym, ◌∙◌}
 use mathlib.Core.List.{List}
 use native.Mathlib.Omega.{arith}
@@ -14,9 +14,9 @@ returns-then-id-ne0 c =
     let l = c.loop-o in
     let t : List ℕ = s.table.now in
     record {
-      least = l.invariant.0;
+      least = omega arith;
       most = omega (arith, ids_length t s.n);
-      zeros = l.invariant.1.1;
+      zeros = l.invariant;
       named = λ h e. c.if-id-ne0.true (c.id.ensures ∙ sym (ids_at t s.n l.o (omega arith)) ∙ e);
     }
 
@@ -26,16 +26,15 @@ loop-o-preserved c =
     let l = c.loop-o in
     let t : List ℕ = s.table.now in
     let z : get_or (ids_of t s.n) l.o 0 ≡ 0 = ids_at t s.n l.o (omega arith) ∙ sym c.id.ensures ∙ c.if-id-ne0.false in
-    (omega arith, (omega arith, λ j k h. below_more (λ (m : ℕ). s.i ≤ m → get_or (ids_of t s.n) m 0 ≡ 0) _ (λ m q p. l.invariant.1.1 m p q) (λ p. z) j h k))
+    λ j k h. below_more (λ (m : ℕ). s.i ≤ m → get_or (ids_of t s.n) m 0 ≡ 0) _ (λ m q p. l.invariant m p q) (λ p. z) j h k
 
 pub returns : goal.returns
 returns c =
     let s = c.args in
-    let l = c.loop-o in
     let e = ids_length s.table.now s.n in
     record {
-      least = l.invariant.0;
+      least = omega arith;
       most = omega arith;
-      zeros = l.invariant.1.1;
+      zeros = λ j k h. c.loop-o.invariant j k (omega arith);
       named = λ h. absurd (omega arith);
     }

@@ -5,29 +5,7 @@ use native.Mathlib.Omega.{arith}
 use Rattle.tables.specs.Layout.{ids_of}
 use Rattle.texts.proofs.Resolving.{ids_length, ids_at, below_on, not_below_on}
 use Rattle.ids.proofs.past.Goals as goal
-
-pub returns-then-o-n : goal.returns-then-o-n
-returns-then-o-n c =
-    let s = c.args in
-    let p = c.requires.1 in
-    let ds : List ℕ = ids_of s.table.now s.n in
-    let e = ids_length s.table.now s.n in
-    record {
-      least = omega arith;
-      most = omega arith;
-      behind = λ h. absurd (omega arith);
-      before = λ q. not_below_on ds p.1.1.rise s.d p.0 s.i _ c.named-o.ensures.zeros (λ h. absurd (omega arith));
-    }
-
-pub id-requires : goal.id-requires
-id-requires c =
-    let s = c.args in
-    (omega (arith, ids_length s.table.now s.n, c.named-o.ensures.most, c.requires.1.1.1.there), c.requires.0)
-
-pub overflow_add-result : goal.overflow_add-result
-overflow_add-result c =
-    let s = c.args in
-    omega (arith, ids_length s.table.now s.n, c.named-o.ensures.most)
+use Rattle.ids.proofs.past.Goals.{else-o-n-via-then-o-n+else-id-d, else-o-n-via-else-o-n}
 
 pub returns-then-id-d : goal.returns-then-id-d
 returns-then-id-d c =
@@ -58,5 +36,9 @@ returns c =
       least = omega arith;
       most = omega arith;
       behind = λ h. absurd (omega arith);
-      before = λ q. not_below_on (ids_of t s.n) p.1.1.rise s.d p.0 s.i o f.zeros (λ h. omega (arith, ids_at t s.n o (omega arith), c.id.ensures));
+      before = λ q.
+          elim c.else-o-n.branch [
+            | else-o-n-via-then-o-n+else-id-d w ↦ not_below_on (ids_of t s.n) p.1.1.rise s.d p.0 s.i o f.zeros (λ h. omega (arith, ids_at t s.n o (omega arith), w.id.ensures))
+            | else-o-n-via-else-o-n w ↦ not_below_on (ids_of t s.n) p.1.1.rise s.d p.0 s.i o f.zeros (λ h. absurd (omega arith))
+          ];
     }

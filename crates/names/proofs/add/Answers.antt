@@ -70,8 +70,8 @@ returns c =
     let w : List ℕ = s.names.now in
     let z : ℕ = s.to - 1 in
     let q : z + 1 - s.from ≡ s.to - s.from = omega arith in
-    let g = grown w s.h s.from z c.wide-n.result c.wide-n.ensures p.4 p.6.1 in
-    let v : List ℕ = five w s.h s.from z c.wide-n.result c.wide-n.ensures p.4 p.6.1 in
+    let g = grown w s.h s.from z c.from-n.result c.from-n.ensures p.4 p.6.1 in
+    let v : List ℕ = five w s.h s.from z c.from-n.result c.from-n.ensures p.4 p.6.1 in
     let e : hash_of (take (z + 1 - s.from) (drop s.from t)) ≡ s.h = rw q (sym p.3) in (
       grown_chained t w v s.h s.from z g p.5 e p.4 p.6.1 (omega arith) (omega arith),
       rw (← q) (grown_names t w v s.h s.from z g),

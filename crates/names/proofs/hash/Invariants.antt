@@ -1,5 +1,5 @@
 -- Four bytes at a time, and then the others.
-use Prim.Native.Nat.{◌-◌, ◌≤◌, ◌<◌}
+use Prim.Native.Nat.{◌≤◌, ◌<◌}
 use lib.ListN.{length}
 use Rattle.texts.specs.Model.Chains.{hashes}
 use Rattle.texts.proofs.Hashing.{HashingFours}

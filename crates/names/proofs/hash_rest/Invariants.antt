@@ -1,5 +1,5 @@
 -- The hash of the bytes passed so far.
-use Prim.Native.Nat.{◌-◌, ◌≤◌, ◌<◌}
+use Prim.Native.Nat.{◌≤◌, ◌<◌}
 use lib.ListN.{length}
 use Rattle.texts.specs.Model.Chains.{hashes, hash_from}
 use Rattle.texts.proofs.Hashing.{Hashing}

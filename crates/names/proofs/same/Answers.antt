@@ -1,7 +1,6 @@
-use Prim.Native.Nat.{◌-◌}
-use mathlib.Core.Path.{sym}
-use Rattle.texts.proofs.Words.{same_not}
+use mathlib.Core.Path.{◌∙◌}
+use Rattle.texts.proofs.Words.{same_pointwise}
 use Rattle.names.proofs.same.Goals as goal
 
-pub returns-then-t-u : goal.returns-then-t-u
-returns-then-t-u c = let s = c.args in sym (same_not s.t.now s.u.now c.if-t-u.true)
+pub returns : goal.returns
+returns c = c.eq.ensures ∙ same_pointwise c.args.t.now c.args.u.now

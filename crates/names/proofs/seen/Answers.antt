@@ -17,7 +17,7 @@ loop-i-init c =
     let s = c.args in
     let p = c.requires in
     let t : List ℕ = take (s.to - s.from) (drop s.from s.text.now) in
-    walk_start p.4 t s.h (sym p.2) c.wide-i.result p.3 c.wide-i.ensures
+    walk_start p.4 t s.h (sym p.2) c.from-i.result p.3 c.from-i.ensures
 
 pub slice_bounds-same-count-in-loop-i : goal.slice_bounds-same-count-in-loop-i
 slice_bounds-same-count-in-loop-i c =
@@ -45,7 +45,7 @@ returns-then-same c =
     let s = c.args in
     let o = c.loop-i in
     let t : List ℕ = take (s.to - s.from) (drop s.from s.text.now) in
-    let d = compared s.text.now s.names.now t o.i c.wide-a.result c.wide-z.result c.same.result c.wide-a.ensures c.wide-z.ensures c.same.ensures in
+    let d = compared s.text.now s.names.now t o.i c.from-a.result c.from-z.result c.same.result c.from-a.ensures c.from-z.ensures c.same.ensures in
     sym (walk_found t s.h o.i c.loop-i-test.true o.invariant (d ∙ c.if-same.true))
 
 pub loop-i-smaller : goal.loop-i-smaller
@@ -62,5 +62,5 @@ loop-i-preserved c =
     let p = c.requires in
     let o = c.loop-i in
     let t : List ℕ = take (s.to - s.from) (drop s.from s.text.now) in
-    let d = compared s.text.now s.names.now t o.i c.wide-a.result c.wide-z.result c.same.result c.wide-a.ensures c.wide-z.ensures c.same.ensures in
-    walk_on p.4 t s.h (sym p.2) o.i c.wide-i-in-loop-i.result c.loop-i-test.true c.wide-i-in-loop-i.ensures o.invariant (d ∙ c.if-same.false)
+    let d = compared s.text.now s.names.now t o.i c.from-a.result c.from-z.result c.same.result c.from-a.ensures c.from-z.ensures c.same.ensures in
+    walk_on p.4 t s.h (sym p.2) o.i c.from-i-in-loop-i.result c.loop-i-test.true c.from-i-in-loop-i.ensures o.invariant (d ∙ c.if-same.false)

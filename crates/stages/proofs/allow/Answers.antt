@@ -5,7 +5,7 @@ use Rattle.tables.specs.Model.Notes.{look_in, given_in}
 use Rattle.texts.specs.Model.Structs.{as_read}
 use Rattle.texts.proofs.Steps.{minus_8, minus_fits_lem, no_minus, by_own_row}
 use Rattle.stages.proofs.allow.Goals as goal
-use Rattle.stages.proofs.allow.Goals.{then-has_signs+else-not-signs_fit, else-has_signs}
+use Rattle.stages.proofs.allow.Goals.{else-has_signs-via-then-has_signs+else-not-signs_fit, else-has_signs-via-else-has_signs}
 
 pub returns-then-not-signs_fit : goal.returns-then-not-signs_fit
 returns-then-not-signs_fit c =
@@ -23,7 +23,7 @@ returns c =
     c.judge.ensures
     ∙ ap as_read
     (sym (minus_fits_lem L G s.f s.rec s.minus s.len
-    (elim c.if-has_signs.branch [
-      | then-has_signs+else-not-signs_fit w ↦ sym (by_own_row L G s.f s.rec s.minus s.len c.requires w.signs_fit.ensures) ∙ not-false _ w.if-not-signs_fit.false-raw
-      | else-has_signs w ↦ no_minus L G s.f s.rec s.minus s.len (sym c.has_signs.ensures ∙ w.if-has_signs.false)
+    (elim c.else-has_signs.branch [
+      | else-has_signs-via-then-has_signs+else-not-signs_fit w ↦ sym (by_own_row L G s.f s.rec s.minus s.len c.requires w.signs_fit.ensures) ∙ not-false _ w.if-not-signs_fit.false-raw
+      | else-has_signs-via-else-has_signs w ↦ no_minus L G s.f s.rec s.minus s.len (sym c.has_signs.ensures ∙ w.if-has_signs.false)
     ])))

@@ -1,12 +1,12 @@
 -- Reading a line stage by stage, as the code does: each stage answers its refusal or hands on to the next. `proofs/Staged` shows that this is `read_line`. Assumes nothing.
-use Rattle.std.specs.Prelude.{ℕ, zero, suc, ◌+◌, Bool, true, false, ◌&&◌, not, List, [], ◌∷◌, eqb, ltb, length, set}
+use Rattle.std.specs.Prelude.{ℕ, zero, suc, ◌+◌, Bool, true, false, ◌&&◌, not, List, [], ◌∷◌, eqb, ltb, length, set, Ok, Err}
 use Rattle.tables.specs.declared.Ty.{Ty}
 use Rattle.tables.specs.declared.Refusal.{Refusal}
 use Rattle.tables.specs.declared.Refusal.TheVariants.{WrongId, NoRecordLeft, UnknownWord, BadOperand, NumberTooLarge, WrongClass, Misfit, InitOrNext, NameUsed}
 use Rattle.tables.specs.Pick.{inside, all}
 use Rattle.tables.specs.Lines.{sort_in, first_in}
 use Rattle.tables.specs.Rules.{fault}
-use Rattle.texts.specs.declared.Num.TheVariants.{Bad, Big, Is}
+use Rattle.texts.specs.declared.NumberError.TheVariants.{Malformed, TooLarge}
 use Rattle.texts.specs.Forms.{form_row, kind_of, first_of, numbers_of}
 use Rattle.texts.specs.Decimal.{decimal}
 use Rattle.texts.specs.Operands.{resolved}
@@ -25,9 +25,9 @@ operands f zero j rec s big len ts = took rec s big len ts
 operands f (suc m) j rec s big len [] = malformed
 operands f (suc m) j rec s big len (t ∷ ts) =
     elim (number_at f j t) [
-      | Bad ↦ malformed
-      | Big ↦ operands f m (suc j) rec (set s j (sign_at f j t)) true (length t) ts
-      | Is v ↦ operands f m (suc j) (set rec j v) (set s j (sign_at f j t)) big (length t) ts
+      | Err Malformed ↦ malformed
+      | Err TooLarge ↦ operands f m (suc j) rec (set s j (sign_at f j t)) true (length t) ts
+      | Ok v ↦ operands f m (suc j) (set rec j v) (set s j (sign_at f j t)) big (length t) ts
     ]
 
 abbrev pub taken_in : ℕ → List (List ℕ) → Took

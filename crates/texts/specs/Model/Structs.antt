@@ -1,10 +1,10 @@
 -- What the structs that the reader's functions hand on stand for. Assumes nothing.
-use Rattle.std.specs.Prelude.{ℕ, zero, suc, ◌+◌, ◌-◌, ◌≤◌, ◌<◌, ◌≡◌, Bool, true, false, ◌||◌, not, List, [], ◌∷◌, eqb, ltb, length, take, drop}
+use Rattle.std.specs.Prelude.{ℕ, zero, suc, ◌+◌, ◌-◌, ◌≤◌, ◌<◌, ◌≡◌, Bool, true, false, ◌||◌, not, List, [], ◌∷◌, eqb, ltb, length, take, drop, Option, Some, None}
 use Rattle.tables.specs.declared.Refusal.{Refusal}
 use Rattle.tables.specs.declared.Refusal.TheVariants.{NotATable, NoRecordLeft, NameUsed}
 use Rattle.tables.specs.Pick.{pick}
 use Rattle.tables.specs.Lines.{fields}
-use Rattle.texts.specs.declared.Num.{Num}
+use Rattle.texts.specs.Decimal.{Num}
 use Rattle.texts.specs.declared.Form.{Form}
 use Rattle.texts.specs.declared.Taken.{Taken}
 use Rattle.texts.specs.declared.Readout.{Readout}
@@ -15,13 +15,15 @@ use Rattle.texts.specs.Reading.{Word, word, unknown, is_next, value_of, line_id,
 use Rattle.texts.specs.Model.Chains.{names_in, Chained}
 use Rattle.texts.specs.Model.Stages.{Took, took, malformed}
 
--- a form and the place behind its word; 0 for an unknown word
-abbrev pub word_with : List ℕ → ℕ → ℕ → Word
-word_with l zero i = unknown
-word_with l (suc f) i = word (suc f) (tokens (drop i l))
+-- what a search gives; 0 where there is nothing
+abbrev pub found : ℕ → Option ℕ
+found zero = None
+found (suc n) = Some (suc n)
 
-abbrev pub as_word : List ℕ → Form → Word
-as_word l w = word_with l w.form w.at
+-- a form and the place behind its word; none for an unknown word
+abbrev pub as_word : List ℕ → Option Form → Word
+as_word l None = unknown
+as_word l (Some w) = word w.form (tokens (drop w.at l))
 
 abbrev pub took_at : Bool → List ℕ → List Bool → Bool → ℕ → List (List ℕ) → Took
 took_at true rec s big len ts = took rec s big len ts
@@ -67,9 +69,10 @@ pub record Labelled (l : List ℕ) (r : Readout) : Type 0 where
   pub within : r.to ≤ length l
   pub name : take (r.to - r.from) (drop r.from l) ≡ line_name (tokens l)
 
--- r is the id that a token gives a line; 0 where it gives none
-abbrev pub NextId : Num → (last r : ℕ) → Type 0
-NextId n last r = (r ≡ 0 → is_next n last ≡ false) × ((r ≡ 0 → ⊥) → (is_next n last ≡ true) × (r ≡ value_of n))
+-- the id that a token gives a line, or none
+abbrev pub NextId : Num → (last : ℕ) → Option ℕ → Type 0
+NextId n last None = is_next n last ≡ false
+NextId n last (Some v) = (is_next n last ≡ true) × (v ≡ value_of n)
 
 -- some place of a record has a minus
 abbrev pub any_sign : List Bool → Bool

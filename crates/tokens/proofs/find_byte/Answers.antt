@@ -1,4 +1,3 @@
-use Prim.Native.Nat.{◌-◌}
 use native.Mathlib.Omega.{arith}
 use mathlib.Core.Path.{ap}
 use lib.ListN.{length}
@@ -6,10 +5,10 @@ use Rattle.texts.proofs.Scan.{up_to_hit, up_to_miss, up_to_end}
 use Rattle.tokens.proofs.find_byte.Goals as goal
 
 pub returns-then-s-j : goal.returns-then-s-j
-returns-then-s-j c = (omega arith, (omega arith, omega (arith, c.loop-j.invariant.1.1, ap length (up_to_hit c.args.b c.args.s.now c.loop-j.j c.loop-j-test.true c.if-s-j.true))))
+returns-then-s-j c = (omega arith, (omega arith, omega (arith, ap length (up_to_hit c.args.b c.args.s.now c.loop-j.j (omega arith) c.if-s-j.true))))
 
 pub loop-j-preserved : goal.loop-j-preserved
-loop-j-preserved c = omega (arith, c.loop-j.invariant.1.1, ap length (up_to_miss c.args.b c.args.s.now c.loop-j.j c.loop-j-test.true c.if-s-j.false))
+loop-j-preserved c = omega (arith, ap length (up_to_miss c.args.b c.args.s.now c.loop-j.j (omega arith) c.if-s-j.false))
 
 pub returns : goal.returns
-returns c = (omega arith, (omega arith, omega (arith, c.loop-j.invariant.1.1, ap length (up_to_end c.args.b c.args.s.now c.loop-j.j c.loop-j-test.false))))
+returns c = (omega arith, (omega arith, omega (arith, ap length (up_to_end c.args.b c.args.s.now c.loop-j.j (omega arith)))))

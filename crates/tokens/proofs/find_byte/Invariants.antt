@@ -1,12 +1,9 @@
 -- The bytes passed are others.
-use Prim.Native.Nat.{◌+◌, ◌-◌, ◌≤◌}
+use Prim.Native.Nat.{◌+◌}
 use mathlib.Core.Path.{◌≡◌}
 use lib.ListN.{length, drop}
 use Rattle.texts.specs.Split.{up_to}
 use Rattle.tokens.proofs.find_byte.Given as goal
 
 abbrev pub invariant-loop-j : goal.invariant-loop-j
-invariant-loop-j l = (l.i ≤ l.j) × ((l.j ≤ length l.s) × (l.i + length (up_to l.b (drop l.i l.s)) ≡ l.j + length (up_to l.b (drop l.j l.s))))
-
-abbrev pub decreases-loop-j : goal.decreases-loop-j
-decreases-loop-j l = length l.s - l.j
+invariant-loop-j l = l.i + length (up_to l.b (drop l.i l.s)) ≡ l.j + length (up_to l.b (drop l.j l.s))

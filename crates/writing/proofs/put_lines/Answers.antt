@@ -1,4 +1,3 @@
-use Prim.Native.Nat.{◌-◌}
 use Rattle.texts.proofs.Printed.{before_all, after_all, this_kind, this_fits, next_record}
 use Rattle.writing.proofs.put_lines.Goals as goal
 

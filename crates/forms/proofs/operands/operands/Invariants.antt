@@ -10,10 +10,9 @@ use Rattle.texts.specs.Model.Stages.{operands}
 use Rattle.forms.proofs.operands.operands.Given as goal
 
 abbrev pub invariant-loop-p : goal.invariant-loop-p
-invariant-loop-p l =
-    (get_or l.rec 0 0 ≡ get_or l.initial.rec 0 0)
-    × ((l.j ≤ l.p) × ((l.p ≤ l.e) × ((l.e ≡ l.j + l.m) × ((l.e ≤ record_words) × ((l.at ≤ length l.l) × ((length l.rec ≡ record_words)
-    × (operands l.f l.m l.j l.initial.rec no_signs false 0 (tokens (drop l.i l.l)) ≡ operands l.f (l.e - l.p) l.p l.rec l.minus l.big l.len (tokens (drop l.at l.l)))))))))
-
-abbrev pub decreases-loop-p : goal.decreases-loop-p
-decreases-loop-p l = l.e - l.p
+invariant-loop-p l = record {
+  kind : get_or l.rec 0 0 ≡ get_or l.initial.rec 0 0;
+  there : l.at ≤ length l.l;
+  whole : length l.rec ≡ record_words;
+  left : operands l.f l.m l.j l.initial.rec no_signs false 0 (tokens (drop l.i l.l)) ≡ operands l.f (l.j + l.m - l.p) l.p l.rec l.minus l.big l.len (tokens (drop l.at l.l));
+}

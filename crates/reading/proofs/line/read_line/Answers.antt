@@ -10,7 +10,7 @@ use Rattle.tables.specs.Layout.{ids_of}
 use Rattle.tables.specs.Model.Notes.{look_in, given_in}
 use Rattle.texts.specs.Split.{tokens}
 use Rattle.texts.specs.Decimal.{decimal}
-use Rattle.texts.specs.Reading.{is_next, line_id, line_name}
+use Rattle.texts.specs.Reading.{unknown, word_in, is_next, line_id, line_name}
 use Rattle.texts.specs.Model.Stages.{judged_line}
 use Rattle.texts.specs.Model.Structs.{Tells}
 use Rattle.texts.proofs.Places.{no_token, next_token}
@@ -31,8 +31,8 @@ returns-then-a-l c =
     let e = sym k.ensures.1.1.0 ∙ no_token l k.result (omega arith) in
     (tells_line 0 0 0 (judged_line L G ids s.room (tokens l)) (read_skip L G ids s.room l e refl), blank_what refl)
 
-pub returns-then-id-eq0 : goal.returns-then-id-eq0
-returns-then-id-eq0 c =
+pub returns-in_default : goal.returns-in_default
+returns-in_default c =
     let s = c.args in
     let l : List ℕ = s.l.now in
     let L = look_in s.notes.now in
@@ -43,7 +43,7 @@ returns-then-id-eq0 c =
     let t = take (z - a) (drop a l) in
     let on : a < length l = omega (arith, c.skip-a.ensures.1.0, c.if-a-l.false) in
     let e = sym c.skip-a.ensures.1.1.0 ∙ next_token l a z on (c.skip-a.ensures.1.1.1 on) c.find_byte-z.ensures.1.1 in
-    let q = subst (λ (k : ℕ). is_next (decimal t) k ≡ false) c.last-last.ensures (c.next_id-id.ensures.0 c.if-id-eq0.true) in
+    let q = subst (λ (k : ℕ). is_next (decimal t) k ≡ false) c.last-last.ensures c.in_default.ensures in
     (tells_line 0 0 0 (judged_line L G ids s.room (tokens l)) (read_3 L G ids s.room l t z e q c.refuse.ensures), refused_what WrongId c.refuse.ensures)
 
 pub returns-then-room-n : goal.returns-then-room-n
@@ -58,12 +58,12 @@ returns-then-room-n c =
     let t = take (z - a) (drop a l) in
     let on : a < length l = omega (arith, c.skip-a.ensures.1.0, c.if-a-l.false) in
     let e = sym c.skip-a.ensures.1.1.0 ∙ next_token l a z on (c.skip-a.ensures.1.1.1 on) c.find_byte-z.ensures.1.1 in
-    let q = subst (λ (k : ℕ). is_next (decimal t) k ≡ true) c.last-last.ensures (c.next_id-id.ensures.1 c.if-id-eq0.false).0 in
+    let q = subst (λ (k : ℕ). is_next (decimal t) k ≡ true) c.last-last.ensures c.in-Some.ensures.0 in
     let full = subst (λ (k : ℕ). s.room ≤ k) (sym (ids_length s.table.now s.n)) c.if-room-n.true in
     (tells_line 0 0 0 (judged_line L G ids s.room (tokens l)) (read_4 L G ids s.room l t z e q full c.refuse-then-room-n.ensures), refused_what NoRecordLeft c.refuse-then-room-n.ensures)
 
-pub returns-then-w-eq0 : goal.returns-then-w-eq0
-returns-then-w-eq0 c =
+pub returns-in_default-word : goal.returns-in_default-word
+returns-in_default-word c =
     let s = c.args in
     let l : List ℕ = s.l.now in
     let L = look_in s.notes.now in
@@ -74,11 +74,11 @@ returns-then-w-eq0 c =
     let t = take (z - a) (drop a l) in
     let on : a < length l = omega (arith, c.skip-a.ensures.1.0, c.if-a-l.false) in
     let e = sym c.skip-a.ensures.1.1.0 ∙ next_token l a z on (c.skip-a.ensures.1.1.1 on) c.find_byte-z.ensures.1.1 in
-    let q = subst (λ (k : ℕ). is_next (decimal t) k ≡ true) c.last-last.ensures (c.next_id-id.ensures.1 c.if-id-eq0.false).0 in
+    let q = subst (λ (k : ℕ). is_next (decimal t) k ≡ true) c.last-last.ensures c.in-Some.ensures.0 in
     let left : s.n < s.room = omega (arith, c.if-room-n.false) in
     let some = subst (λ (k : ℕ). k < s.room) (sym (ids_length s.table.now s.n)) left in
-    let w = c.word-w in
-    (tells_line 0 0 0 (judged_line L G ids s.room (tokens l)) (read_5 L G ids s.room l t z e q some w.result w.ensures.1.1 c.if-w-eq0.true c.refuse-then-w-eq0.ensures), refused_what UnknownWord c.refuse-then-w-eq0.ensures)
+    let k : word_in (tokens (drop z l)) ≡ unknown = c.in_default-word.ensures.0 in
+    (tells_line 0 0 0 (judged_line L G ids s.room (tokens l)) (read_5 L G ids s.room l t z e q some k c.refuse-in_default-word.ensures), refused_what UnknownWord c.refuse-in_default-word.ensures)
 
 pub returns : goal.returns
 returns c =
@@ -92,21 +92,19 @@ returns c =
     let t = take (z - a) (drop a l) in
     let on : a < length l = omega (arith, c.skip-a.ensures.1.0, c.if-a-l.false) in
     let e = sym c.skip-a.ensures.1.1.0 ∙ next_token l a z on (c.skip-a.ensures.1.1.1 on) c.find_byte-z.ensures.1.1 in
-    let i = c.next_id-id in
-    let p = i.ensures.1 c.if-id-eq0.false in
+    let p = c.in-Some.ensures in
     let q = subst (λ (k : ℕ). is_next (decimal t) k ≡ true) c.last-last.ensures p.0 in
     let left : s.n < s.room = omega (arith, c.if-room-n.false) in
     let some = subst (λ (k : ℕ). k < s.room) (sym (ids_length s.table.now s.n)) left in
-    let w = c.word-w in
-    let n = c.if-w-eq0.false in
+    let w = c.in-Some-word in
     let o = c.behind_word.ensures in (
-      subst (Tells c.behind_word.result) (judged_on L G ids s.room l t z e q some w.result w.ensures.1.1 n) o.0,
+      subst (Tells c.behind_word.result) (judged_on L G ids s.room l t z e q some w.w w.ensures.0) o.0,
       λ h.
           let k = o.1 h in
           record {
             number = k.0 ∙ (p.1 ∙ sym (ap line_id e));
             ordered = k.1.0;
             within = k.1.1.0;
-            name = k.1.1.1 ∙ (extra_of l w.result (tokens (drop z l)) _ w.ensures.1.1 n refl ∙ sym (ap line_name e));
+            name = k.1.1.1 ∙ (extra_of l w.w (tokens (drop z l)) _ w.ensures.0 refl ∙ sym (ap line_name e));
           },
     )

@@ -1,15 +1,22 @@
-use Prim.Native.Nat.{◌-◌}
-use native.Mathlib.Omega.{arith}
-use mathlib.Core.Path.{sym, ◌∙◌}
-use Rattle.texts.specs.Decimal.{all_in}
-use Rattle.texts.proofs.Scan.{in_more, in_not, in_end}
+use Prim.Native.Nat.{ℕ}
+use mathlib.Core.Path.{◌≡◌, refl, ap, ◌∙◌}
+use mathlib.Core.Bool.{Bool, ◌&&◌}
+use mathlib.Core.List.{List, [], ◌∷◌}
+use lib.Dec.{ltb}
+use borrow.Author.Tests.{tests}
+use borrow.Author.Rules.{rules}
+use Rattle.std.specs.List.{list_all}
+use Rattle.std.proofs.lemmas.Iterator.{YieldsList-from_slice}
+use Rattle.std.proofs.lemmas.Iterator.Search.{all_from_yields_List}
+use Rattle.texts.specs.Decimal.{digit, all_in}
 use Rattle.tokens.proofs.numbers.all_in.Goals as goal
 
-pub returns-then-base-d : goal.returns-then-base-d
-returns-then-base-d c = sym (c.loop-i.invariant.1 ∙ in_not c.args.base c.args.t.now c.loop-i.i c.loop-i-test.true (omega (arith, c.digit-d.ensures)))
-
-pub loop-i-preserved : goal.loop-i-preserved
-loop-i-preserved c = (omega arith, c.loop-i.invariant.1 ∙ in_more c.args.base c.args.t.now c.loop-i.i c.loop-i-test.true (omega (arith, c.digit-d.ensures)))
+below : (b : ℕ) (t : List ℕ) → list_all (λ (d : ℕ). ltb (digit d) b) t ≡ all_in b t
+unfolding all_in
+below b [] = refl
+below b (d ∷ t) = ap (λ (q : Bool). ltb (digit d) b && q) (below b t)
 
 pub returns : goal.returns
-returns c = sym (c.loop-i.invariant.1 ∙ in_end c.args.base c.args.t.now c.loop-i.i c.loop-i-test.false)
+returns c =
+    let s = c.args in
+    all_from_yields_List (λ (d : ℕ). ltb (digit d) s.base) _ _ _ c.all.ensures.ran (YieldsList-from_slice s.t.now c.iter.ensures.rest) (λ x b q k. search (rules, tests)) ∙ below s.base s.t.now
