@@ -5,8 +5,21 @@ ghost use Rattle.flattening.specs.Model.Rows.{turn_at, source_at, Tame};
 
 use flattening::{Source, Words};
 
-// The numbers kept of a line.
+// The numbers kept of a line: where its cells are held, with the line written over and the key; its width-1 sort line; a small constant's value plus one; a word. They stay
+// numbers in a list, not a struct: the lists and their laws are about all six by their place.
 pub const KEPT: usize = 6;
+
+pub const AT: usize = 0;
+
+pub const BIT: usize = 1;
+
+pub const OLD: usize = 2;
+
+pub const KEY: usize = 3;
+
+pub const CON: usize = 4;
+
+pub const WORD: usize = 5;
 
 // The key of a line whose cells are written out, and the numbers that a word's flat line is one of.
 pub(crate) const WRITTEN: u64 = 257;
@@ -28,7 +41,7 @@ pub fn entry(kept: &[[u32; KEPT]], k: usize, a: u64) -> u64
 pub fn constant(kept: &[[u32; KEPT]], a: u64) -> Option<u64>
     ensures { result ≡ constant_of (con_of kept.now a) }
 {
-    match entry(kept, 4, a) {
+    match entry(kept, CON, a) {
         0 => None,
         number => Some(number - 1),
     }
@@ -39,26 +52,26 @@ fn own(kept: &[[u32; KEPT]], m: u64, j: u64) -> u64
     requires { Sound kept.now × (j < 256) }
     ensures { result ≡ own_cell kept.now m j }
 {
-    let at = entry(kept, 0, m);
-    let key = entry(kept, 3, m);
+    let at = entry(kept, AT, m);
+    let key = entry(kept, KEY, m);
     if key == WRITTEN {
-        entry(kept, 5, at + j) % SPAN
+        entry(kept, WORD, at + j) % SPAN
     } else {
         at + key * j
     }
 }
 
-// The flat line of the cell j of the line a.
+// The flat line of the cell j of the line a. The loop goes from a line to the line that it writes over, and counts nothing.
 pub fn cell(kept: &[[u32; KEPT]], a: u64, j: u64) -> u64
     requires { Sound kept.now × (j < 256) }
     ensures { result ≡ cell_in kept.now a j }
 {
     let mut m = a;
-    while entry(kept, 2, m) != 0 {
-        if entry(kept, 3, m) == j {
-            return entry(kept, 0, m);
+    while entry(kept, OLD, m) != 0 {
+        if entry(kept, KEY, m) == j {
+            return entry(kept, AT, m);
         }
-        m = entry(kept, 2, m);
+        m = entry(kept, OLD, m);
     }
     own(kept, m, j)
 }

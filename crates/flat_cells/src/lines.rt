@@ -3,7 +3,7 @@ ghost use Rattle.std.specs.Prelude.{◌≡◌, ◌≤◌, ◌^◌};
 ghost use Rattle.flattening.specs.Model.Cells.{constant_of, Sound};
 ghost use Rattle.flattening.specs.Model.Lines.{notes, sort_line, word_line, bit_in, con_in, deep_in, wide_in, size_in};
 
-use crate::cells::KEPT;
+use crate::cells::{AT, BIT, KEPT};
 use crate::{cells, sources};
 use tables::Note;
 
@@ -19,14 +19,14 @@ impl Lines<'_> {
     pub fn sort_line(self, s: u64) -> u64
         ensures { result ≡ sort_line (notes self.entry.kept.now self.entry.types.now) s }
     {
-        cells::entry(self.kept, 0, s)
+        cells::entry(self.kept, AT, s)
     }
 
     // The width-1 sort line of the sort s, or of the sort of a value.
     pub fn bit_line(self, s: u64) -> u64
         ensures { result ≡ bit_in (notes self.entry.kept.now self.entry.types.now) s }
     {
-        cells::entry(self.kept, 1, s)
+        cells::entry(self.kept, BIT, s)
     }
 
     // The flat line of the word a.

@@ -3,7 +3,7 @@ ghost use Rattle.std.specs.Prelude.{◌≡◌, ◌+◌, ◌*◌, ◌≤◌, ◌<
 ghost use Rattle.flattening.specs.Model.Cells.{Sound, put_word, put_row, Written, Filled, Shortened};
 
 use crate::cells;
-use crate::cells::{KEPT, SPAN, WRITTEN};
+use crate::cells::{KEPT, OLD, SPAN, WORD, WRITTEN};
 
 // The words of a line whose cells are written out: as many as a line may have cells.
 const CELLS: usize = 256;
@@ -25,7 +25,7 @@ fn put_word(kept: &mut [[u32; KEPT]], i: usize, d: u64, w: u64)
 fn far(kept: &[[u32; KEPT]], n: u64) -> u64 {
     let mut m = n;
     for _ in 0..CELLS {
-        let old = cells::entry(kept, 2, m);
+        let old = cells::entry(kept, OLD, m);
         if old == 0 {
             break;
         }
@@ -42,7 +42,7 @@ fn fill(kept: &mut [[u32; KEPT]], m: u64, u: usize)
     for j in 0..CELLS {
         let w = cells::cell(kept, m, j as u64);
         let i = u + j;
-        let d = cells::entry(kept, 5, i as u64) / SPAN % LONG;
+        let d = cells::entry(kept, WORD, i as u64) / SPAN % LONG;
         put_word(kept, i, d, w);
     }
 }
@@ -61,7 +61,7 @@ fn write_out(kept: &mut [[u32; KEPT]], m: u64, u: usize) -> usize
     requires { Sound kept.old × Written kept.old u }
     ensures { Shortened kept.old kept.new result }
 {
-    if cells::entry(kept, 2, m) == 0 || kept.len() - u < CELLS {
+    if cells::entry(kept, OLD, m) == 0 || kept.len() - u < CELLS {
         return u;
     }
     fill(kept, m, u);
@@ -76,8 +76,8 @@ pub fn shorten(kept: &mut [[u32; KEPT]], n: usize, u: usize) -> usize
     ensures { Shortened kept.old kept.new result }
 {
     let l = n as u64;
-    let w = cells::entry(kept, 5, l) % SPAN;
-    let d = cells::entry(kept, 5, cells::entry(kept, 2, l)) / SPAN + 1;
+    let w = cells::entry(kept, WORD, l) % SPAN;
+    let d = cells::entry(kept, WORD, cells::entry(kept, OLD, l)) / SPAN + 1;
     if d < LONG {
         put_word(kept, n, d, w);
         return u;

@@ -32,18 +32,15 @@ pub fn count_line(rec: [u64; WORDS], lines: Lines) -> usize
     requires { (known_of false (kind_in rec) ≡ true) × (Shallow lines.types.now × Deep (notes lines.kept.now lines.types.now) (line_of rec)) }
     ensures { result ≡ flat_count (notes lines.entry.kept.now lines.entry.types.now) (line_of rec) }
 {
-    let k = rec[0];
-    let s = rec[1];
-    let a = rec[2];
-    let b = rec[3];
+    let [k, s, a, b, _] = rec;
     match k {
         2 => 1 + lines.index_size(a),
         5 => lines.size(s),
         6 | 7 => lines.size(a),
         21 | 22 => count_tests(lines.size(a)),
         53 => lines.size(b),
-        54 => count_read(cells::entry(lines.kept, 4, b), lines.size(a)),
-        55 => count_write(cells::entry(lines.kept, 4, b), lines.size(s)),
+        54 => count_read(cells::entry(lines.kept, cells::CON, b), lines.size(a)),
+        55 => count_write(cells::entry(lines.kept, cells::CON, b), lines.size(s)),
         _ => 1,
     }
 }

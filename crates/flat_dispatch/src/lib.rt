@@ -16,11 +16,7 @@ fn operator(rec: [u64; WORDS], lines: Lines, p: usize, target: &mut [u64]) -> Ma
     requires { (known_of false (kind_in rec) ≡ true) × ((10 < kind_in rec) × Fit (notes lines.kept.now lines.types.now) p (line_of rec) (length target.old)) }
     ensures { MadeFlat (notes lines.entry.kept.now lines.entry.types.now) p (line_of rec) target.old target.new result }
 {
-    let k = rec[0];
-    let s = rec[1];
-    let a = rec[2];
-    let b = rec[3];
-    let c = rec[4];
+    let [k, s, a, b, c] = rec;
     match k {
         ..=20 => flat_lines::line_unary(k, s, a, b, c, lines, p, target),
         21 | 22 => flat_arrays::line_equality(k == 21, s, a, b, lines, p, target),
@@ -36,10 +32,7 @@ pub fn line(rec: [u64; WORDS], lines: Lines, p: usize, target: &mut [u64]) -> Ma
     requires { (known_of false (kind_in rec) ≡ true) × Fit (notes lines.kept.now lines.types.now) p (line_of rec) (length target.old) }
     ensures { MadeFlat (notes lines.entry.kept.now lines.entry.types.now) p (line_of rec) target.old target.new result }
 {
-    let k = rec[0];
-    let s = rec[1];
-    let a = rec[2];
-    let b = rec[3];
+    let [k, s, a, b, _] = rec;
     match k {
         1 => flat_lines::line_bitvec(a, lines, p, target),
         2 => flat_lines::line_array(a, b, lines, p, target),

@@ -9,7 +9,7 @@ ghost use Rattle.flattening.specs.Answers.{flattens};
 ghost use Rattle.flattening.specs.Model.Start.{Clear, Blank};
 
 use flat_cells::cells::KEPT;
-use tables::{Answer, BLANK, Checked, Note, Refusal};
+use tables::{BLANK, Note, Refusal};
 
 // The entries of the lists of a small circuit, and of any other: one more than a table has lines.
 const FEW: usize = 512;
@@ -17,12 +17,12 @@ const FEW: usize = 512;
 const MANY: usize = 16385;
 
 // The flat circuit of a table goes to the target. A small circuit takes small lists, which are sooner zero.
-pub fn flatten(table: &[u64], count: usize, target: &mut [u64]) -> Answer
+pub fn flatten(table: &[u64], count: usize, target: &mut [u64]) -> Result<usize, Refusal>
     ensures { told result (target.new ∷ []) ≡ flattens table.now count (length target.old) }
 {
     records::clear(target);
     if !records::is_table(false, table.len()) || !records::is_table(false, target.len()) {
-        return Answer::Refused(Refusal::NotATable, 0);
+        return Err(Refusal::NotATable);
     }
     if count < FEW {
         flatten_in::<FEW>(table, count, target)
@@ -32,7 +32,11 @@ pub fn flatten(table: &[u64], count: usize, target: &mut [u64]) -> Answer
 }
 
 // In lists of N entries: more than the lines of a table that is accepted.
-fn flatten_in<const N: usize>(table: &[u64], count: usize, target: &mut [u64]) -> Answer
+fn flatten_in<const N: usize>(
+    table: &[u64],
+    count: usize,
+    target: &mut [u64],
+) -> Result<usize, Refusal>
     requires clear { Clear table.now target.old }
     requires more { count ≤ 16384 → count < N }
     requires few { N ≤ 65536 }
@@ -50,12 +54,10 @@ fn checked(
     notes: &mut [Note],
     kept: &mut [[u32; KEPT]],
     target: &mut [u64],
-) -> Answer
+) -> Result<usize, Refusal>
     requires { Blank table.now count notes.old kept.old target.old }
     ensures { told result (target.new ∷ []) ≡ flattens table.now count (length target.old) }
 {
-    match checks::check(false, table, count, notes) {
-        Checked::Accepted => whole::all_lines(table, count, notes, kept, target),
-        Checked::Refused(r) => Answer::Refused(r, 0),
-    }
+    checks::check(false, table, count, notes)?;
+    whole::all_lines(table, count, notes, kept, target)
 }

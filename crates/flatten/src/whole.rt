@@ -9,7 +9,7 @@ use flat_cells::cells::KEPT;
 use flat_cells::lines::Lines;
 use flat_cells::written;
 use flattening::Made;
-use tables::{Answer, Note, Refusal};
+use tables::{Note, Refusal};
 
 // What is kept of the line written over, and of a small constant: 0 for none.
 fn old_number(old: Option<u64>) -> u64
@@ -53,7 +53,7 @@ pub fn all_lines(
     types: &[Note],
     kept: &mut [[u32; KEPT]],
     target: &mut [u64],
-) -> Answer
+) -> Result<usize, Refusal>
     requires { Begun table.now count types.now kept.old target.old }
     ensures { told result (target.new ∷ []) ≡ flattens table.now count (length target.old) }
 {
@@ -67,11 +67,11 @@ pub fn all_lines(
         let c = flat_counts::count_line(rec, lines);
         if room - p < c {
             records::clear(target);
-            return Answer::Refused(Refusal::TargetTooSmall, 0);
+            return Err(Refusal::TargetTooSmall);
         }
         let m = flat_dispatch::line(rec, lines, p, target);
         used = keep_line(kept, i + 1, m, used);
         p = m.next;
     }
-    Answer::Done(p)
+    Ok(p)
 }

@@ -1,4 +1,5 @@
 -- The index widths of the lines of an accepted table: at most 8, and 0 where a line has no type. Assumes nothing.
+use Rattle.std.specs.Prelude.{Ok}
 use Prim.Native.Nat.{ℕ, zero, suc, ◌≤◌, ◌<◌}
 use mathlib.Core.Path.{◌≡◌, refl, sym, ap, ◌∙◌}
 use mathlib.Core.Bool.{Bool, true, false}
@@ -9,7 +10,6 @@ use lib.ListN.{length}
 use lib.Seq.{get_or_at}
 use borrow.Author.Tests.{eqb-true, eqb-false}
 use Rattle.tables.specs.declared.Ty.{Ty}
-use Rattle.tables.specs.declared.Checked.TheVariants.{Accepted}
 use Rattle.tables.specs.Lines.{Line}
 use Rattle.tables.specs.Layout.{lines_of}
 use Rattle.tables.specs.Types.{line_type, Ctx, no_ty, ty_at, grow, grow_all, no_ctx, context}
@@ -21,7 +21,7 @@ use Rattle.tables.proofs.Sound.{accepted_ok}
 use Rattle.tables.proofs.Wide.{all_wide}
 
 -- a line that has a type
-pub wide_at : (t : List ℕ) (n : ℕ) → checked false t n ≡ Accepted → (a : ℕ) → 0 < (ty_at (context false (lines_of false t n)) a).role → (ty_at (context false (lines_of false t n)) a).iw ≤ 8
+pub wide_at : (t : List ℕ) (n : ℕ) → checked false t n ≡ Ok tt → (a : ℕ) → 0 < (ty_at (context false (lines_of false t n)) a).role → (ty_at (context false (lines_of false t n)) a).iw ≤ 8
 unfolding context
 wide_at t n acc a h = (all_wide false (lines_of false t n) (accepted_ok false t n acc) a h).deep
 
@@ -55,7 +55,7 @@ grown_flat c (l ∷ ls) f k a e = grown_flat (grow false c l) ls (one_flat c l f
             let e : ty_at (grow false c l) a ≡ ty_at c a = snoc_other c.tys (line_type false (ty_at c) l) no_ty a (eqb-false a (length c.tys) q) in
             ap (λ (x : Ty). x.iw) e ∙ f a (sym (ap (λ (x : Ty). x.role) e) ∙ z)
 
-pub flat_at : (t : List ℕ) (n : ℕ) → checked false t n ≡ Accepted → (a : ℕ) → (ty_at (context false (lines_of false t n)) a).role ≡ 0 → (ty_at (context false (lines_of false t n)) a).iw ≡ 0
+pub flat_at : (t : List ℕ) (n : ℕ) → checked false t n ≡ Ok tt → (a : ℕ) → (ty_at (context false (lines_of false t n)) a).role ≡ 0 → (ty_at (context false (lines_of false t n)) a).iw ≡ 0
 unfolding context
 flat_at t n acc a h = grown_flat no_ctx (lines_of false t n) none_flat (accepted_ok false t n acc) a h
   where

@@ -1,4 +1,5 @@
 -- The loop over the lines of a table: its invariant, what each line asks, and what is answered. Assumes nothing.
+use Rattle.std.specs.Prelude.{Ok, Err}
 use Prim.Native.Nat.{ℕ, ◌+◌, ◌-◌, ◌≤◌, ◌<◌}
 use mathlib.Core.Path.{◌≡◌, sym, ap, ◌∙◌, subst, subst⁻¹}
 use mathlib.Core.Bool.{true, false}
@@ -6,8 +7,8 @@ use mathlib.Core.List.{List, [], ◌∷◌, map}
 use native.Mathlib.Omega.{arith}
 use native.Mathlib.Decide.{dec_lt}
 use lib.ListN.{length, replicate, length-replicate}
+use Rattle.tables.specs.declared.Note.{Note}
 use Rattle.tables.specs.declared.Refusal.TheVariants.{TargetTooSmall}
-use Rattle.tables.specs.declared.Answer.TheVariants.{Done, Refused}
 use Rattle.tables.specs.Lines.{Line, line_of, words_of, kind_in}
 use Rattle.tables.specs.Layout.{held, room, record_at, lines_of}
 use Rattle.tables.specs.Types.{ty_at, context}
@@ -28,11 +29,11 @@ use Rattle.flattening.proofs.Passing.{line_in, sofar}
 use Rattle.flattening.proofs.Depths.{wide_at, flat_at}
 use Rattle.flattening.proofs.Pass.{Pass, record_known, record_line, deep, too_many, length_target, fit, made_low, passed, shortened, begun, stopped, stopped_target, done, done_target}
 
-abbrev pub Going : (t : List ℕ) (n : ℕ) (types kept₀ : List (List ℕ)) (target₀ : List ℕ) (i p : ℕ) (kept : List (List ℕ)) (target : List ℕ) (u : ℕ) → Type 0
+abbrev pub Going : (t : List ℕ) (n : ℕ) (types : List Note) (kept₀ : List (List ℕ)) (target₀ : List ℕ) (i p : ℕ) (kept : List (List ℕ)) (target : List ℕ) (u : ℕ) → Type 0
 Going t n types kept₀ target₀ i p kept target u =
     (b : Begun t n types kept₀ target₀) → Pass t n b.accepted types b.iw b.w (length target₀) b.size b.wide i p kept target u
 
-module _ {t : List ℕ} {n : ℕ} {types kept₀ : List (List ℕ)} {target₀ : List ℕ} (b : Begun t n types kept₀ target₀) where
+module _ {t : List ℕ} {n : ℕ} {types : List Note} {kept₀ : List (List ℕ)} {target₀ : List ℕ} (b : Begun t n types kept₀ target₀) where
   pub shallow : Shallow types
   shallow = record { deep = λ a. go a (dec_lt 0 (ty_at (context false (lines_of false t n)) a).role) }
     where
@@ -110,7 +111,7 @@ module _ {t : List ℕ} {n : ℕ} {types kept₀ : List (List ℕ)} {target₀ :
   -- a line that has no room ends the pass
   pub rec_stopped : {i p : ℕ} {kept : List (List ℕ)} {target target₁ : List ℕ} {u : ℕ} → Going t n types kept₀ target₀ i p kept target u → (h : i < n) (r : List ℕ) → r ≡ record_at false t i → (c m : ℕ)
       → c ≡ flat_count (notes kept types) (line_of r) → m ≡ room false (length target₀) → m - p < c → target₁ ≡ replicate (length target) 0
-      → told (Refused TargetTooSmall 0) (target₁ ∷ []) ≡ flattens t n (length target₀)
+      → told (Err TargetTooSmall) (target₁ ∷ []) ≡ flattens t n (length target₀)
   rec_stopped {target = target} g h r er c m e f z k =
       let y = rec_stop g h r er c m e f z in
       let l = length_target t n b.accepted types b.iw b.w (length target₀) b.size b.wide (g b) h in
@@ -119,7 +120,7 @@ module _ {t : List ℕ} {n : ℕ} {types kept₀ : List (List ℕ)} {target₀ :
 
   -- all lines are made flat
   pub rec_done : {i p : ℕ} {kept : List (List ℕ)} {target : List ℕ} {u : ℕ} → Going t n types kept₀ target₀ i p kept target u → n ≤ i
-      → told (Done p) (target ∷ []) ≡ flattens t n (length target₀)
+      → told (Ok p) (target ∷ []) ≡ flattens t n (length target₀)
   rec_done {i} {p} {kept} {target} {u} g h =
       let e : i ≡ n = omega (arith, (g b).upto) in
       let s = subst (λ (x : ℕ). Pass t n b.accepted types b.iw b.w (length target₀) b.size b.wide x p kept target u) e (g b) in

@@ -10,6 +10,7 @@ use lib.Dec.{eqb}
 use lib.ListN.{length, get_or, set}
 use lib.Seq.{get_or-set_same, get_or-set_other}
 use borrow.Author.Tests.{eqb-true, eqb-false}
+use Rattle.tables.specs.declared.Note.{Note}
 use Rattle.tables.specs.declared.Ty.{Ty}
 use Rattle.tables.specs.Pick.{pick}
 use Rattle.flattening.specs.declared.Made.{Made}
@@ -150,7 +151,7 @@ module _ (N : Notes) (n : ℕ) (m : Made) where
             ∙ sym (get_or-set_other ps k j m.at 0 (λ x. z (sym x)))
 
 -- a list that tells the same of each line
-pub note_same : {H K : Held} {types : List (List ℕ)} {t : Ty} {f : Info} → SameKept H K → (a : ℕ) → NoteRel (notes H types) t a f → NoteRel (notes K types) t a f
+pub note_same : {H K : Held} {types : List Note} {t : Ty} {f : Info} → SameKept H K → (a : ℕ) → NoteRel (notes H types) t a f → NoteRel (notes K types) t a f
 note_same {f = f} s a r =
     record {
       elem = λ e. s.at a (r.sort e) ∙ r.elem e;

@@ -1,5 +1,7 @@
 -- What flattening leaves for an accepted table: the flat table with the count answered is accepted, its lines are numbered 1, 2, 3, none has kind 2, and it runs as the
 -- circuit does. Assumes nothing.
+use Rattle.std.specs.Prelude.{Result, Ok, Err}
+use Rattle.tables.specs.declared.Refusal.{Refusal}
 use Prim.Native.Nat.{ℕ, ◌≤◌, ◌<◌}
 use mathlib.Core.Path.{◌≡◌, refl, sym, ap, ap₂, ◌∙◌, subst, subst⁻¹}
 use mathlib.Core.Logic.{◌≢◌}
@@ -11,10 +13,6 @@ use lib.ListN.{length, get_or}
 use borrow.Author.Tests.{leb-true}
 use Rattle.tables.specs.Answers.{if_accepted, left_by}
 use Rattle.tables.specs.declared.Refusal.TheVariants.{NotATable, TargetTooSmall}
-use Rattle.tables.specs.declared.Checked.{Checked}
-use Rattle.tables.specs.declared.Checked.TheVariants.{Accepted, Refused as RefusedTable}
-use Rattle.tables.specs.declared.Answer.{Answer}
-use Rattle.tables.specs.declared.Answer.TheVariants.{Done, Refused}
 use Rattle.tables.specs.Pick.{pick}
 use Rattle.tables.specs.Lines.{Line, words_of, kind_in}
 use Rattle.tables.specs.Layout.{whole, held, room, record_at, records_of, lines_of, ids_of, from}
@@ -37,28 +35,28 @@ use Rattle.flattening.proofs.Placing.{length_flat_filled, records_flat, accepted
 
 -- what an answer other than a refusal says
 pub record Answered (t : List ℕ) (n len m : ℕ) : Type 0 where
-  pub accepted : checked false t n ≡ Accepted
+  pub accepted : checked false t n ≡ Ok tt
   pub even : whole false len ≡ true
   pub count : length (flat_lines t n) ≡ m
   pub fits : m ≤ room false len
 
-pub answered : (t : List ℕ) (n len m : ℕ) → flattened t n len ≡ Done m → Answered t n len m
+pub answered : (t : List ℕ) (n len m : ℕ) → flattened t n len ≡ Ok m → Answered t n len m
 unfolding flattened
 answered t n len m e = go (whole false (length t) && whole false len) (checked false t n) (leb M (room false len)) refl refl refl e
   where
     M : ℕ
     M = length (flat_lines t n)
 
-    go : (a : Bool) (c : Checked) (b : Bool) → (whole false (length t) && whole false len) ≡ a → checked false t n ≡ c → leb M (room false len) ≡ b
-        → pick a (if_accepted c (pick b (Done M) (Refused TargetTooSmall 0))) (Refused NotATable 0) ≡ Done m → Answered t n len m
-    go true Accepted true p q r z =
+    go : (a : Bool) (c : Result (Unit {0}) Refusal) (b : Bool) → (whole false (length t) && whole false len) ≡ a → checked false t n ≡ c → leb M (room false len) ≡ b
+        → pick a (if_accepted c (pick b (Ok M) (Err TargetTooSmall))) (Err NotATable) ≡ Ok m → Answered t n len m
+    go true (Ok _) true p q r z =
         let d = done_count M m z in
         record { accepted = q; even = (both (whole false (length t)) (whole false len) p).1; count = d; fits = subst (λ (x : ℕ). x ≤ room false len) d (leb-true M (room false len) r) }
-    go true Accepted false p q r z = absurd (not_done TargetTooSmall m z)
-    go true (RefusedTable x) b p q r z = absurd (not_done x m z)
+    go true (Ok _) false p q r z = absurd (not_done TargetTooSmall m z)
+    go true (Err x) b p q r z = absurd (not_done x m z)
     go false c b p q r z = absurd (not_done NotATable m z)
 
-module _ (t : List ℕ) (n len m : ℕ) (e : flattened t n len ≡ Done m) where
+module _ (t : List ℕ) (n len m : ℕ) (e : flattened t n len ≡ Ok m) where
   a : Answered t n len m
   a = answered t n len m e
 
@@ -74,7 +72,7 @@ module _ (t : List ℕ) (n len m : ℕ) (e : flattened t n len ≡ Done m) where
 
   left : flat_left t n len ≡ flat_filled len (map words_of F)
   unfolding flat_left flat_records
-  left = ap (λ (r : Answer). left_by r len (flat_filled len (map words_of (flat_lines t n)))) e
+  left = ap (λ (r : Result ℕ Refusal). left_by r len (flat_filled len (map words_of (flat_lines t n)))) e
 
   small : (m ≤ 16384) × (m ≤ held false len)
   small = roomy false len m a.fits
@@ -87,7 +85,7 @@ module _ (t : List ℕ) (n len m : ℕ) (e : flattened t n len ≡ Done m) where
   target_length = ap length left ∙ length_flat_filled len (map words_of F)
 
   -- the flat table with the count answered is accepted
-  pub flat_accepted : checked false (flat_left t n len) m ≡ Accepted
+  pub flat_accepted : checked false (flat_left t n len) m ≡ Ok tt
   flat_accepted =
       ap₂ (λ (x : List ℕ) (k : ℕ). checked false x k) left (sym a.count) ∙ accepted_flat F len fits ok_f (omega (arith, a.count, small.0)) a.even
 

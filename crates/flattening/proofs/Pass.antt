@@ -1,4 +1,7 @@
 -- The pass over the lines of a table: what holds after the first i of them, and what is answered. Assumes nothing.
+use Rattle.std.specs.Prelude.{Result, Ok, Err}
+use Rattle.tables.specs.declared.Note.{Note}
+use Rattle.tables.specs.declared.Refusal.{Refusal}
 use Prim.Native.Nat.{ℕ, zero, suc, ◌+◌, ◌≤◌, ◌<◌}
 use mathlib.Core.Path.{◌≡◌, refl, sym, ap, ap₂, ◌∙◌, subst, subst⁻¹}
 use mathlib.Core.Logic.{◌≢◌}
@@ -12,10 +15,7 @@ use lib.Seq.{get_or_at}
 use borrow.Author.Tests.{eqb-true, eqb-false, le-leb, lt-leb}
 use Rattle.tables.specs.Answers.{fitting, left_by}
 use Rattle.tables.specs.declared.Ty.{Ty}
-use Rattle.tables.specs.declared.Checked.TheVariants.{Accepted}
 use Rattle.tables.specs.declared.Refusal.TheVariants.{TargetTooSmall}
-use Rattle.tables.specs.declared.Answer.{Answer}
-use Rattle.tables.specs.declared.Answer.TheVariants.{Done, Refused}
 use Rattle.tables.specs.Pick.{pick}
 use Rattle.tables.specs.Lines.{Line, Expr, line_of, words_of, kind_in}
 use Rattle.tables.specs.Layout.{whole, held, room, record_at, records_of, lines_of}
@@ -59,7 +59,7 @@ layout_ctx : (C : List Line) → (layout false C).ctx ≡ context false C
 unfolding layout context
 layout_ctx C = lay_ctx false no_layout C
 
-module _ (t : List ℕ) (n : ℕ) (acc : checked false t n ≡ Accepted) where
+module _ (t : List ℕ) (n : ℕ) (acc : checked false t n ≡ Ok tt) where
   abbrev pub C : List Line
   C = lines_of false t n
 
@@ -105,7 +105,7 @@ module _ (t : List ℕ) (n : ℕ) (acc : checked false t n ≡ Accepted) where
 
   -- ---- what holds after the first i lines
 
-  module _ (types : List (List ℕ)) (eiw : (a : ℕ) → (look_in types a).iw ≡ (ty_at (context false C) a).iw) (ew : (a : ℕ) → (look_in types a).w ≡ (ty_at (context false C) a).w) (len size : ℕ) (wide : n < size) where
+  module _ (types : List Note) (eiw : (a : ℕ) → (look_in types a).iw ≡ (ty_at (context false C) a).iw) (ew : (a : ℕ) → (look_in types a).w ≡ (ty_at (context false C) a).w) (len size : ℕ) (wide : n < size) where
     pub record Pass (i p : ℕ) (kept : List (List ℕ)) (target : List ℕ) (u : ℕ) : Type 0 where
       pub upto : i ≤ n
       pub of_kept : length kept ≡ size
@@ -381,12 +381,12 @@ module _ (t : List ℕ) (n : ℕ) (acc : checked false t n ≡ Accepted) where
       unfolding flattened
       answer = rw ((accepted_room false t n acc).0, ev, acc)
 
-      pub stopped : room false len < length (flatten C) → Refused TargetTooSmall 0 ≡ flattened t n len
-      stopped z = sym (answer ∙ ap (λ (b : Bool). pick b (Done (length (flat_lines t n))) (Refused TargetTooSmall 0)) (lt-leb (length (flat_lines t n)) (room false len) z))
+      pub stopped : room false len < length (flatten C) → Err TargetTooSmall ≡ flattened t n len
+      stopped z = sym (answer ∙ ap (λ (b : Bool). pick b (Ok (length (flat_lines t n))) (Err TargetTooSmall)) (lt-leb (length (flat_lines t n)) (room false len) z))
 
       pub stopped_target : room false len < length (flatten C) → replicate len 0 ≡ flat_left t n len
       unfolding flat_left
-      stopped_target z = ap (λ (r : Answer). left_by r len (flat_filled len (flat_records t n))) (stopped z)
+      stopped_target z = ap (λ (r : Result ℕ Refusal). left_by r len (flat_filled len (flat_records t n))) (stopped z)
 
       module _ {p : ℕ} {kept : List (List ℕ)} {target : List ℕ} {u : ℕ} (s : Pass n p kept target u) where
         whole_lines : (sofar C n).lines ≡ flatten C
@@ -395,11 +395,11 @@ module _ (t : List ℕ) (n : ℕ) (acc : checked false t n ≡ Accepted) where
         all_of : p ≡ length (flat_lines t n)
         all_of = s.count ∙ ap length whole_lines
 
-        pub done : Done p ≡ flattened t n len
+        pub done : Ok p ≡ flattened t n len
         done =
-            sym (answer ∙ ap (λ (b : Bool). pick b (Done (length (flat_lines t n))) (Refused TargetTooSmall 0)) (le-leb (length (flat_lines t n)) (room false len) (subst (λ (x : ℕ). x ≤ room false len) all_of s.fits))
-            ∙ ap Done (sym all_of))
+            sym (answer ∙ ap (λ (b : Bool). pick b (Ok (length (flat_lines t n))) (Err TargetTooSmall)) (le-leb (length (flat_lines t n)) (room false len) (subst (λ (x : ℕ). x ≤ room false len) all_of s.fits))
+            ∙ ap Ok (sym all_of))
 
         pub done_target : target ≡ flat_left t n len
         unfolding flat_left flat_records
-        done_target = s.records ∙ ap (λ (ls : List Line). flat_filled len (map words_of ls)) whole_lines ∙ ap (λ (r : Answer). left_by r len (flat_filled len (map words_of (flat_lines t n)))) done
+        done_target = s.records ∙ ap (λ (ls : List Line). flat_filled len (map words_of ls)) whole_lines ∙ ap (λ (r : Result ℕ Refusal). left_by r len (flat_filled len (map words_of (flat_lines t n)))) done

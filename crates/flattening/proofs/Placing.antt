@@ -1,5 +1,6 @@
 -- Records of flat lines put into a list one after the other are those put at once, and they are read back from it. The place k of what comes next is handed over with
 -- its equation. Assumes nothing.
+use Rattle.std.specs.Prelude.{Ok}
 use Prim.Native.Nat.{ℕ, zero, suc, ◌+◌, ◌*◌, ◌≤◌}
 use mathlib.Core.Path.{◌≡◌, refl, sym, ap, ap₂, ◌∙◌}
 use mathlib.Core.Bool.{true, false}
@@ -7,7 +8,6 @@ use mathlib.Core.List.{List, [], ◌∷◌, ◌++◌, map}
 use native.Mathlib.Nat.{suc-mul}
 use native.Mathlib.Omega.{arith}
 use lib.ListN.{length, replicate, length-append}
-use Rattle.tables.specs.declared.Checked.TheVariants.{Accepted}
 use Rattle.tables.specs.Lines.{Line, fields, words_of}
 use Rattle.tables.specs.Layout.{whole, held, records_of, lines_of, ids_of, with_id, with_ids, from, numbered, recorded, put_all, filled}
 use Rattle.tables.specs.Types.{no_ctx}
@@ -69,7 +69,7 @@ module _ (ls : List Line) (len : ℕ) (fits : length ls ≤ held false len) wher
   unfolding flat_filled
   records_flat = records_lines false ls len fits
 
-  pub accepted_flat : AllOk false no_ctx ls → length ls ≤ 16384 → whole false len ≡ true → checked false (flat_filled len (map words_of ls)) (length ls) ≡ Accepted
+  pub accepted_flat : AllOk false no_ctx ls → length ls ≤ 16384 → whole false len ≡ true → checked false (flat_filled len (map words_of ls)) (length ls) ≡ Ok tt
   unfolding flat_filled
   accepted_flat k few w = lines_accepted false ls len fits k few w
 

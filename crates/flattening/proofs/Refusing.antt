@@ -1,15 +1,14 @@
 -- The refusals of flattening before the pass over the lines, and what the pass starts from. Assumes nothing.
+use Rattle.std.specs.Prelude.{Result, Ok, Err}
 use Prim.Native.Nat.{ℕ, ◌≤◌, ◌<◌}
 use mathlib.Core.Path.{◌≡◌, refl, sym, ap, ◌∙◌}
 use mathlib.Core.Bool.{true, false}
 use mathlib.Core.List.{List, [], ◌∷◌}
 use lib.ListN.{length, replicate, length-replicate}
+use Rattle.tables.specs.declared.Note.{Note}
 use Rattle.tables.specs.declared.Ty.{Ty}
 use Rattle.tables.specs.declared.Refusal.{Refusal}
 use Rattle.tables.specs.declared.Refusal.TheVariants.{NotATable}
-use Rattle.tables.specs.declared.Checked.TheVariants.{Accepted, Refused as RefusedTable}
-use Rattle.tables.specs.declared.Answer.{Answer}
-use Rattle.tables.specs.declared.Answer.TheVariants.{Refused}
 use Rattle.tables.specs.Layout.{whole, lines_of}
 use Rattle.tables.specs.Types.{context}
 use Rattle.tables.specs.Model.Notes.{blank, Shows}
@@ -27,29 +26,29 @@ use Rattle.flattening.proofs.Outcomes.{flattens_as}
 -- ---- refusals leave zeros
 
 module _ (t : List ℕ) (n len : ℕ) {left : List ℕ} (zeros : left ≡ replicate len 0) where
-  refused_as : (r : Refusal) → Refused r 0 ≡ flattened t n len → told (Refused r 0) (left ∷ []) ≡ flattens t n len
+  refused_as : (r : Refusal) → Err r ≡ flattened t n len → told (Err r) (left ∷ []) ≡ flattens t n len
   unfolding flat_left
-  refused_as r e = flattens_as t n len e (zeros ∙ ap (λ (x : Answer). left_by x len (flat_filled len (flat_records t n))) e)
+  refused_as r e = flattens_as t n len e (zeros ∙ ap (λ (x : Result ℕ Refusal). left_by x len (flat_filled len (flat_records t n))) e)
 
-  pub first_refused : whole false (length t) ≡ false → told (Refused NotATable 0) (left ∷ []) ≡ flattens t n len
+  pub first_refused : whole false (length t) ≡ false → told (Err NotATable) (left ∷ []) ≡ flattens t n len
   unfolding flattened
   first_refused e = refused_as NotATable (rw e)
 
-  pub second_refused : whole false (length t) ≡ true → whole false len ≡ false → told (Refused NotATable 0) (left ∷ []) ≡ flattens t n len
+  pub second_refused : whole false (length t) ≡ true → whole false len ≡ false → told (Err NotATable) (left ∷ []) ≡ flattens t n len
   unfolding flattened
   second_refused e f = refused_as NotATable (rw (e, f))
 
-  check_refused : whole false (length t) ≡ true → whole false len ≡ true → (r : Refusal) → checked false t n ≡ RefusedTable r → told (Refused r 0) (left ∷ []) ≡ flattens t n len
+  check_refused : whole false (length t) ≡ true → whole false len ≡ true → (r : Refusal) → checked false t n ≡ Err r → told (Err r) (left ∷ []) ≡ flattens t n len
   unfolding flattened
   check_refused e f r q = refused_as r (rw (e, f, q))
 
 -- ---- two whole tables, and an empty target
 
 module _ (t : List ℕ) (n : ℕ) {target : List ℕ} where
-  pub refused : Clear t target → (r : Refusal) → RefusedTable r ≡ checked false t n → told (Refused r 0) (target ∷ []) ≡ flattens t n (length target)
+  pub refused : Clear t target → (r : Refusal) → Err r ≡ checked false t n → told (Err r) (target ∷ []) ≡ flattens t n (length target)
   refused k r q = check_refused t n (length target) k.empty k.first k.even r (sym q)
 
-  pub begin : {types₀ types kept : List (List ℕ)} → Blank t n types₀ kept target → Accepted ≡ checked false t n → Shows types (context false (lines_of false t n)) → Begun t n types kept target
+  pub begin : {types₀ types : List Note} {kept : List (List ℕ)} → Blank t n types₀ kept target → Ok tt ≡ checked false t n → Shows types (context false (lines_of false t n)) → Begun t n types kept target
   begin k a s =
       record {
         accepted = sym a;

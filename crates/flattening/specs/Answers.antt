@@ -1,8 +1,7 @@
 -- What flattening answers and leaves: 1 for either table, 11, 12, the first that holds; else the number of records of the flat circuit. Assumes nothing.
-use Rattle.std.specs.Prelude.{ℕ, false, ◌&&◌, List, [], ◌∷◌, length}
+use Rattle.tables.specs.declared.Refusal.{Refusal}
+use Rattle.std.specs.Prelude.{ℕ, false, ◌&&◌, List, [], ◌∷◌, length, Result, Err}
 use Rattle.tables.specs.declared.Refusal.TheVariants.{NotATable}
-use Rattle.tables.specs.declared.Answer.{Answer}
-use Rattle.tables.specs.declared.Answer.TheVariants.{Refused}
 use Rattle.tables.specs.Pick.{pick}
 use Rattle.tables.specs.Layout.{whole}
 use Rattle.tables.specs.Tables.{checked}
@@ -11,11 +10,11 @@ use Rattle.flattening.specs.Flat.{flat_lines, flat_records}
 use Rattle.flattening.specs.Placed.{flat_filled}
 
 -- what flattening answers for the table t with its count n, and a target of len words
-unfoldable pub flattened : (t : List ℕ) (n len : ℕ) → Answer
+unfoldable pub flattened : (t : List ℕ) (n len : ℕ) → Result ℕ Refusal
 flattened t n len =
     pick (whole false (length t) && whole false len)
     (if_accepted (checked false t n) (fitting false (length (flat_lines t n)) len))
-    (Refused NotATable 0)
+    (Err NotATable)
 
 -- what the target holds then: the flat circuit's records and zeros past their end; zeros after a refusal
 unfoldable pub flat_left : (t : List ℕ) (n len : ℕ) → List ℕ

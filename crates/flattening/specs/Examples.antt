@@ -1,8 +1,6 @@
 -- Circuits and their flat circuits, computed. Assumes nothing.
-use Rattle.std.specs.Prelude.{ℕ, ◌-◌, ◌≡◌, refl, true, false, List, [], ◌∷◌, map, replicate}
+use Rattle.std.specs.Prelude.{ℕ, ◌-◌, ◌≡◌, refl, true, false, List, [], ◌∷◌, map, replicate, Ok, Err}
 use Rattle.tables.specs.declared.Refusal.TheVariants.{NotATable, BadTable, TargetTooSmall}
-use Rattle.tables.specs.declared.Checked.TheVariants.{Accepted}
-use Rattle.tables.specs.declared.Answer.TheVariants.{Done, Refused}
 use Rattle.tables.specs.Kinds.{row_of}
 use Rattle.tables.specs.Lines.{Line, fields, words_of, bitvec, array, input, state, value, init_or_next, signal, output, const, binary, equality, ite, read, write}
 use Rattle.tables.specs.Layout.{filled_by, ids_of, from, words_for}
@@ -27,7 +25,7 @@ unfolding flat_records flatten filled_by
 flat_circuit = refl
 
 -- the flat size is exactly the target's room; a target of one record more; one of one record less
-exact_answer : flattened circuit 11 (words_for false 19) ≡ Done 19
+exact_answer : flattened circuit 11 (words_for false 19) ≡ Ok 19
 unfolding flattened checked fault suits row_of flatten filled_by
 exact_answer = refl
 
@@ -35,7 +33,7 @@ spare_target : flat_left circuit 11 (words_for false 20) ≡ flat_filled (words_
 unfolding flat_left flattened checked fault suits row_of flat_records flatten filled_by
 spare_target = refl
 
-short_answer : flattened circuit 11 (words_for false 18) ≡ Refused TargetTooSmall 0
+short_answer : flattened circuit 11 (words_for false 18) ≡ Err TargetTooSmall
 unfolding flattened checked fault suits row_of flatten filled_by
 short_answer = refl
 
@@ -44,21 +42,21 @@ unfolding flat_left flattened checked fault suits row_of flatten filled_by
 short_target = refl
 
 -- 1 comes before 11, and 11 before 12
-uneven_answer : flattened circuit 12 (words_for false 19 - 1) ≡ Refused NotATable 0
+uneven_answer : flattened circuit 12 (words_for false 19 - 1) ≡ Err NotATable
 unfolding flattened filled_by
 uneven_answer = refl
 
-count_answer : flattened circuit 12 (words_for false 18) ≡ Refused BadTable 0
+count_answer : flattened circuit 12 (words_for false 18) ≡ Err BadTable
 unfolding flattened checked fault suits row_of filled_by
 count_answer = refl
 
 -- the flat table with its count is accepted
-flat_accepted : checked false (flat_filled (words_for false 19) flat) 19 ≡ Accepted
+flat_accepted : checked false (flat_filled (words_for false 19) flat) 19 ≡ Ok tt
 unfolding checked fault suits row_of flat_filled filled_by
 flat_accepted = refl
 
 -- ids with gaps leave the same flat table, whose ids are 1 to 19
-gaps_answer : flattened gaps 11 120 ≡ Done 19
+gaps_answer : flattened gaps 11 120 ≡ Ok 19
 unfolding flattened checked fault suits row_of flatten filled_by
 gaps_answer = refl
 
@@ -84,7 +82,7 @@ flat_second : flatten second
 unfolding flatten filled_by
 flat_second = refl
 
-second_accepted : checked false (flat_filled (words_for false 15) (map words_of second)) 15 ≡ Accepted
+second_accepted : checked false (flat_filled (words_for false 15) (map words_of second)) 15 ≡ Ok tt
 unfolding checked fault suits row_of flat_filled filled_by
 second_accepted = refl
 
@@ -99,7 +97,7 @@ flat_third : flatten third
 unfolding flatten filled_by
 flat_third = refl
 
-third_accepted : checked false (flat_filled (words_for false 5) (map words_of third)) 5 ≡ Accepted
+third_accepted : checked false (flat_filled (words_for false 5) (map words_of third)) 5 ≡ Ok tt
 unfolding checked fault suits row_of flat_filled filled_by
 third_accepted = refl
 
@@ -116,6 +114,6 @@ flat_fourth : flatten fourth
 unfolding flatten filled_by
 flat_fourth = refl
 
-fourth_accepted : checked false (flat_filled (words_for false 12) (map words_of fourth)) 12 ≡ Accepted
+fourth_accepted : checked false (flat_filled (words_for false 12) (map words_of fourth)) 12 ≡ Ok tt
 unfolding checked fault suits row_of flat_filled filled_by
 fourth_accepted = refl

@@ -10,8 +10,7 @@ ghost use Rattle.texts.specs.Model.Structs.{fitted_read};
 ghost use Rattle.texts.specs.Model.Filling.{filling, added, not_in, added_from, Ready};
 
 use records::kinds::NOT;
-use records::notes::BYTES;
-use tables::{Refusal, WORDS};
+use tables::{Note, Refusal, WORDS};
 use texts::Readout;
 
 // How many operands have a minus.
@@ -45,7 +44,7 @@ pub fn fit(r: Readout, n: usize, room: usize) -> Readout
 }
 
 // A record goes to the table behind n others, and its line is noted.
-fn put(table: &mut [u64], n: usize, rec: [u64; WORDS], id: u64, notes: &mut [[u8; BYTES]])
+fn put(table: &mut [u64], n: usize, rec: [u64; WORDS], id: u64, notes: &mut [Note])
     requires { (n < room_of false (length table.old)) × (kind_in rec ≡ 1 → first_in rec ≤ 64) }
     ensures { filling table.new notes.new (n + 1) ≡ added (filling table.old notes.old n) rec id }
 {
@@ -55,7 +54,7 @@ fn put(table: &mut [u64], n: usize, rec: [u64; WORDS], id: u64, notes: &mut [[u8
 }
 
 // The not record of the operand at the place j of a line's record goes behind n others. It is of the operand's own sort, and has no id.
-fn put_not(table: &mut [u64], n: usize, rec: [u64; WORDS], j: usize, notes: &mut [[u8; BYTES]])
+fn put_not(table: &mut [u64], n: usize, rec: [u64; WORDS], j: usize, notes: &mut [Note])
     requires { (j < 5) × ((n < room_of false (length table.old)) × ((1 ≤ get_or rec j 0) × (get_or rec j 0 ≤ n))) }
     ensures { filling table.new notes.new (n + 1)
         ≡ added (filling table.old notes.old n) (not_in table.old (get_or rec j 0)) 0 }
@@ -74,7 +73,7 @@ pub fn put_line(
     rec: [u64; WORDS],
     minus: [bool; WORDS],
     id: u64,
-    notes: &mut [[u8; BYTES]],
+    notes: &mut [Note],
 ) -> usize
     requires { Ready minus 3 2 n (room_of false (length table.old)) rec }
     ensures { filling table.new notes.new result

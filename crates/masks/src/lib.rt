@@ -1,8 +1,7 @@
 // What is kept of a line for later lines, and its instruction.
 #![tactic(auto)]
 
-ghost use Rattle.std.specs.Prelude.{◌≡◌, ◌&&◌, ◌≤◌, ◌<◌, get_or};
-ghost use Rattle.tables.specs.Lines.{kind_in};
+ghost use Rattle.std.specs.Prelude.{◌≡◌, ◌&&◌, ◌<◌};
 ghost use Rattle.programs.specs.Translation.{known_at, operand_width, operand_number, loose_of};
 ghost use Rattle.programs.specs.Model.Records.{loose_in, instruction as instruction_of, width_in, number_in, emitted as emitted_of, Taken};
 ghost use Rattle.tables.specs.Pick.{pick};
@@ -27,18 +26,16 @@ fn loose_operand(line: bool, known: &[Known], a: u64) -> bool
 
 // The record's line is loose.
 fn loose(rec: [u64; WORDS], known: &[Known]) -> bool
-    requires { kind_in rec ≤ 63 }
     ensures { result ≡ loose_in (operand_width known.now) (loose_of known.now) rec }
 {
     if of_line(known, rec[1]).width == 64 {
         return false;
     }
     let k = rec[0];
-    let r = uses::row(k);
     let l1 = loose_operand(uses::first_line(k), known, rec[2]);
     let l2 = loose_operand(uses::second_line(k), known, rec[3]);
     let l3 = loose_operand(uses::third_line(k), known, rec[4]);
-    uses::loose_how(r[2], l1, l2, l3)
+    uses::loose_kind(k, l1, l2, l3)
 }
 
 // An operand: a line's instruction number, or the number as it is written.
@@ -92,7 +89,7 @@ pub fn emitted(k: u64, mask: bool) -> usize
 
 // What is known of the line n goes to the list; answers whether the line gets a mask.
 pub fn take(rec: [u64; WORDS], n: u64, need: bool, b: u64, known: &mut [Known]) -> bool
-    requires { (kind_in rec ≤ 63) × (b < 65536) }
+    requires { b < 65536 }
     ensures { Taken rec n need b known.old known.new result }
 {
     let l = loose(rec, known);

@@ -12,7 +12,7 @@ ghost use Rattle.circuits.specs.Model.Fits.{FitWord};
 ghost use Rattle.circuits.specs.Meaning.{op_word};
 
 use area::LAID;
-use tables::{Checked, WORDS};
+use tables::WORDS;
 
 // An init's record notes the line of its value at its state.
 fn note_init(rec: [u64; WORDS], ini: &mut [u64])
@@ -33,7 +33,7 @@ pub fn record(table: &[u64], i: usize) -> [u64; WORDS]
 
 // The line of each state's init value; 0, which is no line, where it has none, as `first` gives it on.
 pub fn find_inits(table: &[u64], count: usize, ini: &mut [u64])
-    requires { (checked false table.now count ≡ Checked.Accepted) × (ini.old ≡ replicate 65 0) }
+    requires { (checked false table.now count ≡ Ok tt) × (ini.old ≡ replicate 65 0) }
     ensures { (q : ℕ) → q < 65 → get_or ini.new q 0 ≡ init_of q (lines_of false table.now count) }
 {
     let h = records::step(false, table.len());

@@ -10,9 +10,8 @@ ghost use Rattle.circuits.specs.Model.Passes.{counts_of, Noted};
 use area::LAID;
 use circuits::Totals;
 use peek_cells::Circuit;
-use peeks::Peeked;
 use records::notes;
-use tables::{BLANK, Checked, Note, Refusal, Ty};
+use tables::{BLANK, Note, Refusal, Ty};
 
 // The cell k of the line n, a value that has it.
 fn find(
@@ -47,28 +46,24 @@ fn find(
 }
 
 // 14, 15 and 18: s start words and i words of a row are lent, for the cell k of a line of the type y.
-fn may_peek(t: Totals, y: Ty, count: usize, k: usize, s: usize, i: usize) -> Checked
+fn may_peek(t: Totals, y: Ty, count: usize, k: usize, s: usize, i: usize) -> Result<(), Refusal>
     requires { (t.inputs + t.free < 4294967296) × (2 ≤ y.role → y.iw ≤ 8) }
     ensures { result ≡ may_peek (counts_of t) (t.inputs + t.free) y count k s i }
 {
     if s != t.states {
-        return Checked::Refused(Refusal::StartWords);
+        return Err(Refusal::StartWords);
     }
     if i != t.inputs + t.free {
-        return Checked::Refused(Refusal::InputWords);
+        return Err(Refusal::InputWords);
     }
-    if 64 < count {
-        return Checked::Refused(Refusal::NoSuchCell);
+    if 64 < count || y.role < 2 {
+        return Err(Refusal::NoSuchCell);
     }
-    if y.role < 2 {
-        return Checked::Refused(Refusal::NoSuchCell);
-    }
-    let x = y.iw;
-    let m: usize = 1 << x;
+    let m: usize = 1 << y.iw;
     if m <= k {
-        return Checked::Refused(Refusal::NoSuchCell);
+        return Err(Refusal::NoSuchCell);
     }
-    Checked::Accepted
+    Ok(())
 }
 
 // A peek at an accepted table, with the notes of its check.
@@ -80,20 +75,15 @@ fn peek_checked(
     k: usize,
     starts: &[u64],
     row: &[u64],
-) -> Peeked
+) -> Result<u64, Refusal>
     requires { Noted false table.now count notes.now }
     ensures { result ≡ lent_peek table.now count line k starts.now row.now }
 {
     let mut laid = [[0u32; LAID]; 16385];
     let t = places::lay_out(false, table, count, notes, &mut laid);
     let y = notes::look(notes, line as u64);
-    match may_peek(t, y, count, k, starts.len(), row.len()) {
-        Checked::Refused(r) => {
-            return Peeked::Refused(r);
-        }
-        Checked::Accepted => {}
-    }
-    Peeked::Value(find(table, count, &laid, starts, row, line, k))
+    may_peek(t, y, count, k, starts.len(), row.len())?;
+    Ok(find(table, count, &laid, starts, row, line, k))
 }
 
 // The value of a line's cell at step 0, from the start words and one row: 1, 11, 14, 15, 18; else the value.
@@ -104,15 +94,10 @@ pub fn peek(
     cell: usize,
     starts: &[u64],
     row: &[u64],
-) -> Peeked
+) -> Result<u64, Refusal>
     ensures { told_peek result ≡ peeks table.now count line cell starts.now row.now }
 {
     let mut notes = [BLANK; 16385];
-    match checks::check(false, table, count, &mut notes) {
-        Checked::Refused(r) => {
-            return Peeked::Refused(r);
-        }
-        Checked::Accepted => {}
-    }
+    checks::check(false, table, count, &mut notes)?;
     peek_checked(table, count, &notes, line, cell, starts, row)
 }

@@ -1,4 +1,5 @@
 -- The words that a state starts from: its init's word in every cell, or its start words modulo 2 to its width. Assumes nothing.
+use Rattle.std.specs.Prelude.{Ok}
 use Prim.Native.Nat.{ℕ, zero, suc, ◌+◌, ◌-◌, ◌≤◌, ◌<◌}
 use mathlib.Core.Path.{◌≡◌, refl, sym, ap, ap₂, ◌∙◌, subst}
 use mathlib.Core.Logic.{◌⊎◌, inl, inr, ⊎_elim}
@@ -10,7 +11,6 @@ use lib.ListN.{length, take, get_or, replicate, length-replicate, get_or-append}
 use lib.Seq.{drop_at, take_all, take-length, take-suc}
 use borrow.Author.Tests.{eq-eqb, ne_eqb}
 use Rattle.tables.specs.declared.Ty.{Ty}
-use Rattle.tables.specs.declared.Checked.TheVariants.{Accepted}
 use Rattle.tables.specs.Pick.{pick}
 use Rattle.tables.specs.Lines.{Line}
 use Rattle.tables.specs.Types.{unmarked_role, ty_at, given, sort_at}
@@ -238,7 +238,7 @@ settled_new Y S s z h =
 
 -- ---- the state on the line i + 1 of an accepted circuit
 
-module _ (t : List ℕ) (n : ℕ) (acc : checked false t n ≡ Accepted) (S ι : List ℕ) (many : length S ≡ (layout false (lines_of false t n)).counts.states) where
+module _ (t : List ℕ) (n : ℕ) (acc : checked false t n ≡ Ok tt) (S ι : List ℕ) (many : length S ≡ (layout false (lines_of false t n)).counts.states) where
   abbrev C : List Line
   C = lines_of false t n
 

@@ -1,6 +1,6 @@
 -- Two values of one sort, compared cell by cell. Assumes nothing.
 use Prim.Native.Nat.{ℕ, ◌+◌, ◌^◌, ◌≤◌, ◌<◌}
-use mathlib.Core.Path.{◌≡◌, refl, sym, ap, ◌∙◌, subst}
+use mathlib.Core.Path.{◌≡◌, sym, ap, ◌∙◌, subst}
 use mathlib.Core.Bool.{Bool, true, false}
 use mathlib.Core.List.{List}
 use native.Mathlib.Omega.{arith}
@@ -59,9 +59,6 @@ module _ {t : List ℕ} {n : ℕ} {P : List (List ℕ)} {ini S R : List ℕ} (lk
           array = record { value = k.right.value; deep = subst (λ (x : ℕ). 0 < x) (sym k.sorts) l.array.deep };
           inside = subst (λ (x : ℕ). c < 2 ^ x) (sym k.sorts) l.inside;
         }
-
-    pub alike_none : {K : List (Option ℕ)} → KeptWords A K → Alike A a b K m 0
-    alike_none f = record { most = omega arith; kept = f; rest = refl }
 
     pub alike_more : {K K' : List (Option ℕ)} {c x y : ℕ} → c < m → Alike A a b K m c → KeptWords A K' → x ≡ get_or (cells_at A a) c 0 → y ≡ get_or (cells_at A b) c 0
         → x ≡ y → Alike A a b K' m (c + 1)

@@ -1,4 +1,5 @@
 -- What each line says of its cell c at step 0, in terms of the values of earlier lines: what peek's functions ask and find. Assumes nothing.
+use Rattle.std.specs.Prelude.{Ok}
 use Prim.Native.Nat.{ℕ, zero, suc, ◌+◌, ◌-◌, ◌%◌, ◌^◌, ◌≤◌, ◌<◌}
 use mathlib.Core.Path.{◌≡◌, refl, sym, ap, ap₂, ◌∙◌, subst}
 use mathlib.Core.Bool.{Bool, true, false}
@@ -11,7 +12,6 @@ use lib.ListN.{length, take, get_or, set, get_or-replicate}
 use lib.Seq.{get_or-take, get_or-set_same, get_or-set_other}
 use Rattle.words.specs.Word.{Width, bit}
 use Rattle.tables.specs.declared.Ty.{Ty}
-use Rattle.tables.specs.declared.Checked.TheVariants.{Accepted}
 use Rattle.tables.specs.Lines.{Line, Expr, line_of}
 use Rattle.tables.specs.Layout.{record_at, lines_of}
 use Rattle.tables.specs.Types.{unmarked_role, marked_role, ty_at, given, sort_at}
@@ -189,7 +189,7 @@ module _ {t : List ℕ} {n : ℕ} {P : List (List ℕ)} {ini S R : List ℕ} (lk
   abbrev A : Frame
   A = step false false (lines_of false t n) σ ι
 
-  accepted : checked false t n ≡ Accepted
+  accepted : checked false t n ≡ Ok tt
   accepted = lk.laid.accepted
 
   zero_is : step_zero (lines_of false t n) S R ≡ A

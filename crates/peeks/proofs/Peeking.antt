@@ -9,8 +9,7 @@ use lib.Dec.{eqb}
 use lib.Pow.{pow_pos}
 use lib.ListN.{length, get_or, set, length-set}
 use lib.Seq.{get_or-set_same, get_or-set_other}
-use Rattle.std.specs.Prelude.{Option, Some, None, is_some, unwrap_or}
-use Rattle.tables.specs.declared.Checked.TheVariants.{Accepted}
+use Rattle.std.specs.Prelude.{Option, Some, None, is_some, unwrap_or, Ok}
 use Rattle.tables.specs.Lines.{Shape, is_bitvec, is_array, is_const, is_input, is_state, is_output, is_unary, is_binary, is_ite, is_read, is_write, is_unknown, is_init_or_next, is_signal, is_equality, shape_of, build, line_of, kind_in, sort_in, first_in, second_in, third_in}
 use Rattle.tables.specs.Layout.{held}
 use Rattle.tables.specs.Layout.{record_at, lines_of}
@@ -103,7 +102,7 @@ module _ {t : List ℕ} {n : ℕ} {P : List (List ℕ)} {ini S R : List ℕ} (lk
   abbrev Z : Layout
   Z = layout false (lines_of false t n)
 
-  accepted : checked false t n ≡ Accepted
+  accepted : checked false t n ≡ Ok tt
   accepted = lk.laid.accepted
 
   pub number : (m : ℕ) → 2 ≤ (type_at Z m).role → Number t n m

@@ -1,19 +1,17 @@
 -- The answers of a peek, test by test, and the value where none holds. Assumes nothing.
 use Prim.Native.Nat.{ℕ, zero, suc, ◌+◌, ◌≤◌, ◌<◌}
-use mathlib.Core.Path.{◌≡◌, refl, sym, ap, ap₂, ◌∙◌, subst}
+use mathlib.Core.Path.{◌≡◌, refl, sym, ap, ap₂, ◌∙◌}
 use mathlib.Core.Bool.{Bool, true, false}
 use mathlib.Core.List.{List}
 use native.Mathlib.Omega.{arith}
 use lib.Dec.{leb, eqb}
 use lib.ListN.{length, take, get_or, set, replicate, length-replicate}
-use borrow.Author.Tests.{le-leb, lt-leb, lt-ltb, le-ltb, eq-eqb, ne_eqb, leb-true, ltb-true, eqb-true}
-use Rattle.std.specs.Prelude.{Option, Some, None, is_some, unwrap_or}
+use borrow.Author.Tests.{leb-true, ltb-true, eqb-true}
+use Rattle.std.specs.Prelude.{Option, Some, None, is_some, unwrap_or, Result, Ok, Err}
 use Rattle.tables.specs.declared.Note.{Note}
 use Rattle.tables.specs.declared.Ty.{Ty}
 use Rattle.tables.specs.declared.Refusal.{Refusal}
 use Rattle.tables.specs.declared.Refusal.TheVariants.{StartWords, InputWords, NoSuchCell}
-use Rattle.tables.specs.declared.Checked.{Checked}
-use Rattle.tables.specs.declared.Checked.TheVariants.{Accepted, Refused}
 use Rattle.tables.specs.Pick.{pick}
 use Rattle.tables.specs.Model.Notes.{look_in}
 use Rattle.tables.specs.Types.{is_value}
@@ -22,8 +20,6 @@ use Rattle.tables.proofs.Checking.{not_accepted}
 use Rattle.tables.proofs.Kept.{both}
 use Rattle.tables.proofs.Showing.{earlier}
 use Rattle.circuits.specs.declared.Totals.{Totals}
-use Rattle.peeks.specs.declared.Peeked.{Peeked}
-use Rattle.peeks.specs.declared.Peeked.TheVariants.{Value, Refused as RefusedPeek}
 use Rattle.circuits.specs.Layout.{Counts, type_at, size, layout}
 use Rattle.circuits.specs.Meaning.{cells_at, word_at}
 use Rattle.tables.specs.Lines.{Line}
@@ -41,26 +37,6 @@ use Rattle.peeks.proofs.Looked.{shown, one_cell, more_cells}
 
 -- ---- 14, 15 and 18
 
-module _ (c : Counts) (row : ℕ) (y : Ty) (n k s i : ℕ) where
-  pub may_14 : (s ≡ c.states → ⊥) → Refused StartWords ≡ may_peek c row y n k s i
-  may_14 e = rw (ne_eqb s c.states e)
-
-  pub may_15 : s ≡ c.states → (i ≡ row → ⊥) → Refused InputWords ≡ may_peek c row y n k s i
-  may_15 e f = rw (eq-eqb s c.states e, ne_eqb i row f)
-
-  module _ (e : s ≡ c.states) (f : i ≡ row) where
-    pub may_many : 64 < n → Refused NoSuchCell ≡ may_peek c row y n k s i
-    may_many h = rw (eq-eqb s c.states e, eq-eqb i row f, lt-leb n 64 h)
-
-    pub may_class : n ≤ 64 → y.role < 2 → Refused NoSuchCell ≡ may_peek c row y n k s i
-    may_class h q = rw (eq-eqb s c.states e, eq-eqb i row f, le-leb n 64 h, lt-leb 2 y.role q)
-
-    pub may_cell : {m : ℕ} → m ≡ size y → n ≤ 64 → 2 ≤ y.role → m ≤ k → Refused NoSuchCell ≡ may_peek c row y n k s i
-    may_cell {m} z h q l = rw (eq-eqb s c.states e, eq-eqb i row f, le-leb n 64 h, le-leb 2 y.role q, le-ltb k (size y) (subst (λ (x : ℕ). x ≤ k) z l))
-
-    pub may_see : {m : ℕ} → m ≡ size y → n ≤ 64 → 2 ≤ y.role → k < m → Accepted ≡ may_peek c row y n k s i
-    may_see {m} z h q l = rw (eq-eqb s c.states e, eq-eqb i row f, le-leb n 64 h, le-leb 2 y.role q, lt-ltb k (size y) (subst (λ (x : ℕ). k < x) z l))
-
 pub record May (c : Counts) (row : ℕ) (y : Ty) (n k s i : ℕ) : Type 0 where
   pub starts : s ≡ c.states
   pub full : i ≡ row
@@ -68,11 +44,11 @@ pub record May (c : Counts) (row : ℕ) (y : Ty) (n k s i : ℕ) : Type 0 where
   pub value : 2 ≤ y.role
   pub inside : k < size y
 
-pub may_facts : (c : Counts) (row : ℕ) (y : Ty) (n k s i : ℕ) → may_peek c row y n k s i ≡ Accepted → May c row y n k s i
+pub may_facts : (c : Counts) (row : ℕ) (y : Ty) (n k s i : ℕ) → may_peek c row y n k s i ≡ Ok tt → May c row y n k s i
 may_facts c row y n k s i = go (eqb s c.states) (eqb i row) (has_cell y n k) refl refl refl
   where
     go : (a b d : Bool) → eqb s c.states ≡ a → eqb i row ≡ b → has_cell y n k ≡ d
-        → pick a (pick b (pick d Accepted (Refused NoSuchCell)) (Refused InputWords)) (Refused StartWords) ≡ Accepted → May c row y n k s i
+        → ◌≡◌ {A = Result (Unit {0}) Refusal} (pick a (pick b (pick d (Ok tt) (Err NoSuchCell)) (Err InputWords)) (Err StartWords)) (Ok tt) → May c row y n k s i
     go true true true a b d z =
         let h = both (leb n 64) _ d in
         let l = both (is_value y) _ h.1 in
@@ -146,13 +122,13 @@ module _ {t : List ℕ} {n : ℕ} {xs : List Note} (z : Noted false t n xs) (m :
   type_deep e q = let f = type_is e in omega (arith, ap (λ (u : Ty). u.iw) f, ((all_sound false t n z.accepted).wide m (omega (arith, ap (λ (u : Ty). u.role) f))).deep)
 
   -- the tests on what the pass and the check have found
-  pub may_on : (k : ℕ) (S R : List ℕ) {all : Totals} {y : Ty} {d x : Checked} → all ≡ totals_of (layout false (lines_of false t n)).counts (free_count (sources false (lines_of false t n))) → y ≡ look_in xs m
+  pub may_on : (k : ℕ) (S R : List ℕ) {all : Totals} {y : Ty} {d x : Result (Unit {0}) Refusal} → all ≡ totals_of (layout false (lines_of false t n)).counts (free_count (sources false (lines_of false t n))) → y ≡ look_in xs m
       → d ≡ may_peek (counts_of all) (all.inputs + all.free) y n k (length S) (length R) → d ≡ x
       → may_peek (layout false (lines_of false t n)).counts (row_length false (lines_of false t n)) (type_at (layout false (lines_of false t n)) m) n k (length S) (length R) ≡ x
   may_on k S R ea ey ed ex = sym (ed ∙ ap₂ (λ (v : Totals) (u : Ty). may_peek (counts_of v) (v.inputs + v.free) u n k (length S) (length R)) ea (type_is ey)) ∙ ex
 
   pub peek_laid : {P : List (List ℕ)} {S R : List ℕ} (k : ℕ) → ShowsAll P (layout false (lines_of false t n))
-      → may_peek (layout false (lines_of false t n)).counts (row_length false (lines_of false t n)) (type_at (layout false (lines_of false t n)) m) n k (length S) (length R) ≡ Accepted → Laid t n P S R × HasCell t n m k
+      → may_peek (layout false (lines_of false t n)).counts (row_length false (lines_of false t n)) (type_at (layout false (lines_of false t n)) m) n k (length S) (length R) ≡ Ok tt → Laid t n P S R × HasCell t n m k
   peek_laid {P} {S} {R} k sh e =
       let f = may_facts (layout false (lines_of false t n)).counts (row_length false (lines_of false t n)) (type_at (layout false (lines_of false t n)) m) n k (length S) (length R) e in (
         record { accepted = z.accepted; few = f.few; shows = sh; starts = f.starts; row = omega (arith, f.full) },
@@ -160,17 +136,17 @@ module _ {t : List ℕ} {n : ℕ} {xs : List Note} (z : Noted false t n xs) (m :
       )
 
 module _ (t : List ℕ) (n m k : ℕ) (S R : List ℕ) where
-  pub lent_refused : (r : Refusal) → may_peek (layout false (lines_of false t n)).counts (row_length false (lines_of false t n)) (type_at (layout false (lines_of false t n)) m) n k (length S) (length R) ≡ Refused r → RefusedPeek r ≡ lent_peek t n m k S R
-  lent_refused r e = sym (ap (λ (d : Checked). seen_as d (peek_at (lines_of false t n) S R m k)) e)
+  pub lent_refused : (r : Refusal) → may_peek (layout false (lines_of false t n)).counts (row_length false (lines_of false t n)) (type_at (layout false (lines_of false t n)) m) n k (length S) (length R) ≡ Err r → Err r ≡ lent_peek t n m k S R
+  lent_refused r e = sym (ap (λ (d : Result (Unit {0}) Refusal). seen_as d (peek_at (lines_of false t n) S R m k)) e)
 
-  pub lent_value : {v : ℕ} → may_peek (layout false (lines_of false t n)).counts (row_length false (lines_of false t n)) (type_at (layout false (lines_of false t n)) m) n k (length S) (length R) ≡ Accepted → v ≡ peek_at (lines_of false t n) S R m k
-      → Value v ≡ lent_peek t n m k S R
-  lent_value e ev = ap Value ev ∙ sym (ap (λ (d : Checked). seen_as d (peek_at (lines_of false t n) S R m k)) e)
+  pub lent_value : {v : ℕ} → may_peek (layout false (lines_of false t n)).counts (row_length false (lines_of false t n)) (type_at (layout false (lines_of false t n)) m) n k (length S) (length R) ≡ Ok tt → v ≡ peek_at (lines_of false t n) S R m k
+      → Ok v ≡ lent_peek t n m k S R
+  lent_value e ev = ap Ok ev ∙ sym (ap (λ (d : Result (Unit {0}) Refusal). seen_as d (peek_at (lines_of false t n) S R m k)) e)
 
-  pub peek_refused : {r : Refusal} → checked false t n ≡ Refused r → told_peek (RefusedPeek r) ≡ peeks t n m k S R
+  pub peek_refused : {r : Refusal} → checked false t n ≡ Err r → told_peek (Err r) ≡ peeks t n m k S R
   unfolding peeks peeked
   peek_refused e = rw e refl
 
-  pub peek_lent : {r : Peeked} → checked false t n ≡ Accepted → r ≡ lent_peek t n m k S R → told_peek r ≡ peeks t n m k S R
+  pub peek_lent : {r : Result ℕ Refusal} → checked false t n ≡ Ok tt → r ≡ lent_peek t n m k S R → told_peek r ≡ peeks t n m k S R
   unfolding peeks peeked
   peek_lent e q = rw (e, q) refl

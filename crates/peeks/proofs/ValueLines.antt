@@ -1,4 +1,5 @@
 -- The lines that have a value are those of the kinds 3 to 5, 11 to 55 and 57 to 63, and no other number has a type of a value. Assumes nothing.
+use Rattle.std.specs.Prelude.{Ok}
 use Prim.Native.Nat.{ℕ, suc, ◌+◌, ◌≤◌, ◌<◌}
 use mathlib.Core.Path.{◌≡◌, refl, sym, ap, ◌∙◌, subst}
 use mathlib.Core.Logic.{inl, inr}
@@ -7,7 +8,6 @@ use mathlib.Core.List.{List}
 use native.Mathlib.Omega.{arith}
 use lib.ListN.{length, take, get_or, get_or-eq_default}
 use borrow.Author.Tests.{le-leb, lt-leb}
-use Rattle.tables.specs.declared.Checked.TheVariants.{Accepted}
 use Rattle.tables.specs.Lines.{Line, Expr, Shape, is_bitvec, is_array, is_const, is_input, is_state, is_output, is_unary, is_binary, is_ite, is_read, is_write, is_unknown, is_init_or_next, is_signal, is_equality, shape_of, build, line_of, kind_in, sort_in, first_in, second_in, third_in}
 use Rattle.tables.specs.Layout.{record_at, lines_of}
 use Rattle.tables.specs.Types.{is_value, no_ty, ty_at, given}
@@ -64,7 +64,7 @@ module _ (Y : Layout) (r : List ℕ) (ok : OkLine false (ty_at Y.ctx) (given Y.c
       go (is_equality true) e k = yes (is_equality true) e (val (Expr.equality true (first_in r) (second_in r))) (ap value_kind k)
       go (is_equality false) e k = yes (is_equality false) e (val (Expr.equality false (first_in r) (second_in r))) (ap value_kind k)
 
-module _ (t : List ℕ) (n : ℕ) (acc : checked false t n ≡ Accepted) where
+module _ (t : List ℕ) (n : ℕ) (acc : checked false t n ≡ Ok tt) where
   -- the line of the record at the place i
   pub value_line : (i : ℕ) → i < n → is_value (type_at (layout false (lines_of false t n)) (suc i)) ≡ value_kind (kind_in (record_at false t i))
   value_line i h =

@@ -1,4 +1,5 @@
 -- All lines of an accepted circuit as one step leaves them: each value has the cells of its type, each below 2 to its width. Assumes nothing.
+use Rattle.std.specs.Prelude.{Ok}
 use Prim.Native.Nat.{ℕ, zero, suc, ◌+◌, ◌^◌, ◌≤◌, ◌<◌}
 use mathlib.Core.Path.{◌≡◌, refl, sym, ap, ◌∙◌, subst}
 use mathlib.Core.Bool.{Bool, false}
@@ -6,7 +7,6 @@ use mathlib.Core.List.{List, ◌++◌}
 use native.Mathlib.Omega.{arith}
 use lib.ListN.{length, take, get_or, replicate, length-append, length-replicate}
 use lib.Seq.{drop_at, take-length}
-use Rattle.tables.specs.declared.Checked.TheVariants.{Accepted}
 use Rattle.tables.specs.Lines.{Line}
 use Rattle.tables.specs.Tables.{checked}
 use Rattle.circuits.specs.Layout.{Layout, type_at, size, lay_all, no_layout, layout}
@@ -25,7 +25,7 @@ pub record HeldBy (all : ℕ) (σ : List ℕ) (A : Frame) : Type 0 where
   pub work : List ℕ
   pub held : Held false all σ work A
 
-module _ (t : List ℕ) (n : ℕ) (acc : checked false t n ≡ Accepted) where
+module _ (t : List ℕ) (n : ℕ) (acc : checked false t n ≡ Ok tt) where
   abbrev pub whole : Layout
   whole = layout false (lines_of false t n)
 

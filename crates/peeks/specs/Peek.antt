@@ -1,18 +1,15 @@
 -- Peek: the word of a line, or one of its cells, at step 0. The answers are 1, 11, 14, 15, 18, the first that holds; else the value. Assumes nothing.
-use Rattle.std.specs.Prelude.{ℕ, ◌≤◌, ◌≡◌, Bool, true, false, ◌&&◌, ◌||◌, List, [], leb, ltb, eqb, length, take, get_or}
+use Rattle.tables.specs.declared.Refusal.{Refusal}
+use Rattle.std.specs.Prelude.{ℕ, ◌≤◌, ◌≡◌, Bool, true, false, ◌&&◌, ◌||◌, List, [], leb, ltb, eqb, length, take, get_or, Result, Ok, Err}
 use Rattle.std.proofs.Common.{ap, zero-mul, take-take}
 use Rattle.tables.specs.declared.Refusal.TheVariants.{StartWords, InputWords, NoSuchCell}
 use Rattle.tables.specs.declared.Ty.{Ty}
-use Rattle.tables.specs.declared.Checked.{Checked}
-use Rattle.tables.specs.declared.Checked.TheVariants.{Accepted, Refused}
 use Rattle.tables.specs.Pick.{pick, inside}
 use Rattle.tables.specs.Lines.{Line}
 use Rattle.tables.specs.Types.{is_value}
 use Rattle.tables.specs.Tables.{checked}
 use Rattle.tables.specs.Refusals.{number_of}
 use Rattle.tables.specs.Answers.{Outcome, outcome}
-use Rattle.peeks.specs.declared.Peeked.{Peeked}
-use Rattle.peeks.specs.declared.Peeked.TheVariants.{Value, Refused as RefusedPeek}
 use Rattle.circuits.specs.Cells.{part}
 use Rattle.circuits.specs.Layout.{Counts, type_at, size, layout}
 use Rattle.circuits.specs.Meaning.{Frame, cells_at, step}
@@ -48,19 +45,19 @@ abbrev pub has_cell : Ty → (n cell : ℕ) → Bool
 has_cell y n cell = leb n 64 && (is_value y && ltb cell (size y))
 
 -- The tests after the table's, for s start words and i words of a row. A row has the inputs, and the words for free states, which step 0 leaves unread.
-abbrev pub may_peek : Counts → (row : ℕ) → Ty → (n cell s i : ℕ) → Checked
+abbrev pub may_peek : Counts → (row : ℕ) → Ty → (n cell s i : ℕ) → Result (Unit {0}) Refusal
 may_peek c row y n cell s i =
     pick (eqb s c.states) (
     pick (eqb i row) (
-    pick (has_cell y n cell) Accepted
-    (Refused NoSuchCell)) (Refused InputWords)) (Refused StartWords)
+    pick (has_cell y n cell) (Ok tt)
+    (Err NoSuchCell)) (Err InputWords)) (Err StartWords)
 
-abbrev pub seen_as : Checked → ℕ → Peeked
-seen_as Accepted v = Value v
-seen_as (Refused r) v = RefusedPeek r
+abbrev pub seen_as : Result (Unit {0}) Refusal → ℕ → Result ℕ Refusal
+seen_as (Ok _) v = Ok v
+seen_as (Err r) v = Err r
 
 -- what peek answers for the table t with its count n
-unfoldable pub peeked : (t : List ℕ) (n line cell : ℕ) (S R : List ℕ) → Peeked
+unfoldable pub peeked : (t : List ℕ) (n line cell : ℕ) (S R : List ℕ) → Result ℕ Refusal
 peeked t n line cell S R =
     seen_as
     (and_then (checked false t n)
@@ -68,9 +65,9 @@ peeked t n line cell S R =
     (peek_at (lines_of false t n) S R line cell)
 
 -- the request's number and values for what peek answers: the value
-abbrev pub told_peek : Peeked → Outcome
-told_peek (Value v) = outcome 0 v 0 0 []
-told_peek (RefusedPeek r) = outcome (number_of r) 0 0 0 []
+abbrev pub told_peek : Result ℕ Refusal → Outcome
+told_peek (Ok v) = outcome 0 v 0 0 []
+told_peek (Err r) = outcome (number_of r) 0 0 0 []
 
 -- the outcome of a peek
 unfoldable pub peeks : (t : List ℕ) (n line cell : ℕ) (S R : List ℕ) → Outcome

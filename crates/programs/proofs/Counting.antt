@@ -55,9 +55,7 @@ module _ {z : ℕ} {t : List ℕ} {n i b : ℕ} {K : List Known} (S : Walk z t n
         let p : (nd ≡ N (length S.J)) = en ∙ ap N (sym S.known) in
         subst (λ (r : List ℕ). Agrees (operand_width K) (operand_number K) (loose_of K) nd b r (instructions_of N S.J b x.line)) x.words
         (subst⁻¹ (λ (d : Bool). Agrees (operand_width K) (operand_number K) (loose_of K) d b (words_of x.line) (instructions_of N S.J b x.line)) p
-        (subst⁻¹ (λ (W : ℕ → ℕ). Agrees W (operand_number K) (loose_of K) (N (length S.J)) b (words_of x.line) (instructions_of N S.J b x.line)) (λ j a. (S.keeps.at a j).width)
-        (subst⁻¹ (λ (M : ℕ → ℕ). Agrees (operand_width S.J) M (loose_of K) (N (length S.J)) b (words_of x.line) (instructions_of N S.J b x.line)) (λ j a. (S.keeps.at a j).number)
-        (subst⁻¹ (λ (L : ℕ → Bool). Agrees (operand_width S.J) (operand_number S.J) L (N (length S.J)) b (words_of x.line) (instructions_of N S.J b x.line)) (λ j a. (S.keeps.at a j).loose) a))))
+        (subst⁻¹ (λ (F : ℕ → Known). Agrees (λ (i : ℕ). (F i).width) (λ (i : ℕ). (F i).number) (λ (i : ℕ). (F i).loose) (N (length S.J)) b (words_of x.line) (instructions_of N S.J b x.line)) (λ j i. S.keeps.at i j) a))
 
     -- the instructions ahead begin with the line's
     pub ahead : translate_from N S.J b (drop i (lines_of false t n))

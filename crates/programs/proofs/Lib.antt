@@ -2,7 +2,6 @@
 -- same free state words), `Accepted` (the program keeps the rules), `Done` (what a translation leaves is accepted), `Sample` (the request's example meets the premises). The rest
 -- serves these.
 pub mod Lists
-pub mod Sets
 pub mod Grew
 pub mod Laid
 pub mod LaidLines
@@ -17,7 +16,6 @@ pub mod StepLines
 pub mod Runs
 pub mod Done
 pub mod Sample
-pub mod Reading
 pub mod Modelled
 pub mod Keeping
 pub mod Marking

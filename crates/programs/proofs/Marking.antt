@@ -6,11 +6,11 @@ use mathlib.Core.Bool.{Bool, true, false, ◌&&◌, ◌||◌}
 use mathlib.Core.List.{List, [], ◌∷◌, ◌++◌}
 use native.Mathlib.Omega.{arith}
 use lib.Dec.{eqb}
-use lib.ListN.{length, get_or, set, drop, replicate, length-set, length-replicate}
+use lib.ListN.{length, set, drop, replicate, length-set, length-replicate}
 use lib.Seq.{get_or-set_same, get_or-set_other}
 use borrow.Author.Tests.{eq-eqb, ne_eqb}
 use Rattle.words.specs.Kinds.{need_kind₁, need_kind₂}
-use Rattle.tables.specs.Pick.{pick, among}
+use Rattle.tables.specs.Pick.{among}
 use Rattle.tables.specs.Lines.{Line, kind_in, first_in, second_in}
 use Rattle.tables.specs.Layout.{record_at, lines_of}
 use Rattle.tables.specs.Tables.{checked}
@@ -18,9 +18,8 @@ use Rattle.tables.proofs.Laws.{or_true, or_false}
 use Rattle.tables.proofs.Showing.{by_place}
 use Rattle.programs.specs.Uses.{when, needs, has_needing_use}
 use Rattle.programs.specs.Translation.{array_sort_line, has_array}
-use Rattle.programs.specs.Model.Kinds.{second_line, uses_of, mark_if, uses_marked, mark_at}
+use Rattle.programs.specs.Model.Kinds.{second_line, mark_if, uses_marked, mark_at}
 use Rattle.programs.specs.Model.Passes.{Needing}
-use Rattle.programs.proofs.Reading.{need_row₁, need_row₂}
 use Rattle.programs.proofs.Modelled.{needs_words, array_words}
 use Rattle.programs.proofs.Keeping.{blank_at, line_at, no_line}
 
@@ -34,31 +33,27 @@ among_append : (j : ℕ) (xs ys : List ℕ) → among j (xs ++ ys) ≡ (among j 
 among_append j [] ys = refl
 among_append j (x ∷ xs) ys = ap (λ (t : Bool). eqb j x || t) (among_append j xs ys) ∙ sym (or_assoc (eqb j x) (among j xs) (among j ys))
 
-mark_law : (v a : ℕ) (ms : List Bool) (t : Bool) → eqb v 1 ≡ t → (j : ℕ) → j < length ms → mark_at (mark_if v a ms) j ≡ (mark_at ms j || among j (when t a))
-mark_law v a ms false e j h = rw e (sym (or_false (mark_at ms j)))
-mark_law v a ms true e j h =
-    rw e
-    (by_place j a
+mark_law : (t : Bool) (a : ℕ) (ms : List Bool) (j : ℕ) → j < length ms → mark_at (mark_if t a ms) j ≡ (mark_at ms j || among j (when t a))
+mark_law false a ms j h = sym (or_false (mark_at ms j))
+mark_law true a ms j h =
+    by_place j a
     (λ z. ap (λ (x : ℕ). mark_at (set ms a true) x) z ∙ get_or-set_same ms a true false (omega arith) ∙ sym (ap (λ (t : Bool). mark_at ms j || (t || false)) (eq-eqb j a z) ∙ or_true (mark_at ms j)))
-    (λ z. get_or-set_other ms a j true false z ∙ sym (ap (λ (t : Bool). mark_at ms j || (t || false)) (ne_eqb j a z) ∙ or_false (mark_at ms j))))
+    (λ z. get_or-set_other ms a j true false z ∙ sym (ap (λ (t : Bool). mark_at ms j || (t || false)) (ne_eqb j a z) ∙ or_false (mark_at ms j)))
 
-mark_length : (v a : ℕ) (ms : List Bool) → length (mark_if v a ms) ≡ length ms
-mark_length v a ms = go (eqb v 1)
-  where
-    go : (t : Bool) → length (pick t (set ms a true) ms) ≡ length ms
-    go true = length-set ms a true
-    go false = refl
+mark_length : (t : Bool) (a : ℕ) (ms : List Bool) → length (mark_if t a ms) ≡ length ms
+mark_length true a ms = length-set ms a true
+mark_length false a ms = refl
 
 -- the marks of a record are the lines that its line needs clean
-needing_law : (l : Line) (r : List ℕ) (ms : List Bool) → needs l ≡ when (need_kind₁ (kind_in r)) (first_in r) ++ when (need_kind₂ (kind_in r) && second_line (kind_in r)) (second_in r) → kind_in r ≤ 63
+needing_law : (l : Line) (r : List ℕ) (ms : List Bool) → needs l ≡ when (need_kind₁ (kind_in r)) (first_in r) ++ when (need_kind₂ (kind_in r) && second_line (kind_in r)) (second_in r)
     → (j : ℕ) → j < length ms → mark_at (uses_marked r ms) j ≡ (mark_at ms j || among j (needs l))
-needing_law l r ms e k j h =
-    let u = uses_of (kind_in r) in
-    let m₁ = mark_if (get_or u 0 0) (first_in r) ms in
-    let w₁ = when (need_kind₁ (kind_in r)) (first_in r) in
-    let w₂ = when (need_kind₂ (kind_in r) && second_line (kind_in r)) (second_in r) in
-    mark_law (get_or u 1 0) (second_in r) m₁ _ (need_row₂ (kind_in r) k) j (omega (arith, mark_length (get_or u 0 0) (first_in r) ms))
-    ∙ ap (λ (t : Bool). t || among j w₂) (mark_law (get_or u 0 0) (first_in r) ms _ (need_row₁ (kind_in r) k) j h)
+needing_law l r ms e j h =
+    let n₁ = need_kind₁ (kind_in r) in
+    let n₂ = need_kind₂ (kind_in r) && second_line (kind_in r) in
+    let w₁ = when n₁ (first_in r) in
+    let w₂ = when n₂ (second_in r) in
+    mark_law n₂ (second_in r) (mark_if n₁ (first_in r) ms) j (omega (arith, mark_length n₁ (first_in r) ms))
+    ∙ ap (λ (t : Bool). t || among j w₂) (mark_law n₁ (first_in r) ms j h)
     ∙ or_assoc (mark_at ms j) (among j w₁) (among j w₂)
     ∙ ap (λ (t : Bool). mark_at ms j || t) (sym (among_append j w₁ w₂) ∙ sym (ap (among j) e))
 
@@ -86,11 +81,14 @@ module _ {t : List ℕ} {n i : ℕ} {ms : List Bool} (M : Marking t n i ms) (e :
       let p : ms₁ ≡ uses_marked (record_at false t i) ms = q ∙ ap (λ (y : List ℕ). uses_marked y ms) er in
       let R = drop (i + 1) (lines_of false t n) in
       record {
-        size = ap length p ∙ mark_length (get_or (uses_of (kind_in (record_at false t i))) 1 0) (second_in (record_at false t i)) (mark_if (get_or (uses_of (kind_in (record_at false t i))) 0 0) (first_in (record_at false t i)) ms) ∙ mark_length (get_or (uses_of (kind_in (record_at false t i))) 0 0) (first_in (record_at false t i)) ms ∙ M.size;
+        size =
+            ap length p
+            ∙ mark_length (need_kind₂ (kind_in (record_at false t i)) && second_line (kind_in (record_at false t i))) (second_in (record_at false t i)) (mark_if (need_kind₁ (kind_in (record_at false t i))) (first_in (record_at false t i)) ms)
+            ∙ mark_length (need_kind₁ (kind_in (record_at false t i))) (first_in (record_at false t i)) ms ∙ M.size;
         most = omega arith;
         at = λ j h.
             ap (λ (y : List Bool). mark_at y j || has_needing_use R j) p
-            ∙ ap (λ (b : Bool). b || has_needing_use R j) (needing_law x.line (record_at false t i) ms w x.kind j (omega (arith, M.size)))
+            ∙ ap (λ (b : Bool). b || has_needing_use R j) (needing_law x.line (record_at false t i) ms w j (omega (arith, M.size)))
             ∙ or_assoc (mark_at ms j) (among j (needs x.line)) (has_needing_use R j)
             ∙ sym (ap (λ (y : List Line). mark_at ms j || has_needing_use y j) x.rest)
             ∙ M.at j h;

@@ -11,8 +11,7 @@ ghost use Rattle.tables.specs.Types.{no_ctx};
 ghost use Rattle.texts.specs.Reading.{lines_read, outcome_of, reads, told_read};
 
 use records::kinds;
-use records::notes::BYTES;
-use tables::Refusal;
+use tables::{BLANK, Note, Refusal};
 use texts::TextRefusal;
 
 // The lines of a text into a table of zeros. A short text takes a short list for its names, which is cleared for each text; kinds are the rows of all kinds.
@@ -20,7 +19,7 @@ fn with_room(
     text: &[u8],
     table: &mut [u64],
     kinds: &[[u8; 16]; 63],
-    notes: &mut [[u8; BYTES]],
+    notes: &mut [Note],
 ) -> Result<usize, TextRefusal>
     requires { (length text.now ≤ 65536) × ((table.old ≡ replicate (length table.old) 0) × ((length notes.old ≡ 16385)
         × (Shows notes.old no_ctx × (kinds.now ≡ rows)))) }
@@ -42,7 +41,7 @@ fn read_with<const N: usize>(
     text: &[u8],
     table: &mut [u64],
     kinds: &[[u8; 16]; 63],
-    notes: &mut [[u8; BYTES]],
+    notes: &mut [Note],
 ) -> Result<usize, TextRefusal>
     requires { (8 * 1025 + 3 * (length text.now + 1) ≤ 8 * N) × ((N ≤ 25602) × ((length text.now ≤ 65536) × ((table.old ≡ replicate (length table.old) 0)
         × ((length notes.old ≡ 16385) × (Shows notes.old no_ctx × (kinds.now ≡ rows)))))) }
@@ -70,6 +69,6 @@ pub fn read(text: &[u8], table: &mut [u64]) -> Result<usize, TextRefusal>
         });
     }
     let kinds = kinds::all();
-    let mut notes = [[0u8; BYTES]; 16385];
+    let mut notes = [BLANK; 16385];
     with_room(text, table, &kinds, &mut notes)
 }

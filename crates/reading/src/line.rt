@@ -11,8 +11,7 @@ ghost use Rattle.texts.specs.Model.Structs.{Tells, with_labels, Labelled, Admits
 ghost use Rattle.texts.specs.Model.Chains.{Chained, HasRoom};
 
 use forms::heads;
-use records::notes::BYTES;
-use tables::{Refusal, WORDS};
+use tables::{Note, Refusal, WORDS};
 use texts::Readout;
 
 // What a line gives, with its id and its name.
@@ -42,7 +41,7 @@ fn behind_word(
     id: u64,
     table: &[u64],
     n: usize,
-    notes: &[[u8; BYTES]],
+    notes: &[Note],
 ) -> Readout
     requires { (kinds.now ≡ rows) × ((at ≤ length l.now) × ((1 ≤ f) × ((f ≤ 68) × (((a : ℕ) → (look_in notes.now a).w ≤ 64) × Risen table.now n)))) }
     ensures { Tells result (ended (look_in notes.now) (given_in notes.now) (ids_of table.now n) f (taken_in f (tokens_in (drop at l.now))))
@@ -65,7 +64,7 @@ pub fn read_line(
     table: &[u64],
     n: usize,
     room: usize,
-    notes: &[[u8; BYTES]],
+    notes: &[Note],
 ) -> Readout
     requires { (kinds.now ≡ rows) × (Risen table.now n × ((a : ℕ) → (look_in notes.now a).w ≤ 64)) }
     ensures { Tells result (judged_line (look_in notes.now) (given_in notes.now) (ids_of table.now n) room (tokens_in l.now))

@@ -7,15 +7,15 @@ ghost use Rattle.texts.specs.Reading.{lines_read, outcome_of, told_read};
 ghost use Rattle.texts.specs.Model.Chains.{Ample};
 
 use crate::line;
-use records::notes::BYTES;
 use texts::TextRefusal;
+use tables::Note;
 
 // The lines of a text, into a table of zeros; kinds are the rows of all kinds, and the names are kept in a list of zeros.
 pub fn read_lines(
     text: &[u8],
     table: &mut [u64],
     kinds: &[[u8; 16]; 63],
-    notes: &mut [[u8; BYTES]],
+    notes: &mut [Note],
     names: &mut [u16],
 ) -> Result<usize, TextRefusal>
     requires { (length text.now ≤ 65536) × ((table.old ≡ replicate (length table.old) 0) × ((length notes.old ≡ 16385)

@@ -18,9 +18,8 @@ ghost use Rattle.texts.specs.Split.{tokens as tokens_in};
 
 use forms::operands;
 use records::kinds::{NONE, VALUE};
-use records::notes::BYTES;
 use records::{kinds, notes};
-use tables::{Refusal, WORDS};
+use tables::{Note, Refusal, WORDS};
 use texts::{Readout, Taken};
 
 // A refusal.
@@ -82,7 +81,7 @@ fn judge(
     len: usize,
     rec: [u64; WORDS],
     minus: [bool; WORDS],
-    notes: &[[u8; BYTES]],
+    notes: &[Note],
 ) -> Readout
     requires { row ≡ row_of (kind_in rec) }
     ensures { result ≡ as_read (judged (look_in notes.now) (given_in notes.now) f len rec minus) }
@@ -101,14 +100,14 @@ fn judge(
 }
 
 // The line a, in a place of the given class of a record of the kind k, may have the sign that it has: a minus stands before a word, in no init.
-fn sign_fits(k: u64, class: u8, a: u64, minus: bool, notes: &[[u8; BYTES]]) -> bool
+fn sign_fits(k: u64, class: u8, a: u64, minus: bool, notes: &[Note]) -> bool
     ensures { result ≡ minus_fits k class (look_in notes.now a) minus }
 {
     !minus || class != NONE && class <= VALUE && k != 6 && types::is_word(notes::look(notes, a))
 }
 
 // Each minus of a record stands where it may, by a row.
-fn signs_fit(row: [u8; 16], rec: [u64; WORDS], minus: [bool; WORDS], notes: &[[u8; BYTES]]) -> bool
+fn signs_fit(row: [u8; 16], rec: [u64; WORDS], minus: [bool; WORDS], notes: &[Note]) -> bool
     ensures { result ≡ all (minuses_by row (look_in notes.now) minus rec) }
 {
     let k = rec[0];
@@ -132,7 +131,7 @@ fn allow(
     len: usize,
     rec: [u64; WORDS],
     minus: [bool; WORDS],
-    notes: &[[u8; BYTES]],
+    notes: &[Note],
 ) -> Readout
     requires { row ≡ row_of (kind_in rec) }
     ensures { result ≡ as_read (allowed (look_in notes.now) (given_in notes.now) f len rec minus) }
@@ -152,7 +151,7 @@ fn conclude(
     len: usize,
     table: &[u64],
     n: usize,
-    notes: &[[u8; BYTES]],
+    notes: &[Note],
 ) -> Readout
     requires { (row ≡ row_of (kind_in rec)) × (((a : ℕ) → (look_in notes.now a).w ≤ 64) × Risen table.now n) }
     ensures { result ≡ as_read (concluded (look_in notes.now) (given_in notes.now) f len (resolved (ids_of table.now n) rec) minus) }
@@ -173,7 +172,7 @@ fn large(
     len: usize,
     table: &[u64],
     n: usize,
-    notes: &[[u8; BYTES]],
+    notes: &[Note],
 ) -> Readout
     requires { (row ≡ row_of (kind_in rec)) × (((a : ℕ) → (look_in notes.now a).w ≤ 64) × Risen table.now n) }
     ensures { result ≡ as_read (large_of (look_in notes.now) (given_in notes.now) (ids_of table.now n) f rec minus big len) }
@@ -211,7 +210,7 @@ pub fn finish(
     crowded: bool,
     table: &[u64],
     n: usize,
-    notes: &[[u8; BYTES]],
+    notes: &[Note],
 ) -> Readout
     requires { (kinds.now ≡ rows) × ((1 ≤ f) × ((f ≤ 68) × ((kind_in t.rec ≡ kind_of f) × ((crowded ≡ several (tokens_in (drop t.at l.now)))
         × (((a : ℕ) → (look_in notes.now a).w ≤ 64) × Risen table.now n))))) }

@@ -7,6 +7,7 @@ use native.Mathlib.Omega.{arith}
 use native.Mathlib.Numerals.{add-one}
 use lib.ListN.{length, get_or, set, length-set}
 use lib.Seq.{get_or-set_other}
+use Rattle.tables.specs.declared.Note.{Note}
 use Rattle.tables.specs.Pick.{pick}
 use Rattle.tables.specs.Lines.{fields, kind_in, sort_in, first_in}
 use Rattle.tables.specs.Layout.{room, record_at, with_id}
@@ -30,7 +31,7 @@ pub record Passed (s : List Bool) (d : ℕ) (W : Filling) (len j : ℕ) (F : Fil
   pub ready : Ready s (5 - j) j F.count (room false len) own
   pub rest : W ≡ added_from s (5 - j) j F own d
 
-pub none_passed : {s : List Bool} {n : ℕ} {table rec : List ℕ} (notes : List (List ℕ)) (d : ℕ) → length rec ≡ 5 → Ready s 3 2 n (room false (length table)) rec
+pub none_passed : {s : List Bool} {n : ℕ} {table rec : List ℕ} (notes : List Note) (d : ℕ) → length rec ≡ 5 → Ready s 3 2 n (room false (length table)) rec
     → Passed s d (added_from s 3 2 (filling table notes n) rec d) (length table) 2 (filling table notes n) rec
 none_passed notes d z r = record { low = omega arith; high = omega arith; sized = z; same = refl; ready = r; rest = refl }
 

@@ -6,6 +6,7 @@ use mathlib.Core.List.{List, [], ◌∷◌, ◌++◌, map, append_assoc}
 use native.Mathlib.Omega.{arith}
 use lib.ListN.{length, get_or, set, replicate, length-append}
 use borrow.Author.Tests.{eqb-true}
+use Rattle.tables.specs.declared.Note.{Note}
 use Rattle.tables.specs.declared.Ty.{Ty}
 use Rattle.tables.specs.Pick.{pick, inside, all}
 use Rattle.tables.specs.Kinds.{row_of, class_at}
@@ -68,7 +69,7 @@ narrow_kept c r h k =
 -- ---- the records so far
 
 -- a table of len words holds the n records rs with the ids ds, and the notes hold their context c
-pub record Holding (len n : ℕ) (table : List ℕ) (notes rs : List (List ℕ)) (ds : List ℕ) (c : Ctx) : Type 0 where
+pub record Holding (len n : ℕ) (table : List ℕ) (notes : List Note) (rs : List (List ℕ)) (ds : List ℕ) (c : Ctx) : Type 0 where
   pub most : n ≤ room false len
   pub size : n ≡ length rs
   pub same : n ≡ length ds
@@ -80,7 +81,7 @@ pub record Holding (len n : ℕ) (table : List ℕ) (notes rs : List (List ℕ))
   pub narrow : Narrow c
   pub sorts : OwnSorts c rs
 
-pub holding_none : {table : List ℕ} {notes : List (List ℕ)} {len : ℕ} → length table ≡ len → table ≡ replicate (length table) 0 → length notes ≡ 16385 → Shows notes no_ctx
+pub holding_none : {table : List ℕ} {notes : List Note} {len : ℕ} → length table ≡ len → table ≡ replicate (length table) 0 → length notes ≡ 16385 → Shows notes no_ctx
     → Holding len 0 table notes [] [] no_ctx
 holding_none {len = len} l z a h =
     record {
@@ -96,7 +97,7 @@ holding_none {len = len} l z a h =
       sorts = sorts_none;
     }
 
-module _ {len n : ℕ} {table : List ℕ} {notes rs : List (List ℕ)} {ds : List ℕ} {c : Ctx} (H : Holding len n table notes rs ds c) where
+module _ {len n : ℕ} {table : List ℕ} {notes : List Note} {rs : List (List ℕ)} {ds : List ℕ} {c : Ctx} (H : Holding len n table notes rs ds c) where
   pub table_size : length table ≡ len
   table_size = ap length H.holds ∙ length_filled false len (with_ids rs ds)
 
@@ -227,7 +228,7 @@ plain (suc (suc (suc (suc zero)))) l h = refl
 plain (suc (suc (suc (suc (suc i))))) l h = absurd (omega arith)
 
 -- what the code asks of a line's record before it puts it
-pub line_ready : {len n : ℕ} {table : List ℕ} {notes rs : List (List ℕ)} {ds : List ℕ} {c : Ctx} → Holding len n table notes rs ds c → (s : List Bool) (rec : List ℕ) {most : ℕ} → n + minuses s < most
+pub line_ready : {len n : ℕ} {table : List ℕ} {notes : List Note} {rs : List (List ℕ)} {ds : List ℕ} {c : Ctx} → Holding len n table notes rs ds c → (s : List Bool) (rec : List ℕ) {most : ℕ} → n + minuses s < most
     → length rec ≡ 5 → keeps false (ty_at c) (given c) rec ≡ true → MinusesFit (ty_at c) s rec 2 → Ready s 3 2 n most rec
 line_ready {n = n} {rs = rs} {c = c} H s rec left z k f =
     record {

@@ -10,6 +10,7 @@ use lib.Dec.{ltb}
 use lib.ListN.{length, take, drop, replicate, drop_of_length-le}
 use lib.Seq.{drop-cons}
 use borrow.Author.Tests.{ltb-true, ltb-false, le-leb, lt-leb}
+use Rattle.tables.specs.declared.Note.{Note}
 use Rattle.tables.specs.declared.Ty.{Ty}
 use Rattle.tables.specs.declared.Refusal.{Refusal}
 use Rattle.tables.specs.declared.Refusal.TheVariants.{NotATable, TextTooLong}
@@ -96,7 +97,7 @@ told_skip (got rec s) r e h k = absurd (h (ap (λ (q : Readout). q.what) e))
 -- ---- before a line
 
 -- s is the text, i the place in it, b what the lines so far have left: n records, ids of which the last is not 0, and the names that w chains
-pub record Reached (s : List ℕ) (len i n line : ℕ) (table : List ℕ) (notes : List (List ℕ)) (w : List ℕ) (b : Sofar) : Type 0 where
+pub record Reached (s : List ℕ) (len i n line : ℕ) (table : List ℕ) (notes : List Note) (w : List ℕ) (b : Sofar) : Type 0 where
   pub within : i ≤ length s
   pub early : line ≤ i + 1
   pub holding : Holding len n table notes b.records b.ids b.ctx
@@ -104,11 +105,11 @@ pub record Reached (s : List ℕ) (len i n line : ℕ) (table : List ℕ) (notes
   pub names : i < length s → KeptNames s w i b.names
   pub answer : lines_read len s ≡ read_lines (room false len) line b (split 10 (drop i s))
 
-pub at_start : {s table w : List ℕ} {notes : List (List ℕ)} {len : ℕ} → length table ≡ len → table ≡ replicate (length table) 0 → length notes ≡ 16385 → Shows notes no_ctx
+pub at_start : {s table w : List ℕ} {notes : List Note} {len : ℕ} → length table ≡ len → table ≡ replicate (length table) 0 → length notes ≡ 16385 → Shows notes no_ctx
     → w ≡ replicate (length w) 0 → Ample s w → Reached s len 0 0 1 table notes w no_lines
 at_start l z a h e k = record { within = zero-le; early = omega arith; holding = holding_none l z a h; last = refl; names = λ o. no_names e k; answer = refl }
 
-module _ {s table w : List ℕ} {notes : List (List ℕ)} {len i n line : ℕ} {b : Sofar} (R : Reached s len i n line table notes w b) where
+module _ {s table w : List ℕ} {notes : List Note} {len i n line : ℕ} {b : Sofar} (R : Reached s len i n line table notes w b) where
   as_noted : (ts : List (List ℕ)) → staged_line (look_in notes) (given_in notes) (ids_of table n) (room false len) b.names ts ≡ reply_after (room false len) b ts
   as_noted ts =
       let H = R.holding in

@@ -1,5 +1,6 @@
 -- What a line asks before it is made flat, and what is done then. Assumes nothing.
 use Rattle.std.specs.Prelude.{ℕ, ◌+◌, ◌≤◌, ◌<◌, ◌≡◌, false, List}
+use Rattle.tables.specs.declared.Note.{Note}
 use Rattle.tables.specs.Lines.{Line, Expr}
 use Rattle.tables.specs.Layout.{held}
 use Rattle.tables.specs.Model.Notes.{look_in}
@@ -49,5 +50,5 @@ pub record MadeFlat (N : Notes) (p : ℕ) (l : Line) (target target₁ : List �
   pub records : target₁ ≡ put_flat target p (line_records N p l)
 
 -- no line has more than 256 cells
-pub record Shallow (types : List (List ℕ)) : Type 0 where
+pub record Shallow (types : List Note) : Type 0 where
   pub deep : (a : ℕ) → (look_in types a).iw ≤ 8

@@ -1,5 +1,6 @@
 -- What the code makes of one line: the number of its flat lines, their records, and what it keeps. The flat lines so far are p. Assumes nothing.
 use Rattle.std.specs.Prelude.{ℕ, ◌+◌, ◌-◌, ◌*◌, ◌^◌, Bool, true, false, List, [], ◌∷◌, eqb, ltb, Option, Some, None}
+use Rattle.tables.specs.declared.Note.{Note}
 use Rattle.tables.specs.Pick.{pick}
 use Rattle.tables.specs.Lines.{Line, Expr, fields, init_or_next_kind, signal_kind, equality_kind}
 use Rattle.tables.specs.Model.Notes.{look_in}
@@ -12,9 +13,9 @@ use Rattle.flattening.specs.Model.Rows.{still, of, rows_for, row_at, array_recor
 -- what is kept of the lines so far, and the types of all lines, as a check notes them
 pub record Notes : Type 0 where
   pub held : Held
-  pub types : List (List ℕ)
+  pub types : List Note
 
-abbrev pub notes : Held → (types : List (List ℕ)) → Notes
+abbrev pub notes : Held → (types : List Note) → Notes
 notes H t = record { held = H; types = t }
 
 abbrev pub sort_line : Notes → ℕ → ℕ

@@ -1,5 +1,5 @@
 use native.Mathlib.Omega.{arith}
-use Rattle.programs.proofs.Keeping.{held_here, kind_here}
+use Rattle.programs.proofs.Keeping.{held_here}
 use Rattle.programs.proofs.Counting.{walk_start, small_here, walk_more, walk_end, need_here}
 use Rattle.passes.proofs.count_all.Goals as goal
 
@@ -10,7 +10,7 @@ pub record-rec-requires : goal.record-rec-requires
 record-rec-requires c = (held_here c.args.table.now c.args.count c.loop-i.i c.requires.0.accepted c.loop-i-test.true, c.step-h.ensures)
 
 pub take-m-requires : goal.take-m-requires
-take-m-requires c = (kind_here c.args.table.now c.args.count c.loop-i.i c.requires.0.accepted c.loop-i-test.true c.record-rec.ensures, small_here c.loop-i.invariant c.requires.0.accepted c.loop-i-test.true)
+take-m-requires c = small_here c.loop-i.invariant c.requires.0.accepted c.loop-i-test.true
 
 pub loop-i-preserved : goal.loop-i-preserved
 loop-i-preserved c =

@@ -2,7 +2,7 @@ use mathlib.Core.Path.{ap}
 use lib.ListN.{length}
 use Rattle.programs.specs.declared.Known.{Known}
 use Rattle.tables.specs.Lines.{kind_in}
-use Rattle.programs.proofs.Keeping.{held_here, kind_here, few_emitted}
+use Rattle.programs.proofs.Keeping.{held_here, few_emitted}
 use Rattle.programs.proofs.Counting.{small_here, need_here}
 use Rattle.programs.proofs.Writing.{writes_start, fits_here, writes_more, writes_end}
 use Rattle.passes.proofs.write_all.Goals as goal
@@ -14,9 +14,7 @@ pub record-rec-requires : goal.record-rec-requires
 record-rec-requires c = (held_here c.args.table.now c.args.count c.loop-i.i c.requires.0.prepared.accepted c.loop-i-test.true, c.step-h.ensures)
 
 pub take-m-requires : goal.take-m-requires
-take-m-requires c =
-    let l = c.loop-i-test.true in
-    (kind_here c.args.table.now c.args.count c.loop-i.i c.requires.0.prepared.accepted l c.record-rec.ensures, small_here c.loop-i.invariant.walk c.requires.0.prepared.accepted l)
+take-m-requires c = small_here c.loop-i.invariant.walk c.requires.0.prepared.accepted c.loop-i-test.true
 
 pub emit-requires : goal.emit-requires
 emit-requires c =

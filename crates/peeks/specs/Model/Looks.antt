@@ -1,11 +1,11 @@
 -- What peek keeps while it looks for a value: the value lines of the states' inits, the list that says what is known of each line, and the words found so far.
 -- Assumes nothing.
-use Rattle.std.specs.Prelude.{ℕ, ◌+◌, ◌%◌, ◌^◌, ◌≤◌, ◌<◌, ◌≡◌, true, false, List, [], ◌∷◌, eqb, length, get_or, is_some, Option, Some, None}
+use Rattle.std.specs.Prelude.{ℕ, ◌+◌, ◌%◌, ◌^◌, ◌≤◌, ◌<◌, ◌≡◌, true, false, List, [], ◌∷◌, eqb, length, get_or, is_some, Option, Some, None, Result, Ok}
 use Rattle.tables.specs.Pick.{pick}
 use Rattle.tables.specs.Lines.{Line, kind_in, first_in, second_in, third_in}
 use Rattle.tables.specs.Layout.{lines_of}
 use Rattle.words.specs.Word.{Width, bit}
-use Rattle.peeks.specs.declared.Peeked.{Peeked}
+use Rattle.tables.specs.declared.Refusal.{Refusal}
 use Rattle.circuits.specs.Layout.{type_at, size, layout}
 use Rattle.circuits.specs.Cells.{if_nonzero, eq_or_neq}
 use Rattle.circuits.specs.Meaning.{Frame, op_word, cells_at, word_at}
@@ -14,7 +14,6 @@ use Rattle.peeks.specs.Peek.{step_zero, seen_as, may_peek, peek_at}
 use Rattle.circuits.specs.Model.Work.{pos_in, wid_in}
 use Rattle.circuits.specs.Model.Fits.{FitWord}
 use Rattle.circuits.specs.Model.Places.{ShowsAll}
-use Rattle.tables.specs.declared.Checked.TheVariants.{Accepted}
 use Rattle.tables.specs.Tables.{checked}
 
 -- the line of the value that an init gives the state q, where the lines before have d
@@ -40,7 +39,7 @@ init_of q C = init_after q 0 C
 
 -- an accepted table of at most 64 records, what is known of its lines, start words of the right length, and a row, in which the inputs come first
 pub record Laid (t : List ℕ) (n : ℕ) (P : List (List ℕ)) (S R : List ℕ) : Type 0 where
-  pub accepted : checked false t n ≡ Accepted
+  pub accepted : checked false t n ≡ Ok tt
   pub few : n ≤ 64
   pub shows : ShowsAll P (layout false (lines_of false t n))
   pub starts : length S ≡ (layout false (lines_of false t n)).counts.states
@@ -143,7 +142,7 @@ pub record ValueFound (P : List (List ℕ)) (S R r : List ℕ) (n a x y v : ℕ)
 
 -- ---- a peek at an accepted table
 
-abbrev pub lent_peek : (t : List ℕ) (n line cell : ℕ) (S R : List ℕ) → Peeked
+abbrev pub lent_peek : (t : List ℕ) (n line cell : ℕ) (S R : List ℕ) → Result ℕ Refusal
 lent_peek t n line cell S R =
     seen_as (may_peek (layout false (lines_of false t n)).counts (row_length false (lines_of false t n)) (type_at (layout false (lines_of false t n)) line) n cell (length S) (length R))
     (peek_at (lines_of false t n) S R line cell)

@@ -1,5 +1,6 @@
 -- The records of a line on their way into the table, as the code puts them, one behind the other. Assumes nothing.
 use Rattle.std.specs.Prelude.{ℕ, zero, suc, ◌+◌, ◌-◌, ◌≤◌, ◌<◌, ◌≡◌, Bool, true, false, List, get_or, set}
+use Rattle.tables.specs.declared.Note.{Note}
 use Rattle.tables.specs.Pick.{pick}
 use Rattle.tables.specs.Lines.{fields, kind_in, sort_in, first_in}
 use Rattle.tables.specs.Layout.{record_at, with_id, recorded}
@@ -10,10 +11,10 @@ use Rattle.texts.specs.Minus.{minus_at, minuses_from}
 -- a table that holds so many records, and the notes of their lines
 pub record Filling : Type 0 where
   pub table : List ℕ
-  pub notes : List (List ℕ)
+  pub notes : List Note
   pub count : ℕ
 
-abbrev pub filling : (table : List ℕ) (notes : List (List ℕ)) (n : ℕ) → Filling
+abbrev pub filling : (table : List ℕ) (notes : List Note) (n : ℕ) → Filling
 filling t ns n = record { table = t; notes = ns; count = n }
 
 -- with one record more, whose id is d
