@@ -1,14 +1,15 @@
 -- Demand 3: the runs of a circuit, of its flat circuit and of that one's program are alike in every signal byte and in the first counted bad, for all starts, inputs and
 -- step counts: one theorem. Assumes nothing.
+use Rattle.std.specs.Prelude.{Ok}
 use Prim.Native.Nat.{ℕ, ◌*◌}
 use mathlib.Core.Path.{◌≡◌, sym, ap, ◌∙◌, subst⁻¹}
 use mathlib.Core.Bool.{Bool, true, false}
 use mathlib.Core.List.{List, [], ◌∷◌}
 use native.Mathlib.Omega.{arith}
-use Rattle.tables.specs.declared.Checked.TheVariants.{Accepted}
 use Rattle.tables.specs.Lines.{Line}
 use Rattle.tables.specs.Layout.{lines_of}
 use Rattle.circuits.specs.Layout.{layout}
+use Rattle.circuits.specs.Meaning.{Signal}
 use Rattle.circuits.specs.Run.{row_length, run, bytes, first_bad}
 use Rattle.flattening.proofs.Leaves.{answered, flat_accepted, flat_counts, flat_row, flat_run}
 use Rattle.programs.proofs.LaidLines.{same_counts}
@@ -58,15 +59,15 @@ module _ (R : Runs) (G : Given R) where
       subst⁻¹ (λ (X : List Line). ((layout true X).counts.states ≡ (totals false F).states) × ((row_length true X ≡ row false F) × ((layout true X).counts.signals ≡ (totals false F).signals)))
       (target_lines F.words F.count R.program_words R.program_count G.program) (c.states, (row_alike (lines false F) o d.flat, c.signals))
 
-  ready_c : starts false C R.lent R.work_c ≡ Accepted
+  ready_c : starts false C R.lent R.work_c ≡ Ok tt
   ready_c = is_ready false C R.lent R.work_c (answered C.words C.count R.flat_words R.flat_count G.flat).accepted G.steps G.starts G.inputs G.signals G.work_c
 
-  ready_f : starts false F R.lent R.work_f ≡ Accepted
+  ready_f : starts false F R.lent R.work_f ≡ Ok tt
   ready_f =
       is_ready false F R.lent R.work_f (flat_accepted C.words C.count R.flat_words R.flat_count G.flat) G.steps (G.starts ∙ sym counts_f.0)
       (G.inputs ∙ ap (λ (i : ℕ). k * i) (sym counts_f.1.0)) (G.signals ∙ ap (λ (i : ℕ). k * i) (sym counts_f.1.1)) G.work_f
 
-  ready_p : starts true P R.lent R.work_p ≡ Accepted
+  ready_p : starts true P R.lent R.work_p ≡ Ok tt
   ready_p =
       is_ready true P R.lent R.work_p (target_accepted F.words F.count R.program_words R.program_count G.program) G.steps (G.starts ∙ sym counts_f.0 ∙ sym counts_p.0)
       (G.inputs ∙ ap (λ (i : ℕ). k * i) (sym counts_f.1.0 ∙ sym counts_p.1.0)) (G.signals ∙ ap (λ (i : ℕ). k * i) (sym counts_f.1.1 ∙ sym counts_p.1.1)) G.work_p
@@ -89,6 +90,6 @@ module _ (R : Runs) (G : Given R) where
         run_p = ready_p;
         signals_f = leaves false F R.lent R.work_f ready_f ∙ ap bytes run_f ∙ sym (leaves false C R.lent R.work_c ready_c);
         signals_p = leaves true P R.lent R.work_p ready_p ∙ ap bytes run_p ∙ sym (leaves false C R.lent R.work_c ready_c);
-        bad_f = answers false F R.lent R.work_f ready_f ∙ ap (first_bad 0) run_f ∙ sym (answers false C R.lent R.work_c ready_c);
-        bad_p = answers true P R.lent R.work_p ready_p ∙ ap (first_bad 0) run_p ∙ sym (answers false C R.lent R.work_c ready_c);
+        bad_f = answers false F R.lent R.work_f ready_f ∙ ap (λ (x : List (List Signal)). Ok (first_bad 0 x)) run_f ∙ sym (answers false C R.lent R.work_c ready_c);
+        bad_p = answers true P R.lent R.work_p ready_p ∙ ap (λ (x : List (List Signal)). Ok (first_bad 0 x)) run_p ∙ sym (answers false C R.lent R.work_c ready_c);
       }

@@ -1,11 +1,11 @@
 -- Ids have no part in writing, flattening, translating, a run or a peek: of an accepted table these are functions of its lines alone. Assumes nothing.
+use Rattle.std.specs.Prelude.{Err}
 use Prim.Native.Nat.{ℕ}
 use mathlib.Core.Path.{◌≡◌, sym, ap, ◌∙◌}
 use mathlib.Core.Bool.{true, false, ◌&&◌}
 use mathlib.Core.List.{List, [], ◌∷◌, map}
 use lib.ListN.{length, replicate}
 use Rattle.tables.specs.declared.Refusal.TheVariants.{NotATable}
-use Rattle.tables.specs.declared.Answer.TheVariants.{Refused}
 use Rattle.tables.specs.Pick.{pick}
 use Rattle.tables.specs.Lines.{line_of, words_of}
 use Rattle.tables.specs.Layout.{whole, lines_of, filled}
@@ -46,7 +46,7 @@ module _ (t u : List ℕ) (n : ℕ) (same : SameLines t u n) where
   flat_alike len =
       λ i.
       let C = lines i in
-      let r = pick (tables i && whole false len) (if_accepted (accepts i) (fitting false (length (flatten C)) len)) (Refused NotATable 0) in
+      let r = pick (tables i && whole false len) (if_accepted (accepts i) (fitting false (length (flatten C)) len)) (Err NotATable) in
       told r (left_by r len (flat_filled len (map words_of (flatten C))) ∷ [])
 
   program_alike : (len : ℕ) → translates t n len ≡ translates u n len
@@ -54,7 +54,7 @@ module _ (t u : List ℕ) (n : ℕ) (same : SameLines t u n) where
   program_alike len =
       λ i.
       let C = lines i in
-      let r = pick (tables i && whole true len) (if_accepted (accepts i) (flat_only (has_array C) (fitting true (length (translate C)) len))) (Refused NotATable 0) in
+      let r = pick (tables i && whole true len) (if_accepted (accepts i) (flat_only (has_array C) (fitting true (length (translate C)) len))) (Err NotATable) in
       told r (left_by r len (filled true len (map words_of (translate C))) ∷ [])
 
   run_alike : (k : ℕ) (S I : List ℕ) (g w : ℕ) → runs false t n k S I g w ≡ runs false u n k S I g w

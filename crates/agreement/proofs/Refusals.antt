@@ -1,5 +1,6 @@
 -- Translating what flattening left is refused by nothing but 1, of its own list, and 12: neither 11 nor 19 holds of a flat circuit with the count that flattening answered. So the
 -- second premise of demand 3 is met by every target that is a table and has room for the program. Assumes nothing.
+use Rattle.std.specs.Prelude.{Ok, Err}
 use Prim.Native.Nat.{ℕ, ◌≤◌}
 use mathlib.Core.Path.{◌≡◌, refl, sym, ap, ◌∙◌}
 use mathlib.Core.Logic.{◌⊎◌, inl, inr}
@@ -11,7 +12,6 @@ use lib.ListN.{length}
 use borrow.Author.Tests.{le-leb}
 use Rattle.tables.specs.declared.Refusal.{Refusal}
 use Rattle.tables.specs.declared.Refusal.TheVariants.{NotATable, TargetTooSmall}
-use Rattle.tables.specs.declared.Answer.TheVariants.{Done, Refused}
 use Rattle.tables.specs.Pick.{pick}
 use Rattle.tables.specs.Lines.{Line, bitvec, array, input, state, value, init_or_next, signal, output, unknown}
 use Rattle.tables.specs.Layout.{whole, room, lines_of}
@@ -42,15 +42,15 @@ plain_lines (l ∷ ls) h = rw (plain_line l h.0, plain_lines ls h.1) refl
 
 -- ---- the answers
 
--- of an answer that is 1, 12 or a count, a refusal is 1 or 12, with the line 0
-only : (a b : Bool) (k : ℕ) (r : Refusal) (l : ℕ) → pick a (pick b (Done k) (Refused TargetTooSmall 0)) (Refused NotATable 0) ≡ Refused r l
-    → ((r ≡ NotATable) ⊎ (r ≡ TargetTooSmall)) × (l ≡ 0)
-only true true k r l e = let z : ◌≡◌ {A = ℕ} 0 1 = cc in absurd (omega arith)
-only true false k r l e = (inr cc, cc)
-only false b k r l e = (inl cc, cc)
+-- of an answer that is 1, 12 or a count, a refusal is 1 or 12
+only : (a b : Bool) (k : ℕ) (r : Refusal) → pick a (pick b (Ok k) (Err TargetTooSmall)) (Err NotATable) ≡ Err r
+    → (r ≡ NotATable) ⊎ (r ≡ TargetTooSmall)
+only true true k r e = let z : ◌≡◌ {A = ℕ} 0 1 = cc in absurd (omega arith)
+only true false k r e = inr cc
+only false b k r e = inl cc
 
 -- F is what flattening leaves for the table t with its count n, in a target of len words, and m the count that it answers
-module _ (t : List ℕ) (n len m : ℕ) (e : flattened t n len ≡ Done m) where
+module _ (t : List ℕ) (n len m : ℕ) (e : flattened t n len ≡ Ok m) where
   -- 1 does not hold of F, nor 19
   even : whole false (length (flat_left t n len)) ≡ true
   even = ap (whole false) (target_length t n len m e) ∙ (answered t n len m e).even
@@ -61,16 +61,16 @@ module _ (t : List ℕ) (n len m : ℕ) (e : flattened t n len ≡ Done m) where
   -- F is translated into a target of so many words
   module _ (words : ℕ) where
     -- 1 where the target is no table; else 12 where it has no room for the program; else the number of the program's records
-    pub flat_translated : translated (flat_left t n len) m words ≡ pick (whole true words) (fitting true (length (program_of (flat_left t n len) m)) words) (Refused NotATable 0)
+    pub flat_translated : translated (flat_left t n len) m words ≡ pick (whole true words) (fitting true (length (program_of (flat_left t n len) m)) words) (Err NotATable)
     unfolding translated
     flat_translated = rw (even, flat_accepted t n len m e, no_array) refl
 
     -- no other refusal is given
-    pub flat_refused : (r : Refusal) (l : ℕ) → translated (flat_left t n len) m words ≡ Refused r l → ((r ≡ NotATable) ⊎ (r ≡ TargetTooSmall)) × (l ≡ 0)
-    flat_refused r l q =
+    pub flat_refused : (r : Refusal) → translated (flat_left t n len) m words ≡ Err r → (r ≡ NotATable) ⊎ (r ≡ TargetTooSmall)
+    flat_refused r q =
         let k = length (program_of (flat_left t n len) m) in
-        only (whole true words) (leb k (room true words)) k r l (sym flat_translated ∙ q)
+        only (whole true words) (leb k (room true words)) k r (sym flat_translated ∙ q)
 
     -- and none where the target is a table with room for the program
-    pub flat_done : whole true words ≡ true → length (program_of (flat_left t n len) m) ≤ room true words → translated (flat_left t n len) m words ≡ Done (length (program_of (flat_left t n len) m))
+    pub flat_done : whole true words ≡ true → length (program_of (flat_left t n len) m) ≤ room true words → translated (flat_left t n len) m words ≡ Ok (length (program_of (flat_left t n len) m))
     flat_done w h = flat_translated ∙ rw (w, le-leb (length (program_of (flat_left t n len) m)) (room true words) h) refl

@@ -1,5 +1,6 @@
 -- A circuit of all seven overflow detectors meets the premises of demand 3. Its inputs are loose, and each has one mask, which all detectors take; no run could show these, since a
 -- program reads the low bits of a detector's operands anyway. Assumes nothing.
+use Rattle.std.specs.Prelude.{Ok, Some}
 use Prim.Native.Nat.{ℕ}
 use mathlib.Core.Path.{◌≡◌, refl}
 use mathlib.Core.Bool.{true, false}
@@ -10,12 +11,11 @@ use Rattle.tables.specs.Lines.{fields}
 use Rattle.tables.specs.Layout.{filled_by, words_for, table_with, records_of}
 use Rattle.tables.specs.Rules.{suits, fault}
 use Rattle.tables.specs.Tables.{checked}
-use Rattle.circuits.specs.declared.Ran.TheVariants.{Bad}
 use Rattle.circuits.specs.Cells.{put}
 use Rattle.circuits.specs.Layout.{layout}
 use Rattle.circuits.specs.Meaning.{step}
 use Rattle.circuits.specs.Free.{sources}
-use Rattle.circuits.specs.Run.{start, step_from, words_before, steps, run}
+use Rattle.circuits.specs.Run.{start, step_from, words_before, steps, run, counted}
 use Rattle.circuits.specs.Answers.{ready, ran, signals_left}
 use Rattle.flattening.specs.Flat.{flatten, flat_records}
 use Rattle.flattening.specs.Placed.{flat_filled}
@@ -73,7 +73,7 @@ pub detectors_signals : signals false sample_detectors.circuit sample_detectors.
 unfolding filled_by signals_left ready checked fault suits row_of layout sources run start step_from words_before steps step put
 detectors_signals = refl
 
-pub detectors_bad : bad false sample_detectors.circuit sample_detectors.lent 9 ≡ Bad 0 1
+pub detectors_bad : bad false sample_detectors.circuit sample_detectors.lent 9 ≡ Ok (Some (counted 0 1))
 unfolding filled_by ran ready checked fault suits row_of layout sources run start step_from words_before steps step put
 detectors_bad = refl
 

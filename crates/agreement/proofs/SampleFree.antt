@@ -1,5 +1,6 @@
 -- A circuit with free states meets the premises of demand 3: an array state and a state with an init that nobody drives, and one that is driven by itself. Three steps, with free
 -- words above 2 ^ 3. Assumes nothing.
+use Rattle.std.specs.Prelude.{Ok, Some}
 use mathlib.Core.Path.{◌≡◌, refl}
 use mathlib.Core.Bool.{true, false}
 use mathlib.Core.List.{[], ◌∷◌}
@@ -8,12 +9,11 @@ use Rattle.tables.specs.Kinds.{row_of}
 use Rattle.tables.specs.Layout.{filled_by, words_for, lines_of}
 use Rattle.tables.specs.Rules.{suits, fault}
 use Rattle.tables.specs.Tables.{checked}
-use Rattle.circuits.specs.declared.Ran.TheVariants.{Bad}
 use Rattle.circuits.specs.Cells.{put}
 use Rattle.circuits.specs.Layout.{layout}
 use Rattle.circuits.specs.Meaning.{step}
 use Rattle.circuits.specs.Free.{driven, free, sources}
-use Rattle.circuits.specs.Run.{start, step_from, words_before, steps, run}
+use Rattle.circuits.specs.Run.{start, step_from, words_before, steps, run, counted}
 use Rattle.circuits.specs.Answers.{ready, ran, signals_left}
 use Rattle.circuits.specs.FreeExamples.{circuit, starts as start_words, inputs}
 use Rattle.flattening.specs.Flat.{flatten, flat_records}
@@ -62,7 +62,7 @@ pub free_signals : signals false sample_free.circuit sample_free.lent 13 ≡ 0 �
 unfolding filled_by signals_left ready checked fault suits row_of layout sources run start step_from words_before steps step put
 free_signals = refl
 
-pub free_bad : bad false sample_free.circuit sample_free.lent 13 ≡ Bad 0 2
+pub free_bad : bad false sample_free.circuit sample_free.lent 13 ≡ Ok (Some (counted 0 2))
 unfolding filled_by ran ready checked fault suits row_of layout sources run start step_from words_before steps step put
 free_bad = refl
 

@@ -1,5 +1,6 @@
 -- A second circuit meets the premises of demand 3, one whose program needs its masks: an array with an init, written through an array ite and read, a constraint, two bads, an index and an
 -- ite condition that are loose. Four steps, with bits past the widths in start words and inputs; the start words of the array, 1 and 2, are unused. Assumes nothing.
+use Rattle.std.specs.Prelude.{Ok, Some}
 use Prim.Native.Nat.{ℕ, ◌-◌}
 use mathlib.Core.Path.{◌≡◌, refl}
 use mathlib.Core.Bool.{true, false}
@@ -11,12 +12,11 @@ use Rattle.tables.specs.Lines.{fields}
 use Rattle.tables.specs.Layout.{filled_by, words_for, table_with, records_of, recorded}
 use Rattle.tables.specs.Rules.{suits, fault}
 use Rattle.tables.specs.Tables.{checked}
-use Rattle.circuits.specs.declared.Ran.TheVariants.{Bad}
 use Rattle.circuits.specs.Cells.{put}
 use Rattle.circuits.specs.Layout.{layout}
 use Rattle.circuits.specs.Meaning.{step}
 use Rattle.circuits.specs.Free.{sources}
-use Rattle.circuits.specs.Run.{start, step_from, words_before, steps, run}
+use Rattle.circuits.specs.Run.{start, step_from, words_before, steps, run, counted}
 use Rattle.circuits.specs.Answers.{ready, ran, signals_left}
 use Rattle.flattening.specs.Flat.{flatten, flat_records}
 use Rattle.flattening.specs.Placed.{flat_filled}
@@ -75,7 +75,7 @@ pub masks_signals : signals false sample_masks.circuit sample_masks.lent 100 ≡
 unfolding filled_by signals_left ready checked fault suits row_of layout sources run start step_from words_before steps step put
 masks_signals = refl
 
-pub masks_bad : bad false sample_masks.circuit sample_masks.lent 100 ≡ Bad 2 2
+pub masks_bad : bad false sample_masks.circuit sample_masks.lent 100 ≡ Ok (Some (counted 2 2))
 unfolding filled_by ran ready checked fault suits row_of layout sources run start step_from words_before steps step put
 masks_bad = refl
 

@@ -1,11 +1,9 @@
 -- The comparison: what the three runs are given, and what is claimed of them. Every name here is one that a contract cites: `flattened` and what flattening leaves,
 -- `translated` and what translating leaves, `ready`, `ran` and `signals_left` of the runs. Assumes nothing.
-use Rattle.std.specs.Prelude.{ℕ, ◌+◌, ◌*◌, ◌^◌, ◌≤◌, ◌<◌, ◌≡◌, Bool, true, false, List, [], ◌∷◌, length}
-use Rattle.tables.specs.declared.Answer.TheVariants.{Done}
-use Rattle.tables.specs.declared.Checked.{Checked}
-use Rattle.tables.specs.declared.Checked.TheVariants.{Accepted}
+use Rattle.tables.specs.declared.Refusal.{Refusal}
+use Rattle.std.specs.Prelude.{ℕ, ◌+◌, ◌*◌, ◌^◌, ◌≤◌, ◌<◌, ◌≡◌, Bool, true, false, List, [], ◌∷◌, length, Result, Ok, Option}
 use Rattle.tables.specs.Layout.{lines_of}
-use Rattle.circuits.specs.declared.Ran.{Ran}
+use Rattle.circuits.specs.declared.FirstBad.{FirstBad}
 use Rattle.circuits.specs.Layout.{Counts, layout}
 use Rattle.circuits.specs.Run.{row_length}
 use Rattle.circuits.specs.Answers.{ready, ran, signals_left}
@@ -48,10 +46,10 @@ program_table R = record { words = program_left (flat_table R).words (flat_table
 -- ---- one run
 
 -- whether it may start, its first counted bad and its signal bytes: of a circuit (false) or of a program (true), with a work area of w words
-abbrev pub starts : Bool → Table → Lent → (w : ℕ) → Checked
+abbrev pub starts : Bool → Table → Lent → (w : ℕ) → Result (Unit {0}) Refusal
 starts p T L w = ready p T.words T.count L.steps L.starts L.inputs L.signals w
 
-abbrev pub bad : Bool → Table → Lent → (w : ℕ) → Ran
+abbrev pub bad : Bool → Table → Lent → (w : ℕ) → Result (Option FirstBad) Refusal
 bad p T L w = ran p T.words T.count L.steps L.starts L.inputs L.signals w
 
 abbrev pub signals : Bool → Table → Lent → (w : ℕ) → List ℕ
@@ -78,8 +76,8 @@ Words (x ∷ xs) = (x < 2 ^ 64) × Words xs
 
 -- what is assumed: flattening and translating answered these counts, and the runs are lent what C asks for
 pub record Given (R : Runs) : Type 0 where
-  pub flat : flattened R.circuit.words R.circuit.count R.flat_words ≡ Done R.flat_count
-  pub program : translated (flat_table R).words (flat_table R).count R.program_words ≡ Done R.program_count
+  pub flat : flattened R.circuit.words R.circuit.count R.flat_words ≡ Ok R.flat_count
+  pub program : translated (flat_table R).words (flat_table R).count R.program_words ≡ Ok R.program_count
   pub steps : R.lent.steps ≤ 4096
   pub starts : length R.lent.starts ≡ (totals false R.circuit).states
   pub inputs : length R.lent.inputs ≡ R.lent.steps * row false R.circuit
@@ -91,9 +89,9 @@ pub record Given (R : Runs) : Type 0 where
 
 -- None of the three runs is refused, the three signal lists are equal byte for byte, and the three answers for the first counted bad are the same.
 pub record Agree (R : Runs) : Type 0 where
-  pub run_c : starts false R.circuit R.lent R.work_c ≡ Accepted
-  pub run_f : starts false (flat_table R) R.lent R.work_f ≡ Accepted
-  pub run_p : starts true (program_table R) R.lent R.work_p ≡ Accepted
+  pub run_c : starts false R.circuit R.lent R.work_c ≡ Ok tt
+  pub run_f : starts false (flat_table R) R.lent R.work_f ≡ Ok tt
+  pub run_p : starts true (program_table R) R.lent R.work_p ≡ Ok tt
   pub signals_f : signals false (flat_table R) R.lent R.work_f ≡ signals false R.circuit R.lent R.work_c
   pub signals_p : signals true (program_table R) R.lent R.work_p ≡ signals false R.circuit R.lent R.work_c
   pub bad_f : bad false (flat_table R) R.lent R.work_f ≡ bad false R.circuit R.lent R.work_c

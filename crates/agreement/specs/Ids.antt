@@ -1,7 +1,6 @@
 -- What ids have no part in. Every name here is one that a contract cites: the outcomes of the operations, which are the number answered, its values and what is left in
 -- the lists lent for writing. Assumes nothing.
-use Rattle.std.specs.Prelude.{ℕ, ◌≡◌, false, List}
-use Rattle.tables.specs.declared.Checked.TheVariants.{Accepted}
+use Rattle.std.specs.Prelude.{ℕ, ◌≡◌, false, List, Ok}
 use Rattle.tables.specs.Layout.{records_of}
 use Rattle.tables.specs.Tables.{checked}
 use Rattle.texts.specs.Writing.{writes}
@@ -13,8 +12,8 @@ use Rattle.programs.specs.Answers.{translates}
 -- two accepted lists with the count n that hold the same lines; their ids may differ, and what stands past the count, and their lengths
 pub record SameLines (t u : List ℕ) (n : ℕ) : Type 0 where
   pub records : records_of false t n ≡ records_of false u n
-  pub first : checked false t n ≡ Accepted
-  pub second : checked false u n ≡ Accepted
+  pub first : checked false t n ≡ Ok tt
+  pub second : checked false u n ≡ Ok tt
 
 -- the operations on them have the same outcomes, whatever else they are given
 pub record SameOutcomes (t u : List ℕ) (n : ℕ) : Type 0 where

@@ -24,8 +24,7 @@ pub extern "C" fn gofeshan_read(text: &[u8], table: &mut [u64], answer: &mut [u6
         records::clear(table);
         return 1;
     }
-    let r = reading::read(text, table);
-    answers::tell_count(r, answer)
+    answers::tell_answer(reading::read(text, table), answer)
 }
 
 // Writes the first `count` records of a table as text. The answer's first word is the number of bytes.
@@ -43,8 +42,7 @@ pub extern "C" fn gofeshan_write(
         bytes::clear(text);
         return 1;
     }
-    let r = writing::write(table, count, text);
-    answers::tell_count(r, answer)
+    answers::tell_answer(writing::write(table, count, text), answer)
 }
 
 // Flattens a circuit. The answer's first word is the number of records in the target.
@@ -62,8 +60,7 @@ pub extern "C" fn gofeshan_flatten(
         records::clear(target);
         return 1;
     }
-    let r = flatten::flatten(table, count, target);
-    answers::tell_count(r, answer)
+    answers::tell_answer(flatten::flatten(table, count, target), answer)
 }
 
 // Translates a flat circuit into a program. The answer's first word is the number of records in the target.
@@ -81,8 +78,7 @@ pub extern "C" fn gofeshan_translate(
         records::clear(target);
         return 1;
     }
-    let r = translating::translate(table, count, target);
-    answers::tell_count(r, answer)
+    answers::tell_answer(translating::translate(table, count, target), answer)
 }
 
 // Runs a circuit. The answer is 1, the step and the place of the first counted bad, or three zeros.
@@ -105,8 +101,7 @@ pub extern "C" fn gofeshan_run_circuit(
         records::clear(work);
         return 1;
     }
-    let r = runs::run_circuit(table, count, steps, starts, inputs, signals, work);
-    answers::tell_run(r, answer)
+    answers::tell_answer(runs::run_circuit(table, count, steps, starts, inputs, signals, work), answer)
 }
 
 // Runs a program. The answer is 1, the step and the place of the first counted bad, or three zeros.
@@ -129,8 +124,7 @@ pub extern "C" fn gofeshan_run_program(
         records::clear(work);
         return 1;
     }
-    let r = runs::run_program(table, count, steps, starts, inputs, signals, work);
-    answers::tell_run(r, answer)
+    answers::tell_answer(runs::run_program(table, count, steps, starts, inputs, signals, work), answer)
 }
 
 // The value of a line's cell at step 0, from start words and one row of inputs. The answer's first word is the value.
@@ -150,8 +144,7 @@ pub extern "C" fn gofeshan_peek(
     if !answers::take(answer) {
         return 1;
     }
-    let r = peeking::peek(table, count, line, cell, starts, row);
-    answers::tell_peek(r, answer)
+    answers::tell_answer(peeking::peek(table, count, line, cell, starts, row), answer)
 }
 
 // The name of the first line whose id is the given number: where it starts in the text, and its length; the length is 0 where it has none.
@@ -187,8 +180,7 @@ fn convert(
         records::clear(target);
         return 1;
     }
-    let r = layouts::convert(columns, program, list, count, target);
-    answers::tell_count(r, answer)
+    answers::tell_answer(layouts::convert(columns, program, list, count, target), answer)
 }
 
 // A circuit whose records stand one behind the other goes to the target in columns.

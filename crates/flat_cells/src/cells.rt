@@ -5,8 +5,8 @@ ghost use Rattle.flattening.specs.Model.Rows.{turn_at, source_at, Tame};
 
 use flattening::{Source, Words};
 
-// The numbers kept of a line: where its cells are held, with the line written over and the key; its width-1 sort line; a small constant's value plus one; a word. They stay
-// numbers in a list, not a struct: the lists and their laws are about all six by their place.
+// The numbers kept of a line: where its cells are held, with the line written over and the key; its width-1 sort line; a small constant's value plus one; a word. They are
+// numbers in a list and no struct, since the laws of what is kept speak of all six by their place.
 pub const KEPT: usize = 6;
 
 pub const AT: usize = 0;

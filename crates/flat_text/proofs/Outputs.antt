@@ -1,5 +1,6 @@
 -- The output list: the line of a refusal as it is put, the text as it is written, and the flat program's outcome from those of reading, flattening and writing.
 -- Assumes nothing.
+use Rattle.std.specs.Prelude.{Result, Ok, Err}
 use Prim.Native.Nat.{ℕ, ◌+◌, ◌-◌, ◌^◌, ◌≤◌, ◌<◌}
 use mathlib.Core.Path.{◌≡◌, refl, sym, ap, ap₂, ◌∙◌, subst}
 use mathlib.Core.List.{List, [], ◌∷◌, ◌++◌}
@@ -8,8 +9,6 @@ use lib.ListN.{length, get_or, set, replicate, length-append}
 use lib.Seq.{sets}
 use borrow.Author.Tests.{le-leb, lt-leb}
 use Rattle.tables.specs.declared.Refusal.{Refusal}
-use Rattle.tables.specs.declared.Answer.{Answer}
-use Rattle.tables.specs.declared.Answer.TheVariants.{Done, Refused}
 use Rattle.tables.specs.Kinds.{letters}
 use Rattle.tables.specs.Refusals.{number_of}
 use Rattle.tables.specs.Answers.{told}
@@ -58,12 +57,12 @@ module _ (out_len n l : ℕ) {k : ℕ} {x : List ℕ} (e : k ≡ length (refusal
 
 -- ---- outcomes that leave one list
 
-one_left : (r a : Answer) (x y : List ℕ) → told r (x ∷ []) ≡ told a (y ∷ []) → x ≡ y
+one_left : (r a : Result ℕ Refusal) (x y : List ℕ) → told r (x ∷ []) ≡ told a (y ∷ []) → x ≡ y
 one_left r a x y e = ap (λ (l : List (List ℕ)). get_or l 0 []) (told_left r a (x ∷ []) (y ∷ []) e)
 
 -- ---- the flat table F, of which m records count, as it is written; a is what writing answers
 
-module _ (F : List ℕ) (m out_len : ℕ) (a : Answer) (x : List ℕ) (e : told a (x ∷ []) ≡ writes F m out_len) where
+module _ (F : List ℕ) (m out_len : ℕ) (a : Result ℕ Refusal) (x : List ℕ) (e : told a (x ∷ []) ≡ writes F m out_len) where
   answer_written : a ≡ write_answer (write_table F m out_len)
   unfolding writes
   answer_written = told_answer a (write_answer (write_table F m out_len)) (x ∷ []) (buffer_of out_len (write_table F m out_len) ∷ []) e
@@ -72,18 +71,18 @@ module _ (F : List ℕ) (m out_len : ℕ) (a : Answer) (x : List ℕ) (e : told 
   unfolding writes
   bytes_written = one_left a (write_answer (write_table F m out_len)) x (buffer_of out_len (write_table F m out_len)) e
 
-  pub text_held : {k : ℕ} → a ≡ Done k → Printout out_len (after_writing out_len (write_table F m out_len)) k x
+  pub text_held : {k : ℕ} → a ≡ Ok k → Printout out_len (after_writing out_len (write_table F m out_len)) k x
   text_held {k} q = go (write_table F m out_len) (sym q ∙ answer_written) bytes_written
     where
-      go : (o : Out) → Done k ≡ write_answer o → x ≡ buffer_of out_len o → Printout out_len (after_writing out_len o) k x
+      go : (o : Out) → Ok k ≡ write_answer o → x ≡ buffer_of out_len o → Printout out_len (after_writing out_len o) k x
       go (wrote s) h b = record { count = cc; bytes = b }
       go (refuse r) h b = let z : ◌≡◌ {A = ℕ} 0 1 = cc in absurd (omega arith)
 
-  pub text_not : {r : Refusal} {l len k : ℕ} {y : List ℕ} → a ≡ Refused r l → len ≡ out_len → Printout len (refusal_in len (number_of r) l) k y
+  pub text_not : {r : Refusal} {l len k : ℕ} {y : List ℕ} → a ≡ Err r → len ≡ out_len → Printout len (refusal_in len (number_of r) l) k y
       → Printout out_len (after_writing out_len (write_table F m out_len)) k y
   text_not {r} {l} {len} {k} {y} q h p = go (write_table F m out_len) (sym q ∙ answer_written) (subst (λ (z : ℕ). Printout z (refusal_in z (number_of r) l) k y) h p)
     where
-      go : (o : Out) → Refused r l ≡ write_answer o → Printout out_len (refusal_in out_len (number_of r) l) k y → Printout out_len (after_writing out_len o) k y
+      go : (o : Out) → Err r ≡ write_answer o → Printout out_len (refusal_in out_len (number_of r) l) k y → Printout out_len (after_writing out_len o) k y
       go (wrote s) f p = let z : ◌≡◌ {A = ℕ} 0 1 = cc in absurd (omega arith)
       go (refuse c) f p =
           let z : r ≡ c = cc in
@@ -93,14 +92,14 @@ module _ (F : List ℕ) (m out_len : ℕ) (a : Answer) (x : List ℕ) (e : told 
 -- ---- the whole, from the parts' outcomes
 
 -- after flattening the table T with its count n, which leaves the target F
-pub flat_by : (T : List ℕ) (n flat_len out_len : ℕ) (a : Answer) (F : List ℕ) → told a (F ∷ []) ≡ flattens T n flat_len
-    → (after_flattening out_len a F ≡ after_reading flat_len out_len (Done n) T) × (F ≡ target_after flat_len (Done n) T)
+pub flat_by : (T : List ℕ) (n flat_len out_len : ℕ) (a : Result ℕ Refusal) (F : List ℕ) → told a (F ∷ []) ≡ flattens T n flat_len
+    → (after_flattening out_len a F ≡ after_reading flat_len out_len (Ok n) T) × (F ≡ target_after flat_len (Ok n) T)
 flat_by T n flat_len out_len a F e =
     let f = flattens_left T n flat_len a F e in
     (ap₂ (after_flattening out_len) (flattens_answer T n flat_len a F e) f, f)
 
 -- after reading the text s, which leaves the table T
-module _ (len flat_len out_len : ℕ) (s : List ℕ) (r : Answer) (T : List ℕ) (e : told r (T ∷ []) ≡ reads len s) where
+module _ (len flat_len out_len : ℕ) (s : List ℕ) (r : Result ℕ Refusal) (T : List ℕ) (e : told r (T ∷ []) ≡ reads len s) where
   answer_read : r ≡ text_answer (read_text len s)
   unfolding reads
   answer_read = told_answer r (text_answer (read_text len s)) (T ∷ []) (table_of len (read_text len s) ∷ []) e
@@ -109,23 +108,23 @@ module _ (len flat_len out_len : ℕ) (s : List ℕ) (r : Answer) (T : List ℕ)
   unfolding reads
   table_read = one_left r (text_answer (read_text len s)) T (table_of len (read_text len s)) e
 
-  pub prints_by : {a : Answer} → r ≡ a → {b F x : List ℕ} {n : ℕ} → b ≡ after_reading flat_len out_len a T → F ≡ target_after flat_len a T → Printout out_len b n x
-      → told (Done n) (T ∷ F ∷ x ∷ []) ≡ prints len flat_len out_len s
+  pub prints_by : {a : (Result ℕ Refusal)} → r ≡ a → {b F x : List ℕ} {n : ℕ} → b ≡ after_reading flat_len out_len a T → F ≡ target_after flat_len a T → Printout out_len b n x
+      → told (Ok n) (T ∷ F ∷ x ∷ []) ≡ prints len flat_len out_len s
   unfolding prints printed
   prints_by {a} q {b} {F} {x} {n} h f p =
       let w : a ≡ text_answer (read_text len s) = sym q ∙ answer_read in
       let g : b ≡ printed len flat_len out_len s = h ∙ ap₂ (after_reading flat_len out_len) w table_read in
       let t : F ≡ target_after flat_len (text_answer (read_text len s)) (table_of len (read_text len s)) = f ∙ ap₂ (target_after flat_len) w table_read in
       let o : x ≡ buffer_of out_len (wrote (printed len flat_len out_len s)) = p.bytes ∙ ap (λ (y : List ℕ). buffer_of out_len (wrote y)) g in
-      told_as (ap Done (p.count ∙ ap length g)) (ap₂ ◌∷◌ table_read (ap₂ ◌∷◌ t (ap₂ ◌∷◌ o refl)))
+      told_as (ap Ok (p.count ∙ ap length g)) (ap₂ ◌∷◌ table_read (ap₂ ◌∷◌ t (ap₂ ◌∷◌ o refl)))
 
 -- the bytes lie within the output list, which keeps its length
-pub prints_within : (len flat_len out_len : ℕ) (s T F x : List ℕ) (n : ℕ) → told (Done n) (T ∷ F ∷ x ∷ []) ≡ prints len flat_len out_len s → n ≤ length x
+pub prints_within : (len flat_len out_len : ℕ) (s T F x : List ℕ) (n : ℕ) → told (Ok n) (T ∷ F ∷ x ∷ []) ≡ prints len flat_len out_len s → n ≤ length x
 unfolding prints
 prints_within len flat_len out_len s T F x n e =
     let b = printed len flat_len out_len s in
     let left = table_of len (read_text len s) ∷ target_after flat_len (text_answer (read_text len s)) (table_of len (read_text len s)) ∷ buffer_of out_len (wrote b) ∷ [] in
-    let k = told_answer (Done n) (Done (length b)) (T ∷ F ∷ x ∷ []) left e in
+    let k = told_answer (Ok n) (Ok (length b)) (T ∷ F ∷ x ∷ []) left e in
     let q : n ≡ length b = cc in
-    let y : x ≡ buffer_of out_len (wrote b) = ap (λ (l : List (List ℕ)). get_or l 2 []) (told_left (Done n) (Done (length b)) (T ∷ F ∷ x ∷ []) left e) in
+    let y : x ≡ buffer_of out_len (wrote b) = ap (λ (l : List (List ℕ)). get_or l 2 []) (told_left (Ok n) (Ok (length b)) (T ∷ F ∷ x ∷ []) left e) in
     omega (arith, q, ap length y, length-append b (replicate (out_len - length b) 0))

@@ -1,5 +1,6 @@
 -- At the flat program's sizes nothing is cut: it prints the flat text entire, or the line of a refusal of reading or of flattening, and never `refused 21 ..`.
 -- Assumes nothing.
+use Rattle.std.specs.Prelude.{Result, Ok, Err}
 use Prim.Native.Nat.{ℕ, ◌+◌, ◌*◌, ◌/◌, ◌%◌, ◌^◌, ◌≤◌, ◌<◌}
 use mathlib.Core.Path.{◌≡◌, refl, sym, ap, ◌∙◌}
 use mathlib.Core.Logic.{⊎_elim}
@@ -11,9 +12,6 @@ use lib.ListN.{length, get_or}
 use borrow.Author.Tests.{le-leb, leb-true, leb-false}
 use Rattle.tables.specs.declared.Refusal.{Refusal}
 use Rattle.tables.specs.declared.Refusal.TheVariants.{NotATable, BadTable, TargetTooSmall}
-use Rattle.tables.specs.declared.Checked.TheVariants.{Accepted, Refused as RefusedTable}
-use Rattle.tables.specs.declared.Answer.{Answer}
-use Rattle.tables.specs.declared.Answer.TheVariants.{Done, Refused}
 use Rattle.tables.specs.Pick.{pick}
 use Rattle.tables.specs.Kinds.{letters}
 use Rattle.tables.specs.Refusals.{number_of}
@@ -40,9 +38,9 @@ use Rattle.flat_text.proofs.Outputs.{refusal_short}
 -- ---- what the request asks for: "the flat text, or `refused N L` and LF", with no word of an output list
 
 -- the circuit is the first n records of the table T
-abbrev pub flat_or : Answer → (T : List ℕ) (n : ℕ) → List ℕ
-flat_or (Done m) T n = write_text (flat_records T n)
-flat_or (Refused r l) T n = refusal_line (number_of r) l
+abbrev pub flat_or : Result ℕ Refusal → (T : List ℕ) (n : ℕ) → List ℕ
+flat_or (Ok m) T n = write_text (flat_records T n)
+flat_or (Err r) T n = refusal_line (number_of r) l
 
 abbrev pub text_or : (len flat_len : ℕ) → Text → List ℕ
 text_or len flat_len (done rs ds) = flat_or (flattened (table_of len (done rs ds)) (length rs) flat_len) (table_of len (done rs ds)) (length rs)
@@ -54,21 +52,21 @@ asked len flat_len s = text_or len flat_len (read_text len s)
 -- ---- the parts
 
 -- what flattening refuses has no text line, and a number of at most 12
-pub flat_no : (t : List ℕ) (n len : ℕ) (r : Refusal) (l : ℕ) → flattened t n len ≡ Refused r l → (number_of r ≤ 12) × (l ≡ 0)
+pub flat_no : (t : List ℕ) (n len : ℕ) (r : Refusal) (l : ℕ) → flattened t n len ≡ Err r → (number_of r ≤ 12) × (l ≡ 0)
 unfolding flattened checked
 flat_no t n len r l e =
     go (whole false (length t) && whole false len) (whole false (length t)) (leb n (room false (length t)) && (lawful false no_ctx (records_of false t n) && ids_right false t n))
     (leb (length (flat_lines t n)) (room false len)) e
   where
-    is : (q : Refusal) → number_of q ≤ 12 → Refused q 0 ≡ Refused r l → (number_of r ≤ 12) × (l ≡ 0)
+    is : (q : Refusal) → number_of q ≤ 12 → Err q ≡ Err r → (number_of r ≤ 12) × (l ≡ 0)
     is q h f =
         let w : q ≡ r = cc in
         let v : l ≡ 0 = cc in
         (rw (sym w) h, v)
 
     go : (a b c d : Bool)
-        → pick a (if_accepted (pick b (pick c Accepted (RefusedTable BadTable)) (RefusedTable NotATable)) (pick d (Done (length (flat_lines t n))) (Refused TargetTooSmall 0))) (Refused NotATable 0)
-        ≡ Refused r l → (number_of r ≤ 12) × (l ≡ 0)
+        → pick a (if_accepted (pick b (pick c (Ok tt) (Err BadTable)) (Err NotATable)) (pick d (Ok (length (flat_lines t n))) (Err TargetTooSmall))) (Err NotATable)
+        ≡ Err r → (number_of r ≤ 12) × (l ≡ 0)
     go false b c d f = is NotATable (lit≤ tt) f
     go true false c d f = is NotATable (lit≤ tt) f
     go true true false d f = is BadTable (lit≤ tt) f
@@ -82,7 +80,7 @@ refusal_whole out_len n l h a b =
     rw (le-leb (length (refusal_line n l)) out_len k) refl
 
 -- and so has the text of a flat circuit of m records
-module _ (t : List ℕ) (n len m out_len : ℕ) (e : flattened t n len ≡ Done m) where
+module _ (t : List ℕ) (n len m out_len : ℕ) (e : flattened t n len ≡ Ok m) where
   records_left : records_of false (flat_left t n len) m ≡ flat_records t n
   unfolding flat_records
   records_left = sym (words_lines false (flat_left t n len) m (flat_accepted t n len m e)) ∙ ap (map words_of) (flat_lines_lem t n len m e)
@@ -134,11 +132,11 @@ module _ (len flat_len out_len : ℕ) (few : room false flat_len < 10 ^ 4) (ampl
   flat_whole : (T : List ℕ) (n : ℕ) → after_flattening out_len (flattened T n flat_len) (flat_left T n flat_len) ≡ flat_or (flattened T n flat_len) T n
   flat_whole T n = go (flattened T n flat_len) refl
     where
-      go : (a : Answer) → flattened T n flat_len ≡ a → after_flattening out_len a (flat_left T n flat_len) ≡ flat_or a T n
-      go (Done m) e =
+      go : (a : Result ℕ Refusal) → flattened T n flat_len ≡ a → after_flattening out_len a (flat_left T n flat_len) ≡ flat_or a T n
+      go (Ok m) e =
           let f = (answered T n flat_len m e).fits in
           rw (text_whole T n flat_len m out_len e (omega arith) (omega arith)) refl
-      go (Refused r l) e = let f = flat_no T n flat_len r l e in refusal_whole out_len (number_of r) l some (omega (arith, f.0)) (omega (arith, f.1))
+      go (Err r) e = let f = flat_no T n flat_len r l e in refusal_whole out_len (number_of r) l some (omega (arith, f.0)) (omega (arith, f.1))
 
   -- every text is printed as the request asks
   pub all_printed : (s : List ℕ) → printed len flat_len out_len s ≡ asked len flat_len s
@@ -156,9 +154,9 @@ module _ (len flat_len out_len : ℕ) (few : room false flat_len < 10 ^ 4) (ampl
   unfolding asked
   never_short s k p = go (read_text len s) refl (sym (all_printed s) ∙ p)
     where
-      flat : (T : List ℕ) (n : ℕ) (a : Answer) → flattened T n flat_len ≡ a → flat_or a T n ≡ refusal_line 21 k → ⊥
-      flat T n (Done m) e q = other_text (flat_records T n) 21 k q
-      flat T n (Refused r l) e q = other_line (number_of r) l k (flat_no T n flat_len r l e).0 q
+      flat : (T : List ℕ) (n : ℕ) (a : Result ℕ Refusal) → flattened T n flat_len ≡ a → flat_or a T n ≡ refusal_line 21 k → ⊥
+      flat T n (Ok m) e q = other_text (flat_records T n) 21 k q
+      flat T n (Err r) e q = other_line (number_of r) l k (flat_no T n flat_len r l e).0 q
 
       go : (x : Text) → read_text len s ≡ x → text_or len flat_len x ≡ refusal_line 21 k → ⊥
       go (done rs ds) e q = flat (table_of len (done rs ds)) (length rs) (flattened (table_of len (done rs ds)) (length rs) flat_len) refl q
@@ -172,7 +170,7 @@ pub flat_program_room : (s : List ℕ) (k : ℕ) → printed 7800 7800 65536 s �
 flat_program_room = never_short 7800 7800 65536 (lit< tt) (lit≤ tt) (lit≤ tt)
 
 -- where reading and flattening are done, what is printed is the whole flat text
-pub flat_text_whole : (s : List ℕ) (rs : List (List ℕ)) (ds : List ℕ) (m : ℕ) → read_text 7800 s ≡ done rs ds → flattened (table_of 7800 (done rs ds)) (length rs) 7800 ≡ Done m
+pub flat_text_whole : (s : List ℕ) (rs : List (List ℕ)) (ds : List ℕ) (m : ℕ) → read_text 7800 s ≡ done rs ds → flattened (table_of 7800 (done rs ds)) (length rs) 7800 ≡ Ok m
     → printed 7800 7800 65536 s ≡ write_text (flat_records (table_of 7800 (done rs ds)) (length rs))
 unfolding asked
-flat_text_whole s rs ds m e f = flat_program s ∙ (ap (text_or 7800 7800) e ∙ ap (λ (a : Answer). flat_or a (table_of 7800 (done rs ds)) (length rs)) f)
+flat_text_whole s rs ds m e f = flat_program s ∙ (ap (text_or 7800 7800) e ∙ ap (λ (a : Result ℕ Refusal). flat_or a (table_of 7800 (done rs ds)) (length rs)) f)

@@ -1,8 +1,7 @@
 -- "It reads standard input and prints the flat text, or `refused N L` and LF (L the text line, 0 if none)": what is printed for a text s that is read into a table of
 -- len words, flattened into a target of flat_len words, and printed through an output list of out_len bytes. Assumes nothing.
-use Rattle.std.specs.Prelude.{ℕ, List, [], ◌∷◌, ◌++◌, leb, length, replicate}
-use Rattle.tables.specs.declared.Answer.{Answer}
-use Rattle.tables.specs.declared.Answer.TheVariants.{Done, Refused}
+use Rattle.tables.specs.declared.Refusal.{Refusal}
+use Rattle.std.specs.Prelude.{ℕ, List, [], ◌∷◌, ◌++◌, leb, length, replicate, Result, Ok, Err}
 use Rattle.tables.specs.Pick.{pick}
 use Rattle.tables.specs.Kinds.{letters}
 use Rattle.tables.specs.Refusals.{number_of}
@@ -27,28 +26,28 @@ after_writing out_len (wrote s) = s
 after_writing out_len (refuse r) = refusal_in out_len (number_of r) 0
 
 -- by what flattening answers; F is the target that it leaves
-abbrev pub after_flattening : (out_len : ℕ) → Answer → (F : List ℕ) → List ℕ
-after_flattening out_len (Done m) F = after_writing out_len (write_table F m out_len)
-after_flattening out_len (Refused r l) F = refusal_in out_len (number_of r) l
+abbrev pub after_flattening : (out_len : ℕ) → Result ℕ Refusal → (F : List ℕ) → List ℕ
+after_flattening out_len (Ok m) F = after_writing out_len (write_table F m out_len)
+after_flattening out_len (Err r) F = refusal_in out_len (number_of r) l
 
 -- by what reading answers; T is the table that it leaves
-abbrev pub after_reading : (flat_len out_len : ℕ) → Answer → (T : List ℕ) → List ℕ
-after_reading flat_len out_len (Done n) T = after_flattening out_len (flattened T n flat_len) (flat_left T n flat_len)
-after_reading flat_len out_len (Refused r l) T = refusal_in out_len (number_of r) l
+abbrev pub after_reading : (flat_len out_len : ℕ) → Result ℕ Refusal → (T : List ℕ) → List ℕ
+after_reading flat_len out_len (Ok n) T = after_flattening out_len (flattened T n flat_len) (flat_left T n flat_len)
+after_reading flat_len out_len (Err r) T = refusal_in out_len (number_of r) l
 
 -- the bytes that are printed
 unfoldable pub printed : (len flat_len out_len : ℕ) → (s : List ℕ) → List ℕ
 printed len flat_len out_len s = after_reading flat_len out_len (text_answer (read_text len s)) (table_of len (read_text len s))
 
 -- what the target holds then: what flattening leaves, and zeros where reading is refused
-abbrev pub target_after : (flat_len : ℕ) → Answer → (T : List ℕ) → List ℕ
-target_after flat_len (Done n) T = flat_left T n flat_len
-target_after flat_len (Refused r l) T = replicate flat_len 0
+abbrev pub target_after : (flat_len : ℕ) → Result ℕ Refusal → (T : List ℕ) → List ℕ
+target_after flat_len (Ok n) T = flat_left T n flat_len
+target_after flat_len (Err r) T = replicate flat_len 0
 
 -- the outcome: the number of the bytes printed; the table and the target; the output list, which holds the bytes and zeros past them
 unfoldable pub prints : (len flat_len out_len : ℕ) → (s : List ℕ) → Outcome
 prints len flat_len out_len s =
-    told (Done (length (printed len flat_len out_len s)))
+    told (Ok (length (printed len flat_len out_len s)))
     (table_of len (read_text len s)
     ∷ target_after flat_len (text_answer (read_text len s)) (table_of len (read_text len s))
     ∷ buffer_of out_len (wrote (printed len flat_len out_len s))

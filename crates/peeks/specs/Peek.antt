@@ -8,8 +8,7 @@ use Rattle.tables.specs.Pick.{pick, inside}
 use Rattle.tables.specs.Lines.{Line}
 use Rattle.tables.specs.Types.{is_value}
 use Rattle.tables.specs.Tables.{checked}
-use Rattle.tables.specs.Refusals.{number_of}
-use Rattle.tables.specs.Answers.{Outcome, outcome}
+use Rattle.tables.specs.Answers.{Outcome, told}
 use Rattle.circuits.specs.Cells.{part}
 use Rattle.circuits.specs.Layout.{Counts, type_at, size, layout}
 use Rattle.circuits.specs.Meaning.{Frame, cells_at, step}
@@ -66,8 +65,7 @@ peeked t n line cell S R =
 
 -- the request's number and values for what peek answers: the value
 abbrev pub told_peek : Result ℕ Refusal → Outcome
-told_peek (Ok v) = outcome 0 v 0 0 []
-told_peek (Err r) = outcome (number_of r) 0 0 0 []
+told_peek r = told r []
 
 -- the outcome of a peek
 unfoldable pub peeks : (t : List ℕ) (n line cell : ℕ) (S R : List ℕ) → Outcome
