@@ -15,7 +15,7 @@ use Rattle.tables.specs.Pick.{pick, all, among, alike}
 use Rattle.tables.specs.Kinds.{row_of, sort_class, first_class}
 use Rattle.tables.specs.Lines.{Shape, is_bitvec, is_array, is_const, is_input, is_state as state_shape, is_output, is_unary, is_binary, is_ite, is_read, is_write, is_unknown, is_init_or_next, is_signal, is_equality, init_or_next_kind, shape_of, build, line_of, kind_in, sort_in, first_in, second_in, third_in}
 use Rattle.tables.specs.Layout.{record_words}
-use Rattle.tables.specs.Types.{rank, ty, no_ty, is_state, sort_at, record_type, line_type, Ctx, ty_at, given_by, given, given_after, grow}
+use Rattle.tables.specs.Types.{rank, no_ty, is_state, sort_at, record_type, line_type, Ctx, ty_at, given_by, given, given_after, grow}
 use Rattle.tables.specs.Rules.{suits, classes, fault}
 use Rattle.tables.specs.Tables.{formed, keeps}
 use Rattle.tables.specs.Model.Notes.{blank, note_at, look_in, flag_in, given_in, Shows, typed, with_flag, flagged_by, noted}
