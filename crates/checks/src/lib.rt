@@ -74,12 +74,7 @@ pub fn note(program: bool, rec: [u64; WORDS], n: u64, notes: &mut [Note])
 }
 
 // The record breaks no rule after the lines noted.
-fn keeps_rules(
-    program: bool,
-    kinds: &[[u8; 16]; 63],
-    rec: [u64; WORDS],
-    notes: &[Note],
-) -> bool
+fn keeps_rules(program: bool, kinds: &[[u8; 16]; 63], rec: [u64; WORDS], notes: &[Note]) -> bool
     requires { kinds.now ≡ rows }
     ensures { result ≡ keeps program (look_in notes.now) (given_in notes.now) rec }
 {
@@ -162,12 +157,7 @@ fn ids_rise(table: &[u64], count: usize) -> bool
 }
 
 // The check of a table with its count. Where it is accepted the notes, blank before, hold its context.
-pub fn check(
-    program: bool,
-    table: &[u64],
-    count: usize,
-    notes: &mut [Note],
-) -> Result<(), Refusal>
+pub fn check(program: bool, table: &[u64], count: usize, notes: &mut [Note]) -> Result<(), Refusal>
     requires { Fresh count notes.old }
     ensures { (result ≡ checked program table.now count)
         × (result ≡ Ok tt → Shows notes.new (context program (lines_of program table.now count))) }

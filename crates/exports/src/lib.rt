@@ -101,7 +101,10 @@ pub extern "C" fn gofeshan_run_circuit(
         records::clear(work);
         return 1;
     }
-    answers::tell_answer(runs::run_circuit(table, count, steps, starts, inputs, signals, work), answer)
+    answers::tell_answer(
+        runs::run_circuit(table, count, steps, starts, inputs, signals, work),
+        answer,
+    )
 }
 
 // Runs a program. The answer is 1, the step and the place of the first counted bad, or three zeros.
@@ -124,7 +127,10 @@ pub extern "C" fn gofeshan_run_program(
         records::clear(work);
         return 1;
     }
-    answers::tell_answer(runs::run_program(table, count, steps, starts, inputs, signals, work), answer)
+    answers::tell_answer(
+        runs::run_program(table, count, steps, starts, inputs, signals, work),
+        answer,
+    )
 }
 
 // The value of a line's cell at step 0, from start words and one row of inputs. The answer's first word is the value.
@@ -180,7 +186,10 @@ fn convert(
         records::clear(target);
         return 1;
     }
-    answers::tell_answer(layouts::convert(columns, program, list, count, target), answer)
+    answers::tell_answer(
+        layouts::convert(columns, program, list, count, target),
+        answer,
+    )
 }
 
 // A circuit whose records stand one behind the other goes to the target in columns.

@@ -15,7 +15,9 @@ use Rattle.tables.specs.Answers.{told}
 use Rattle.tables.proofs.Outcomes.{told_as, told_answer, told_left}
 use Rattle.texts.specs.Split.{spaced}
 use Rattle.texts.specs.Decimal.{digits}
-use Rattle.texts.specs.Reading.{read_text, text_answer, table_of, reads}
+use Rattle.texts.specs.declared.TextRefusal.{TextRefusal}
+use Rattle.texts.specs.Reading.{read_text, text_answer, table_of, reads, told_read}
+use Rattle.texts.proofs.ReadTold.{read_answer, read_left}
 use Rattle.texts.specs.Writing.{Out, wrote, refuse, write_table, write_answer, buffer_of, writes}
 use Rattle.texts.proofs.Printed.{digits_most, and_then, sets_zeros}
 use Rattle.flattening.specs.Answers.{flattens}
@@ -78,16 +80,15 @@ module _ (F : List ℕ) (m out_len : ℕ) (a : Result ℕ Refusal) (x : List ℕ
       go (wrote s) h b = record { count = cc; bytes = b }
       go (refuse r) h b = let z : ◌≡◌ {A = ℕ} 0 1 = cc in absurd (omega arith)
 
-  pub text_not : {r : Refusal} {l len k : ℕ} {y : List ℕ} → a ≡ Err r → len ≡ out_len → Printout len (refusal_in len (number_of r) l) k y
+  pub text_not : {r : Refusal} {len k : ℕ} {y : List ℕ} → a ≡ Err r → len ≡ out_len → Printout len (refusal_in len (number_of r) 0) k y
       → Printout out_len (after_writing out_len (write_table F m out_len)) k y
-  text_not {r} {l} {len} {k} {y} q h p = go (write_table F m out_len) (sym q ∙ answer_written) (subst (λ (z : ℕ). Printout z (refusal_in z (number_of r) l) k y) h p)
+  text_not {r} {len} {k} {y} q h p = go (write_table F m out_len) (sym q ∙ answer_written) (subst (λ (z : ℕ). Printout z (refusal_in z (number_of r) 0) k y) h p)
     where
-      go : (o : Out) → Err r ≡ write_answer o → Printout out_len (refusal_in out_len (number_of r) l) k y → Printout out_len (after_writing out_len o) k y
+      go : (o : Out) → Err r ≡ write_answer o → Printout out_len (refusal_in out_len (number_of r) 0) k y → Printout out_len (after_writing out_len o) k y
       go (wrote s) f p = let z : ◌≡◌ {A = ℕ} 0 1 = cc in absurd (omega arith)
       go (refuse c) f p =
           let z : r ≡ c = cc in
-          let w : l ≡ 0 = cc in
-          rw (sym z, sym w) p
+          rw (sym z) p
 
 -- ---- the whole, from the parts' outcomes
 
@@ -99,16 +100,16 @@ flat_by T n flat_len out_len a F e =
     (ap₂ (after_flattening out_len) (flattens_answer T n flat_len a F e) f, f)
 
 -- after reading the text s, which leaves the table T
-module _ (len flat_len out_len : ℕ) (s : List ℕ) (r : Result ℕ Refusal) (T : List ℕ) (e : told r (T ∷ []) ≡ reads len s) where
+module _ (len flat_len out_len : ℕ) (s : List ℕ) (r : Result ℕ TextRefusal) (T : List ℕ) (e : told_read r (T ∷ []) ≡ reads len s) where
   answer_read : r ≡ text_answer (read_text len s)
   unfolding reads
-  answer_read = told_answer r (text_answer (read_text len s)) (T ∷ []) (table_of len (read_text len s) ∷ []) e
+  answer_read = read_answer r (text_answer (read_text len s)) (T ∷ []) (table_of len (read_text len s) ∷ []) e
 
   table_read : T ≡ table_of len (read_text len s)
   unfolding reads
-  table_read = one_left r (text_answer (read_text len s)) T (table_of len (read_text len s)) e
+  table_read = ap (λ (l : List (List ℕ)). get_or l 0 []) (read_left r (text_answer (read_text len s)) (T ∷ []) (table_of len (read_text len s) ∷ []) e)
 
-  pub prints_by : {a : (Result ℕ Refusal)} → r ≡ a → {b F x : List ℕ} {n : ℕ} → b ≡ after_reading flat_len out_len a T → F ≡ target_after flat_len a T → Printout out_len b n x
+  pub prints_by : {a : Result ℕ TextRefusal} → r ≡ a → {b F x : List ℕ} {n : ℕ} → b ≡ after_reading flat_len out_len a T → F ≡ target_after flat_len a T → Printout out_len b n x
       → told (Ok n) (T ∷ F ∷ x ∷ []) ≡ prints len flat_len out_len s
   unfolding prints printed
   prints_by {a} q {b} {F} {x} {n} h f p =

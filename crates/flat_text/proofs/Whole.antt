@@ -40,7 +40,7 @@ use Rattle.flat_text.proofs.Outputs.{refusal_short}
 -- the circuit is the first n records of the table T
 abbrev pub flat_or : Result ℕ Refusal → (T : List ℕ) (n : ℕ) → List ℕ
 flat_or (Ok m) T n = write_text (flat_records T n)
-flat_or (Err r) T n = refusal_line (number_of r) l
+flat_or (Err r) T n = refusal_line (number_of r) 0
 
 abbrev pub text_or : (len flat_len : ℕ) → Text → List ℕ
 text_or len flat_len (done rs ds) = flat_or (flattened (table_of len (done rs ds)) (length rs) flat_len) (table_of len (done rs ds)) (length rs)
@@ -51,22 +51,21 @@ asked len flat_len s = text_or len flat_len (read_text len s)
 
 -- ---- the parts
 
--- what flattening refuses has no text line, and a number of at most 12
-pub flat_no : (t : List ℕ) (n len : ℕ) (r : Refusal) (l : ℕ) → flattened t n len ≡ Err r → (number_of r ≤ 12) × (l ≡ 0)
+-- what flattening refuses has a number of at most 12
+pub flat_no : (t : List ℕ) (n len : ℕ) (r : Refusal) → flattened t n len ≡ Err r → number_of r ≤ 12
 unfolding flattened checked
-flat_no t n len r l e =
+flat_no t n len r e =
     go (whole false (length t) && whole false len) (whole false (length t)) (leb n (room false (length t)) && (lawful false no_ctx (records_of false t n) && ids_right false t n))
     (leb (length (flat_lines t n)) (room false len)) e
   where
-    is : (q : Refusal) → number_of q ≤ 12 → Err q ≡ Err r → (number_of r ≤ 12) × (l ≡ 0)
+    is : (q : Refusal) → number_of q ≤ 12 → ◌≡◌ {A = Result ℕ Refusal} (Err q) (Err r) → number_of r ≤ 12
     is q h f =
         let w : q ≡ r = cc in
-        let v : l ≡ 0 = cc in
-        (rw (sym w) h, v)
+        rw (sym w) h
 
     go : (a b c d : Bool)
         → pick a (if_accepted (pick b (pick c (Ok tt) (Err BadTable)) (Err NotATable)) (pick d (Ok (length (flat_lines t n))) (Err TargetTooSmall))) (Err NotATable)
-        ≡ Err r → (number_of r ≤ 12) × (l ≡ 0)
+        ≡ Err r → number_of r ≤ 12
     go false b c d f = is NotATable (lit≤ tt) f
     go true false c d f = is NotATable (lit≤ tt) f
     go true true false d f = is BadTable (lit≤ tt) f
@@ -136,7 +135,7 @@ module _ (len flat_len out_len : ℕ) (few : room false flat_len < 10 ^ 4) (ampl
       go (Ok m) e =
           let f = (answered T n flat_len m e).fits in
           rw (text_whole T n flat_len m out_len e (omega arith) (omega arith)) refl
-      go (Err r) e = let f = flat_no T n flat_len r l e in refusal_whole out_len (number_of r) l some (omega (arith, f.0)) (omega (arith, f.1))
+      go (Err r) e = let f = flat_no T n flat_len r e in refusal_whole out_len (number_of r) 0 some (omega (arith, f)) (omega arith)
 
   -- every text is printed as the request asks
   pub all_printed : (s : List ℕ) → printed len flat_len out_len s ≡ asked len flat_len s
@@ -156,7 +155,7 @@ module _ (len flat_len out_len : ℕ) (few : room false flat_len < 10 ^ 4) (ampl
     where
       flat : (T : List ℕ) (n : ℕ) (a : Result ℕ Refusal) → flattened T n flat_len ≡ a → flat_or a T n ≡ refusal_line 21 k → ⊥
       flat T n (Ok m) e q = other_text (flat_records T n) 21 k q
-      flat T n (Err r) e q = other_line (number_of r) l k (flat_no T n flat_len r l e).0 q
+      flat T n (Err r) e q = other_line (number_of r) 0 k (flat_no T n flat_len r e) q
 
       go : (x : Text) → read_text len s ≡ x → text_or len flat_len x ≡ refusal_line 21 k → ⊥
       go (done rs ds) e q = flat (table_of len (done rs ds)) (length rs) (flattened (table_of len (done rs ds)) (length rs) flat_len) refl q

@@ -6,6 +6,7 @@ use Rattle.tables.specs.Pick.{pick}
 use Rattle.tables.specs.Kinds.{letters}
 use Rattle.tables.specs.Refusals.{number_of}
 use Rattle.tables.specs.Answers.{Outcome, told}
+use Rattle.texts.specs.declared.TextRefusal.{TextRefusal}
 use Rattle.texts.specs.Split.{join}
 use Rattle.texts.specs.Decimal.{digits}
 use Rattle.texts.specs.Reading.{read_text, text_answer, table_of}
@@ -28,21 +29,21 @@ after_writing out_len (refuse r) = refusal_in out_len (number_of r) 0
 -- by what flattening answers; F is the target that it leaves
 abbrev pub after_flattening : (out_len : ℕ) → Result ℕ Refusal → (F : List ℕ) → List ℕ
 after_flattening out_len (Ok m) F = after_writing out_len (write_table F m out_len)
-after_flattening out_len (Err r) F = refusal_in out_len (number_of r) l
+after_flattening out_len (Err r) F = refusal_in out_len (number_of r) 0
 
 -- by what reading answers; T is the table that it leaves
-abbrev pub after_reading : (flat_len out_len : ℕ) → Result ℕ Refusal → (T : List ℕ) → List ℕ
+abbrev pub after_reading : (flat_len out_len : ℕ) → Result ℕ TextRefusal → (T : List ℕ) → List ℕ
 after_reading flat_len out_len (Ok n) T = after_flattening out_len (flattened T n flat_len) (flat_left T n flat_len)
-after_reading flat_len out_len (Err r) T = refusal_in out_len (number_of r) l
+after_reading flat_len out_len (Err x) T = refusal_in out_len (number_of x.refusal) x.line
 
 -- the bytes that are printed
 unfoldable pub printed : (len flat_len out_len : ℕ) → (s : List ℕ) → List ℕ
 printed len flat_len out_len s = after_reading flat_len out_len (text_answer (read_text len s)) (table_of len (read_text len s))
 
 -- what the target holds then: what flattening leaves, and zeros where reading is refused
-abbrev pub target_after : (flat_len : ℕ) → Result ℕ Refusal → (T : List ℕ) → List ℕ
+abbrev pub target_after : (flat_len : ℕ) → Result ℕ TextRefusal → (T : List ℕ) → List ℕ
 target_after flat_len (Ok n) T = flat_left T n flat_len
-target_after flat_len (Err r) T = replicate flat_len 0
+target_after flat_len (Err x) T = replicate flat_len 0
 
 -- the outcome: the number of the bytes printed; the table and the target; the output list, which holds the bytes and zeros past them
 unfoldable pub prints : (len flat_len out_len : ℕ) → (s : List ℕ) → Outcome

@@ -11,7 +11,7 @@ ghost use Rattle.flat_text.specs.Model.Output.{Printout};
 
 use records::bytes;
 use records::kinds::letters::*;
-use tables::{Answer, Refusal};
+use tables::Refusal;
 
 // The word `refused`, as the rows of kinds have theirs.
 const REFUSED: [u8; 16] = [7, R, E, F, U, S, E, D, 0, 0, 0, 0, 0, 0, 0, 0];
@@ -30,7 +30,7 @@ fn refuse(r: Refusal, line: usize, out: &mut [u8]) -> usize
     ensures { Printout (length out.old) (refusal_in (length out.old) (number_of r) line) result out.new }
 {
     bytes::clear(out);
-    let n = put_refusal(out, checks::number(r), line as u64);
+    let n = put_refusal(out, u64::from(r), line as u64);
     if out.len() < n {
         bytes::clear(out);
         return 0;
@@ -44,32 +44,32 @@ fn print(flat: &[u64], count: usize, out: &mut [u8]) -> usize
         (after_writing (length out.old) (write_table flat.now count (length out.old))) result out.new }
 {
     match writing::write(flat, count, out) {
-        Answer::Done(n) => n,
-        Answer::Refused(r, line) => refuse(r, line, out),
+        Ok(n) => n,
+        Err(r) => refuse(r, 0, out),
     }
 }
 
 // What is printed after flattening, by its answer and the target that it left.
-fn print_flat(a: Answer, flat: &[u64], out: &mut [u8]) -> usize
+fn print_flat(a: Result<usize, Refusal>, flat: &[u64], out: &mut [u8]) -> usize
     ensures { Printout (length out.old) (after_flattening (length out.old) a flat.now) result out.new }
 {
     match a {
-        Answer::Refused(r, line) => refuse(r, line, out),
-        Answer::Done(m) => print(flat, m, out),
+        Ok(m) => print(flat, m, out),
+        Err(r) => refuse(r, 0, out),
     }
 }
 
 // Reads the text into the table, flattens that into the target, and leaves the flat text in the output list, or `refused N L` and LF; answers how many bytes.
 pub fn flat(text: &[u8], table: &mut [u64], target: &mut [u64], out: &mut [u8]) -> usize
-    ensures { told (Answer.Done result) (table.new ∷ target.new ∷ out.new ∷ [])
+    ensures { told (Ok result) (table.new ∷ target.new ∷ out.new ∷ [])
         ≡ prints (length table.old) (length target.old) (length out.old) text.now }
 {
     match reading::read(text, table) {
-        Answer::Refused(r, line) => {
+        Err(e) => {
             records::clear(target);
-            refuse(r, line, out)
+            refuse(e.refusal, e.line, out)
         }
-        Answer::Done(count) => {
+        Ok(count) => {
             let a = flatten::flatten(table, count, target);
             print_flat(a, target, out)
         }

@@ -28,13 +28,7 @@ fn note_line(k: u64, notes: &[Note], n: usize, m: usize, lines: &mut [u32]) -> u
 }
 
 // The lines of the states that nobody drives, in order. Answers how many there are.
-pub fn find(
-    program: bool,
-    table: &[u64],
-    count: usize,
-    notes: &[Note],
-    lines: &mut [u32],
-) -> usize
+pub fn find(program: bool, table: &[u64], count: usize, notes: &[Note], lines: &mut [u32]) -> usize
     requires { Noted program table.now count notes.now × (length lines.old ≡ 16385) }
     ensures { (take result lines.new ≡ free_lines program (lines_of program table.now count)) × (result ≤ 16384) }
 {

@@ -7,8 +7,8 @@ ghost use Rattle.texts.specs.Reading.{lines_read, outcome_of, told_read};
 ghost use Rattle.texts.specs.Model.Chains.{Ample};
 
 use crate::line;
-use texts::TextRefusal;
 use tables::Note;
+use texts::TextRefusal;
 
 // The lines of a text, into a table of zeros; kinds are the rows of all kinds, and the names are kept in a list of zeros.
 pub fn read_lines(

@@ -52,12 +52,7 @@ fn once(rec: [u64; WORDS], b: Ty, notes: &[Note]) -> bool
 }
 
 // The first of 8, 9 and 10 that holds of a record after the lines that the notes hold. The row is that of its kind.
-pub fn fault(
-    program: bool,
-    row: [u8; 16],
-    rec: [u64; WORDS],
-    notes: &[Note],
-) -> Result<(), Refusal>
+pub fn fault(program: bool, row: [u8; 16], rec: [u64; WORDS], notes: &[Note]) -> Result<(), Refusal>
     requires { row ≡ row_of (kind_in rec) }
     ensures { result ≡ refused_by (fault_of program (look_in notes.now) (given_in notes.now) rec) }
 {

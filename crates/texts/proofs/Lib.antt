@@ -46,3 +46,4 @@ pub mod SampleNames
 pub mod SampleDetectors
 pub mod Lengths
 pub mod Refused
+pub mod ReadTold

@@ -4,16 +4,16 @@ use lib.ListN.{length}
 use Rattle.flat_text.proofs.Outputs.{flat_by, prints_by}
 use Rattle.flat_text.proofs.flat.Goals as goal
 
-pub returns-in-Refused : goal.returns-in-Refused
-returns-in-Refused c =
+pub returns-in-Err : goal.returns-in-Err
+returns-in-Err c =
     let s = c.args in
     let t = c.read in
-    prints_by (length s.table.now) (length s.target.now) (length s.out.now) s.text.now t.result t.new.table t.ensures c.in-Refused.is refl c.clear.ensures c.refuse.ensures
+    prints_by (length s.table.now) (length s.target.now) (length s.out.now) s.text.now t.result t.new.table t.ensures c.in-Err.is refl c.clear.ensures c.refuse.ensures
 
-pub returns-in-Done : goal.returns-in-Done
-returns-in-Done c =
+pub returns-in-Ok : goal.returns-in-Ok
+returns-in-Ok c =
     let s = c.args in
     let t = c.read in
     let f = c.flatten-a in
-    let x = flat_by t.new.table c.in-Done.count (length s.target.now) (length s.out.now) f.result f.new.target f.ensures in
-    prints_by (length s.table.now) (length s.target.now) (length s.out.now) s.text.now t.result t.new.table t.ensures c.in-Done.is x.0 x.1 c.print_flat.ensures
+    let x = flat_by t.new.table c.in-Ok.count (length s.target.now) (length s.out.now) f.result f.new.target f.ensures in
+    prints_by (length s.table.now) (length s.target.now) (length s.out.now) s.text.now t.result t.new.table t.ensures c.in-Ok.is x.0 x.1 c.print_flat.ensures

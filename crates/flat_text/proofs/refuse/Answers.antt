@@ -15,6 +15,6 @@ returns c =
     let s = c.args in
     let z = c.put_refusal-n in
     let k = z.auto.out ∙ c.clear.auto.xs in
-    let q = c.number.ensures in
+    let q = c.from.ensures in
     let e = z.ensures.0 ∙ ap (λ (n : ℕ). length (refusal_line n s.line)) q in
     refusal_held (length s.out.now) (number_of s.r) s.line e (omega (arith, k, c.if-out-n.false)) (z.ensures.1 ∙ ap₂ (λ (x : List ℕ) (n : ℕ). sets x 0 (refusal_line n s.line)) c.clear.ensures q)
