@@ -10,6 +10,7 @@ use lib.Pow.{pow_pos}
 use lib.ListN.{length, take, drop, get_or, set, replicate, length-append, length-drop}
 use lib.Seq.{drop-drop, length-take-le, take_all, take_at, take-suc-set, drop-cons, drop-length}
 use Rattle.words.specs.Word.{Width}
+use Rattle.tables.specs.Types.{rank}
 use Rattle.tables.specs.declared.Note.{Note}
 use Rattle.tables.specs.declared.Ty.{Ty}
 use Rattle.tables.specs.Pick.{pick}
@@ -78,7 +79,7 @@ module _ (p : Bool) (P : List (List ℕ)) (h : ℕ → Bool) where
       let et : type_at Z n ≡ line_type_in p Y l = r.type n (omega arith) ∙ ap (type_at (lay p Y l)) e ∙ type_new p Y l e in
       let ep : place_at Z n ≡ Y.counts.states = r.place n (omega arith) ∙ ap (place_at (lay p Y l)) e ∙ place_new p Y l e in
       let x = sh n (omega (arith, r.longer)) in
-      let role : (type_at Z n).role ≡ 4 = ap (λ (t : Ty). t.role) et in
+      let role : rank (type_at Z n).role ≡ 4 = ap (λ (t : Ty). rank t.role) et in
       let w = S.wide n (omega arith) in
       let k = S.room n role in
       record {

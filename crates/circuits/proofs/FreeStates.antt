@@ -13,7 +13,7 @@ use Rattle.tables.specs.declared.Ty.{Ty}
 use Rattle.tables.specs.Pick.{pick, among, alike}
 use Rattle.tables.specs.Lines.{Line}
 use Rattle.tables.specs.Layout.{lines_of}
-use Rattle.tables.specs.Types.{state_role, given}
+use Rattle.tables.specs.Types.{rank, given}
 use Rattle.tables.specs.Tables.{checked}
 use Rattle.tables.proofs.Laws.{or_true}
 use Rattle.tables.proofs.GivenStates.{gives_to, given_more, given_once}
@@ -105,8 +105,8 @@ module _ (p : Bool) (t : List ℕ) (n : ℕ) (acc : checked p t n ≡ Ok tt) whe
         let k = number_at p t n acc i (omega arith) in
         (later_at p t n acc i h).place q (omega (arith, more_places p Z l, number)) ∙ ap (place_at (lay p Z l)) (sym k) ∙ place_new p Z l (sound_at p t n acc i).long ∙ ap (place_of Z) e
 
-    pub is_state_lem : (type_at Y q).role ≡ state_role
-    is_state_lem = ap (λ (x : Ty). x.role) type
+    pub is_state_lem : rank (type_at Y q).role ≡ 4
+    is_state_lem = ap (λ (x : Ty). rank x.role) type
 
     -- its sources stand between those of the lines before and after it
     before : List Source

@@ -11,7 +11,7 @@ use borrow.Author.Tests.{le-leb, lt-leb, leb-true}
 use Rattle.tables.specs.declared.Ty.{Ty}
 use Rattle.tables.specs.Pick.{pick}
 use Rattle.tables.specs.Lines.{Line}
-use Rattle.tables.specs.Types.{is_value}
+use Rattle.tables.specs.Types.{rank, is_value}
 use Rattle.tables.proofs.Showing.{snoc_other, by_place}
 use Rattle.tables.proofs.Facts.{IsWord}
 use Rattle.circuits.specs.Cells.{part, put}
@@ -32,13 +32,13 @@ pub record Holds (p : Bool) (w : List ℕ) (Y : Layout) (env : List (List ℕ)) 
   pub lines : length env ≡ length Y.ctx.tys
   pub cells : (a : ℕ) → get_or env a [] ≡ seen w (type_at Y a) (off_at Y a)
   -- a circuit's words are below 2 to their width
-  pub small : p ≡ false → (a : ℕ) → 2 ≤ (type_at Y a).role → (j : ℕ) → j < size (type_at Y a) → get_or w (off_at Y a + j) 0 < 2 ^ (type_at Y a).w
+  pub small : p ≡ false → (a : ℕ) → 2 ≤ rank (type_at Y a).role → (j : ℕ) → j < size (type_at Y a) → get_or w (off_at Y a + j) 0 < 2 ^ (type_at Y a).w
 
-seen_value : (w : List ℕ) (t : Ty) (o : ℕ) → 2 ≤ t.role → seen w t o ≡ part w o (size t)
-seen_value w t o h = rw (le-leb 2 t.role h)
+seen_value : (w : List ℕ) (t : Ty) (o : ℕ) → 2 ≤ rank t.role → seen w t o ≡ part w o (size t)
+seen_value w t o h = rw (le-leb 2 (rank t.role) h)
 
-seen_none : (w : List ℕ) (t : Ty) (o : ℕ) → t.role < 2 → seen w t o ≡ []
-seen_none w t o h = rw (lt-leb 2 t.role h)
+seen_none : (w : List ℕ) (t : Ty) (o : ℕ) → rank t.role < 2 → seen w t o ≡ []
+seen_none w t o h = rw (lt-leb 2 (rank t.role) h)
 
 seen_same : (b : Bool) (xs ys : List ℕ) → (b ≡ true → xs ≡ ys) → pick b xs [] ≡ pick b ys []
 seen_same true xs ys f = f refl
@@ -51,10 +51,10 @@ module _ {p : Bool} {w : List ℕ} {Y : Layout} {env : List (List ℕ)} (S : Sou
     seen_alike a =
         seen_same (is_value (type_at Y a)) (part v (off_at Y a) (size (type_at Y a))) (part w (off_at Y a) (size (type_at Y a)))
         (λ e.
-        let b : off_at Y a + size (type_at Y a) ≤ Y.counts.cells = low S a (leb-true 2 (type_at Y a).role e) in
+        let b : off_at Y a + size (type_at Y a) ≤ Y.counts.cells = low S a (leb-true 2 (rank (type_at Y a).role) e) in
         laws.part_ext v w (off_at Y a) (off_at Y a) (size (type_at Y a)) (omega arith) (omega arith) (λ i k. same (off_at Y a + i) (omega arith)))
 
-    pub small_alike : p ≡ false → (a : ℕ) → 2 ≤ (type_at Y a).role → (j : ℕ) → j < size (type_at Y a) → get_or v (off_at Y a + j) 0 < 2 ^ (type_at Y a).w
+    pub small_alike : p ≡ false → (a : ℕ) → 2 ≤ rank (type_at Y a).role → (j : ℕ) → j < size (type_at Y a) → get_or v (off_at Y a + j) 0 < 2 ^ (type_at Y a).w
     small_alike e a q j k =
         let b : off_at Y a + size (type_at Y a) ≤ Y.counts.cells = low S a q in
         subst (λ (x : ℕ). x < 2 ^ (type_at Y a).w) (sym (same (off_at Y a + j) (omega arith))) (H.small e a q j k)
@@ -62,7 +62,7 @@ module _ {p : Bool} {w : List ℕ} {Y : Layout} {env : List (List ℕ)} (S : Sou
     pub holds_alike : Holds p v Y env
     holds_alike = record { lines = H.lines; cells = λ a. H.cells a ∙ sym (seen_alike a); small = small_alike }
 
-  pub cells_at_lem : (a : ℕ) → 2 ≤ (type_at Y a).role → part w (off_at Y a) (size (type_at Y a)) ≡ get_or env a []
+  pub cells_at_lem : (a : ℕ) → 2 ≤ rank (type_at Y a).role → part w (off_at Y a) (size (type_at Y a)) ≡ get_or env a []
   cells_at_lem a q = sym (H.cells a ∙ seen_value w (type_at Y a) (off_at Y a) q)
 
   pub word_at_lem : (a : ℕ) → IsWord (type_at Y a) → get_or w (off_at Y a) 0 ≡ get_or (get_or env a []) 0 0
@@ -82,7 +82,7 @@ module _ {p : Bool} {w : List ℕ} {Y : Layout} {env : List (List ℕ)} (S : Sou
     lines_more vs = length-append env (vs ∷ []) ∙ ap (λ (n : ℕ). n + 1) H.lines ∙ sym (more_types p Y l)
 
     -- a line of no value
-    pub holds_quiet : (line_type_in p Y l).role < 2 → Holds p w (lay p Y l) (env ++ ([] ∷ []))
+    pub holds_quiet : rank (line_type_in p Y l).role < 2 → Holds p w (lay p Y l) (env ++ ([] ∷ []))
     holds_quiet q =
         record {
           lines = lines_more [];
@@ -93,12 +93,12 @@ module _ {p : Bool} {w : List ℕ} {Y : Layout} {env : List (List ℕ)} (S : Sou
               (λ n. env_old [] a n ∙ H.cells a ∙ sym (ap₂ (seen w) (type_old p Y l S.long a n) (off_old p Y l a n)));
           small = λ f a.
               by_place a (length Y.ctx.tys)
-              (λ e c. let t = ap (λ (n : ℕ). (type_at (lay p Y l) n).role) e ∙ ap (λ (t : Ty). t.role) (type_new p Y l S.long) in absurd (omega arith))
+              (λ e c. let t = ap (λ (n : ℕ). rank (type_at (lay p Y l) n).role) e ∙ ap (λ (t : Ty). rank t.role) (type_new p Y l S.long) in absurd (omega arith))
               (λ n. rw (type_old p Y l S.long a n, off_old p Y l a n) (H.small f a));
         }
 
     -- a line whose cells are vs, put at the end of the cells so far
-    module _ (vs : List ℕ) (q : 2 ≤ (line_type_in p Y l).role) (len : length vs ≡ size (line_type_in p Y l))
+    module _ (vs : List ℕ) (q : 2 ≤ rank (line_type_in p Y l).role) (len : length vs ≡ size (line_type_in p Y l))
         (below : p ≡ false → (j : ℕ) → get_or vs j 0 < 2 ^ (line_type_in p Y l).w) (room : Y.counts.cells + size (line_type_in p Y l) ≤ length w) where
       here : off_at (lay p Y l) (length Y.ctx.tys) ≡ Y.counts.cells
       here = off_value p Y l S.counted q
@@ -128,7 +128,7 @@ module _ {p : Bool} {w : List ℕ} {Y : Layout} {env : List (List ℕ)} (S : Sou
                 ∙ sym (ap₂ (seen (put w Y.counts.cells vs)) (type_old p Y l S.long a n) (off_old p Y l a n)));
             small = λ f a.
                 by_place a (length Y.ctx.tys)
-                (λ e. subst (λ (n : ℕ). 2 ≤ (type_at (lay p Y l) n).role → (j : ℕ) → j < size (type_at (lay p Y l) n) → get_or (put w Y.counts.cells vs) (off_at (lay p Y l) n + j) 0 < 2 ^ (type_at (lay p Y l) n).w) (sym e)
+                (λ e. subst (λ (n : ℕ). 2 ≤ rank (type_at (lay p Y l) n).role → (j : ℕ) → j < size (type_at (lay p Y l) n) → get_or (put w Y.counts.cells vs) (off_at (lay p Y l) n + j) 0 < 2 ^ (type_at (lay p Y l) n).w) (sym e)
                 (rw (type_new p Y l S.long, here)
                 (λ c j k. subst (λ (x : ℕ). x < 2 ^ (line_type_in p Y l).w) (sym (laws.put_in w Y.counts.cells vs fits j (omega arith))) (below f j))))
                 (λ n. rw (type_old p Y l S.long a n, off_old p Y l a n) (small_alike (put w Y.counts.cells vs) Y.counts.cells (omega arith) lput (omega arith) kept f a));

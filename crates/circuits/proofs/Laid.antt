@@ -9,7 +9,7 @@ use lib.ListN.{length, get_or, take, length-append, get_or-append}
 use lib.Seq.{get_or_at}
 use Rattle.tables.specs.declared.Ty.{Ty}
 use Rattle.tables.specs.Lines.{Line, Expr}
-use Rattle.tables.specs.Types.{no_ty, line_type, ty_at, given}
+use Rattle.tables.specs.Types.{rank, no_ty, line_type, ty_at, given}
 use Rattle.tables.proofs.Showing.{snoc_other, by_place}
 use Rattle.tables.proofs.Values.{val_value, val_most}
 use Rattle.tables.proofs.Wide.{AllWide, line_wide, grow_wide}
@@ -76,22 +76,22 @@ pub record Sound (Y : Layout) : Type 0 where
   pub long : length Y.places ≡ length Y.ctx.tys
   pub wide : AllWide (ty_at Y.ctx)
   pub counted : AllCounted Y
-  pub room : (a : ℕ) → (type_at Y a).role ≡ 4 → place_at Y a + size (type_at Y a) ≤ Y.counts.states
+  pub room : (a : ℕ) → rank (type_at Y a).role ≡ 4 → place_at Y a + size (type_at Y a) ≤ Y.counts.states
   pub few_cells : Y.counts.cells ≤ 256 * length Y.ctx.tys
   pub few_states : Y.counts.states ≤ 256 * length Y.ctx.tys
   pub few_inputs : Y.counts.inputs ≤ length Y.ctx.tys
   pub few_signals : Y.counts.signals ≤ length Y.ctx.tys
 
 -- the cells of a value lie below those counted
-pub low : {Y : Layout} → Sound Y → (a : ℕ) → 2 ≤ (type_at Y a).role → off_at Y a + size (type_at Y a) ≤ Y.counts.cells
+pub low : {Y : Layout} → Sound Y → (a : ℕ) → 2 ≤ rank (type_at Y a).role → off_at Y a + size (type_at Y a) ≤ Y.counts.cells
 low {Y} S a q = off_low Y a S.counted q
 
 -- the line's own type and place
 record New (t : Ty) (q : ℕ) (d : Counts) : Type 0 where
   deep : t.iw ≤ 8
-  room : t.role ≡ 4 → q + size t ≤ d.states
+  room : rank t.role ≡ 4 → q + size t ≤ d.states
 
-pub not_four : (p : Bool) (L : ℕ → Ty) (s : ℕ) (e : Expr) → (line_type p L (Line.value s e)).role ≡ 4 → ⊥
+pub not_four : (p : Bool) (L : ℕ → Ty) (s : ℕ) (e : Expr) → rank (line_type p L (Line.value s e)).role ≡ 4 → ⊥
 not_four p L s e q = omega (arith, val_most p L s e)
 
 pub line_deep : (p : Bool) (Y : Layout) (l : Line) → AllWide (ty_at Y.ctx) → OkLine p (ty_at Y.ctx) (given Y.ctx) l → (line_type_in p Y l).iw ≤ 8
@@ -133,7 +133,7 @@ sound_more p Y l S ok =
       counted = counted_more p Y l S.counted;
       room = λ a.
           by_place a (length Y.ctx.tys)
-          (λ e. subst (λ (n : ℕ). (type_at (lay p Y l) n).role ≡ 4 → place_at (lay p Y l) n + size (type_at (lay p Y l) n) ≤ (lay p Y l).counts.states) (sym e)
+          (λ e. subst (λ (n : ℕ). rank (type_at (lay p Y l) n).role ≡ 4 → place_at (lay p Y l) n + size (type_at (lay p Y l) n) ≤ (lay p Y l).counts.states) (sym e)
           (λ q. rw (type_new p Y l S.long, place_new p Y l S.long) (w.room (rw (type_new p Y l S.long) at q))))
           (λ n q.
           rw (type_old p Y l S.long a n, place_old p Y l S.long a n) (let h : place_at Y a + size (type_at Y a) ≤ Y.counts.states = S.room a (rw (type_old p Y l S.long a n) at q) in omega (arith, g.states)));
@@ -151,9 +151,9 @@ pub sound_none : Sound no_layout
 sound_none =
     record {
       long = refl;
-      wide = λ a q. absurd (omega (arith, ap (λ (t : Ty). t.role) (no_type a)));
+      wide = λ a q. absurd (omega (arith, ap (λ (t : Ty). rank t.role) (no_type a)));
       counted = refl;
-      room = λ a q. absurd (omega (arith, ap (λ (t : Ty). t.role) (no_type a)));
+      room = λ a q. absurd (omega (arith, ap (λ (t : Ty). rank t.role) (no_type a)));
       few_cells = omega arith;
       few_states = omega arith;
       few_inputs = omega arith;

@@ -11,7 +11,7 @@ use borrow.Author.Tests.{le-leb, leb-true}
 use Rattle.tables.specs.declared.Ty.{Ty}
 use Rattle.tables.specs.Pick.{pick}
 use Rattle.tables.specs.Lines.{Line}
-use Rattle.tables.specs.Types.{no_ty, is_value, ty_at}
+use Rattle.tables.specs.Types.{rank, no_ty, is_value, ty_at}
 use Rattle.tables.proofs.Showing.{snoc_other, earlier}
 use Rattle.tables.proofs.Values.{val_value}
 use Rattle.circuits.specs.Layout.{Layout, type_at, size, line_type_in, lay}
@@ -30,10 +30,10 @@ before_new : (ts : List Ty) (t : Ty) → cells_before (ts ++ (t ∷ [])) (suc (l
 before_new [] t = omega arith
 before_new (y ∷ ts) t = omega (arith, before_new ts t)
 
-before_low : (ts : List Ty) (a : ℕ) → 2 ≤ (get_or ts a no_ty).role → cells_before ts a + size (get_or ts a no_ty) ≤ cells_before ts (length ts)
+before_low : (ts : List Ty) (a : ℕ) → 2 ≤ rank (get_or ts a no_ty).role → cells_before ts a + size (get_or ts a no_ty) ≤ cells_before ts (length ts)
 before_low [] zero q = absurd (omega arith)
 before_low [] (suc a) q = absurd (omega arith)
-before_low (y ∷ ts) zero q = rw (le-leb 2 y.role q) (omega arith)
+before_low (y ∷ ts) zero q = rw (le-leb 2 (rank y.role) q) (omega arith)
 before_low (y ∷ ts) (suc a) q = omega (arith, before_low ts a q)
 
 -- ---- a line more
@@ -47,7 +47,7 @@ unfolding off_at
 off_old p Y l a n =
     ap (λ (t : Ty). pick (is_value t) (cells_before (lay p Y l).ctx.tys a) 0) (snoc_other Y.ctx.tys (line_type_in p Y l) no_ty a n)
     ∙ pick_same (is_value (type_at Y a)) (cells_before (lay p Y l).ctx.tys a) (cells_before Y.ctx.tys a)
-    (λ e. before_old Y.ctx.tys (line_type_in p Y l) a (omega (arith, earlier Y.ctx.tys a (omega (arith, leb-true 2 (type_at Y a).role e)))))
+    (λ e. before_old Y.ctx.tys (line_type_in p Y l) a (omega (arith, earlier Y.ctx.tys a (omega (arith, leb-true 2 (rank (type_at Y a).role) e)))))
 
 -- the cells counted so far are those of the lines so far
 abbrev pub AllCounted : Layout → Type 0
@@ -59,7 +59,7 @@ line_cells p Y (Line.bitvec w) = omega arith
 line_cells p Y (Line.array i e) = omega arith
 line_cells p Y (Line.input s) = refl
 line_cells p Y (Line.state s) = refl
-line_cells p Y (Line.value s e) = rw (le-leb 2 (line_type_in p Y (Line.value s e)).role (val_value p (ty_at Y.ctx) s e)) refl
+line_cells p Y (Line.value s e) = rw (le-leb 2 (rank (line_type_in p Y (Line.value s e)).role) (val_value p (ty_at Y.ctx) s e)) refl
 line_cells p Y (Line.init_or_next m s q v) = omega arith
 line_cells p Y (Line.signal m a) = omega arith
 line_cells p Y (Line.output a) = omega arith
@@ -76,7 +76,7 @@ off_by p Y (Line.bitvec w) = refl
 off_by p Y (Line.array i e) = refl
 off_by p Y (Line.input s) = refl
 off_by p Y (Line.state s) = refl
-off_by p Y (Line.value s e) = rw (le-leb 2 (line_type_in p Y (Line.value s e)).role (val_value p (ty_at Y.ctx) s e)) refl
+off_by p Y (Line.value s e) = rw (le-leb 2 (rank (line_type_in p Y (Line.value s e)).role) (val_value p (ty_at Y.ctx) s e)) refl
 off_by p Y (Line.init_or_next m s q v) = refl
 off_by p Y (Line.signal m a) = refl
 off_by p Y (Line.output a) = refl
@@ -88,10 +88,10 @@ off_new p Y l e =
     ap (λ (t : Ty). pick (is_value t) (cells_before (lay p Y l).ctx.tys (length Y.ctx.tys)) 0) (get_or_at Y.ctx.tys (line_type_in p Y l) [] no_ty (length Y.ctx.tys) refl)
     ∙ ap (λ (n : ℕ). pick (is_value (line_type_in p Y l)) n 0) (before_old Y.ctx.tys (line_type_in p Y l) (length Y.ctx.tys) (omega arith) ∙ e) ∙ off_by p Y l
 
-pub off_value : (p : Bool) (Y : Layout) (l : Line) → AllCounted Y → 2 ≤ (line_type_in p Y l).role → off_at (lay p Y l) (length Y.ctx.tys) ≡ Y.counts.cells
-off_value p Y l e q = off_new p Y l e ∙ sym (off_by p Y l) ∙ rw (le-leb 2 (line_type_in p Y l).role q) refl
+pub off_value : (p : Bool) (Y : Layout) (l : Line) → AllCounted Y → 2 ≤ rank (line_type_in p Y l).role → off_at (lay p Y l) (length Y.ctx.tys) ≡ Y.counts.cells
+off_value p Y l e q = off_new p Y l e ∙ sym (off_by p Y l) ∙ rw (le-leb 2 (rank (line_type_in p Y l).role) q) refl
 
 -- the cells of a value lie below those counted
-pub off_low : (Y : Layout) (a : ℕ) → AllCounted Y → 2 ≤ (type_at Y a).role → off_at Y a + size (type_at Y a) ≤ Y.counts.cells
+pub off_low : (Y : Layout) (a : ℕ) → AllCounted Y → 2 ≤ rank (type_at Y a).role → off_at Y a + size (type_at Y a) ≤ Y.counts.cells
 unfolding off_at
-off_low Y a e q = rw (le-leb 2 (type_at Y a).role q) (omega (arith, e, before_low Y.ctx.tys a q))
+off_low Y a e q = rw (le-leb 2 (rank (type_at Y a).role) q) (omega (arith, e, before_low Y.ctx.tys a q))

@@ -15,7 +15,7 @@ use Rattle.words.proofs.Bounds.{circ_lt}
 use Rattle.tables.specs.declared.Ty.{Ty}
 use Rattle.tables.specs.Pick.{pick, alike}
 use Rattle.tables.specs.Lines.{Line, Expr}
-use Rattle.tables.specs.Types.{sort_at, ty_at, given}
+use Rattle.tables.specs.Types.{rank, sort_at, ty_at, given}
 use Rattle.tables.proofs.Kept.{no_yes}
 use Rattle.tables.proofs.Shapes.{binary_range}
 use Rattle.tables.proofs.Showing.{earlier}
@@ -95,10 +95,10 @@ module _ {p : Bool} {all : ℕ} {σ w : List ℕ} {A : Frame} (H : Held p all σ
   abbrev Y : Layout
   Y = A.lay
 
-  there : (a : ℕ) → 1 ≤ (type_at A.lay a).role → a < length A.lay.ctx.tys
+  there : (a : ℕ) → 1 ≤ rank (type_at A.lay a).role → a < length A.lay.ctx.tys
   there a q = earlier A.lay.ctx.tys a q
 
-  shown : (a : ℕ) → 1 ≤ (type_at A.lay a).role → Shown P a (type_at A.lay a) (off_at A.lay a) (place_at A.lay a)
+  shown : (a : ℕ) → 1 ≤ rank (type_at A.lay a).role → Shown P a (type_at A.lay a) (off_at A.lay a) (place_at A.lay a)
   shown a q =
       let h = there a q in
       let ne : a ≡ length A.lay.ctx.tys → ⊥ = λ e. omega arith in
@@ -110,28 +110,28 @@ module _ {p : Bool} {all : ℕ} {σ w : List ℕ} {A : Frame} (H : Held p all σ
       let s = sh (length A.lay.ctx.tys) (omega (arith, more_places p A.lay l, H.sound.long)) in
       rw (type_new p A.lay l H.sound.long, off_new p A.lay l H.sound.counted, place_new p A.lay l H.sound.long) at s
 
-  run_of : (a : ℕ) → 2 ≤ (type_at A.lay a).role → cells_kept P w a ≡ cells_at A a
+  run_of : (a : ℕ) → 2 ≤ rank (type_at A.lay a).role → cells_kept P w a ≡ cells_at A a
   run_of a q = ap₂ (part w) (shown a (omega arith)).is_off (shown a (omega arith)).is_num ∙ cells_at_lem H.sound H.holds a q
 
   pub word_of : (a : ℕ) → IsWord (type_at A.lay a) → word_kept P w a ≡ word_at A a
   word_of a q = ap (λ (n : ℕ). get_or w n 0) (shown a (omega (arith, q.is))).is_off ∙ word_at_lem H.sound H.holds a q
 
-  wid_of : (a : ℕ) → 2 ≤ (type_at A.lay a).role → wid_in P a ≡ width_at A a
+  wid_of : (a : ℕ) → 2 ≤ rank (type_at A.lay a).role → wid_in P a ≡ width_at A a
   wid_of a q = (shown a (omega arith)).is_wid
 
-  inside : (a : ℕ) → 2 ≤ (type_at A.lay a).role → off_at A.lay a + size (type_at A.lay a) ≤ length w
+  inside : (a : ℕ) → 2 ≤ rank (type_at A.lay a).role → off_at A.lay a + size (type_at A.lay a) ≤ length w
   inside a q = let h = low H.sound a q in let n = H.kept.len in omega arith
 
-  len_of : (a : ℕ) → 2 ≤ (type_at A.lay a).role → length (cells_at A a) ≡ size (type_at A.lay a)
+  len_of : (a : ℕ) → 2 ≤ rank (type_at A.lay a).role → length (cells_at A a) ≡ size (type_at A.lay a)
   len_of a q = ap length (sym (cells_at_lem H.sound H.holds a q)) ∙ laws.length_part w (off_at A.lay a) (size (type_at A.lay a)) (inside a q)
 
-  small_of : p ≡ false → (a : ℕ) → 2 ≤ (type_at A.lay a).role → (j : ℕ) → get_or (cells_at A a) j 0 < 2 ^ (type_at A.lay a).w
+  small_of : p ≡ false → (a : ℕ) → 2 ≤ rank (type_at A.lay a).role → (j : ℕ) → get_or (cells_at A a) j 0 < 2 ^ (type_at A.lay a).w
   small_of e a q j =
       ⊎_elim (λ lt. subst (λ (x : ℕ). x < 2 ^ (type_at A.lay a).w) (sym (ap (λ (x : List ℕ). get_or x j 0) (sym (cells_at_lem H.sound H.holds a q)) ∙ laws.part_get_or w (off_at A.lay a) (size (type_at A.lay a)) j lt)) (H.holds.small e a q j lt))
       (λ ge. subst (λ (x : ℕ). x < 2 ^ (type_at A.lay a).w) (sym (get_or-eq_default (cells_at A a) 0 (omega (arith, len_of a q)))) (pow_pos (type_at A.lay a).w))
       (laws.lt_or_ge j (size (type_at A.lay a)))
 
-  width_of : (a : ℕ) → 2 ≤ (type_at A.lay a).role → Width (type_at A.lay a).w
+  width_of : (a : ℕ) → 2 ≤ rank (type_at A.lay a).role → Width (type_at A.lay a).w
   width_of a q = let h = H.sound.wide a (omega arith) in record { least = h.least; most = h.most }
 
   -- ---- word operators
@@ -198,16 +198,16 @@ module _ {p : Bool} {all : ℕ} {σ w : List ℕ} {A : Frame} (H : Held p all σ
 
   -- ---- what a line asks of the work area
 
-  below : (a : ℕ) → 2 ≤ (type_at A.lay a).role → off_in P a + num_in P a ≤ A.lay.counts.cells
+  below : (a : ℕ) → 2 ≤ rank (type_at A.lay a).role → off_in P a + num_in P a ≤ A.lay.counts.cells
   below a q = let h = low H.sound a q in omega (arith, (shown a (omega arith)).is_off, (shown a (omega arith)).is_num)
 
-  run_fit : (m a : ℕ) → A.lay.counts.cells ≤ m → 2 ≤ (type_at A.lay a).role → RunBelow P m a
+  run_fit : (m a : ℕ) → A.lay.counts.cells ≤ m → 2 ≤ rank (type_at A.lay a).role → RunBelow P m a
   run_fit m a h q = record { known = (shown a (omega arith)).known; ends = omega (arith, below a q) }
 
-  word_fit : (m a : ℕ) → A.lay.counts.cells ≤ m → 2 ≤ (type_at A.lay a).role → WordBelow P m a
+  word_fit : (m a : ℕ) → A.lay.counts.cells ≤ m → 2 ≤ rank (type_at A.lay a).role → WordBelow P m a
   word_fit m a h q = record { known = (shown a (omega arith)).known; below = omega (arith, below a q, (shown a (omega arith)).is_num, pow_pos (type_at A.lay a).iw) }
 
-  index_fit : p ≡ false → (i a : ℕ) → IsWord (type_at A.lay i) → 2 ≤ (type_at A.lay a).role → (type_at A.lay i).w ≡ (type_at A.lay a).iw → word_kept P w i < num_in P a
+  index_fit : p ≡ false → (i a : ℕ) → IsWord (type_at A.lay i) → 2 ≤ rank (type_at A.lay a).role → (type_at A.lay i).w ≡ (type_at A.lay a).iw → word_kept P w i < num_in P a
   index_fit f i a q r e =
       subst (λ (n : ℕ). word_kept P w i < n) (ap (λ (n : ℕ). 2 ^ n) e ∙ sym (shown a (omega arith)).is_num) (subst (λ (x : ℕ). x < 2 ^ width_at A i) (sym (word_of i q)) (small_of f i q.is 0))
 
@@ -218,7 +218,7 @@ module _ {p : Bool} {all : ℕ} {σ w : List ℕ} {A : Frame} (H : Held p all σ
     wid_here : wid_in P (length A.lay.ctx.tys) ≡ t.w
     wid_here = mine.is_wid ∙ same_w
 
-    num_here : (a : ℕ) → 2 ≤ (type_at A.lay a).role → (type_at A.lay a).iw ≡ t.iw → num_in P a ≡ num_in P (length A.lay.ctx.tys)
+    num_here : (a : ℕ) → 2 ≤ rank (type_at A.lay a).role → (type_at A.lay a).iw ≡ t.iw → num_in P a ≡ num_in P (length A.lay.ctx.tys)
     num_here a q e = (shown a (omega arith)).is_num ∙ ap (λ (n : ℕ). 2 ^ n) (e ∙ sym same-iw) ∙ sym mine.is_num
 
     fit_expr : t.w ≤ 64 → (e : Expr) → OkExpr p (ty_at A.lay.ctx) t e → FitE p P w (length A.lay.ctx.tys) e
@@ -266,10 +266,10 @@ module _ {p : Bool} {all : ℕ} {σ w : List ℕ} {A : Frame} (H : Held p all σ
 
   -- ---- init and next
 
-  state_room : (q : ℕ) → (type_at A.lay q).role ≡ 4 → place_at A.lay q + size (type_at A.lay q) ≤ A.lay.counts.states
+  state_room : (q : ℕ) → rank (type_at A.lay q).role ≡ 4 → place_at A.lay q + size (type_at A.lay q) ≤ A.lay.counts.states
   state_room q e = H.sound.room q e
 
-  init_next_value : (m : Bool) (q v : ℕ) (b : Ty) → OkValue m q v b → 2 ≤ b.role
+  init_next_value : (m : Bool) (q v : ℕ) (b : Ty) → OkValue m q v b → 2 ≤ rank b.role
   init_next_value true q v b ok = ok.word.is
   init_next_value false q v b ok = ok.is
 
@@ -301,12 +301,12 @@ module _ {p : Bool} {all : ℕ} {σ w : List ℕ} {A : Frame} (H : Held p all σ
   gives_len true s q v ok = length-replicate (size (type_at A.lay q)) (word_at A v)
   gives_len false s q v ok = len_of v ok.value.is ∙ ap (λ (n : ℕ). 2 ^ n) (ok.iw ∙ sym ok.same.iw)
 
-  place_of_lem : (q : ℕ) → (type_at A.lay q).role ≡ 4 → pos_in P q ≡ place_at A.lay q
+  place_of_lem : (q : ℕ) → rank (type_at A.lay q).role ≡ 4 → pos_in P q ≡ place_at A.lay q
   place_of_lem q e = (shown q (omega arith)).is_pos
 
 -- ---- one line
 
-pub is_sort_lem : (p : Bool) (L : ℕ → Ty) (t : Ty) (e : Expr) → OkExpr p L t e → t.role ≡ 1
+pub is_sort_lem : (p : Bool) (L : ℕ → Ty) (t : Ty) (e : Expr) → OkExpr p L t e → rank t.role ≡ 1
 is_sort_lem p L t (Expr.const v) ok = ok.sort.is
 is_sort_lem p L t (Expr.unary k a x y) ok = ok.sort.is
 is_sort_lem p L t (Expr.binary k a b) ok = ok.sort.is
@@ -317,7 +317,7 @@ is_sort_lem p L t (Expr.write a i v) ok = ok.sort.is
 
 module _ (p f : Bool) (P : List (List ℕ)) (all : ℕ) (σ ι w : List ℕ) (A : Frame) (H : Held p all σ w A) where
   -- a line that has no value and stores nothing
-  quiet : (l : Line) → Sound (lay p A.lay l) → (line_type_in p A.lay l).role < 2 → (lay p A.lay l).counts.states ≡ A.lay.counts.states
+  quiet : (l : Line) → Sound (lay p A.lay l) → rank (line_type_in p A.lay l).role < 2 → (lay p A.lay l).counts.states ≡ A.lay.counts.states
       → cells_of p f σ ι A l ≡ [] → states_after p f σ A l ≡ A.sts → Held p all σ w (eval_line p f σ ι A l)
   quiet l S c n ee es =
       record {
@@ -327,7 +327,7 @@ module _ (p f : Bool) (P : List (List ℕ)) (all : ℕ) (σ ι w : List ℕ) (A 
       }
 
   -- a line that has a value and stores nothing
-  valued : (l : Line) (vs : List ℕ) → Sound (lay p A.lay l) → 2 ≤ (line_type_in p A.lay l).role
+  valued : (l : Line) (vs : List ℕ) → Sound (lay p A.lay l) → 2 ≤ rank (line_type_in p A.lay l).role
       → length vs ≡ size (line_type_in p A.lay l) → (p ≡ false → (j : ℕ) → get_or vs j 0 < 2 ^ (line_type_in p A.lay l).w) → A.lay.counts.cells + size (line_type_in p A.lay l) ≤ all
       → (lay p A.lay l).counts.states ≡ A.lay.counts.states → cells_of p f σ ι A l ≡ vs → states_after p f σ A l ≡ A.sts
       → Held p all σ (put w A.lay.counts.cells vs) (eval_line p f σ ι A l)
@@ -410,7 +410,7 @@ module _ (p f : Bool) (P : List (List ℕ)) (all : ℕ) (σ ι w : List ℕ) (A 
   sim (Line.output a) ok sh hv hs = quiet (Line.output a) (sound_more p A.lay (Line.output a) H.sound ok) (omega arith) refl refl refl
   sim Line.unknown ok sh hv hs = absurd ok
 
-  own : (l : Line) → OkLine p (ty_at A.lay.ctx) (given A.lay.ctx) l → 2 ≤ (line_type_in p A.lay l).role → Wide (line_type_in p A.lay l)
+  own : (l : Line) → OkLine p (ty_at A.lay.ctx) (given A.lay.ctx) l → 2 ≤ rank (line_type_in p A.lay l).role → Wide (line_type_in p A.lay l)
   own l ok q = line_wide p (ty_at A.lay.ctx) (given A.lay.ctx) H.sound.wide l ok (omega arith)
 
   pub fit : (ins sigs : ℕ) (l : Line) → OkLine p (ty_at A.lay.ctx) (given A.lay.ctx) l → ShowsAll P (lay p A.lay l) → (lay p A.lay l).counts.cells ≤ all

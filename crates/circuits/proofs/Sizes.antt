@@ -9,6 +9,7 @@ use native.Mathlib.Omega.{arith}
 use lib.Pow.{pow_pos}
 use lib.ListN.{length, get_or, replicate, length-append, length-replicate, get_or-eq_default}
 use lib.Seq.{drop_at}
+use Rattle.tables.specs.Types.{rank}
 use Rattle.tables.specs.Lines.{Line}
 use Rattle.tables.proofs.Facts.{AllOk}
 use Rattle.circuits.specs.Layout.{Layout, type_at, place_at, size, no_layout, lay, lay_all, layout}
@@ -52,7 +53,7 @@ laid_shows Y few a h =
 
 -- ---- the cells of a value, read off a work area that holds the lines so far
 
-module _ {p : Bool} {all : ℕ} {σ work : List ℕ} {A : Frame} (H : Held p all σ work A) (room : A.lay.counts.cells ≤ all) (a : ℕ) (q : 2 ≤ (type_at A.lay a).role) where
+module _ {p : Bool} {all : ℕ} {σ work : List ℕ} {A : Frame} (H : Held p all σ work A) (room : A.lay.counts.cells ≤ all) (a : ℕ) (q : 2 ≤ rank (type_at A.lay a).role) where
   pub held_size : length (cells_at A a) ≡ size (type_at A.lay a)
   held_size =
       let h = low H.sound a q in
@@ -133,18 +134,18 @@ module _ {p : Bool} {all : ℕ} {σ : List ℕ} {A : Frame} {C : List Line} (k :
   pub states_many : length A.sts ≡ A.lay.counts.states
   states_many = k.held.kept.many
 
-  pub cells_size : (a : ℕ) → 2 ≤ (type_at A.lay a).role → length (cells_at A a) ≡ size (type_at A.lay a)
+  pub cells_size : (a : ℕ) → 2 ≤ rank (type_at A.lay a).role → length (cells_at A a) ≡ size (type_at A.lay a)
   cells_size = held_size k.held cells_counted
 
-  pub cells_below : (a : ℕ) → 2 ≤ (type_at A.lay a).role → p ≡ false → (j : ℕ) → get_or (cells_at A a) j 0 < 2 ^ (type_at A.lay a).w
+  pub cells_below : (a : ℕ) → 2 ≤ rank (type_at A.lay a).role → p ≡ false → (j : ℕ) → get_or (cells_at A a) j 0 < 2 ^ (type_at A.lay a).w
   cells_below = held_below k.held cells_counted
 
 -- ---- a step, and the walk as a run starts
 
 -- a value has 2 ^ iw cells, a word one
-pub cells_count : (p f : Bool) (σ ι : List ℕ) (C : List Line) → AllOk p no_layout.ctx C → length C ≤ 16384 → (layout p C).counts.states ≤ length σ → (a : ℕ) → 2 ≤ (type_at (layout p C) a).role
+pub cells_count : (p f : Bool) (σ ι : List ℕ) (C : List Line) → AllOk p no_layout.ctx C → length C ≤ 16384 → (layout p C).counts.states ≤ length σ → (a : ℕ) → 2 ≤ rank (type_at (layout p C) a).role
     → length (cells_at (step p f C σ ι) a) ≡ size (type_at (layout p C) a)
 unfolding step layout
 cells_count p f σ ι C ok few enough a q =
     let e = acc_lay p f σ ι no_frame C in
-    cells_size (walk_done p f σ ι no_frame C (walk_none p f σ ι C ok few enough)) a (subst (λ (Y : Layout). 2 ≤ (type_at Y a).role) (sym e) q) ∙ ap (λ (Y : Layout). size (type_at Y a)) e
+    cells_size (walk_done p f σ ι no_frame C (walk_none p f σ ι C ok few enough)) a (subst (λ (Y : Layout). 2 ≤ rank (type_at Y a).role) (sym e) q) ∙ ap (λ (Y : Layout). size (type_at Y a)) e

@@ -13,7 +13,7 @@ use borrow.Author.Tests.{eqb-false}
 use Rattle.tables.specs.declared.Ty.{Ty}
 use Rattle.tables.specs.Pick.{pick, among, alike}
 use Rattle.tables.specs.Lines.{Line}
-use Rattle.tables.specs.Types.{ty_at, given}
+use Rattle.tables.specs.Types.{rank, ty_at, given}
 use Rattle.tables.proofs.Laws.{or_true}
 use Rattle.tables.proofs.Kept.{neither}
 use Rattle.tables.proofs.Showing.{by_place, snoc_other, earlier}
@@ -37,16 +37,16 @@ words_of_state Y σ q = part σ (place_at Y q) (size (type_at Y q))
 
 -- words of a later state stand behind those of an earlier one
 abbrev Rising : Layout → Type 0
-Rising Y = (x q : ℕ) → (type_at Y x).role ≡ 4 → (type_at Y q).role ≡ 4 → x < q → place_at Y x + size (type_at Y x) ≤ place_at Y q
+Rising Y = (x q : ℕ) → rank (type_at Y x).role ≡ 4 → rank (type_at Y q).role ≡ 4 → x < q → place_at Y x + size (type_at Y x) ≤ place_at Y q
 
 pub record States (p f : Bool) (σ : List ℕ) (A : Frame) : Type 0 where
   pub rising : Rising A.lay
   -- the cells of a state's line are its words as the walk found them
-  pub own : (q : ℕ) → (type_at A.lay q).role ≡ 4 → cells_at A q ≡ state_words p f (type_at A.lay q).w (words_of_state A.lay σ q)
+  pub own : (q : ℕ) → rank (type_at A.lay q).role ≡ 4 → cells_at A q ≡ state_words p f (type_at A.lay q).w (words_of_state A.lay σ q)
   -- and these are its words where it has been given no others
-  pub kept : (q : ℕ) → (type_at A.lay q).role ≡ 4 → given A.lay.ctx f q ≡ false → words_of_state A.lay A.sts q ≡ cells_at A q
+  pub kept : (q : ℕ) → rank (type_at A.lay q).role ≡ 4 → given A.lay.ctx f q ≡ false → words_of_state A.lay A.sts q ≡ cells_at A q
 
-apart : (Y : Layout) → Rising Y → (x q : ℕ) → (type_at Y x).role ≡ 4 → (type_at Y q).role ≡ 4 → (x ≡ q → ⊥)
+apart : (Y : Layout) → Rising Y → (x q : ℕ) → rank (type_at Y x).role ≡ 4 → rank (type_at Y q).role ≡ 4 → (x ≡ q → ⊥)
     → (place_at Y q + size (type_at Y q) ≤ place_at Y x) ⊎ (place_at Y x + size (type_at Y x) ≤ place_at Y q)
 apart Y r x q sx sq n = ⊎_elim (λ h. inr (r x q sx sq h)) (λ h. inl (r q x sq sx (omega (arith, n)))) (laws.lt_or_ge x q)
 
@@ -61,10 +61,10 @@ module _ {p : Bool} {all : ℕ} {σ : List ℕ} (A : Frame) where
   given_size true s x v D k = length-replicate (size (type_at A.lay x)) (word_at A v)
   given_size false s x v D k = let ok = k.ok.0 in cells_size k v ok.value.is ∙ ap (λ (n : ℕ). 2 ^ n) (ok.iw ∙ sym ok.same.iw)
 
-  room : {C : List Line} → Walking p all σ A C → (q : ℕ) → (type_at A.lay q).role ≡ 4 → place_at A.lay q + size (type_at A.lay q) ≤ length A.sts
+  room : {C : List Line} → Walking p all σ A C → (q : ℕ) → rank (type_at A.lay q).role ≡ 4 → place_at A.lay q + size (type_at A.lay q) ≤ length A.sts
   room k q s = omega (arith, k.held.sound.room q s, states_many k)
 
-  module _ (f : Bool) (r : Rising A.lay) (q : ℕ) (sq : (type_at A.lay q).role ≡ 4) where
+  module _ (f : Bool) (r : Rising A.lay) (q : ℕ) (sq : rank (type_at A.lay q).role ≡ 4) where
     stored : (m : Bool) (s x v : ℕ) (D : List Line) → Walking p all σ A (Line.init_or_next m s x v ∷ D) → (b : Bool) → among q (pick b (x ∷ []) []) ≡ false
         → words_of_state A.lay (pick b (put A.sts (place_at A.lay x) (given_words A m (size (type_at A.lay x)) v)) A.sts) q ≡ words_of_state A.lay A.sts q
     stored m s x v D k false n = refl
@@ -95,7 +95,7 @@ record Fresh (p f : Bool) (σ ι : List ℕ) (A : Frame) (l : Line) : Type 0 whe
   words : part (states_after p f σ A l) (place_of A.lay l) (size (line_type_in p A.lay l)) ≡ cells_of p f σ ι A l
 
 module _ (p f : Bool) (σ ι : List ℕ) {all : ℕ} (A : Frame) where
-  fresh : (l : Line) (D : List Line) → Walking p all σ A (l ∷ D) → (line_type_in p A.lay l).role ≡ 4 → Fresh p f σ ι A l
+  fresh : (l : Line) (D : List Line) → Walking p all σ A (l ∷ D) → rank (line_type_in p A.lay l).role ≡ 4 → Fresh p f σ ι A l
   fresh (Line.bitvec w) D k e = absurd (omega arith)
   fresh (Line.array i x) D k e = absurd (omega arith)
   fresh (Line.input s) D k e = absurd (omega arith)
@@ -128,38 +128,38 @@ module _ (p f : Bool) (σ ι : List ℕ) {all : ℕ} (A : Frame) where
     words_old : (q : ℕ) → (q ≡ length A.lay.ctx.tys → ⊥) → (xs : List ℕ) → words_of_state (lay p A.lay l) xs q ≡ words_of_state A.lay xs q
     words_old q n xs = ap₂ (λ (a : ℕ) (t : Ty). part xs a (size t)) (place_old p A.lay l long q n) (type_old p A.lay l long q n)
 
-    role_new : (type_at (lay p A.lay l) (length A.lay.ctx.tys)).role ≡ (line_type_in p A.lay l).role
-    role_new = ap (λ (t : Ty). t.role) (type_new p A.lay l long)
+    role_new : rank (type_at (lay p A.lay l) (length A.lay.ctx.tys)).role ≡ rank (line_type_in p A.lay l).role
+    role_new = ap (λ (t : Ty). rank t.role) (type_new p A.lay l long)
 
-    role_old : (q : ℕ) → (q ≡ length A.lay.ctx.tys → ⊥) → (type_at (lay p A.lay l) q).role ≡ (type_at A.lay q).role
-    role_old q n = ap (λ (t : Ty). t.role) (type_old p A.lay l long q n)
+    role_old : (q : ℕ) → (q ≡ length A.lay.ctx.tys → ⊥) → rank (type_at (lay p A.lay l) q).role ≡ rank (type_at A.lay q).role
+    role_old q n = ap (λ (t : Ty). rank t.role) (type_old p A.lay l long q n)
 
     pub states_line : States p f σ A → States p f σ (eval_line p f σ ι A l)
     states_line S =
         record {
           rising = λ x q sx sq lt.
               let nx : x ≡ length A.lay.ctx.tys → ⊥ = λ e. let h = earlier (lay p A.lay l).ctx.tys q (omega arith) in omega (arith, more_types p A.lay l) in
-              let sx' : (type_at A.lay x).role ≡ 4 = sym (role_old x nx) ∙ sx in
+              let sx' : rank (type_at A.lay x).role ≡ 4 = sym (role_old x nx) ∙ sx in
               let px = place_old p A.lay l long x nx in
               let tx = ap size (type_old p A.lay l long x nx) in
               by_place q (length A.lay.ctx.tys)
               (λ e.
-              let sq' = subst (λ (n : ℕ). (type_at (lay p A.lay l) n).role ≡ 4) e sq in
+              let sq' = subst (λ (n : ℕ). rank (type_at (lay p A.lay l) n).role ≡ 4) e sq in
               let pq : place_at (lay p A.lay l) q ≡ A.lay.counts.states = ap (place_at (lay p A.lay l)) e ∙ place_new p A.lay l long ∙ (fresh l D k (sym role_new ∙ sq')).place in
               omega (arith, k.held.sound.room x sx'))
               (λ n. let pq = place_old p A.lay l long q n in omega (arith, S.rising x q sx' (sym (role_old q n) ∙ sq) lt));
           own = λ q.
               by_place q (length A.lay.ctx.tys)
-              (λ e. subst (λ (n : ℕ). (type_at (lay p A.lay l) n).role ≡ 4 → cells_at (eval_line p f σ ι A l) n ≡ state_words p f (type_at (lay p A.lay l) n).w (words_of_state (lay p A.lay l) σ n)) (sym e)
+              (λ e. subst (λ (n : ℕ). rank (type_at (lay p A.lay l) n).role ≡ 4 → cells_at (eval_line p f σ ι A l) n ≡ state_words p f (type_at (lay p A.lay l) n).w (words_of_state (lay p A.lay l) σ n)) (sym e)
               (λ s. cells_new ∙ (fresh l D k (sym role_new ∙ s)).own ∙ sym (ap₂ (λ (t : Ty) (xs : List ℕ). state_words p f t.w xs) (type_new p A.lay l long) (words_new σ))))
               (λ n s. cells_old q n ∙ S.own q (sym (role_old q n) ∙ s) ∙ sym (ap₂ (λ (t : Ty) (xs : List ℕ). state_words p f t.w xs) (type_old p A.lay l long q n) (words_old q n σ)));
           kept = λ q.
               by_place q (length A.lay.ctx.tys)
-              (λ e. subst (λ (n : ℕ). (type_at (lay p A.lay l) n).role ≡ 4 → given (lay p A.lay l).ctx f n ≡ false → words_of_state (lay p A.lay l) (states_after p f σ A l) n ≡ cells_at (eval_line p f σ ι A l) n) (sym e)
+              (λ e. subst (λ (n : ℕ). rank (type_at (lay p A.lay l) n).role ≡ 4 → given (lay p A.lay l).ctx f n ≡ false → words_of_state (lay p A.lay l) (states_after p f σ A l) n ≡ cells_at (eval_line p f σ ι A l) n) (sym e)
               (λ s g. words_new (states_after p f σ A l) ∙ (fresh l D k (sym role_new ∙ s)).words ∙ sym cells_new))
               (λ n s g.
               let h = neither _ _ (sym (given_more p f A.lay.ctx l q) ∙ g) in
-              let s' : (type_at A.lay q).role ≡ 4 = sym (role_old q n) ∙ s in
+              let s' : rank (type_at A.lay q).role ≡ 4 = sym (role_old q n) ∙ s in
               words_old q n (states_after p f σ A l) ∙ stays A f S.rising q s' l D k h.1 ∙ S.kept q s' h.0 ∙ sym (cells_old q n));
         }
 
@@ -169,13 +169,13 @@ given_as : (f : Bool) (A B : Frame) (m n v : ℕ) → cells_at A v ≡ cells_at 
 given_as true A B m n v e h = ap₂ (λ (k : ℕ) (xs : List ℕ). replicate k (get_or xs 0 0)) h e
 given_as false A B m n v e h = e
 
-value_role_lem : (f : Bool) (q v : ℕ) (t : Ty) → OkValue f q v t → 2 ≤ t.role
+value_role_lem : (f : Bool) (q v : ℕ) (t : Ty) → OkValue f q v t → 2 ≤ rank t.role
 value_role_lem true q v t k = k.word.is
 value_role_lem false q v t k = k.is
 
 module _ (p f : Bool) (σ ι : List ℕ) {all : ℕ} where
   -- later lines leave the words that a state has been given
-  later_keeps : (A : Frame) (D : List Line) → Walking p all σ A D → States p f σ A → (q : ℕ) → (type_at A.lay q).role ≡ 4 → given A.lay.ctx f q ≡ true
+  later_keeps : (A : Frame) (D : List Line) → Walking p all σ A D → States p f σ A → (q : ℕ) → rank (type_at A.lay q).role ≡ 4 → given A.lay.ctx f q ≡ true
       → words_of_state (eval_all p f σ ι A D).lay (eval_all p f σ ι A D).sts q ≡ words_of_state A.lay A.sts q
   later_keeps A [] k S q s g = refl
   later_keeps A (l ∷ D) k S q s g =
@@ -191,7 +191,7 @@ module _ (p f : Bool) (σ ι : List ℕ) {all : ℕ} where
       let l = Line.init_or_next f s q v in
       let ok = k.ok.0 in
       let B = eval_line p f σ ι A l in
-      let sq : (type_at A.lay q).role ≡ 4 = ok.state in
+      let sq : rank (type_at A.lay q).role ≡ 4 = ok.state in
       let hq = earlier A.lay.ctx.tys q (omega arith) in
       let hv = earlier A.lay.ctx.tys v (omega (arith, value_role_lem f q v (type_at A.lay v) ok.value)) in
       let n : q ≡ length A.lay.ctx.tys → ⊥ = λ e. omega arith in
@@ -214,7 +214,7 @@ module _ (p f : Bool) (σ ι : List ℕ) {all : ℕ} where
       (gives_here A s q v C (subst (λ (x : Line). Walking p all σ A (x ∷ C)) e k) S)
   gives_words A (l ∷ C) k S (suc i) s q v h e = gives_words (eval_line p f σ ι A l) C (walk_line p f σ ι A l C k) (states_line p f σ ι A l C k S) i s q v (omega arith) e
 
-no_states : (a : ℕ) → (type_at no_layout a).role ≡ 4 → ⊥
+no_states : (a : ℕ) → rank (type_at no_layout a).role ≡ 4 → ⊥
 no_states zero e = omega arith
 no_states (suc a) e = omega arith
 

@@ -11,7 +11,7 @@ use lib.ListN.{length, take, get_or, replicate}
 use Rattle.tables.specs.declared.Ty.{Ty}
 use Rattle.tables.specs.Lines.{Line}
 use Rattle.tables.specs.Layout.{lines_of}
-use Rattle.tables.specs.Types.{state_role, ty_at, given}
+use Rattle.tables.specs.Types.{rank, ty_at, given}
 use Rattle.tables.specs.Tables.{checked}
 use Rattle.tables.proofs.Facts.{OkLine}
 use Rattle.tables.proofs.Showing.{earlier}
@@ -61,17 +61,17 @@ module _ (p : Bool) (t : List ℕ) (n : ℕ) (acc : checked p t n ≡ Ok tt) whe
     words_many = states_many ended ∙ ap (λ (Z : Layout). Z.counts.states) (step_lay f σ ι)
 
     -- The value of a state in a step: its words before the step, whatever its next line is and whatever other next lines store.
-    pub state_value : (q : ℕ) → (type_at Y q).role ≡ state_role
+    pub state_value : (q : ℕ) → rank (type_at Y q).role ≡ 4
         → cells_at (step p f C σ ι) q ≡ state_words p f (type_at Y q).w (words_of_state Y σ q)
     state_value =
-        subst (λ (Z : Layout). (q : ℕ) → (type_at Z q).role ≡ state_role → cells_at (step p f C σ ι) q ≡ state_words p f (type_at Z q).w (words_of_state Z σ q)) (step_lay f σ ι)
+        subst (λ (Z : Layout). (q : ℕ) → rank (type_at Z q).role ≡ 4 → cells_at (step p f C σ ι) q ≡ state_words p f (type_at Z q).w (words_of_state Z σ q)) (step_lay f σ ι)
         states.own
 
     -- its words after the step where it has no next line (as a run starts: no init line): the value that it had
-    pub words_kept : (q : ℕ) → (type_at Y q).role ≡ state_role → given Y.ctx f q ≡ false
+    pub words_kept : (q : ℕ) → rank (type_at Y q).role ≡ 4 → given Y.ctx f q ≡ false
         → words_of_state Y (step p f C σ ι).sts q ≡ cells_at (step p f C σ ι) q
     words_kept =
-        subst (λ (Z : Layout). (q : ℕ) → (type_at Z q).role ≡ state_role → given Z.ctx f q ≡ false → words_of_state Z (step p f C σ ι).sts q ≡ cells_at (step p f C σ ι) q) (step_lay f σ ι)
+        subst (λ (Z : Layout). (q : ℕ) → rank (type_at Z q).role ≡ 4 → given Z.ctx f q ≡ false → words_of_state Z (step p f C σ ι).sts q ≡ cells_at (step p f C σ ι) q) (step_lay f σ ι)
         states.kept
 
     -- its words after the step where the line at the place i is its next (as a run starts: its init)
@@ -97,17 +97,17 @@ module _ (p : Bool) (t : List ℕ) (n : ℕ) (acc : checked p t n ≡ Ok tt) whe
     ok : OkLine p (ty_at Z.ctx) (given Z.ctx) (Line.init_or_next false s q v)
     ok = subst (OkLine p (ty_at Z.ctx) (given Z.ctx)) e (ok_here p t n acc i h)
 
-    same_type : (a : ℕ) → 1 ≤ (type_at Z a).role → type_at Y a ≡ type_at Z a
+    same_type : (a : ℕ) → 1 ≤ rank (type_at Z a).role → type_at Y a ≡ type_at Z a
     same_type a r =
         let l = get_or C i Line.unknown in
         let k = earlier Z.ctx.tys a r in
         (later_at p t n acc i h).type a (omega (arith, more_types p Z l)) ∙ type_old p Z l (sound_at p t n acc i).long a (λ z. omega arith)
 
-    is_state_lem : (type_at Y q).role ≡ state_role
-    is_state_lem = ap (λ (x : Ty). x.role) (same_type q (omega (arith, ok.state))) ∙ ok.state
+    is_state_lem : rank (type_at Y q).role ≡ 4
+    is_state_lem = ap (λ (x : Ty). rank x.role) (same_type q (omega (arith, ok.state))) ∙ ok.state
 
-    is_value_lem : 2 ≤ (type_at Y v).role
-    is_value_lem = subst (λ (x : Ty). 2 ≤ x.role) (sym (same_type v (omega (arith, ok.value.is)))) ok.value.is
+    is_value_lem : 2 ≤ rank (type_at Y v).role
+    is_value_lem = subst (λ (x : Ty). 2 ≤ rank x.role) (sym (same_type v (omega (arith, ok.value.is)))) ok.value.is
 
     same_width : (type_at Y v).w ≡ (type_at Y q).w
     same_width =
@@ -120,7 +120,7 @@ module _ (p : Bool) (t : List ℕ) (n : ℕ) (acc : checked p t n ≡ Ok tt) whe
         let after : List ℕ = (step p false C σ ι).sts in
         let w = (type_at Y q).w in
         let L = step_lay false σ ι in
-        let r : 2 ≤ (type_at (step p false C σ ι).lay v).role = subst (λ (X : Layout). 2 ≤ (type_at X v).role) (sym L) is_value_lem in
+        let r : 2 ≤ rank (type_at (step p false C σ ι).lay v).role = subst (λ (X : Layout). 2 ≤ rank (type_at X v).role) (sym L) is_value_lem in
         let x : (type_at (step p false C σ ι).lay v).w ≡ w = ap (λ (X : Layout). (type_at X v).w) L ∙ same_width in
         state_value after (omega (arith, words_many σ enough false ι)) false ι' q is_state_lem
         ∙ ap (state_words p false w) (next_words σ ι enough i s q v h e)

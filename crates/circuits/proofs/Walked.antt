@@ -10,7 +10,7 @@ use lib.ListN.{length, take, drop, get_or, set, take-append-drop, get_or-map}
 use lib.Seq.{take-suc, take-suc-set, take-length, drop-length, length-take-le}
 use Rattle.tables.specs.Lines.{Line, line_of}
 use Rattle.tables.specs.Layout.{record_at, records_of, lines_of}
-use Rattle.tables.specs.Types.{ty_at, given}
+use Rattle.tables.specs.Types.{rank, ty_at, given}
 use Rattle.tables.specs.Tables.{checked}
 use Rattle.tables.proofs.Places.{record_at_lem, length_lines}
 use Rattle.tables.proofs.Sound.{accepted_ok}
@@ -155,7 +155,7 @@ no_cells : (w : List ℕ) (a : ℕ) → get_or no_frame.env a [] ≡ []
 no_cells w zero = refl
 no_cells w (suc a) = refl
 
-no_type : (a : ℕ) → (type_at no_layout a).role ≡ 0
+no_type : (a : ℕ) → rank (type_at no_layout a).role ≡ 0
 no_type zero = refl
 no_type (suc a) = refl
 

@@ -17,7 +17,7 @@ use Rattle.tables.specs.declared.Ty.{Ty}
 use Rattle.tables.specs.Pick.{among, all}
 use Rattle.tables.specs.Kinds.{row_of}
 use Rattle.tables.specs.Lines.{Line, Expr, fields, line_of, words_of, kind_in, first_in, second_in, third_in}
-use Rattle.tables.specs.Types.{no_ty, sort_at, ty_at, given, no_ctx}
+use Rattle.tables.specs.Types.{rank, no_ty, sort_at, ty_at, given, no_ctx}
 use Rattle.tables.specs.Cone.{uses_expr}
 use Rattle.tables.specs.Rules.{suits, fault}
 use Rattle.tables.proofs.Laws.{or_true}
@@ -80,7 +80,7 @@ module _ (p f : Bool) (C : List Line) (σ ι : List ℕ) (ok : AllOk p no_ctx C)
       kept : OkExpr p (ty_at Y.ctx) (sort_at p (ty_at Y.ctx) s) e
       kept = subst (λ (l : Line). OkLine p (ty_at Y.ctx) (given Y.ctx) l) is (ok_at p no_layout C i ok h)
 
-      value : (a : ℕ) → among a (uses_expr e) ≡ true → 2 ≤ (type_at Y a).role
+      value : (a : ℕ) → among a (uses_expr e) ≡ true → 2 ≤ rank (type_at Y a).role
       value a m = operand_value p (ty_at Y.ctx) (sort_at p (ty_at Y.ctx) s) e kept a m
 
       below : (a : ℕ) → among a (uses_expr e) ≡ true → a ≤ i
@@ -89,7 +89,7 @@ module _ (p f : Bool) (C : List Line) (σ ι : List ℕ) (ok : AllOk p no_ctx C)
       one : (a : ℕ) → among a (uses_expr e) ≡ true → length (cells_at B a) ≡ 1
       one a m =
           ap length (sym (cells_before_lem a (below a m)))
-          ∙ cells_count p f σ ι C ok few room a (subst (λ (t : Ty). 2 ≤ t.role) (sym (type_before a (below a m))) (value a m)) ∙ ap (λ (n : ℕ). 2 ^ n) (flat a m)
+          ∙ cells_count p f σ ι C ok few room a (subst (λ (t : Ty). 2 ≤ rank t.role) (sym (type_before a (below a m))) (value a m)) ∙ ap (λ (n : ℕ). 2 ^ n) (flat a m)
 
       whole : {e : Expr} → AnySort e → ((a : ℕ) → among a (uses_expr e) ≡ true → a ≤ i)
           → operator_word p (width_at B) (word_at B) (words_of (Line.value s e)) ≡ operator_word p (width_at A) (word_at A) (words_of (Line.value s e))

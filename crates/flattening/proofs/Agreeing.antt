@@ -13,7 +13,7 @@ use Rattle.std.specs.Prelude.{Some, None}
 use Rattle.tables.specs.declared.Ty.{Ty}
 use Rattle.tables.specs.Pick.{pick}
 use Rattle.tables.specs.Lines.{Line, Expr, fields, words_of, init_or_next_kind, equality_kind}
-use Rattle.tables.specs.Types.{ty_at, given}
+use Rattle.tables.specs.Types.{rank, ty_at, given}
 use Rattle.tables.specs.Rules.{value_index}
 use Rattle.tables.specs.Layout.{from}
 use Rattle.tables.proofs.Facts.{IsWord, OkValue, OkLine}
@@ -38,9 +38,9 @@ KnownNote (some v) c = c ≡ con_number (small v)
 
 -- the numbers kept of the line a, of the type t, tell what the definition keeps of it
 pub record NoteRel (N : Notes) (t : Ty) (a : ℕ) (f : Info) : Type 0 where
-  pub elem : t.role ≡ 1 → sort_line N a ≡ f.elem
+  pub elem : rank t.role ≡ 1 → sort_line N a ≡ f.elem
   -- a sort writes over no line
-  pub sort : t.role ≡ 1 → old_of N.held a ≡ 0
+  pub sort : rank t.role ≡ 1 → old_of N.held a ≡ 0
   pub bit : bit_in N a ≡ f.bit
   pub index : f.index ≡ from (suc f.bit) (length f.index)
   pub cells : (j : ℕ) → j < length f.cells → j < 256 → cell_in N.held a j ≡ get_or f.cells j 0
@@ -48,9 +48,9 @@ pub record NoteRel (N : Notes) (t : Ty) (a : ℕ) (f : Info) : Type 0 where
 
 -- the index widths and widths are those of the lines so far
 pub record Told (A : Frame) (N : Notes) : Type 0 where
-  pub none : (type_at A.lay 0).role ≡ 0
-  pub iw : (a : ℕ) → 1 ≤ (type_at A.lay a).role → deep_in N a ≡ (type_at A.lay a).iw
-  pub w : (a : ℕ) → 1 ≤ (type_at A.lay a).role → wide_in N a ≡ (type_at A.lay a).w
+  pub none : rank (type_at A.lay 0).role ≡ 0
+  pub iw : (a : ℕ) → 1 ≤ rank (type_at A.lay a).role → deep_in N a ≡ (type_at A.lay a).iw
+  pub w : (a : ℕ) → 1 ≤ rank (type_at A.lay a).role → wide_in N a ≡ (type_at A.lay a).w
 
 -- ---- sources
 
@@ -124,30 +124,30 @@ module _ (H : Held) where
 -- ---- one line
 
 module _ {A B : Frame} {I : List Info} (v : Inv A B I) (N : Notes) (ne : Neat N) (tl : Told A N) (nr : (a : ℕ) → NoteRel N (type_at A.lay a) a (info_at I a)) (p : ℕ) where
-  pub is_line : (a : ℕ) → 1 ≤ (type_at A.lay a).role → a ≢ 0
-  is_line a h e = let z : (type_at A.lay a).role ≡ 0 = ap (λ (x : ℕ). (type_at A.lay x).role) e ∙ tl.none in omega arith
+  pub is_line : (a : ℕ) → 1 ≤ rank (type_at A.lay a).role → a ≢ 0
+  is_line a h e = let z : rank (type_at A.lay a).role ≡ 0 = ap (λ (x : ℕ). rank (type_at A.lay x).role) e ∙ tl.none in omega arith
 
   -- the cells of a value
-  pub size_of : (a : ℕ) → 2 ≤ (type_at A.lay a).role → length (lines_at I a) ≡ size_in N a
+  pub size_of : (a : ℕ) → 2 ≤ rank (type_at A.lay a).role → length (lines_at I a) ≡ size_in N a
   size_of a h = let r = (v.rel a).value h in holds_length r.held ∙ r.len ∙ ap (λ (i : ℕ). 2 ^ i) (sym (tl.iw a (omega arith)))
 
-  pub cell_of : (a : ℕ) → 2 ≤ (type_at A.lay a).role → (j : ℕ) → j < size_in N a → cell_in N.held a j ≡ get_or (lines_at I a) j 0
+  pub cell_of : (a : ℕ) → 2 ≤ rank (type_at A.lay a).role → (j : ℕ) → j < size_in N a → cell_in N.held a j ≡ get_or (lines_at I a) j 0
   cell_of a h j l = (nr a).cells j (subst⁻¹ (λ (n : ℕ). j < n) (size_of a h) l) (let z : size_in N a ≤ 256 = pow_mono (ne.deep a) in omega arith)
 
-  from_line : (a : ℕ) → 2 ≤ (type_at A.lay a).role → (j : ℕ) → j < size_in N a → get_or (lines_at I a) j 0 ≡ source_at N.held (of a) j
+  from_line : (a : ℕ) → 2 ≤ rank (type_at A.lay a).role → (j : ℕ) → j < size_in N a → get_or (lines_at I a) j 0 ≡ source_at N.held (of a) j
   from_line a h j l = of_at N.held a j (get_or (lines_at I a) j 0) (cell_of a h j l)
 
   pub word_line_lem : (a : ℕ) → IsWord (type_at A.lay a) → line_at I a ≡ word_line N a
   word_line_lem a k = sym (cell_of a k.is 0 (pow_pos (deep_in N a)))
 
-  pub elem_of : (s : ℕ) → (type_at A.lay s).role ≡ 1 → (info_at I s).elem ≡ sort_line N s
+  pub elem_of : (s : ℕ) → rank (type_at A.lay s).role ≡ 1 → (info_at I s).elem ≡ sort_line N s
   elem_of s e = sym ((nr s).elem e)
 
-  size_sort : (s : ℕ) → (type_at A.lay s).role ≡ 1 → (info_at I s).size ≡ size_in N s
+  size_sort : (s : ℕ) → rank (type_at A.lay s).role ≡ 1 → (info_at I s).size ≡ size_in N s
   size_sort s e = ((v.rel s).sort e).size ∙ ap (λ (i : ℕ). 2 ^ i) (sym (tl.iw s (omega arith)))
 
   -- two values of the same sort have as many cells
-  same_size : (a b : ℕ) → 2 ≤ (type_at A.lay a).role → 2 ≤ (type_at A.lay b).role → (type_at A.lay b).iw ≡ (type_at A.lay a).iw → size_in N b ≡ size_in N a
+  same_size : (a b : ℕ) → 2 ≤ rank (type_at A.lay a).role → 2 ≤ rank (type_at A.lay b).role → (type_at A.lay b).iw ≡ (type_at A.lay a).iw → size_in N b ≡ size_in N a
   same_size a b ha hb e = ap (λ (i : ℕ). 2 ^ i) (tl.iw b (omega arith) ∙ e ∙ sym (tl.iw a (omega arith)))
 
   array_records_lem : (i e : ℕ) → OkLine false (ty_at A.lay.ctx) (given A.lay.ctx) (Line.array i e) → map words_of (chunk I (suc p) (Line.array i e)).lines ≡ line_records N p (Line.array i e)
@@ -180,13 +180,13 @@ module _ {A B : Frame} {I : List Info} (v : Inv A B I) (N : Notes) (ne : Neat N)
         at = λ j l. get_or-replicate n j (line_at I a) 0 l ∙ word_line_lem a k.word ∙ still_at N.held (word_line N a) j;
       }
   given_as false n q a t k e h =
-      let z : size_in N a ≡ n = ap (λ (i : ℕ). 2 ^ i) (tl.iw a (let g : 2 ≤ (type_at A.lay a).role = k.is in omega arith) ∙ e) ∙ h in
+      let z : size_in N a ≡ n = ap (λ (i : ℕ). 2 ^ i) (tl.iw a (let g : 2 ≤ rank (type_at A.lay a).role = k.is in omega arith) ∙ e) ∙ h in
       record { len = size_of a k.is ∙ z; at = λ j l. from_line a k.is j (subst⁻¹ (λ (x : ℕ). j < x) z l) }
 
   init_next_line_records : (m : Bool) (s q a : ℕ) → OkLine false (ty_at A.lay.ctx) (given A.lay.ctx) (Line.init_or_next m s q a) → map words_of (chunk I (suc p) (Line.init_or_next m s q a)).lines ≡ line_records N p (Line.init_or_next m s q a)
   init_next_line_records m s q a k =
       let H = N.held in
-      let hq : 2 ≤ (type_at A.lay q).role = (let h : (type_at A.lay q).role ≡ 4 = k.state in omega arith) in
+      let hq : 2 ≤ rank (type_at A.lay q).role = (let h : rank (type_at A.lay q).role ≡ 4 = k.state in omega arith) in
       let n = length (lines_at I q) in
       let eq = size_of q hq in
       let e = (info_at I s).elem in
@@ -241,11 +241,11 @@ module _ {A B : Frame} {I : List Info} (v : Inv A B I) (N : Notes) (ne : Neat N)
   index_list : (a : ℕ) (n : ℕ) → length (info_at I a).index ≡ n → (info_at I a).index ≡ from (suc (bit_in N a)) n
   index_list a n e = (nr a).index ∙ ap₂ (λ (x y : ℕ). from (suc x) y) (sym (nr a).bit) e
 
-  index_length : (a : ℕ) → 2 ≤ (type_at A.lay a).role → 0 < (type_at A.lay a).iw → length (info_at I a).index ≡ size_in N a
+  index_length : (a : ℕ) → 2 ≤ rank (type_at A.lay a).role → 0 < (type_at A.lay a).iw → length (info_at I a).index ≡ size_in N a
   index_length a h d =
       holds_length (((v.rel a).value h).sort.arr d).index ∙ length_from 0 (2 ^ (type_at A.lay a).iw) ∙ ap (λ (i : ℕ). 2 ^ i) (sym (tl.iw a (omega arith)))
 
-  index_sort : (s : ℕ) → (type_at A.lay s).role ≡ 1 → 0 < (type_at A.lay s).iw → length (info_at I s).index ≡ size_in N s
+  index_sort : (s : ℕ) → rank (type_at A.lay s).role ≡ 1 → 0 < (type_at A.lay s).iw → length (info_at I s).index ≡ size_in N s
   index_sort s h d = holds_length (((v.rel s).sort h).arr d).index ∙ length_from 0 (2 ^ (type_at A.lay s).iw) ∙ ap (λ (i : ℕ). 2 ^ i) (sym (tl.iw s (omega arith)))
 
   -- k cells lie before the last
@@ -257,7 +257,7 @@ module _ {A B : Frame} {I : List Info} (v : Inv A B I) (N : Notes) (ne : Neat N)
   read_line_records : (s a i : ℕ) → OkLine false (ty_at A.lay.ctx) (given A.lay.ctx) (Line.value s (Expr.read a i)) → map words_of (chunk I (suc p) (Line.value s (Expr.read a i))).lines ≡ line_records N p (Line.value s (Expr.read a i))
   read_line_records s a i k = go (info_at I i).known ((v.rel i).value k.index.is).known (nr i).known
     where
-      ha : 2 ≤ (type_at A.lay a).role
+      ha : 2 ≤ rank (type_at A.lay a).role
       ha = k.arr.is
 
       deep : (type_at A.lay i).w ≤ 8
@@ -282,10 +282,10 @@ module _ {A B : Frame} {I : List Info} (v : Inv A B I) (N : Notes) (ne : Neat N)
   write_line_records : (s a i x : ℕ) → OkLine false (ty_at A.lay.ctx) (given A.lay.ctx) (Line.value s (Expr.write a i x)) → map words_of (chunk I (suc p) (Line.value s (Expr.write a i x))).lines ≡ line_records N p (Line.value s (Expr.write a i x))
   write_line_records s a i x k = go (info_at I i).known ((v.rel i).value k.index.is).known (nr i).known
     where
-      ha : 2 ≤ (type_at A.lay a).role
+      ha : 2 ≤ rank (type_at A.lay a).role
       ha = k.arr.is
 
-      is : (type_at A.lay s).role ≡ 1
+      is : rank (type_at A.lay s).role ≡ 1
       is = k.sort.is
 
       deep : (type_at A.lay i).w ≤ 8

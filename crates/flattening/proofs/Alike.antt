@@ -7,7 +7,7 @@ use native.Mathlib.Nat.{le_refl, le_trans}
 use native.Mathlib.Omega.{arith}
 use lib.ListN.{length, take, replicate, length-replicate}
 use Rattle.tables.specs.Lines.{Line, Expr, bitvec, array, input, state, value, init_or_next, signal, output, unknown, const, unary, binary, equality, ite, read, write}
-use Rattle.tables.specs.Types.{ty_at, given, no_ctx}
+use Rattle.tables.specs.Types.{rank, ty_at, given, no_ctx}
 use Rattle.tables.proofs.Facts.{OkLine, AllOk}
 use Rattle.circuits.specs.Layout.{Layout, no_layout, layout, type_at, place_at}
 use Rattle.circuits.specs.Meaning.{Frame, no_frame, cells_at, step}
@@ -23,7 +23,7 @@ use Rattle.flattening.proofs.SimStates.{sim_state, sim_init_next}
 use Rattle.flattening.proofs.SimArrays.{sim_ite, sim_equality, sim_read, sim_write}
 use Rattle.flattening.proofs.FreeCells.{infos_from, infos, line_sources}
 
-no_state : (q : ℕ) → (ty_at no_ctx q).role ≡ 4 → ⊥
+no_state : (q : ℕ) → rank (ty_at no_ctx q).role ≡ 4 → ⊥
 no_state zero e = omega arith
 no_state (suc q) e = omega arith
 

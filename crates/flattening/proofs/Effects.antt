@@ -12,7 +12,7 @@ use borrow.Author.Tests.{ne_eqb}
 use Rattle.tables.specs.declared.Ty.{Ty}
 use Rattle.tables.specs.Pick.{pick, among, alike}
 use Rattle.tables.specs.Lines.{Line, state, init_or_next}
-use Rattle.tables.specs.Types.{given_by}
+use Rattle.tables.specs.Types.{rank, given_by}
 use Rattle.tables.specs.Rules.{value_index}
 use Rattle.tables.specs.Layout.{from}
 use Rattle.tables.proofs.Laws.{not_of_lem}
@@ -114,7 +114,7 @@ module _ (f : Bool) (σ ι : List ℕ) where
       let h = new_type f σ ι ev (state s) b e in
       record {
         inb = omega (arith, len1 f σ ι A (state s));
-        is = ap (λ (t : Ty). t.role) h;
+        is = ap (λ (t : Ty). rank t.role) h;
         flat = ap (λ (t : Ty). t.iw) h ∙ hs.flat;
         wide = ap (λ (t : Ty). t.w) h ∙ hs.wide;
         at = new_place f σ ι ev (state s) b e;

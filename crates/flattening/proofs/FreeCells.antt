@@ -8,7 +8,7 @@ use lib.ListN.{length, get_or, replicate, get_or-append}
 use lib.Seq.{get_or_at}
 use Rattle.tables.specs.declared.Ty.{Ty}
 use Rattle.tables.specs.Lines.{Line, state}
-use Rattle.tables.specs.Types.{ty_at, given}
+use Rattle.tables.specs.Types.{rank, ty_at, given}
 use Rattle.tables.proofs.Facts.{OkLine}
 use Rattle.tables.proofs.Ids.{from_at, length_from}
 use Rattle.circuits.specs.Layout.{Layout, type_at}
@@ -56,7 +56,7 @@ module _ (f : Bool) (σ ι : List ℕ) where
       let c = chunk I b (state s) in
       let J = I ++ (c.info ∷ []) in
       let cells = ap (λ (g : Info). g.cells) (infos_kept J (b + length c.lines) ls n (omega (arith, length_snoc I c.info, v.len_i)) ∙ get_or_at I c.info [] no_info n v.len_i) in
-      let is = ap (λ (t : Ty). t.role) ((ext_all f σ ι (ext_line f σ ι v.even_a (state s)).even ls).type n (omega (arith, len1 f σ ι A (state s))) ∙ new_type f σ ι v.even_a (state s) n refl) in
+      let is = ap (λ (t : Ty). rank t.role) ((ext_all f σ ι (ext_line f σ ι v.even_a (state s)).even ls).type n (omega (arith, len1 f σ ι A (state s))) ∙ new_type f σ ι v.even_a (state s) n refl) in
       ap (given Z.lay.ctx false) (sym (ap (λ (ps : List ℕ). get_or ps j 0) cells ∙ from_at b m j h)) ∙ z.same false n is j (subst⁻¹ (λ (x : ℕ). j < x) (ap length cells ∙ length_from b m) h)
 
   -- lines that add no state words

@@ -11,7 +11,7 @@ use Rattle.tables.specs.declared.Note.{Note}
 use Rattle.tables.specs.declared.Refusal.TheVariants.{TargetTooSmall}
 use Rattle.tables.specs.Lines.{Line, line_of, words_of, kind_in}
 use Rattle.tables.specs.Layout.{held, room, record_at, lines_of}
-use Rattle.tables.specs.Types.{ty_at, context}
+use Rattle.tables.specs.Types.{rank, ty_at, context}
 use Rattle.tables.specs.Model.Notes.{look_in}
 use Rattle.tables.specs.Tables.{known}
 use Rattle.tables.specs.Answers.{told}
@@ -35,9 +35,9 @@ Going t n types kept₀ target₀ i p kept target u =
 
 module _ {t : List ℕ} {n : ℕ} {types : List Note} {kept₀ : List (List ℕ)} {target₀ : List ℕ} (b : Begun t n types kept₀ target₀) where
   pub shallow : Shallow types
-  shallow = record { deep = λ a. go a (dec_lt 0 (ty_at (context false (lines_of false t n)) a).role) }
+  shallow = record { deep = λ a. go a (dec_lt 0 (rank (ty_at (context false (lines_of false t n)) a).role)) }
     where
-      go : (a : ℕ) → Dec (0 < (ty_at (context false (lines_of false t n)) a).role) → (look_in types a).iw ≤ 8
+      go : (a : ℕ) → Dec (0 < rank (ty_at (context false (lines_of false t n)) a).role) → (look_in types a).iw ≤ 8
       go a (yes h) = let e = b.iw a in let w = wide_at t n b.accepted a h in omega arith
       go a (no h) = let e = b.iw a in let w = flat_at t n b.accepted a (omega arith) in omega arith
 

@@ -19,7 +19,7 @@ use Rattle.tables.specs.declared.Refusal.TheVariants.{TargetTooSmall}
 use Rattle.tables.specs.Pick.{pick}
 use Rattle.tables.specs.Lines.{Line, Expr, line_of, words_of, kind_in}
 use Rattle.tables.specs.Layout.{whole, held, room, record_at, records_of, lines_of}
-use Rattle.tables.specs.Types.{Ctx, no_ty, ty_at, given, grow, no_ctx, context}
+use Rattle.tables.specs.Types.{rank, Ctx, no_ty, ty_at, given, grow, no_ctx, context}
 use Rattle.tables.specs.Model.Notes.{look_in}
 use Rattle.tables.specs.Tables.{known, formed, keeps, lawful, checked}
 use Rattle.tables.proofs.Kept.{both}
@@ -81,7 +81,7 @@ module _ (t : List ℕ) (n : ℕ) (acc : checked false t n ≡ Ok tt) where
   record_line i h = ap line_of (sym (record_at_lem false t n i h)) ∙ sym (get_or-map line_of (records_of false t n) i [])
 
   -- the types of the lines so far are those of all lines
-  types_at : (i : ℕ) → i ≤ n → (a : ℕ) → 1 ≤ (type_at (walked C i).lay a).role → (a < suc i) × (type_at (walked C i).lay a ≡ ty_at (context false C) a)
+  types_at : (i : ℕ) → i ≤ n → (a : ℕ) → 1 ≤ rank (type_at (walked C i).lay a).role → (a < suc i) × (type_at (walked C i).lay a ≡ ty_at (context false C) a)
   types_at i h a k = by (dec_lt a (suc i))
     where
       v : Inv (walked C i) (flat_walked C i) (sofar C i).infos
@@ -95,13 +95,13 @@ module _ (t : List ℕ) (n : ℕ) (acc : checked false t n ≡ Ok tt) where
           (l, sym ((walked_ext C ok_C i (subst⁻¹ (λ (m : ℕ). i ≤ m) size_C h)).type a (omega (arith, le))) ∙ ap (λ (Y : Layout). type_at Y a) (step_lay true C (zeros C) []) ∙ ap (λ (c : Ctx). ty_at c a) (layout_ctx C))
       by (no l) =
           absurd (let e : type_at (walked C i).lay a ≡ no_ty = get_or-eq_default (walked C i).lay.ctx.tys no_ty {n = a} (omega (arith, v.even_a.types, le)) in
-          let z : (type_at (walked C i).lay a).role ≡ 0 = ap (λ (x : Ty). x.role) e in
+          let z : rank (type_at (walked C i).lay a).role ≡ 0 = ap (λ (x : Ty). rank x.role) e in
           omega arith)
 
-  type_none : (i : ℕ) → i ≤ n → (type_at (walked C i).lay 0).role ≡ 0
+  type_none : (i : ℕ) → i ≤ n → rank (type_at (walked C i).lay 0).role ≡ 0
   type_none i h =
       let le = walked_length C i (subst⁻¹ (λ (m : ℕ). i ≤ m) size_C h) in
-      ap (λ (x : Ty). x.role) (sym ((walked_ext C ok_C i (subst⁻¹ (λ (m : ℕ). i ≤ m) size_C h)).type 0 (omega arith)) ∙ (walked_ext C ok_C 0 (omega arith)).type 0 (omega arith))
+      ap (λ (x : Ty). rank x.role) (sym ((walked_ext C ok_C i (subst⁻¹ (λ (m : ℕ). i ≤ m) size_C h)).type 0 (omega arith)) ∙ (walked_ext C ok_C 0 (omega arith)).type 0 (omega arith))
 
   -- ---- what holds after the first i lines
 
@@ -336,11 +336,11 @@ module _ (t : List ℕ) (n : ℕ) (acc : checked false t n ≡ Ok tt) where
 
     -- ---- the start and the answers
 
-    empty_note : (t₁ : Ty) (a : ℕ) → t₁.role ≡ 0 → NoteRel (notes (replicate size nothing) types) t₁ a no_info
+    empty_note : (t₁ : Ty) (a : ℕ) → rank t₁.role ≡ 0 → NoteRel (notes (replicate size nothing) types) t₁ a no_info
     empty_note t₁ a e =
         record { elem = λ z. absurd (omega arith); sort = λ z. absurd (omega arith); bit = nothing_kept size 1 a; index = refl; cells = λ j l q. absurd (omega arith); known = nothing_kept size 4 a }
 
-    none_type : (a : ℕ) → (type_at no_frame.lay a).role ≡ 0
+    none_type : (a : ℕ) → rank (type_at no_frame.lay a).role ≡ 0
     none_type zero = refl
     none_type (suc a) = refl
 

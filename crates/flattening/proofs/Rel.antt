@@ -12,10 +12,12 @@ use lib.Dec.{T}
 use lib.ListN.{length, get_or, get_or-append, get_or-eq_default}
 use lib.Seq.{get_or_at}
 use Rattle.words.specs.Word.{Width}
+use Rattle.tables.specs.declared.Role.{Role}
+use Rattle.tables.specs.declared.Role.TheVariants.{Sort}
 use Rattle.tables.specs.declared.Ty.{Ty}
 use Rattle.tables.specs.Pick.{among}
 use Rattle.tables.specs.Lines.{Line}
-use Rattle.tables.specs.Types.{ty, no_ty, marked, value_role, given_by, given}
+use Rattle.tables.specs.Types.{rank, ty, no_ty, marked, value_role, given_by, given}
 use Rattle.tables.specs.Layout.{from}
 use Rattle.tables.proofs.Values.{role_least, role_most, role_mark, val_most}
 use Rattle.tables.proofs.Facts.{IsWord}
@@ -48,12 +50,12 @@ pub record ValRel (B : Frame) (t : Ty) (at : ℕ) (cs : List ℕ) (f : Info) : T
   pub len : length cs ≡ 2 ^ t.iw
   pub small : Small t.w cs
   pub known : KnownRel f.known cs
-  pub states : t.role ≡ 4 → States B (get_or f.cells 0 0) t.w at f.cells
+  pub states : rank t.role ≡ 4 → States B (get_or f.cells 0 0) t.w at f.cells
 
 -- of a line of the type t, whose place is at and whose cells are cs
 pub record Rel (B : Frame) (t : Ty) (at : ℕ) (cs : List ℕ) (f : Info) : Type 0 where
-  pub sort : t.role ≡ 1 → SortRel B t f
-  pub value : 2 ≤ t.role → ValRel B t at cs f
+  pub sort : rank t.role ≡ 1 → SortRel B t f
+  pub value : 2 ≤ rank t.role → ValRel B t at cs f
 
 arr_ext : {B B' : Frame} {t : Ty} {f : Info} → Ext B B' → ArrRel B t f → ArrRel B' t f
 arr_ext x r = record { bit = sort_ext x r.bit; index = holds_ext x r.index }
@@ -78,11 +80,11 @@ rel_ext x r = record { sort = λ s. sortrel_ext x (r.sort s); value = λ s. valr
 pub rel_none : {B : Frame} {at : ℕ} {cs : List ℕ} {f : Info} → Rel B no_ty at cs f
 rel_none = record { sort = λ s. absurd (omega arith); value = λ s. absurd (omega arith) }
 
-pub rel_sort : {B : Frame} {i w at : ℕ} {cs : List ℕ} {f : Info} → SortRel B (ty 1 i w) f → Rel B (ty 1 i w) at cs f
+pub rel_sort : {B : Frame} {i w at : ℕ} {cs : List ℕ} {f : Info} → SortRel B (ty Sort i w) f → Rel B (ty Sort i w) at cs f
 rel_sort r = record { sort = λ s. r; value = λ s. absurd (omega arith) }
 
 -- a value's Info starts as its sort's
-pub sort_of_value : {B : Frame} {t : Ty} {f : Info} {c : ℕ} {ps : List ℕ} {k : Option ℕ} → SortRel B t f → SortRel B (ty c t.iw t.w) (value_info f ps k)
+pub sort_of_value : {B : Frame} {t : Ty} {f : Info} {c : Role} {ps : List ℕ} {k : Option ℕ} → SortRel B t f → SortRel B (ty c t.iw t.w) (value_info f ps k)
 sort_of_value r =
     record { elem = r.elem; size = r.size; wide = r.wide; width = r.width; arr = λ h. record { bit = (r.arr h).bit; index = (r.arr h).index } }
 
@@ -115,9 +117,9 @@ pub record Inv (A B : Frame) (I : List Info) : Type 0 where
   pub many : length A.sts ≡ A.lay.counts.states
   pub rel : (i : ℕ) → Rel B (type_at A.lay i) (place_at A.lay i) (cells_at A i) (info_at I i)
   -- what stands before a state is held below the state's lines
-  pub below : (q : ℕ) → (type_at A.lay q).role ≡ 4 → (i : ℕ) → i < q → 2 ≤ (type_at A.lay i).role → (j : ℕ) → j < length (lines_at I i) → get_or (lines_at I i) j 0 < line_at I q
+  pub below : (q : ℕ) → rank (type_at A.lay q).role ≡ 4 → (i : ℕ) → i < q → 2 ≤ rank (type_at A.lay i).role → (j : ℕ) → j < length (lines_at I i) → get_or (lines_at I i) j 0 < line_at I q
   -- each cell of a state has an init or a next just where the state has one
-  pub same : (m : Bool) (q : ℕ) → (type_at A.lay q).role ≡ 4 → (j : ℕ) → j < length (lines_at I q) → given B.lay.ctx m (get_or (lines_at I q) j 0) ≡ given A.lay.ctx m q
+  pub same : (m : Bool) (q : ℕ) → rank (type_at A.lay q).role ≡ 4 → (j : ℕ) → j < length (lines_at I q) → given B.lay.ctx m (get_or (lines_at I q) j 0) ≡ given A.lay.ctx m q
   pub ahead_a : Ahead A
   pub ahead_b : Ahead B
 
@@ -134,7 +136,7 @@ pub cells_for : {B : Frame} {t : Ty} {at : ℕ} {cs : List ℕ} {f : Info} {u : 
 cells_for {B} {cs = cs} {f = f} {u} r g e = subst (λ (w : ℕ). Holds B u w f.cells cs) e (holds_weak g r.held)
 
 -- a word fits its width
-pub word_small : {A B : Frame} {I : List Info} → Inv A B I → (a : ℕ) → 2 ≤ (type_at A.lay a).role → word_at A a < 2 ^ (type_at A.lay a).w
+pub word_small : {A B : Frame} {I : List Info} → Inv A B I → (a : ℕ) → 2 ≤ rank (type_at A.lay a).role → word_at A a < 2 ^ (type_at A.lay a).w
 word_small {A} v a h = small_at (type_at A.lay a).w (cells_at A a) 0 ((v.rel a).value h).small
 
 -- ---- one more line
@@ -165,16 +167,16 @@ below_at {x} {y' = y'} e₁ e₂ h =
 
 -- what a new state is: none of its lines has been given an init or a next, as little as the state, and every value so far is held below them
 pub record NewState (A A' B' : Frame) (I : List Info) (g : Info) : Type 0 where
-  pub below : (i : ℕ) → 2 ≤ (type_at A.lay i).role → (j : ℕ) → j < length (lines_at I i) → get_or (lines_at I i) j 0 < get_or g.cells 0 0
+  pub below : (i : ℕ) → 2 ≤ rank (type_at A.lay i).role → (j : ℕ) → j < length (lines_at I i) → get_or (lines_at I i) j 0 < get_or g.cells 0 0
   pub same : (m : Bool) (j : ℕ) → j < length g.cells → given B'.lay.ctx m (get_or g.cells j 0) ≡ given A'.lay.ctx m (length A.env)
 
 -- the states of A, after a line more
 pub record Once (A A' B' : Frame) (I : List Info) : Type 0 where
-  pub same : (m : Bool) (q : ℕ) → (type_at A.lay q).role ≡ 4 → (j : ℕ) → j < length (lines_at I q) → given B'.lay.ctx m (get_or (lines_at I q) j 0) ≡ given A'.lay.ctx m q
+  pub same : (m : Bool) (q : ℕ) → rank (type_at A.lay q).role ≡ 4 → (j : ℕ) → j < length (lines_at I q) → given B'.lay.ctx m (get_or (lines_at I q) j 0) ≡ given A'.lay.ctx m q
   pub ahead_a : Ahead A'
   pub ahead_b : Ahead B'
 
-quiet_state : (A : Frame) (l : Line) → T (quiet l) → (line_type_in false A.lay l).role ≡ 4 → ⊥
+quiet_state : (A : Frame) (l : Line) → T (quiet l) → rank (line_type_in false A.lay l).role ≡ 4 → ⊥
 quiet_state A (Line.bitvec w) q t = omega arith
 quiet_state A (Line.array i e) q t = omega arith
 quiet_state A (Line.input s) q t = q
@@ -187,7 +189,7 @@ quiet_state A Line.unknown q t = omega arith
 
 module _ (f : Bool) (σ ι : List ℕ) where
   pub extend : {A B B' : Frame} {I : List Info} (l : Line) (g : Info) → Inv A B I → Ext B B' → Alike (ev1 f σ ι A l) B' → length (ev1 f σ ι A l).sts ≡ (ev1 f σ ι A l).lay.counts.states
-      → Rel B' (line_type_in false A.lay l) (place_of A.lay l) (cells_of false f σ ι A l) g → ((line_type_in false A.lay l).role ≡ 4 → NewState A (ev1 f σ ι A l) B' I g) → Once A (ev1 f σ ι A l) B' I
+      → Rel B' (line_type_in false A.lay l) (place_of A.lay l) (cells_of false f σ ι A l) g → (rank (line_type_in false A.lay l).role ≡ 4 → NewState A (ev1 f σ ι A l) B' I g) → Once A (ev1 f σ ι A l) B' I
       → Inv (ev1 f σ ι A l) B' (I ++ (g ∷ []))
   extend {A} {B} {B'} {I} l g v x al mn r st on =
       record {
@@ -231,29 +233,29 @@ module _ (f : Bool) (σ ι : List ℕ) where
           rel_at (new_type f σ ι v.even_a l i e) (new_place f σ ι v.even_a l i e) (new_cells f σ ι v.even_a l i e) (info_new i e) r
       rel_by i (past h) = rel_at (type_past i h) refl refl refl rel_none
 
-      no_past : (q : ℕ) → N < q → (type_at A'.lay q).role ≡ 4 → ⊥
-      no_past q h s = let z : ◌≡◌ {A = ℕ} 0 4 = sym (ap (λ (t : Ty). t.role) (type_past q h)) ∙ s in omega arith
+      no_past : (q : ℕ) → N < q → rank (type_at A'.lay q).role ≡ 4 → ⊥
+      no_past q h s = let z : ◌≡◌ {A = ℕ} 0 4 = sym (ap (λ (t : Ty). rank t.role) (type_past q h)) ∙ s in omega arith
 
-      below_by : (q : ℕ) → (type_at A'.lay q).role ≡ 4 → (i : ℕ) → i < q → 2 ≤ (type_at A'.lay i).role → (j : ℕ) → Spot N q → j < length (lines_at J i) → get_or (lines_at J i) j 0 < line_at J q
+      below_by : (q : ℕ) → rank (type_at A'.lay q).role ≡ 4 → (i : ℕ) → i < q → 2 ≤ rank (type_at A'.lay i).role → (j : ℕ) → Spot N q → j < length (lines_at J i) → get_or (lines_at J i) j 0 < line_at J q
       below_by q s i h k j (past z) b = absurd (no_past q z s)
       below_by q s i h k j (old z) b =
           let zi : i < N = omega arith in
-          let s' = sym (ap (λ (t : Ty). t.role) (y.type q z)) ∙ s in
-          let k' = subst (λ (t : Ty). 2 ≤ t.role) (y.type i zi) k in
+          let s' = sym (ap (λ (t : Ty). rank t.role) (y.type q z)) ∙ s in
+          let k' = subst (λ (t : Ty). 2 ≤ rank t.role) (y.type i zi) k in
           below_at (info_old i zi) (info_old q z) (v.below q s' i h k') j b
       below_by q s i h k j (new e) b =
           let zi : i < N = omega arith in
-          let s' = sym (ap (λ (t : Ty). t.role) (new_type f σ ι v.even_a l q e)) ∙ s in
-          let k' = subst (λ (t : Ty). 2 ≤ t.role) (y.type i zi) k in
+          let s' = sym (ap (λ (t : Ty). rank t.role) (new_type f σ ι v.even_a l q e)) ∙ s in
+          let k' = subst (λ (t : Ty). 2 ≤ rank t.role) (y.type i zi) k in
           below_at (info_old i zi) (info_new q e) ((st s').below i k') j b
 
-      same_by : (m : Bool) (q : ℕ) → (type_at A'.lay q).role ≡ 4 → (j : ℕ) → Spot N q → j < length (lines_at J q) → given B'.lay.ctx m (get_or (lines_at J q) j 0) ≡ given A'.lay.ctx m q
+      same_by : (m : Bool) (q : ℕ) → rank (type_at A'.lay q).role ≡ 4 → (j : ℕ) → Spot N q → j < length (lines_at J q) → given B'.lay.ctx m (get_or (lines_at J q) j 0) ≡ given A'.lay.ctx m q
       same_by m q s j (past z) b = absurd (no_past q z s)
       same_by m q s j (old z) b =
-          let s' = sym (ap (λ (t : Ty). t.role) (y.type q z)) ∙ s in
+          let s' = sym (ap (λ (t : Ty). rank t.role) (y.type q z)) ∙ s in
           subst⁻¹ (λ (x : Info). j < length x.cells → given B'.lay.ctx m (get_or x.cells j 0) ≡ given A'.lay.ctx m q) (info_old q z) (on.same m q s' j) b
       same_by m q s j (new e) b =
-          let s' = sym (ap (λ (t : Ty). t.role) (new_type f σ ι v.even_a l q e)) ∙ s in
+          let s' = sym (ap (λ (t : Ty). rank t.role) (new_type f σ ι v.even_a l q e)) ∙ s in
           subst⁻¹ (λ (x : Info). j < length x.cells → given B'.lay.ctx m (get_or x.cells j 0) ≡ given A'.lay.ctx m q) (info_new q e)
           (λ h. (st s').same m j h ∙ ap (given A'.lay.ctx m) (sym e)) b
 

@@ -14,7 +14,7 @@ use Rattle.std.specs.Prelude.{Some, None}
 use Rattle.tables.specs.declared.Ty.{Ty}
 use Rattle.tables.specs.Pick.{pick}
 use Rattle.tables.specs.Lines.{Line, Expr}
-use Rattle.tables.specs.Types.{no_ty, ty_at, given}
+use Rattle.tables.specs.Types.{rank, no_ty, ty_at, given}
 use Rattle.tables.specs.Layout.{from}
 use Rattle.tables.proofs.Values.{val_value}
 use Rattle.tables.proofs.Facts.{IsWord, OkLine}
@@ -59,7 +59,7 @@ module _ (N : Notes) (n : ℕ) (h : Holds N n) where
   con_new m = kept_new N n m h 4
 
   -- a value of the sort f, whose cells are the flat lines ps
-  val_note : (m : Made) (f : Info) (ps : List ℕ) (k : Option ℕ) (t : Ty) → t.role ≢ 1 → m.bit ≡ f.bit → f.index ≡ from (suc f.bit) (length f.index) → KnownNote k (con_number m.con)
+  val_note : (m : Made) (f : Info) (ps : List ℕ) (k : Option ℕ) (t : Ty) → rank t.role ≢ 1 → m.bit ≡ f.bit → f.index ≡ from (suc f.bit) (length f.index) → KnownNote k (con_number m.con)
       → ((j : ℕ) → j < length ps → cell_in (noted N n m).held n j ≡ get_or ps j 0) → NoteRel (noted N n m) t n (value_info f ps k)
   val_note m f ps k t d eb ei ek ec =
       record {
@@ -80,16 +80,16 @@ module _ (N : Notes) (n : ℕ) (h : Holds N n) where
   none_note m eb ek = record { elem = λ e. absurd (omega arith); sort = λ e. absurd (omega arith); bit = bit_new m ∙ eb; index = refl; cells = λ j l q. absurd (omega arith); known = con_new m ∙ ek }
 
 module _ {A B : Frame} {I : List Info} (v : Inv A B I) (N : Notes) (ne : Neat N) (tl : Told A N) (nr : (a : ℕ) → NoteRel N (type_at A.lay a) a (info_at I a)) (p : ℕ) (n : ℕ) (hn : Holds N n)
-    (base : suc p ≡ length B.env) (below : (a : ℕ) → 1 ≤ (type_at A.lay a).role → a < n) where
+    (base : suc p ≡ length B.env) (below : (a : ℕ) → 1 ≤ rank (type_at A.lay a).role → a < n) where
   -- a flat line that holds a cell
-  line_low : (a j : ℕ) → 2 ≤ (type_at A.lay a).role → j < size_in N a → cell_in N.held a j ≤ p
+  line_low : (a j : ℕ) → 2 ≤ rank (type_at A.lay a).role → j < size_in N a → cell_in N.held a j ≤ p
   line_low a j h l =
       let e = cell_of v N ne tl nr p a h j l in
       let q = held_below v a h j (subst⁻¹ (λ (x : ℕ). j < x) (size_of v N ne tl nr p a h) l) in
       omega arith
 
   -- a word of the sort s, at the flat line x
-  word_kept_lem : (m : Made) (s x : ℕ) (k : Option ℕ) (t : Ty) → t.role ≢ 1 → old_number m.old ≡ 0 → m.key ≡ 1 → m.at ≡ x → m.bit ≡ bit_in N s → KnownNote k (con_number m.con) → con_number m.con ≤ 256 → x ≤ 65536
+  word_kept_lem : (m : Made) (s x : ℕ) (k : Option ℕ) (t : Ty) → rank t.role ≢ 1 → old_number m.old ≡ 0 → m.key ≡ 1 → m.at ≡ x → m.bit ≡ bit_in N s → KnownNote k (con_number m.con) → con_number m.con ≤ 256 → x ≤ 65536
       → LineKept N n m t (value_info (info_at I s) (x ∷ []) k)
   word_kept_lem m s x k t d eo ekey ea eb ek ec lx =
       record {
@@ -102,7 +102,7 @@ module _ {A B : Frame} {I : List Info} (v : Inv A B I) (N : Notes) (ne : Neat N)
       }
 
   -- a run of flat lines
-  run_kept : (m : Made) (s c : ℕ) (t : Ty) → t.role ≢ 1 → old_number m.old ≡ 0 → m.key ≡ 1 → m.at ≡ p + 1 → m.bit ≡ bit_in N s → con_number m.con ≡ 0 → p ≤ 60000 → LineKept N n m t (value_info (info_at I s) (from (suc p) c) none)
+  run_kept : (m : Made) (s c : ℕ) (t : Ty) → rank t.role ≢ 1 → old_number m.old ≡ 0 → m.key ≡ 1 → m.at ≡ p + 1 → m.bit ≡ bit_in N s → con_number m.con ≡ 0 → p ≤ 60000 → LineKept N n m t (value_info (info_at I s) (from (suc p) c) none)
   run_kept m s c t d eo ekey ea eb ek lp =
       record {
         falls = no_old eo;
@@ -125,21 +125,21 @@ module _ {A B : Frame} {I : List Info} (v : Inv A B I) (N : Notes) (ne : Neat N)
 
   -- ---- reads and writes
 
-  deep_index : (a i : ℕ) → 1 ≤ (type_at A.lay a).role → (type_at A.lay i).w ≡ (type_at A.lay a).iw → (type_at A.lay i).w ≤ 8
+  deep_index : (a i : ℕ) → 1 ≤ rank (type_at A.lay a).role → (type_at A.lay i).w ≡ (type_at A.lay a).iw → (type_at A.lay i).w ≤ 8
   deep_index a i h e = let q : deep_in N a ≡ (type_at A.lay a).iw = tl.iw a h in let f = ne.deep a in omega arith
 
   -- a constant index lies among the cells
-  index_in : (a i k : ℕ) → 1 ≤ (type_at A.lay a).role → IsWord (type_at A.lay i) → (type_at A.lay i).w ≡ (type_at A.lay a).iw → cells_at A i ≡ k ∷ [] → k < size_in N a
+  index_in : (a i k : ℕ) → 1 ≤ rank (type_at A.lay a).role → IsWord (type_at A.lay i) → (type_at A.lay i).w ≡ (type_at A.lay a).iw → cells_at A i ≡ k ∷ [] → k < size_in N a
   index_in a i k h w e c =
       let z : get_or (cells_at A i) 0 0 < 2 ^ (type_at A.lay i).w = word_small v i w.is in
       let q : get_or (cells_at A i) 0 0 ≡ k = ap (λ (x : List ℕ). get_or x 0 0) c in
       subst (λ (x : ℕ). k < x) (ap (λ (x : ℕ). 2 ^ x) (e ∙ sym (tl.iw a h))) (subst (λ (x : ℕ). x < 2 ^ (type_at A.lay i).w) q z)
 
-  read_kept : (s a i : ℕ) (t : Ty) → t.role ≢ 1 → OkLine false (ty_at A.lay.ctx) (given A.lay.ctx) (Line.value s (Expr.read a i)) → p + flat_count N (Line.value s (Expr.read a i)) ≤ 16384
+  read_kept : (s a i : ℕ) (t : Ty) → rank t.role ≢ 1 → OkLine false (ty_at A.lay.ctx) (given A.lay.ctx) (Line.value s (Expr.read a i)) → p + flat_count N (Line.value s (Expr.read a i)) ≤ 16384
       → LineKept N n (flat_made N p (Line.value s (Expr.read a i))) t (chunk I (suc p) (Line.value s (Expr.read a i))).info
   read_kept s a i t d k top = go (info_at I i).known ((v.rel i).value k.index.is).known (nr i).known
     where
-      ha : 2 ≤ (type_at A.lay a).role
+      ha : 2 ≤ rank (type_at A.lay a).role
       ha = k.arr.is
 
       go : (c : Option ℕ) → KnownRel c (cells_at A i) → KnownNote c (con_in N i)
@@ -161,15 +161,15 @@ module _ {A B : Frame} {I : List Info} (v : Inv A B I) (N : Notes) (ne : Neat N)
           kept_as_lem (read_any N p s a i z)
           (word_kept_lem (made_as (p + 2 * (c - 1)) (p + 2 * (c - 1)) (bit_in N s) None 1 None) s (suc p + (2 * last - 1)) none t d refl refl (sym e) refl refl (omega arith) (omega arith))
 
-  write_kept : (s a i x : ℕ) (t : Ty) → t.role ≢ 1 → OkLine false (ty_at A.lay.ctx) (given A.lay.ctx) (Line.value s (Expr.write a i x)) → p + flat_count N (Line.value s (Expr.write a i x)) ≤ 16384
+  write_kept : (s a i x : ℕ) (t : Ty) → rank t.role ≢ 1 → OkLine false (ty_at A.lay.ctx) (given A.lay.ctx) (Line.value s (Expr.write a i x)) → p + flat_count N (Line.value s (Expr.write a i x)) ≤ 16384
       → LineKept N n (flat_made N p (Line.value s (Expr.write a i x))) t (chunk I (suc p) (Line.value s (Expr.write a i x))).info
   write_kept s a i x t d k top = go (info_at I i).known ((v.rel i).value k.index.is).known (nr i).known
     where
-      ha : 2 ≤ (type_at A.lay a).role
+      ha : 2 ≤ rank (type_at A.lay a).role
       ha = k.arr.is
 
-      hs : 1 ≤ (type_at A.lay s).role
-      hs = let e : (type_at A.lay s).role ≡ 1 = k.sort.is in omega arith
+      hs : 1 ≤ rank (type_at A.lay s).role
+      hs = let e : rank (type_at A.lay s).role ≡ 1 = k.sort.is in omega arith
 
       go : (c : Option ℕ) → KnownRel c (cells_at A i) → KnownNote c (con_in N i)
           → LineKept N n (flat_made N p (Line.value s (Expr.write a i x))) t (chunk_write (info_at I s) (lines_at I a) c (line_at I i) (line_at I x) (suc p)).info
@@ -213,7 +213,7 @@ module _ {A B : Frame} {I : List Info} (v : Inv A B I) (N : Notes) (ne : Neat N)
 
   -- ---- any line
 
-  not_sort : (s : ℕ) (x : Expr) → (line_type_in false A.lay (Line.value s x)).role ≢ 1
+  not_sort : (s : ℕ) (x : Expr) → rank (line_type_in false A.lay (Line.value s x)).role ≢ 1
   not_sort s x e = omega (arith, val_value false (type_at A.lay) s x)
 
   pub line_kept : (l : Line) → OkLine false (ty_at A.lay.ctx) (given A.lay.ctx) l → p + flat_count N l ≤ 16384 → LineKept N n (flat_made N p l) (line_type_in false A.lay l) (chunk I (suc p) l).info

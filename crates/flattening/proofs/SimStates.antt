@@ -15,7 +15,7 @@ use borrow.Author.Tests.{eq-eqb, ne_eqb}
 use Rattle.tables.specs.declared.Ty.{Ty}
 use Rattle.tables.specs.Pick.{pick, among, alike}
 use Rattle.tables.specs.Lines.{state, init_or_next}
-use Rattle.tables.specs.Types.{marked, ty_at, given, given_by}
+use Rattle.tables.specs.Types.{rank, marked, ty_at, given, given_by}
 use Rattle.tables.specs.Rules.{value_index}
 use Rattle.tables.specs.Layout.{from}
 use Rattle.tables.proofs.Laws.{or_true}
@@ -67,7 +67,7 @@ states_low (more s r) zero h = s.low
 states_low (more s r) (suc j) h = states_low r j (omega arith)
 
 -- every flat line that holds a cell is one of the flat walk's
-pub held_below : {A B : Frame} {I : List Info} → Inv A B I → (i : ℕ) → 2 ≤ (type_at A.lay i).role → (j : ℕ) → j < length (lines_at I i) → get_or (lines_at I i) j 0 < length B.env
+pub held_below : {A B : Frame} {I : List Info} → Inv A B I → (i : ℕ) → 2 ≤ rank (type_at A.lay i).role → (j : ℕ) → j < length (lines_at I i) → get_or (lines_at I i) j 0 < length B.env
 held_below v i h j l = let r = (v.rel i).value h in (holds_at j r.held (subst (λ (n : ℕ). j < n) (holds_length r.held) l)).inb
 
 -- ---- a value that an init or a next gives
@@ -185,8 +185,8 @@ module _ (f : Bool) (σ ι : List ℕ) where
       qs : List ℕ
       qs = lines_at I q
 
-      is : 2 ≤ (type_at A.lay q).role
-      is = let h : (type_at A.lay q).role ≡ 4 = k.state in omega arith
+      is : 2 ≤ rank (type_at A.lay q).role
+      is = let h : rank (type_at A.lay q).role ≡ 4 = k.state in omega arith
 
       rs : SortRel B t (info_at I s)
       rs = (v.rel s).sort k.sort.is
@@ -209,7 +209,7 @@ module _ (f : Bool) (σ ι : List ℕ) where
       cs : List ℕ
       cs = given_words A m n a
 
-      value : (m : Bool) → OkValue m q a (type_at A.lay a) → 2 ≤ (type_at A.lay a).role
+      value : (m : Bool) → OkValue m q a (type_at A.lay a) → 2 ≤ rank (type_at A.lay a).role
       value true h = h.word.is
       value false h = h.is
 
@@ -233,10 +233,10 @@ module _ (f : Bool) (σ ι : List ℕ) where
       B' = evs f σ ι B (init_or_next_lines m (info_at I s).elem qs (value_lines I m (length qs) a))
 
       -- the lines of another state are not those of q
-      apart : (p : ℕ) → (type_at A.lay p).role ≡ 4 → p ≢ q → (j : ℕ) → j < length (lines_at I p) → among (get_or (lines_at I p) j 0) qs ≡ false
+      apart : (p : ℕ) → rank (type_at A.lay p).role ≡ 4 → p ≢ q → (j : ℕ) → j < length (lines_at I p) → among (get_or (lines_at I p) j 0) qs ≡ false
       apart p h d j l = not_among (get_or (lines_at I p) j 0) qs (λ i g. by_order (dec_lt p q) i g)
         where
-          val_p : 2 ≤ (type_at A.lay p).role
+          val_p : 2 ≤ rank (type_at A.lay p).role
           val_p = omega arith
 
           by_order : Dec (p < q) → (i : ℕ) → i < length qs → get_or qs i 0 ≢ get_or (lines_at I p) j 0
@@ -247,7 +247,7 @@ module _ (f : Bool) (σ ι : List ℕ) where
               omega arith
 
       -- the lines of q hold those of no other state
-      named : (p : ℕ) → (type_at A.lay p).role ≡ 4 → (j : ℕ) → j < length (lines_at I p) → among (get_or (lines_at I p) j 0) qs ≡ among p (q ∷ [])
+      named : (p : ℕ) → rank (type_at A.lay p).role ≡ 4 → (j : ℕ) → j < length (lines_at I p) → among (get_or (lines_at I p) j 0) qs ≡ among p (q ∷ [])
       named p h j l =
           by_place p q
           (λ e. subst (λ (x : ℕ). among (get_or (lines_at I p) j 0) (lines_at I x) ≡ true) e (among_at (lines_at I p) j l) ∙ sym (rw (eq-eqb p q e)))

@@ -12,7 +12,7 @@ use Rattle.words.specs.Op.{op_of}
 use Rattle.words.specs.Circuit.{circ}
 use Rattle.tables.specs.declared.Ty.{Ty}
 use Rattle.tables.specs.Lines.{Line, bitvec, array, input, value, signal, output, const, unary, binary}
-use Rattle.tables.specs.Types.{marked, ty_at, given}
+use Rattle.tables.specs.Types.{rank, marked, ty_at, given}
 use Rattle.tables.specs.Layout.{from}
 use Rattle.tables.proofs.Facts.{OkLine, AllOk}
 use Rattle.tables.proofs.Ids.{length_from}
@@ -39,7 +39,7 @@ module _ (f : Bool) (σ ι : List ℕ) where
       let h = new_type f σ ι ev (bitvec w) b e in
       record {
         inb = omega (arith, len1 f σ ι A (bitvec w));
-        is = ap (λ (t : Ty). t.role) h;
+        is = ap (λ (t : Ty). rank t.role) h;
         wide = ap (λ (t : Ty). t.w) h;
         flat = ap (λ (t : Ty). t.iw) h;
       }

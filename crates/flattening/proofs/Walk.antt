@@ -11,9 +11,10 @@ use native.Mathlib.Numerals.{add-one}
 use lib.Dec.{T, leb}
 use lib.ListN.{length, get_or, length-append, get_or-append}
 use lib.Seq.{get_or_at}
+use Rattle.tables.specs.declared.Role.{Role}
 use Rattle.tables.specs.declared.Ty.{Ty}
 use Rattle.tables.specs.Lines.{Line}
-use Rattle.tables.specs.Types.{ty, marked_role, no_ty, marked, value_role, given_by}
+use Rattle.tables.specs.Types.{rank, ty, no_ty, marked, value_role, given_by}
 use Rattle.tables.proofs.Kept.{no_yes}
 use Rattle.tables.proofs.Values.{role_least, role_mark}
 use Rattle.tables.proofs.Facts.{IsWord, IsWordSort, AllOk}
@@ -56,13 +57,13 @@ ext_trans x y =
 
 pub record SortAt (A : Frame) (p w : ℕ) : Type 0 where
   pub inb : p < length A.env
-  pub is : (type_at A.lay p).role ≡ 1
+  pub is : rank (type_at A.lay p).role ≡ 1
   pub wide : (type_at A.lay p).w ≡ w
   pub flat : (type_at A.lay p).iw ≡ 0
 
 pub record Word (A : Frame) (u : Bool) (p w v : ℕ) : Type 0 where
   pub inb : p < length A.env
-  pub is : 2 ≤ (type_at A.lay p).role
+  pub is : 2 ≤ rank (type_at A.lay p).role
   pub flat : (type_at A.lay p).iw ≡ 0
   pub wide : (type_at A.lay p).w ≡ w
   pub cells : cells_at A p ≡ v ∷ []
@@ -74,7 +75,7 @@ pub data Holds (A : Frame) (u : Bool) (w : ℕ) : List ℕ → List ℕ → Type
 
 pub record StateAt (A : Frame) (lo a w p : ℕ) : Type 0 where
   pub inb : p < length A.env
-  pub is : (type_at A.lay p).role ≡ 4
+  pub is : rank (type_at A.lay p).role ≡ 4
   pub flat : (type_at A.lay p).iw ≡ 0
   pub wide : (type_at A.lay p).w ≡ w
   pub at : place_at A.lay p ≡ a
@@ -92,7 +93,7 @@ sort_ext {p = p} x h =
     let e = x.type p h.inb in
     record {
       inb = le_trans h.inb x.len;
-      is = ap (λ (t : Ty). t.role) e ∙ h.is;
+      is = ap (λ (t : Ty). rank t.role) e ∙ h.is;
       wide = ap (λ (t : Ty). t.w) e ∙ h.wide;
       flat = ap (λ (t : Ty). t.iw) e ∙ h.flat;
     }
@@ -102,7 +103,7 @@ word_ext {p = p} x h =
     let e = x.type p h.inb in
     record {
       inb = le_trans h.inb x.len;
-      is = subst⁻¹ (λ (t : Ty). 2 ≤ t.role) e h.is;
+      is = subst⁻¹ (λ (t : Ty). 2 ≤ rank t.role) e h.is;
       flat = ap (λ (t : Ty). t.iw) e ∙ h.flat;
       wide = ap (λ (t : Ty). t.w) e ∙ h.wide;
       cells = x.cells p h.inb ∙ h.cells;
@@ -118,7 +119,7 @@ state_ext {p = p} x h =
     let e = x.type p h.inb in
     record {
       inb = le_trans h.inb x.len;
-      is = ap (λ (t : Ty). t.role) e ∙ h.is;
+      is = ap (λ (t : Ty). rank t.role) e ∙ h.is;
       flat = ap (λ (t : Ty). t.iw) e ∙ h.flat;
       wide = ap (λ (t : Ty). t.w) e ∙ h.wide;
       at = x.place p h.inb ∙ h.at;
@@ -312,13 +313,13 @@ module _ (f : Bool) (σ ι : List ℕ) where
   new_cells {A} ev l b e = get_or_at A.env (cells_of false f σ ι A l) [] [] b (sym e)
 
   -- it is a word, of the sort line s
-  pub new_word : {A : Frame} {u : Bool} {b s w v c : ℕ} → Even A → (l : Line) → b ≡ length A.env → SortAt A s w
-      → line_type_in false A.lay l ≡ ty c (type_at A.lay s).iw (type_at A.lay s).w → cells_of false f σ ι A l ≡ v ∷ [] → 2 ≤ c → (T u → T (not (leb marked_role c))) → Word (ev1 A l) u b w v
+  pub new_word : {A : Frame} {u : Bool} {b s w v : ℕ} {c : Role} → Even A → (l : Line) → b ≡ length A.env → SortAt A s w
+      → line_type_in false A.lay l ≡ ty c (type_at A.lay s).iw (type_at A.lay s).w → cells_of false f σ ι A l ≡ v ∷ [] → 2 ≤ rank c → (T u → T (not (leb 3 (rank c)))) → Word (ev1 A l) u b w v
   new_word {A} {b = b} ev l e hs ht hc hv hu =
       let h = new_type ev l b e ∙ ht in
       record {
         inb = omega (arith, len1 A l);
-        is = subst⁻¹ (λ (t : Ty). 2 ≤ t.role) h hv;
+        is = subst⁻¹ (λ (t : Ty). 2 ≤ rank t.role) h hv;
         flat = ap (λ (t : Ty). t.iw) h ∙ hs.flat;
         wide = ap (λ (t : Ty). t.w) h ∙ hs.wide;
         cells = new_cells ev l b e ∙ hc;

@@ -3,6 +3,7 @@
 
 ghost use Rattle.std.specs.Prelude.{◌≡◌, false, ◌+◌, ◌≤◌, ◌<◌};
 ghost use Rattle.tables.specs.Layout.{lines_of};
+ghost use Rattle.tables.specs.Types.{rank};
 ghost use Rattle.peeks.specs.Peek.{peek_at, may_peek, told_peek, peeks};
 ghost use Rattle.peeks.specs.Model.Looks.{Laid, HasCell, lent_peek};
 ghost use Rattle.circuits.specs.Model.Passes.{counts_of, Noted};
@@ -11,7 +12,7 @@ use area::LAID;
 use circuits::Totals;
 use peek_cells::Circuit;
 use records::notes;
-use tables::{BLANK, Note, Refusal, Ty};
+use tables::{BLANK, Note, Refusal, Role, Ty};
 
 // The cell k of the line n, a value that has it.
 fn find(
@@ -47,7 +48,7 @@ fn find(
 
 // 14, 15 and 18: s start words and i words of a row are lent, for the cell k of a line of the type y.
 fn may_peek(t: Totals, y: Ty, count: usize, k: usize, s: usize, i: usize) -> Result<(), Refusal>
-    requires { (t.inputs + t.free < 4294967296) × (2 ≤ y.role → y.iw ≤ 8) }
+    requires { (t.inputs + t.free < 4294967296) × (2 ≤ rank y.role → y.iw ≤ 8) }
     ensures { result ≡ may_peek (counts_of t) (t.inputs + t.free) y count k s i }
 {
     if s != t.states {
@@ -56,7 +57,7 @@ fn may_peek(t: Totals, y: Ty, count: usize, k: usize, s: usize, i: usize) -> Res
     if i != t.inputs + t.free {
         return Err(Refusal::InputWords);
     }
-    if 64 < count || y.role < 2 {
+    if 64 < count || y.role < Role::Unmarked {
         return Err(Refusal::NoSuchCell);
     }
     let m: usize = 1 << y.iw;

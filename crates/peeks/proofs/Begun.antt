@@ -13,7 +13,7 @@ use borrow.Author.Tests.{eq-eqb, ne_eqb}
 use Rattle.tables.specs.declared.Ty.{Ty}
 use Rattle.tables.specs.Pick.{pick}
 use Rattle.tables.specs.Lines.{Line}
-use Rattle.tables.specs.Types.{unmarked_role, ty_at, given, sort_at}
+use Rattle.tables.specs.Types.{rank, ty_at, given, sort_at}
 use Rattle.tables.specs.Tables.{checked}
 use Rattle.tables.proofs.Facts.{OkLine, OkInitOrNext}
 use Rattle.tables.proofs.Values.{unmarked_value}
@@ -46,16 +46,16 @@ pub record Settled (Y : Layout) (q at m w d : ℕ) : Type 0 where
   pub sized : size (type_at Y q) ≡ m
   pub width : (type_at Y q).w ≡ w
   pub spot : place_at Y q ≡ at
-  pub none : (type_at Y 0).role ≡ 0
+  pub none : rank (type_at Y 0).role ≡ 0
   -- the words of no other state meet its own
-  pub apart : (x : ℕ) → (type_at Y x).role ≡ 4 → (x ≡ q → ⊥) → (at + m ≤ place_at Y x) ⊎ (place_at Y x + size (type_at Y x) ≤ at)
+  pub apart : (x : ℕ) → rank (type_at Y x).role ≡ 4 → (x ≡ q → ⊥) → (at + m ≤ place_at Y x) ⊎ (place_at Y x + size (type_at Y x) ≤ at)
   pub below : d < q
-  pub unmarked : (d ≡ 0 → ⊥) → (type_at Y d).role ≡ unmarked_role
+  pub unmarked : (d ≡ 0 → ⊥) → rank (type_at Y d).role ≡ 2
   pub flat : (d ≡ 0 → ⊥) → (type_at Y d).iw ≡ 0
   pub same : (d ≡ 0 → ⊥) → (type_at Y d).w ≡ w
 
 -- a line of a state's role is a state, whose words come after all others
-state_place : (p : Bool) (Y : Layout) (l : Line) → (line_type_in p Y l).role ≡ 4 → place_of Y l ≡ Y.counts.states
+state_place : (p : Bool) (Y : Layout) (l : Line) → rank (line_type_in p Y l).role ≡ 4 → place_of Y l ≡ Y.counts.states
 state_place p Y (Line.bitvec w) e = absurd (omega arith)
 state_place p Y (Line.array i x) e = absurd (omega arith)
 state_place p Y (Line.input s) e = absurd (omega arith)
@@ -86,19 +86,19 @@ module _ (Y : Layout) (S : Sound Y) (l : Line) where
         sized = ap size tq ∙ k.sized;
         width = ap (λ (t : Ty). t.w) tq ∙ k.width;
         spot = place_old false Y l S.long q (old k) ∙ k.spot;
-        none = ap (λ (t : Ty). t.role) (type_old false Y l S.long 0 (λ e. omega (arith, k.known))) ∙ k.none;
+        none = ap (λ (t : Ty). rank t.role) (type_old false Y l S.long 0 (λ e. omega (arith, k.known))) ∙ k.none;
         apart = λ x.
             by_place x (length Y.ctx.tys)
             (λ e c ne.
             let tx : type_at (lay false Y l) x ≡ line_type_in false Y l = ap (type_at (lay false Y l)) e ∙ type_new false Y l S.long in
-            let px : place_at (lay false Y l) x ≡ Y.counts.states = ap (place_at (lay false Y l)) e ∙ place_new false Y l S.long ∙ state_place false Y l (sym (ap (λ (t : Ty). t.role) tx) ∙ c) in
+            let px : place_at (lay false Y l) x ≡ Y.counts.states = ap (place_at (lay false Y l)) e ∙ place_new false Y l S.long ∙ state_place false Y l (sym (ap (λ (t : Ty). rank t.role) tx) ∙ c) in
             inl (omega arith))
             (λ n c ne.
             let tx = type_old false Y l S.long x n in
             let px = place_old false Y l S.long x n in
-            rw (tx, px) (k.apart x (sym (ap (λ (t : Ty). t.role) tx) ∙ c) ne));
+            rw (tx, px) (k.apart x (sym (ap (λ (t : Ty). rank t.role) tx) ∙ c) ne));
         below = k.below;
-        unmarked = λ z. ap (λ (t : Ty). t.role) td ∙ k.unmarked z;
+        unmarked = λ z. ap (λ (t : Ty). rank t.role) td ∙ k.unmarked z;
         flat = λ z. ap (λ (t : Ty). t.iw) td ∙ k.flat z;
         same = λ z. ap (λ (t : Ty). t.w) td ∙ k.same z;
       }
@@ -151,7 +151,7 @@ module _ (S ι : List ℕ) (B : Frame) (sound : Sound B.lay) (lines : length B.e
         let sx : size (type_at B.lay x) ≡ m = ap (λ (y : ℕ). size (type_at B.lay y)) (sym e) ∙ k.settled.sized in
         let px : place_at B.lay x ≡ at = ap (place_at B.lay) (sym e) ∙ k.settled.spot in
         let wx : (type_at B.lay x).w ≡ w = ap (λ (y : ℕ). (type_at B.lay y).w) (sym e) ∙ k.settled.width in
-        let nz : v ≡ 0 → ⊥ = λ z. omega (arith, ok.value.word.is, ap (λ (y : ℕ). (type_at B.lay y).role) z, k.settled.none) in
+        let nz : v ≡ 0 → ⊥ = λ z. omega (arith, ok.value.word.is, ap (λ (y : ℕ). rank (type_at B.lay y).role) z, k.settled.none) in
         record {
           settled =
               record {
@@ -163,7 +163,7 @@ module _ (S ι : List ℕ) (B : Frame) (sound : Sound B.lay) (lines : length B.e
                 none = K.none;
                 apart = K.apart;
                 below = omega (arith, ok.value.below);
-                unmarked = λ z. ap (λ (t : Ty). t.role) tv ∙ unmarked_value (type_at B.lay v) ok.value.word.is ok.value.unmarked;
+                unmarked = λ z. ap (λ (t : Ty). rank t.role) tv ∙ unmarked_value (type_at B.lay v) ok.value.word.is ok.value.unmarked;
                 flat = λ z. ap (λ (t : Ty). t.iw) tv ∙ ok.value.word.flat;
                 same = λ z. ap (λ (t : Ty). t.w) tv ∙ ok.w ∙ sym ok.same.w ∙ wx;
               };
@@ -210,7 +210,7 @@ note_early Y q (Line.output a) ok h = refl
 note_early Y q Line.unknown ok h = refl
 
 -- the state's own line
-settled_new : (Y : Layout) (S : Sound Y) (s : ℕ) → (type_at Y 0).role ≡ 0 → 0 < length Y.ctx.tys
+settled_new : (Y : Layout) (S : Sound Y) (s : ℕ) → rank (type_at Y 0).role ≡ 0 → 0 < length Y.ctx.tys
     → Settled (lay false Y (Line.state s)) (length Y.ctx.tys) Y.counts.states (size (line_type_in false Y (Line.state s))) (line_type_in false Y (Line.state s)).w 0
 settled_new Y S s z h =
     let l = Line.state s in
@@ -222,14 +222,14 @@ settled_new Y S s z h =
       sized = ap size tn;
       width = ap (λ (t : Ty). t.w) tn;
       spot = place_new false Y l S.long;
-      none = ap (λ (t : Ty). t.role) (type_old false Y l S.long 0 (λ e. omega arith)) ∙ z;
+      none = ap (λ (t : Ty). rank t.role) (type_old false Y l S.long 0 (λ e. omega arith)) ∙ z;
       apart = λ x.
           by_place x q
           (λ e c ne. absurd (ne e))
           (λ n c ne.
           let tx = type_old false Y l S.long x n in
           let px = place_old false Y l S.long x n in
-          inr (rw (tx, px) (S.room x (sym (ap (λ (t : Ty). t.role) tx) ∙ c))));
+          inr (rw (tx, px) (S.room x (sym (ap (λ (t : Ty). rank t.role) tx) ∙ c))));
       below = h;
       unmarked = λ e. absurd (e refl);
       flat = λ e. absurd (e refl);
@@ -248,8 +248,8 @@ module _ (t : List ℕ) (n : ℕ) (acc : checked false t n ≡ Ok tt) (S ι : Li
   number : (j : ℕ) → j ≤ n → length (acc_at false true S ι (lines_of false t n) j).lay.ctx.tys ≡ j + 1
   number j h = ap (λ (Y : Layout). length Y.ctx.tys) (lay_is t n acc S many true ι j) ∙ number_at false t n acc j h
 
-  nothing : (j : ℕ) → (type_at (acc_at false true S ι (lines_of false t n) j).lay 0).role ≡ 0
-  nothing j = ap (λ (Y : Layout). (type_at Y 0).role) (lay_is t n acc S many true ι j) ∙ ap (λ (y : Ty). y.role) ((later false no_layout (take j (lines_of false t n))).type 0 (omega arith))
+  nothing : (j : ℕ) → rank (type_at (acc_at false true S ι (lines_of false t n) j).lay 0).role ≡ 0
+  nothing j = ap (λ (Y : Layout). rank (type_at Y 0).role) (lay_is t n acc S many true ι j) ∙ ap (λ (y : Ty). rank y.role) ((later false no_layout (take j (lines_of false t n))).type 0 (omega arith))
 
   module _ (i : ℕ) (h : i < n) (s : ℕ) (el : get_or (lines_of false t n) i Line.unknown ≡ Line.state s) where
     early : (j : ℕ) → j ≤ suc i → init_of (suc i) (take j (lines_of false t n)) ≡ 0

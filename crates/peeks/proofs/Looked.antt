@@ -14,7 +14,7 @@ use Rattle.words.specs.Word.{Width, bit}
 use Rattle.tables.specs.declared.Ty.{Ty}
 use Rattle.tables.specs.Lines.{Line, Expr, line_of}
 use Rattle.tables.specs.Layout.{record_at, lines_of}
-use Rattle.tables.specs.Types.{unmarked_role, marked_role, ty_at, given, sort_at}
+use Rattle.tables.specs.Types.{rank, ty_at, given, sort_at}
 use Rattle.tables.specs.Tables.{checked}
 use Rattle.tables.proofs.Facts.{IsWord, IsArray, OkLine, OkExpr}
 use Rattle.tables.proofs.Showing.{earlier}
@@ -48,7 +48,7 @@ pub record Arg (Z : Layout) (n a : ℕ) : Type 0 where
   pub below : a < n
 
 pub record Operand (Z : Layout) (n a : ℕ) : Type 0 where
-  pub value : 2 ≤ (type_at Z a).role
+  pub value : 2 ≤ rank (type_at Z a).role
   pub below : a < n
 
 module _ (A : Frame) (Z : Layout) (P : List (List ℕ)) (ini S R : List ℕ) (n c : ℕ) where
@@ -212,29 +212,29 @@ module _ {t : List ℕ} {n : ℕ} {P : List (List ℕ)} {ini S R : List ℕ} (lk
   type_A : (a : ℕ) → type_at A.lay a ≡ type_at Z a
   type_A a = ap (λ (Y : Layout). type_at Y a) lay_A
 
-  length_of : (a : ℕ) → 2 ≤ (type_at Z a).role → length (cells_at A a) ≡ size (type_at Z a)
-  length_of a q = cells_many H room a (subst (λ (y : Ty). 2 ≤ y.role) (sym (type_A a)) q) ∙ ap size (type_A a)
+  length_of : (a : ℕ) → 2 ≤ rank (type_at Z a).role → length (cells_at A a) ≡ size (type_at Z a)
+  length_of a q = cells_many H room a (subst (λ (y : Ty). 2 ≤ rank y.role) (sym (type_A a)) q) ∙ ap size (type_A a)
 
-  small : (a : ℕ) → 2 ≤ (type_at Z a).role → (j : ℕ) → get_or (cells_at A a) j 0 < 2 ^ (type_at Z a).w
-  small a q j = subst (λ (y : Ty). get_or (cells_at A a) j 0 < 2 ^ y.w) (type_A a) (cells_small H room a (subst (λ (y : Ty). 2 ≤ y.role) (sym (type_A a)) q) j)
+  small : (a : ℕ) → 2 ≤ rank (type_at Z a).role → (j : ℕ) → get_or (cells_at A a) j 0 < 2 ^ (type_at Z a).w
+  small a q j = subst (λ (y : Ty). get_or (cells_at A a) j 0 < 2 ^ y.w) (type_A a) (cells_small H room a (subst (λ (y : Ty). 2 ≤ rank y.role) (sym (type_A a)) q) j)
 
-  no_line : (type_at (layout false (lines_of false t n)) 0).role ≡ 0
+  no_line : rank (type_at (layout false (lines_of false t n)) 0).role ≡ 0
   unfolding layout
-  no_line = ap (λ (y : Ty). y.role) ((later false no_layout (lines_of false t n)).type 0 (omega arith))
+  no_line = ap (λ (y : Ty). rank y.role) ((later false no_layout (lines_of false t n)).type 0 (omega arith))
 
   pub none_flat : (type_at (layout false (lines_of false t n)) 0).iw ≡ 0
   unfolding layout
   none_flat = ap (λ (y : Ty). y.iw) ((later false no_layout (lines_of false t n)).type 0 (omega arith))
 
-  from_one : (a : ℕ) → 1 ≤ (type_at (layout false (lines_of false t n)) a).role → 1 ≤ a
+  from_one : (a : ℕ) → 1 ≤ rank (type_at (layout false (lines_of false t n)) a).role → 1 ≤ a
   from_one zero q = absurd (omega (arith, no_line))
   from_one (suc a) q = omega arith
 
   -- a line of some role has a number from 1 to the count
-  pub number_of : (a : ℕ) → 1 ≤ (type_at Z a).role → (1 ≤ a) × (a ≤ n)
+  pub number_of : (a : ℕ) → 1 ≤ rank (type_at Z a).role → (1 ≤ a) × (a ≤ n)
   number_of a q = (from_one a q, omega (arith, earlier Z.ctx.tys a q, lines_here false t n accepted))
 
-  width_of : (a : ℕ) → 2 ≤ (type_at Z a).role → Width (wid_in P a)
+  width_of : (a : ℕ) → 2 ≤ rank (type_at Z a).role → Width (wid_in P a)
   width_of a q =
       let k = (all_sound false t n accepted).wide a (omega arith) in
       let e = (shown lk.laid a (number_of a (omega arith)).1).is_wid in
@@ -261,21 +261,21 @@ module _ {t : List ℕ} {n : ℕ} {P : List (List ℕ)} {ini S R : List ℕ} (lk
     next : Later (lay false B.lay l) Z
     next = subst (λ (Y : Layout). Later (lay false Y l) Z) (sym (lay_is t n accepted σ many false ι i)) (later_at false t n accepted i h)
 
-    arg_below : (a : ℕ) → 1 ≤ (type_at B.lay a).role → a < suc i
+    arg_below : (a : ℕ) → 1 ≤ rank (type_at B.lay a).role → a < suc i
     arg_below a q = omega (arith, earlier B.lay.ctx.tys a q, tall)
 
-    arg_type : (a : ℕ) → 1 ≤ (type_at B.lay a).role → type_at Z a ≡ type_at B.lay a
+    arg_type : (a : ℕ) → 1 ≤ rank (type_at B.lay a).role → type_at Z a ≡ type_at B.lay a
     arg_type a q =
         let b = earlier B.lay.ctx.tys a q in
         next.type a (omega (arith, more_types false B.lay l)) ∙ type_old false B.lay l held.held.sound.long a (λ e. omega arith)
 
-    arg_cells : (a : ℕ) → 1 ≤ (type_at B.lay a).role → cells_at A a ≡ cells_at B a
+    arg_cells : (a : ℕ) → 1 ≤ rank (type_at B.lay a).role → cells_at A a ≡ cells_at B a
     arg_cells a q = cells_first false false (lines_of false t n) σ ι i a (omega (arith, lines_many false t n accepted)) (omega (arith, arg_below a q))
 
-    arg_word : (a : ℕ) → 1 ≤ (type_at B.lay a).role → word_at A a ≡ word_at B a
+    arg_word : (a : ℕ) → 1 ≤ rank (type_at B.lay a).role → word_at A a ≡ word_at B a
     arg_word a q = ap (λ (x : List ℕ). get_or x 0 0) (arg_cells a q)
 
-    arg_width : (a : ℕ) → 1 ≤ (type_at B.lay a).role → wid_in P a ≡ width_at B a
+    arg_width : (a : ℕ) → 1 ≤ rank (type_at B.lay a).role → wid_in P a ≡ width_at B a
     arg_width a q = (shown lk.laid a (omega (arith, arg_below a q))).is_wid ∙ ap (λ (y : Ty). y.w) (arg_type a q)
 
     arg_of : (a : ℕ) → IsWord (type_at B.lay a) → Arg Z (suc i) a
@@ -284,8 +284,8 @@ module _ {t : List ℕ} {n : ℕ} {P : List (List ℕ)} {ini S R : List ℕ} (lk
     array_of : (a : ℕ) → IsArray (type_at B.lay a) → IsArray (type_at Z a)
     array_of a q = subst IsArray (sym (arg_type a (omega (arith, q.is)))) q
 
-    operand_of : (a : ℕ) → 2 ≤ (type_at B.lay a).role → Operand Z (suc i) a
-    operand_of a q = record { value = subst (λ (y : Ty). 2 ≤ y.role) (sym (arg_type a (omega arith))) q; below = arg_below a (omega arith) }
+    operand_of : (a : ℕ) → 2 ≤ rank (type_at B.lay a).role → Operand Z (suc i) a
+    operand_of a q = record { value = subst (λ (y : Ty). 2 ≤ rank y.role) (sym (arg_type a (omega arith))) q; below = arg_below a (omega arith) }
 
     own_cells : cells_at A (suc i) ≡ cells_of false false σ ι B l
     own_cells = cells_here false false (lines_of false t n) σ ι i (omega (arith, lines_many false t n accepted))
@@ -327,7 +327,7 @@ module _ {t : List ℕ} {n : ℕ} {P : List (List ℕ)} {ini S R : List ℕ} (lk
     fact_expr s (Expr.const v) el ok c hc = record { flat = expr_iw s (Expr.const v) el ∙ ok.sort.flat; is = sym (expr_word s (Expr.const v) el) }
     fact_expr s (Expr.unary k a x y) el ok c hc =
         let e = Expr.unary k a x y in
-        let q : 1 ≤ (type_at B.lay a).role = omega (arith, ok.arg.is) in
+        let q : 1 ≤ rank (type_at B.lay a).role = omega (arith, ok.arg.is) in
         record {
           most = ok.kind.1;
           flat = expr_iw s e el ∙ ok.sort.flat;
@@ -338,8 +338,8 @@ module _ {t : List ℕ} {n : ℕ} {P : List (List ℕ)} {ini S R : List ℕ} (lk
         }
     fact_expr s (Expr.binary k a b) el ok c hc =
         let e = Expr.binary k a b in
-        let qa : 1 ≤ (type_at B.lay a).role = omega (arith, ok.left.is) in
-        let qb : 1 ≤ (type_at B.lay b).role = omega (arith, ok.right.is) in
+        let qa : 1 ≤ rank (type_at B.lay a).role = omega (arith, ok.left.is) in
+        let qb : 1 ≤ rank (type_at B.lay b).role = omega (arith, ok.right.is) in
         record {
           flat = expr_iw s e el ∙ ok.sort.flat;
           left = arg_of a ok.left;
@@ -351,8 +351,8 @@ module _ {t : List ℕ} {n : ℕ} {P : List (List ℕ)} {ini S R : List ℕ} (lk
         }
     fact_expr s (Expr.equality f a b) el ok c hc =
         let e = Expr.equality f a b in
-        let qa : 1 ≤ (type_at B.lay a).role = omega (arith, ok.left.is) in
-        let qb : 1 ≤ (type_at B.lay b).role = omega (arith, ok.right.is) in
+        let qa : 1 ≤ rank (type_at B.lay a).role = omega (arith, ok.left.is) in
+        let qb : 1 ≤ rank (type_at B.lay b).role = omega (arith, ok.right.is) in
         record {
           flat = expr_iw s e el ∙ ok.sort.flat;
           left = operand_of a ok.left.is;
@@ -362,9 +362,9 @@ module _ {t : List ℕ} {n : ℕ} {P : List (List ℕ)} {ini S R : List ℕ} (lk
         }
     fact_expr s (Expr.ite d a b) el ok c hc =
         let e = Expr.ite d a b in
-        let qd : 1 ≤ (type_at B.lay d).role = omega (arith, ok.cond.is) in
-        let qa : 1 ≤ (type_at B.lay a).role = omega (arith, ok.left.is) in
-        let qb : 1 ≤ (type_at B.lay b).role = omega (arith, ok.right.is) in
+        let qd : 1 ≤ rank (type_at B.lay d).role = omega (arith, ok.cond.is) in
+        let qa : 1 ≤ rank (type_at B.lay a).role = omega (arith, ok.left.is) in
+        let qb : 1 ≤ rank (type_at B.lay b).role = omega (arith, ok.right.is) in
         let own : get_or (cells_at A (suc i)) c 0 ≡ get_or (if_nonzero (word_at B d) (cells_at B a) (cells_at B b)) c 0 = ap (λ (x : List ℕ). get_or x c 0) (expr_cells s e el) in
         record {
           cond = arg_of d ok.cond;
@@ -377,8 +377,8 @@ module _ {t : List ℕ} {n : ℕ} {P : List (List ℕ)} {ini S R : List ℕ} (lk
         }
     fact_expr s (Expr.read a x) el ok c hc =
         let e = Expr.read a x in
-        let qa : 1 ≤ (type_at B.lay a).role = omega (arith, ok.arr.is) in
-        let qx : 1 ≤ (type_at B.lay x).role = omega (arith, ok.index.is) in
+        let qa : 1 ≤ rank (type_at B.lay a).role = omega (arith, ok.arr.is) in
+        let qx : 1 ≤ rank (type_at B.lay x).role = omega (arith, ok.index.is) in
         let index = arg_of x ok.index in
         let wi : (type_at Z x).w ≡ (type_at Z a).iw = ap (λ (y : Ty). y.w) (arg_type x qx) ∙ ok.iw ∙ sym (ap (λ (y : Ty). y.iw) (arg_type a qa)) in
         record {
@@ -391,9 +391,9 @@ module _ {t : List ℕ} {n : ℕ} {P : List (List ℕ)} {ini S R : List ℕ} (lk
         }
     fact_expr s (Expr.write a x v) el ok c hc =
         let e = Expr.write a x v in
-        let qa : 1 ≤ (type_at B.lay a).role = omega (arith, ok.arr.is) in
-        let qx : 1 ≤ (type_at B.lay x).role = omega (arith, ok.index.is) in
-        let qv : 1 ≤ (type_at B.lay v).role = omega (arith, ok.value.is) in
+        let qa : 1 ≤ rank (type_at B.lay a).role = omega (arith, ok.arr.is) in
+        let qx : 1 ≤ rank (type_at B.lay x).role = omega (arith, ok.index.is) in
+        let qv : 1 ≤ rank (type_at B.lay v).role = omega (arith, ok.value.is) in
         let sa : (type_at Z a).iw ≡ (type_at Z (suc i)).iw = ap (λ (y : Ty). y.iw) (arg_type a qa) ∙ ok.same.iw ∙ sym (expr_iw s e el) in
         let la : length (cells_at A a) ≡ size (type_at Z (suc i)) = length_of a (array_of a ok.arr).is ∙ ap (λ (m : ℕ). 2 ^ m) sa in
         let own : get_or (cells_at A (suc i)) c 0 ≡ get_or (set (cells_at A a) (word_at A x) (word_at A v)) c 0 =
@@ -420,7 +420,7 @@ module _ {t : List ℕ} {n : ℕ} {P : List (List ℕ)} {ini S R : List ℕ} (lk
         record {
           flat = ap (λ (y : Ty). y.iw) ty ∙ flat;
           inside = omega (arith, lk.laid.row);
-          wide = width_of (suc i) (subst (λ (y : Ty). 2 ≤ y.role) (sym ty) (omega arith));
+          wide = width_of (suc i) (subst (λ (y : Ty). 2 ≤ rank y.role) (sym ty) (omega arith));
           is = ap₂ (λ (v m : ℕ). v % 2 ^ m) (sym (get_or-take (input_count false (lines_of false t n)) R (pos_in P (suc i)) 0 (omega arith))) ew ∙ ap (λ (m : ℕ). get_or ι m 0 % 2 ^ (line_type_in false B.lay (Line.input s)).w) ep
               ∙ sym (ap (λ (x : List ℕ). get_or x 0 0) (own_cells ∙ ap (cells_of false false σ ι B) el));
         }
@@ -464,9 +464,9 @@ module _ {t : List ℕ} {n : ℕ} {P : List (List ℕ)} {ini S R : List ℕ} (lk
           let lz = lay_whole t n accepted S lk.laid.starts true ι in
           let d : ℕ = init_of (suc i) (lines_of false t n) in
           let td : type_at (step false true (lines_of false t n) S ι).lay d ≡ type_at Z d = ap (λ (Y : Layout). type_at Y d) lz in
-          let role : (type_at Z d).role ≡ unmarked_role = sym (ap (λ (y : Ty). y.role) td) ∙ k.unmarked z in
+          let role : rank (type_at Z d).role ≡ 2 = sym (ap (λ (y : Ty). rank y.role) td) ∙ k.unmarked z in
           let wd : (type_at Z d).w ≡ own.w = sym (ap (λ (y : Ty). y.w) td) ∙ k.same z in
-          let xe : word_at (step false true (lines_of false t n) S ι) d ≡ word_at A d = ap (λ (y : List ℕ). get_or y 0 0) (unmarked_alike false true false S σ ι ι (lines_of false t n) d (ap (leb marked_role) role)) in
+          let xe : word_at (step false true (lines_of false t n) S ι) d ≡ word_at A d = ap (λ (y : List ℕ). get_or y 0 0) (unmarked_alike false true false S σ ι ι (lines_of false t n) d (ap (leb 3) role)) in
           record {
             arg = record { word = record { is = omega arith; flat = sym (ap (λ (y : Ty). y.iw) td) ∙ k.flat z }; below = k.below };
             is = sym (state_at ∙ ap (λ (y : List ℕ). get_or y c 0 % 2 ^ own.w) (yes_choose d _ _ z) ∙ ap (λ (m : ℕ). m % 2 ^ own.w) (get_or-replicate (size own) c _ 0 hm ∙ xe)
@@ -481,7 +481,7 @@ module _ {t : List ℕ} {n : ℕ} {P : List (List ℕ)} {ini S R : List ℕ} (lk
           let w : ℕ = own.w in
           record {
             inside = omega (arith, state_place, hm, lk.laid.starts);
-            wide = width_of (suc i) (subst (λ (y : Ty). 2 ≤ y.role) (sym state_type) (omega arith));
+            wide = width_of (suc i) (subst (λ (y : Ty). 2 ≤ rank y.role) (sym state_type) (omega arith));
             is = ap₂ (λ (m v : ℕ). get_or S (m + c) 0 % 2 ^ v) state_place state_wid
                 ∙ sym (state_at ∙ ap (λ (y : List ℕ). get_or y c 0 % 2 ^ w) (no_choose (init_of (suc i) (lines_of false t n)) _ _ z) ∙ ap (λ (m : ℕ). m % 2 ^ w) (get_or_lows w (part S E.counts.states (size own)) c)
                 ∙ mod-mod (get_or (part S E.counts.states (size own)) c 0) (2 ^ w) ∙ ap (λ (m : ℕ). m % 2 ^ w) (laws.part_get_or S E.counts.states (size own) c hm));
@@ -497,7 +497,7 @@ module _ {t : List ℕ} {n : ℕ} {P : List (List ℕ)} {ini S R : List ℕ} (lk
 
     -- ---- the line
 
-    fact_line : (x : Line) → l ≡ x → OkLine false (ty_at B.lay.ctx) (given B.lay.ctx) x → 2 ≤ (line_type_in false B.lay x).role → (c : ℕ) → c < size (type_at Z (suc i)) → Fact A Z P ini S R (suc i) c x
+    fact_line : (x : Line) → l ≡ x → OkLine false (ty_at B.lay.ctx) (given B.lay.ctx) x → 2 ≤ rank (line_type_in false B.lay x).role → (c : ℕ) → c < size (type_at Z (suc i)) → Fact A Z P ini S R (suc i) c x
     fact_line (Line.bitvec w) el ok q c hc = omega arith
     fact_line (Line.array a b) el ok q c hc = omega arith
     fact_line (Line.input s) el ok q c hc = fact_input s el ok.flat c
@@ -508,21 +508,21 @@ module _ {t : List ℕ} {n : ℕ} {P : List (List ℕ)} {ini S R : List ℕ} (lk
     fact_line (Line.output a) el ok q c hc = omega arith
     fact_line Line.unknown el ok q c hc = omega arith
 
-    fact_here : (c : ℕ) → 2 ≤ (type_at Z (suc i)).role → c < size (type_at Z (suc i)) → Fact A Z P ini S R (suc i) c (line_of (record_at false t i))
+    fact_here : (c : ℕ) → 2 ≤ rank (type_at Z (suc i)).role → c < size (type_at Z (suc i)) → Fact A Z P ini S R (suc i) c (line_of (record_at false t i))
     fact_here c q hc =
         subst (Fact A Z P ini S R (suc i) c) (line_here false t n accepted i h)
-        (fact_line l refl known.ok (subst (λ (y : Ty). 2 ≤ y.role) own_type q) c hc)
+        (fact_line l refl known.ok (subst (λ (y : Ty). 2 ≤ rank y.role) own_type q) c hc)
 
   -- what the record of the line m says of its cell c
-  pub facts : (m c : ℕ) → 2 ≤ (type_at Z m).role → c < size (type_at Z m) → Fact (step_zero (lines_of false t n) S R) Z P ini S R m c (line_of (record_at false t (m - 1)))
+  pub facts : (m c : ℕ) → 2 ≤ rank (type_at Z m).role → c < size (type_at Z m) → Fact (step_zero (lines_of false t n) S R) Z P ini S R m c (line_of (record_at false t (m - 1)))
   facts m c q hc =
       let b = number_of m (omega arith) in
       let i : ℕ = m - 1 in
       let e : suc i ≡ m = omega arith in
       subst (λ (X : Frame). Fact X Z P ini S R m c (line_of (record_at false t (m - 1)))) (sym zero_is)
       (subst (λ (k : ℕ). Fact A Z P ini S R k c (line_of (record_at false t (m - 1)))) e
-      (fact_here (m - 1) (omega arith) c (subst (λ (k : ℕ). 2 ≤ (type_at Z k).role) (sym e) q) (subst (λ (k : ℕ). c < size (type_at Z k)) (sym e) hc)))
+      (fact_here (m - 1) (omega arith) c (subst (λ (k : ℕ). 2 ≤ rank (type_at Z k).role) (sym e) q) (subst (λ (k : ℕ). c < size (type_at Z k)) (sym e) hc)))
 
   -- the number of cells of a value
-  pub cells_of_lem : (a : ℕ) → 2 ≤ (type_at Z a).role → length (cells_at (step_zero (lines_of false t n) S R) a) ≡ size (type_at Z a)
+  pub cells_of_lem : (a : ℕ) → 2 ≤ rank (type_at Z a).role → length (cells_at (step_zero (lines_of false t n) S R) a) ≡ size (type_at Z a)
   cells_of_lem a q = ap (λ (X : Frame). length (cells_at X a)) zero_is ∙ length_of a q

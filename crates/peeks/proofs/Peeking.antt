@@ -10,6 +10,7 @@ use lib.Pow.{pow_pos}
 use lib.ListN.{length, get_or, set, length-set}
 use lib.Seq.{get_or-set_same, get_or-set_other}
 use Rattle.std.specs.Prelude.{Option, Some, None, is_some, unwrap_or, Ok}
+use Rattle.tables.specs.Types.{rank}
 use Rattle.tables.specs.Lines.{Shape, is_bitvec, is_array, is_const, is_input, is_state, is_output, is_unary, is_binary, is_ite, is_read, is_write, is_unknown, is_init_or_next, is_signal, is_equality, shape_of, build, line_of, kind_in, sort_in, first_in, second_in, third_in}
 use Rattle.tables.specs.Layout.{held}
 use Rattle.tables.specs.Layout.{record_at, lines_of}
@@ -91,7 +92,7 @@ cell_through_word q f = record { is = f.is ∙ q.is; kept = f.kept }
 -- a line that an ite on the line m takes for its own value
 pub record Chosen (A : Frame) (Z : Layout) (m c e : ℕ) : Type 0 where
   pub below : e < m
-  pub value : 2 ≤ (type_at Z e).role
+  pub value : 2 ≤ rank (type_at Z e).role
   pub sort : (type_at Z e).iw ≡ (type_at Z m).iw
   pub is : get_or (cells_at A e) c 0 ≡ get_or (cells_at A m) c 0
 
@@ -105,7 +106,7 @@ module _ {t : List ℕ} {n : ℕ} {P : List (List ℕ)} {ini S R : List ℕ} (lk
   accepted : checked false t n ≡ Ok tt
   accepted = lk.laid.accepted
 
-  pub number : (m : ℕ) → 2 ≤ (type_at Z m).role → Number t n m
+  pub number : (m : ℕ) → 2 ≤ rank (type_at Z m).role → Number t n m
   number m q =
       let b = number_of lk m (omega arith) in
       let f = fits_table false t n accepted in
@@ -119,7 +120,7 @@ module _ {t : List ℕ} {n : ℕ} {P : List (List ℕ)} {ini S R : List ℕ} (lk
   first_cell m = pow_pos (type_at Z m).iw
 
   -- a value of at most one cell is a word, and none has one
-  pub flat_of : (a : ℕ) → 2 ≤ (type_at Z a).role → num_in P a ≤ 1 → (type_at Z a).iw ≡ 0
+  pub flat_of : (a : ℕ) → 2 ≤ rank (type_at Z a).role → num_in P a ≤ 1 → (type_at Z a).iw ≡ 0
   flat_of a q h =
       let e = (shown lk.laid a (number_of lk a (omega arith)).1).is_num in
       one_cell (type_at Z a).iw (omega (arith, e, first_cell a))
@@ -138,7 +139,7 @@ module _ {t : List ℕ} {n : ℕ} {P : List (List ℕ)} {ini S R : List ℕ} (lk
   pub word_arg : {m a : ℕ} → Arg Z m a → WordLine t n a
   word_arg k = record { value = k.word.is; flat = k.word.flat }
 
-  cell_same : {m a c : ℕ} → CellLine t n m c → 2 ≤ (type_at Z a).role → (type_at Z a).iw ≡ (type_at Z m).iw → CellLine t n a c
+  cell_same : {m a c : ℕ} → CellLine t n m c → 2 ≤ rank (type_at Z a).role → (type_at Z a).iw ≡ (type_at Z m).iw → CellLine t n a c
   cell_same {m} {a} {c} w q e =
       record { array = record { value = q; deep = subst (λ (x : ℕ). 0 < x) (sym e) w.array.deep }; inside = subst (λ (x : ℕ). c < 2 ^ x) (sym e) w.inside }
 
@@ -153,7 +154,7 @@ module _ {t : List ℕ} {n : ℕ} {P : List (List ℕ)} {ini S R : List ℕ} (lk
 
   -- ---- what a record says of its line, by its shape
 
-  module _ {r : List ℕ} {a : ℕ} (m c : ℕ) (q : 2 ≤ (type_at Z m).role) (hc : c < size (type_at Z m)) (er : r ≡ record_at false t (m - 1)) (F : FirstLine r (get_or ini m 0) a) where
+  module _ {r : List ℕ} {a : ℕ} (m c : ℕ) (q : 2 ≤ rank (type_at Z m).role) (hc : c < size (type_at Z m)) (er : r ≡ record_at false t (m - 1)) (F : FirstLine r (get_or ini m 0) a) where
     pub fact : (X : Shape) → shape_of (kind_in r) ≡ X → Fact A Z P ini S R m c (build X (kind_in r) (sort_in r) (first_in r) (second_in r) (third_in r))
     fact X e = subst (Fact A Z P ini S R m c) (ap line_of (sym er) ∙ line_as r X e) (facts lk m c q hc)
 

@@ -14,7 +14,7 @@ use Rattle.tables.specs.declared.Refusal.{Refusal}
 use Rattle.tables.specs.declared.Refusal.TheVariants.{StartWords, InputWords, NoSuchCell}
 use Rattle.tables.specs.Pick.{pick}
 use Rattle.tables.specs.Model.Notes.{look_in}
-use Rattle.tables.specs.Types.{is_value}
+use Rattle.tables.specs.Types.{rank, is_value}
 use Rattle.tables.specs.Tables.{checked}
 use Rattle.tables.proofs.Checking.{not_accepted}
 use Rattle.tables.proofs.Kept.{both}
@@ -41,7 +41,7 @@ pub record May (c : Counts) (row : ℕ) (y : Ty) (n k s i : ℕ) : Type 0 where
   pub starts : s ≡ c.states
   pub full : i ≡ row
   pub few : n ≤ 64
-  pub value : 2 ≤ y.role
+  pub value : 2 ≤ rank y.role
   pub inside : k < size y
 
 pub may_facts : (c : Counts) (row : ℕ) (y : Ty) (n k s i : ℕ) → may_peek c row y n k s i ≡ Ok tt → May c row y n k s i
@@ -52,7 +52,7 @@ may_facts c row y n k s i = go (eqb s c.states) (eqb i row) (has_cell y n k) ref
     go true true true a b d z =
         let h = both (leb n 64) _ d in
         let l = both (is_value y) _ h.1 in
-        record { starts = eqb-true s c.states a; full = eqb-true i row b; few = leb-true n 64 h.0; value = leb-true 2 y.role l.0; inside = ltb-true k (size y) l.1 }
+        record { starts = eqb-true s c.states a; full = eqb-true i row b; few = leb-true n 64 h.0; value = leb-true 2 (rank y.role) l.0; inside = ltb-true k (size y) l.1 }
     go true true false a b d z = absurd (not_accepted NoSuchCell z)
     go true false w a b d z = absurd (not_accepted InputWords z)
     go false v w a b d z = absurd (not_accepted StartWords z)
@@ -118,8 +118,8 @@ module _ {t : List ℕ} {n : ℕ} {xs : List Note} (z : Noted false t n xs) (m :
   type_is : {y : Ty} → y ≡ look_in xs m → y ≡ type_at (layout false (lines_of false t n)) m
   type_is e = e ∙ noted_types false t n z m
 
-  pub type_deep : {y : Ty} → y ≡ look_in xs m → 2 ≤ y.role → y.iw ≤ 8
-  type_deep e q = let f = type_is e in omega (arith, ap (λ (u : Ty). u.iw) f, ((all_sound false t n z.accepted).wide m (omega (arith, ap (λ (u : Ty). u.role) f))).deep)
+  pub type_deep : {y : Ty} → y ≡ look_in xs m → 2 ≤ rank y.role → y.iw ≤ 8
+  type_deep e q = let f = type_is e in omega (arith, ap (λ (u : Ty). u.iw) f, ((all_sound false t n z.accepted).wide m (omega (arith, ap (λ (u : Ty). rank u.role) f))).deep)
 
   -- the tests on what the pass and the check have found
   pub may_on : (k : ℕ) (S R : List ℕ) {all : Totals} {y : Ty} {d x : Result (Unit {0}) Refusal} → all ≡ totals_of (layout false (lines_of false t n)).counts (free_count (sources false (lines_of false t n))) → y ≡ look_in xs m

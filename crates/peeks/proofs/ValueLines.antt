@@ -10,7 +10,7 @@ use lib.ListN.{length, take, get_or, get_or-eq_default}
 use borrow.Author.Tests.{le-leb, lt-leb}
 use Rattle.tables.specs.Lines.{Line, Expr, Shape, is_bitvec, is_array, is_const, is_input, is_state, is_output, is_unary, is_binary, is_ite, is_read, is_write, is_unknown, is_init_or_next, is_signal, is_equality, shape_of, build, line_of, kind_in, sort_in, first_in, second_in, third_in}
 use Rattle.tables.specs.Layout.{record_at, lines_of}
-use Rattle.tables.specs.Types.{is_value, no_ty, ty_at, given}
+use Rattle.tables.specs.Types.{rank, is_value, no_ty, ty_at, given}
 use Rattle.tables.specs.Tables.{checked}
 use Rattle.tables.proofs.Facts.{OkLine}
 use Rattle.tables.proofs.Shapes.{each_binary, KindOf, kind_of_lem, line_as}
@@ -26,18 +26,18 @@ unary_value : (k : ℕ) → 11 ≤ k → k ≤ 20 → value_kind k ≡ true
 unary_value k h l = from_to value_kind 11 10 k (at_each (λ (m : ℕ). value_kind (m + 11)) 10 tt) h (omega arith)
 
 module _ (Y : Layout) (r : List ℕ) (ok : OkLine false (ty_at Y.ctx) (given Y.ctx) (line_of r)) where
-  yes : (S : Shape) → shape_of (kind_in r) ≡ S → 2 ≤ (line_type_in false Y (build S (kind_in r) (sort_in r) (first_in r) (second_in r) (third_in r))).role → value_kind (kind_in r) ≡ true
+  yes : (S : Shape) → shape_of (kind_in r) ≡ S → 2 ≤ rank (line_type_in false Y (build S (kind_in r) (sort_in r) (first_in r) (second_in r) (third_in r))).role → value_kind (kind_in r) ≡ true
       → is_value (line_type_in false Y (line_of r)) ≡ value_kind (kind_in r)
   yes S e q v = ap (λ (l : Line). is_value (line_type_in false Y l)) (line_as r S e) ∙ le-leb 2 _ q ∙ sym v
 
-  no : (S : Shape) → shape_of (kind_in r) ≡ S → (line_type_in false Y (build S (kind_in r) (sort_in r) (first_in r) (second_in r) (third_in r))).role < 2 → value_kind (kind_in r) ≡ false
+  no : (S : Shape) → shape_of (kind_in r) ≡ S → rank (line_type_in false Y (build S (kind_in r) (sort_in r) (first_in r) (second_in r) (third_in r))).role < 2 → value_kind (kind_in r) ≡ false
       → is_value (line_type_in false Y (line_of r)) ≡ value_kind (kind_in r)
   no S e q v = ap (λ (l : Line). is_value (line_type_in false Y l)) (line_as r S e) ∙ lt-leb 2 _ q ∙ sym v
 
   by : (S : Shape) → shape_of (kind_in r) ≡ S → OkLine false (ty_at Y.ctx) (given Y.ctx) (build S (kind_in r) (sort_in r) (first_in r) (second_in r) (third_in r))
   by S e = subst (OkLine false (ty_at Y.ctx) (given Y.ctx)) (line_as r S e) ok
 
-  val : (e : Expr) → 2 ≤ (line_type_in false Y (Line.value (sort_in r) e)).role
+  val : (e : Expr) → 2 ≤ rank (line_type_in false Y (Line.value (sort_in r) e)).role
   val e = val_value false (ty_at Y.ctx) (sort_in r) e
 
   pub value_of_lem : is_value (line_type_in false Y (line_of r)) ≡ value_kind (kind_in r)

@@ -7,6 +7,7 @@ use mathlib.Core.List.{List, ◌++◌}
 use native.Mathlib.Omega.{arith}
 use lib.ListN.{length, take, get_or, replicate, length-append, length-replicate}
 use lib.Seq.{drop_at, take-length}
+use Rattle.tables.specs.Types.{rank}
 use Rattle.tables.specs.Lines.{Line}
 use Rattle.tables.specs.Tables.{checked}
 use Rattle.circuits.specs.Layout.{Layout, type_at, size, lay_all, no_layout, layout}
@@ -90,7 +91,7 @@ module _ (t : List ℕ) (n : ℕ) (acc : checked false t n ≡ Ok tt) where
 
 -- ---- the cells of a value
 
-module _ {all : ℕ} {σ : List ℕ} {A : Frame} (H : HeldBy all σ A) (room : A.lay.counts.cells ≤ all) (a : ℕ) (q : 2 ≤ (type_at A.lay a).role) where
+module _ {all : ℕ} {σ : List ℕ} {A : Frame} (H : HeldBy all σ A) (room : A.lay.counts.cells ≤ all) (a : ℕ) (q : 2 ≤ rank (type_at A.lay a).role) where
   pub cells_many : length (cells_at A a) ≡ size (type_at A.lay a)
   cells_many = held_size H.held room a q
 

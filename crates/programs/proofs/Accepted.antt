@@ -14,7 +14,7 @@ use Rattle.tables.specs.declared.Ty.{Ty}
 use Rattle.tables.specs.Kinds.{row_of}
 use Rattle.tables.specs.Lines.{Line, Expr, bitvec, array, input, state, value, init_or_next, signal, output, unknown, const, unary, binary, equality, ite, read, write, words_of}
 use Rattle.tables.specs.Layout.{whole, held, filled}
-use Rattle.tables.specs.Types.{sort_at, ty_at, given, given_by, Ctx, no_ctx}
+use Rattle.tables.specs.Types.{rank, sort_at, ty_at, given, given_by, Ctx, no_ctx}
 use Rattle.tables.specs.Tables.{checked}
 use Rattle.tables.proofs.Kept.{no_yes, neither}
 use Rattle.tables.proofs.Facts.{OkUnary, OkValue, OkExpr, OkLine, AllOk}
@@ -32,7 +32,7 @@ use Rattle.programs.proofs.Once.{Once, once_start, once_quiet, once_init_next}
 
 -- ---- a value instruction with its mask
 
-mask_ok : (L : ℕ → Ty) (w b : ℕ) (t : Ty) → L b ≡ t → 1 ≤ w → w ≤ 64 → 2 ≤ t.role → t.iw ≡ 0 → t.w ≡ w → OkUnary true (sort_at true L w) 56 (L b) 0 0
+mask_ok : (L : ℕ → Ty) (w b : ℕ) (t : Ty) → L b ≡ t → 1 ≤ w → w ≤ 64 → 2 ≤ rank t.role → t.iw ≡ 0 → t.w ≡ w → OkUnary true (sort_at true L w) 56 (L b) 0 0
 unfolding row_of
 mask_ok L w b t e h k c i x =
     rw (sort_of_width L w h k, e)
@@ -59,11 +59,11 @@ module _ {Y Z : Layout} {J : List Known} (v : Laid Y Z J) (o : Once Y Z J) where
   val_ok s (write a i x) k = absurd (omega (arith, (v.rel a).flat, k.arr.deep))
 
   -- the value of an init or a next is a value
-  given_value : (m : Bool) (q x : ℕ) (t : Ty) → OkValue m q x t → 2 ≤ t.role
+  given_value : (m : Bool) (q x : ℕ) (t : Ty) → OkValue m q x t → 2 ≤ rank t.role
   given_value true q x t k = k.word.is
   given_value false q x t k = k.is
 
-  value_ok : (m : Bool) (q x : ℕ) → (type_at Y q).role ≡ 4 → OkValue m q x (type_at Y x) → OkValue m (operand_number J q) (operand_number J x) (type_at Y x)
+  value_ok : (m : Bool) (q x : ℕ) → rank (type_at Y q).role ≡ 4 → OkValue m q x (type_at Y x) → OkValue m (operand_number J q) (operand_number J x) (type_at Y x)
   value_ok true q x c k = record { word = k.word; below = o.rising x q k.word.is (omega arith) k.below; unmarked = k.unmarked }
   value_ok false q x c k = k
 

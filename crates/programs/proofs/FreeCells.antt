@@ -12,7 +12,7 @@ use lib.ListN.{length, get_or, get_or-eq_default}
 use lib.Pow.{pow_pos}
 use Rattle.tables.specs.declared.Ty.{Ty}
 use Rattle.tables.specs.Lines.{Line, bitvec, array, input, state, value, init_or_next, signal, output, unknown}
-use Rattle.tables.specs.Types.{ty_at, given, no_ctx}
+use Rattle.tables.specs.Types.{rank, ty_at, given, no_ctx}
 use Rattle.tables.proofs.Kept.{neither}
 use Rattle.tables.proofs.Facts.{OkLine, AllOk}
 use Rattle.tables.proofs.Showing.{earlier}
@@ -68,7 +68,7 @@ own_number b w i true n h = absurd (h refl)
 
 -- hY and hZ say which lines a next line sets, among all lines, those behind l too
 module _ {Y Z : Layout} {J : List Known} (v : Laid Y Z J) (o : Once Y Z J) (N : ℕ → Bool) (b : ℕ) (e : b ≡ lines Z) (hY hZ : ℕ → Bool) where
-  here_same : (l : Line) → OkLine false (ty_at Y.ctx) (given Y.ctx) l → ((q : ℕ) → (type_at (lay false Y l) q).role ≡ 4 → hZ (operand_number (J ++ ((instructions_of N J b l).info ∷ [])) q) ≡ hY q)
+  here_same : (l : Line) → OkLine false (ty_at Y.ctx) (given Y.ctx) l → ((q : ℕ) → rank (type_at (lay false Y l) q).role ≡ 4 → hZ (operand_number (J ++ ((instructions_of N J b l).info ∷ [])) q) ≡ hY q)
       → sources_from true hZ Z (instructions_of N J b l).code ≡ sources_here false hY Y l
   here_same (bitvec w) k g = refl
   here_same (array i j) k g = refl
@@ -78,7 +78,7 @@ module _ {Y Z : Layout} {J : List Known} (v : Laid Y Z J) (o : Once Y Z J) (N : 
       let lo = loose_line w 5 false false false in
       let f = (instructions_of N J b (state s)).info in
       let n : operand_number (J ++ (f ∷ [])) (lines Y) ≡ length Z.places = new_number v o (state s) f ∙ own_number b w (state w) lo (N (length J)) (and_never (not (eqb w 64))) ∙ e ∙ sym v.even_z.alike in
-      let h : hZ (length Z.places) ≡ hY (length Y.places) = ap hZ (sym n) ∙ g (lines Y) (ap (λ (t : Ty). t.role) (new_type false v.even_y (state s) (lines Y) refl)) ∙ ap hY (sym v.even_y.alike) in
+      let h : hZ (length Z.places) ≡ hY (length Y.places) = ap hZ (sym n) ∙ g (lines Y) (ap (λ (t : Ty). rank t.role) (new_type false v.even_y (state s) (lines Y) refl)) ∙ ap hY (sym v.even_y.alike) in
       masked_sources hZ Z b w (state w) lo (N (length J)) ∙ ap₂ cell_sources h (sorted v s k.is)
   here_same (value s x) k g = rw masked_sources
   here_same (init_or_next m s q x) k g = refl
@@ -125,7 +125,7 @@ fed_below ss ws left row f h j (no l) = rw (get_or-eq_default (fed ss left row) 
 -- The lines ls come after those of Y, their instructions P after those of Z. A state of Y has a next line in both or in neither, wherever that stands, and the state words of ls
 -- have the same sources.
 record Cells (Y Z : Layout) (J : List Known) (ls P : List Line) : Type 0 where
-  nexts : (q : ℕ) → (type_at Y q).role ≡ 4 → given (lay_all true Z P).ctx false (operand_number J q) ≡ given (lay_all false Y ls).ctx false q
+  nexts : (q : ℕ) → rank (type_at Y q).role ≡ 4 → given (lay_all true Z P).ctx false (operand_number J q) ≡ given (lay_all false Y ls).ctx false q
   same : sources_from true (given (lay_all true Z P).ctx false) Z P ≡ sources_from false (given (lay_all false Y ls).ctx false) Y ls
   suits : (j : ℕ) → Suits (get_or (sources_from false (given (lay_all false Y ls).ctx false) Y ls) j driven) (get_or (widths_from Y ls) j 0)
 
@@ -142,7 +142,7 @@ cells_all {Y} {Z} {J} N b (l ∷ ls) v o e k f =
     record {
       nexts = λ q t.
           let early : q < lines Y = earlier Y.ctx.tys q (omega arith) in
-          rw (lay_all_append true Z c.code) (ap hZ (sym (old_number v o l c.info q early)) ∙ r.nexts q (ap (λ (x : Ty). x.role) (old_type v o l c.info q early) ∙ t));
+          rw (lay_all_append true Z c.code) (ap hZ (sym (old_number v o l c.info q early)) ∙ r.nexts q (ap (λ (x : Ty). rank x.role) (old_type v o l c.info q early) ∙ t));
       same =
           rw (lay_all_append true Z c.code)
           (sources_append true hZ Z c.code P ∙ ap₂ (λ (xs ys : List Source). xs ++ ys) (here_same v o N b e hY hZ l k.0 r.nexts) r.same);

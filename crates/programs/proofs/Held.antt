@@ -12,7 +12,7 @@ use Rattle.words.specs.Model.Loose.{at_use}
 use Rattle.words.proofs.Stands.{Stands}
 use Rattle.tables.specs.declared.Ty.{Ty}
 use Rattle.tables.specs.Lines.{Line}
-use Rattle.tables.specs.Types.{no_ty}
+use Rattle.tables.specs.Types.{rank, no_ty}
 use Rattle.circuits.specs.Layout.{type_at, place_at, line_type_in, place_of, lay}
 use Rattle.circuits.specs.Meaning.{Frame, cells_at, word_at, width_at, cells_of, states_after, signals_after, eval_line, eval_all}
 use Rattle.programs.specs.declared.Known.{Known}
@@ -30,7 +30,7 @@ pub record Word (W : ℕ → ℕ) (B : Frame) (n : Bool) (t : Ty) (cs : List ℕ
   pub alone : cells_at B f.number ≡ word_at B f.number ∷ []
   pub fits : word_at B f.number < 2 ^ 64
   pub stands : Stands (at_use n f.loose) t.w (word_at B f.number) (get_or cs 0 0)
-  pub store : t.role ≡ 4 → W (place_at B.lay f.number) ≡ t.w
+  pub store : rank t.role ≡ 4 → W (place_at B.lay f.number) ≡ t.w
 
 -- the cells of all lines so far
 pub record Full (B : Frame) : Type 0 where
@@ -46,7 +46,7 @@ pub record Alike (W : ℕ → ℕ) (N : ℕ → Bool) (A B : Frame) (J : List Kn
   pub sigs : B.sigs ≡ A.sigs
   pub count : length A.sts ≡ A.lay.counts.states
   pub fit : (j : ℕ) → get_or A.sts j 0 < 2 ^ W j
-  pub word : (i : ℕ) → 2 ≤ (type_at A.lay i).role → Word W B (N i) (type_at A.lay i) (cells_at A i) (known_at J i)
+  pub word : (i : ℕ) → 2 ≤ rank (type_at A.lay i).role → Word W B (N i) (type_at A.lay i) (cells_at A i) (known_at J i)
 
 -- ---- a program's step with lines more
 
@@ -88,7 +88,7 @@ module _ (g : Bool) (σ ι : List ℕ) where
   pub alike_end : {W : ℕ → ℕ} {N : ℕ → Bool} {A B B' : Frame} {J : List Known} (l : Line) (f : Known) → Alike W N A B J → More B B' → Laid (lay false A.lay l) B'.lay (J ++ (f ∷ []))
       → Full B' → B'.sts ≡ states_after false g σ A l → B'.sigs ≡ signals_after A l → length (states_after false g σ A l) ≡ (lay false A.lay l).counts.states
       → ((j : ℕ) → get_or (states_after false g σ A l) j 0 < 2 ^ W j)
-      → (2 ≤ (line_type_in false A.lay l).role → Word W B' (N (length J)) (line_type_in false A.lay l) (cells_of false g σ ι A l) f) → Alike W N (eval_line false g σ ι A l) B' (J ++ (f ∷ []))
+      → (2 ≤ rank (line_type_in false A.lay l).role → Word W B' (N (length J)) (line_type_in false A.lay l) (cells_of false g σ ι A l) f) → Alike W N (eval_line false g σ ι A l) B' (J ++ (f ∷ []))
   alike_end {W} {N} {A} {B} {B'} {J} l f v m d u es eg c s w =
       record {
         laid = d;
@@ -99,7 +99,7 @@ module _ (g : Bool) (σ ι : List ℕ) where
         count = c;
         fit = s;
         word =
-            snoc₃ no_ty [] none_known (λ i t cs x. 2 ≤ t.role → Word W B' (N i) t cs x) A.lay.ctx.tys A.env J v.full_a.env v.laid.known
+            snoc₃ no_ty [] none_known (λ i t cs x. 2 ≤ rank t.role → Word W B' (N i) t cs x) A.lay.ctx.tys A.env J v.full_a.env v.laid.known
             (λ i h. word_more m ((v.laid.rel i).value h).inb (v.word i h)) (λ i h. absurd (omega arith))
             (λ h. subst (λ (n : ℕ). Word W B' (N n) (line_type_in false A.lay l) (cells_of false g σ ι A l) f) v.laid.known (w h));
       }
@@ -124,7 +124,7 @@ module _ (g : Bool) (σ ι : List ℕ) where
 
   module _ (W : ℕ → ℕ) {A B : Frame} (u : Full B) (b : ℕ) (e : b ≡ lines B.lay) {i l : Line} {t : Ty} {w : ℕ} where
     first_word : (n lo : Bool) → Fresh B.lay i t (place_of A.lay l) w lo → (h : New A B i l w lo) → Stands (at_use n lo) w h.x h.a
-        → (t.role ≡ 4 → W (place_of B.lay i) ≡ w) → (f : Known) → f.number ≡ b → f.loose ≡ lo → Word W (eval_line true g σ ι B i) n t (cells_of false g σ ι A l) f
+        → (rank t.role ≡ 4 → W (place_of B.lay i) ≡ w) → (f : Known) → f.number ≡ b → f.loose ≡ lo → Word W (eval_line true g σ ι B i) n t (cells_of false g σ ι A l) f
     first_word n lo k h s st f eq el =
         let c : cells_at (eval_line true g σ ι B i) f.number ≡ h.x ∷ [] = ap (cells_at (eval_line true g σ ι B i)) eq ∙ new_cells u i b e ∙ h.cells_b in
         rw h.cells_a
@@ -137,7 +137,7 @@ module _ (g : Bool) (σ ι : List ℕ) where
           store = λ z. ap (λ (y : ℕ). W (place_at (lay true B.lay i) y)) eq ∙ ap (λ (y : ℕ). W y) (new_place true u.even i b e) ∙ st z ∙ sym k.width;
         })
 
-    pub holds : (lo n : Bool) → Fresh B.lay i t (place_of A.lay l) w lo → New A B i l w lo → (t.role ≡ 4 → W (place_of B.lay i) ≡ w)
+    pub holds : (lo n : Bool) → Fresh B.lay i t (place_of A.lay l) w lo → New A B i l w lo → (rank t.role ≡ 4 → W (place_of B.lay i) ≡ w)
         → Holds W B (eval_all true g σ ι B (with_mask b w i lo n).code) i n t (cells_of false g σ ι A l) (with_mask b w i lo n).info
     holds false n k h st =
         record { more = more_line u i; full = full_line u i true; sts = refl; sigs = refl; word = first_word n false k h (clean n) st _ refl refl }

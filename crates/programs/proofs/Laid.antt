@@ -8,9 +8,10 @@ use native.Mathlib.Nat.{le_trans}
 use native.Mathlib.Omega.{arith}
 use lib.ListN.{length}
 use borrow.Author.Tests.{le-leb}
+use Rattle.tables.specs.declared.Role.TheVariants.{Sort}
 use Rattle.tables.specs.declared.Ty.{Ty}
 use Rattle.tables.specs.Lines.{Line}
-use Rattle.tables.specs.Types.{ty, no_ty, marked, value_role, sort_at, ty_at, given}
+use Rattle.tables.specs.Types.{rank, ty, no_ty, marked, value_role, sort_at, ty_at, given}
 use Rattle.tables.proofs.Values.{role_back}
 use Rattle.tables.proofs.Facts.{OkLine}
 use Rattle.tables.proofs.Wide.{AllWide, grow_wide}
@@ -25,13 +26,13 @@ use Rattle.programs.proofs.Grew.{lines, Even, Grew, grew_more, line_more, even_l
 pub record Reg (Z : Layout) (t : Ty) (q : ℕ) (f : Known) : Type 0 where
   pub inb : f.number < lines Z
   pub type : type_at Z f.number ≡ t
-  pub at : t.role ≡ 4 → place_at Z f.number ≡ q
-  pub low : t.role ≡ 4 → q < Z.counts.states
+  pub at : rank t.role ≡ 4 → place_at Z f.number ≡ q
+  pub low : rank t.role ≡ 4 → q < Z.counts.states
 
 pub record Rel (Z : Layout) (t : Ty) (q : ℕ) (f : Known) : Type 0 where
   pub flat : t.iw ≡ 0
-  pub sort : t.role ≡ 1 → f.width ≡ t.w
-  pub value : 2 ≤ t.role → Reg Z t q f
+  pub sort : rank t.role ≡ 1 → f.width ≡ t.w
+  pub value : 2 ≤ rank t.role → Reg Z t q f
 
 reg_grew : {Z Z' : Layout} {t : Ty} {q : ℕ} {f : Known} → Grew Z Z' → Reg Z t q f → Reg Z' t q f
 reg_grew {f = f} g r =
@@ -79,7 +80,7 @@ laid_end {Y} {Z} {Z'} {J} l f v ok g ev es ei eg r =
 -- ---- a value instruction and its mask
 
 -- the width of an instruction is its sort
-pub sort_of_width : (L : ℕ → Ty) (w : ℕ) → 1 ≤ w → w ≤ 64 → sort_at true L w ≡ ty 1 0 w
+pub sort_of_width : (L : ℕ → Ty) (w : ℕ) → 1 ≤ w → w ≤ 64 → sort_at true L w ≡ ty Sort 0 w
 sort_of_width L w h k = rw (le-leb 1 w h, le-leb w 64 k)
 
 -- the new value instruction l of a line that has the type t and the place q
@@ -89,11 +90,11 @@ pub record Fresh (Z : Layout) (l : Line) (t : Ty) (q : ℕ) (w : ℕ) (lo : Bool
   pub width : t.w ≡ w
   pub least : 1 ≤ w
   pub most : w ≤ 64
-  pub class : 2 ≤ t.role
+  pub class : 2 ≤ rank t.role
   -- a loose line is no state
-  pub loose : lo ≡ true → t.role ≤ 3
-  pub at : t.role ≡ 4 → place_of Z l ≡ q
-  pub low : t.role ≡ 4 → q < (lay true Z l).counts.states
+  pub loose : lo ≡ true → rank t.role ≤ 3
+  pub at : rank t.role ≡ 4 → place_of Z l ≡ q
+  pub low : rank t.role ≡ 4 → q < (lay true Z l).counts.states
 
 module _ {Z : Layout} (ev : Even Z) {l : Line} {t : Ty} {q : ℕ} {w : ℕ} {lo : Bool} (h : Fresh Z l t q w lo) (b : ℕ) (e : b ≡ lines Z) where
   fresh_reg : (f : Known) → f.number ≡ b → Reg (lay true Z l) t q f

@@ -6,9 +6,11 @@ use mathlib.Core.List.{List, [], ◌∷◌, ◌++◌}
 use native.Mathlib.Omega.{arith}
 use lib.Dec.{eqb}
 use lib.ListN.{length}
+use Rattle.tables.specs.declared.Role.{Role}
+use Rattle.tables.specs.declared.Role.TheVariants.{Other, Sort, Unmarked, Marked, State}
 use Rattle.tables.specs.declared.Ty.{Ty}
 use Rattle.tables.specs.Lines.{Line, Expr, bitvec, array, input, state, value, init_or_next, signal, output, unknown, const, unary, binary, equality, ite, read, write}
-use Rattle.tables.specs.Types.{ty, no_ty, sort_at, ty_at, given, no_ctx}
+use Rattle.tables.specs.Types.{rank, ty, no_ty, sort_at, ty_at, given, no_ctx}
 use Rattle.tables.specs.Pick.{pick}
 use Rattle.tables.proofs.Kept.{no_yes, neither}
 use Rattle.tables.proofs.Facts.{OkLine, OkExpr, AllOk}
@@ -20,30 +22,37 @@ use Rattle.programs.specs.Translation.{info, none_known, known_at, operand_width
 use Rattle.programs.proofs.Grew.{lines, Even, grew_none, line_more, even_line, grew_line}
 use Rattle.programs.proofs.Laid.{Rel, rel_none, Laid, laid_end, sort_of_width, Fresh, puts}
 
+sort_rank : (r : Role) → rank r ≡ 1 → r ≡ Sort
+sort_rank Other e = absurd (omega arith)
+sort_rank Sort e = refl
+sort_rank Unmarked e = absurd (omega arith)
+sort_rank Marked e = absurd (omega arith)
+sort_rank State e = absurd (omega arith)
+
 pub and_never : (b : Bool) → (b && false) ≡ true → ⊥
 and_never true e = let z : ◌≡◌ {A = ℕ} 0 1 = ap (λ (x : Bool). pick x 1 0) e in omega arith
 and_never false e = let z : ◌≡◌ {A = ℕ} 0 1 = ap (λ (x : Bool). pick x 1 0) e in omega arith
 
 module _ {Y Z : Layout} {J : List Known} (v : Laid Y Z J) where
   -- an operand has the type of its instruction
-  pub typed : (a : ℕ) → 2 ≤ (type_at Y a).role → type_at Z (operand_number J a) ≡ type_at Y a
+  pub typed : (a : ℕ) → 2 ≤ rank (type_at Y a).role → type_at Z (operand_number J a) ≡ type_at Y a
   typed a h = ((v.rel a).value h).type
 
   -- a sort line's width is its sort
-  pub sorted : (s : ℕ) → (type_at Y s).role ≡ 1 → sort_at true (ty_at Z.ctx) (operand_width J s) ≡ type_at Y s
+  pub sorted : (s : ℕ) → rank (type_at Y s).role ≡ 1 → sort_at true (ty_at Z.ctx) (operand_width J s) ≡ type_at Y s
   sorted s c =
       let r = v.rel s in
       let k = v.wide s (omega arith) in
       let w : operand_width J s ≡ (type_at Y s).w = r.sort c in
-      let p : ty 1 0 (operand_width J s) ≡ type_at Y s = λ i. ty (sym c i) (sym r.flat i) (w i) in
+      let p : ty Sort 0 (operand_width J s) ≡ type_at Y s = λ i. ty (sym (sort_rank (type_at Y s).role c) i) (sym r.flat i) (w i) in
       sort_of_width (ty_at Z.ctx) (operand_width J s) (omega (arith, k.least)) (omega (arith, k.most)) ∙ p
 
   -- ---- types of value lines
 
-  as_sort : (c : ℕ) {t u : Ty} → t ≡ u → ty c t.iw t.w ≡ ty c u.iw u.w
+  as_sort : (c : Role) {t u : Ty} → t ≡ u → ty c t.iw t.w ≡ ty c u.iw u.w
   as_sort c e = λ i. ty c (e i).iw (e i).w
 
-  sort_class_lem : (s : ℕ) (x : Expr) → OkExpr false (ty_at Y.ctx) (type_at Y s) x → (type_at Y s).role ≡ 1
+  sort_class_lem : (s : ℕ) (x : Expr) → OkExpr false (ty_at Y.ctx) (type_at Y s) x → rank (type_at Y s).role ≡ 1
   sort_class_lem s (const n) k = k.sort.is
   sort_class_lem s (unary n a x y) k = k.sort.is
   sort_class_lem s (binary n a b) k = k.sort.is
@@ -68,7 +77,7 @@ module _ {Y Z : Layout} {J : List Known} (v : Laid Y Z J) where
       let w : operand_width J s ≡ (type_at Y s).w = (v.rel s).sort k.is in
       let g = v.wide s (omega (arith, k.is)) in
       record {
-        type = as_sort 3 (sorted s k.is);
+        type = as_sort Marked (sorted s k.is);
         flat = (v.rel s).flat;
         width = sym w;
         least = omega (arith, g.least);
@@ -85,7 +94,7 @@ module _ {Y Z : Layout} {J : List Known} (v : Laid Y Z J) where
       let g = v.wide s (omega (arith, k.is)) in
       let z : size (sort_at true (ty_at Z.ctx) (operand_width J s)) ≡ 1 = ap size (sorted s k.is) ∙ ap (λ (x : ℕ). 2 ^ x) (v.rel s).flat in
       record {
-        type = as_sort 4 (sorted s k.is);
+        type = as_sort State (sorted s k.is);
         flat = (v.rel s).flat;
         width = sym w;
         least = omega (arith, g.least);
@@ -184,7 +193,7 @@ laid_start =
       rel = none_rel;
     }
   where
-    none : (a : ℕ) → 1 ≤ (ty_at no_ctx a).role → ⊥
+    none : (a : ℕ) → 1 ≤ rank (ty_at no_ctx a).role → ⊥
     none zero h = omega arith
     none (suc a) h = omega arith
 

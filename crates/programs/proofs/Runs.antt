@@ -9,7 +9,7 @@ use lib.ListN.{length, get_or, take, drop, length-append}
 use lib.Seq.{get_or_at}
 use lib.Pow.{pow_pos}
 use Rattle.tables.specs.Lines.{Line, bitvec, array, input, state, value, init_or_next, signal, output, unknown}
-use Rattle.tables.specs.Types.{ty_at, no_ctx}
+use Rattle.tables.specs.Types.{rank, ty_at, no_ctx}
 use Rattle.tables.proofs.Kept.{no_yes, neither}
 use Rattle.tables.proofs.Facts.{AllOk}
 use Rattle.circuits.specs.Cells.{part}
@@ -104,7 +104,7 @@ alike_start W N =
       word = λ i h. absurd (none i h);
     }
   where
-    none : (a : ℕ) → 2 ≤ (ty_at no_ctx a).role → ⊥
+    none : (a : ℕ) → 2 ≤ rank (ty_at no_ctx a).role → ⊥
     none zero h = omega arith
     none (suc a) h = omega arith
 

@@ -12,7 +12,7 @@ use lib.Pow.{pow_pos, pow_mono}
 use Rattle.tables.specs.declared.Ty.{Ty}
 use Rattle.tables.specs.Pick.{pick, alike}
 use Rattle.tables.specs.Lines.{Line, Expr, bitvec, array, input, state, value, init_or_next, signal, output, unknown, init_or_next_kind}
-use Rattle.tables.specs.Types.{ty_at, given}
+use Rattle.tables.specs.Types.{rank, ty_at, given}
 use Rattle.tables.proofs.Kept.{no_yes}
 use Rattle.tables.proofs.Facts.{OkLine, OkValue}
 use Rattle.tables.proofs.Values.{val_most}
@@ -167,7 +167,7 @@ module _ (g : Bool) (σ ι : List ℕ) (W : ℕ → ℕ) (N : ℕ → Bool) (tam
     -- ---- lines without a value
 
     -- the words of a value that is given to a state
-    given_is : (m : Bool) (q x : ℕ) → OkValue m q x (type_at A.lay x) → 2 ≤ (type_at A.lay x).role
+    given_is : (m : Bool) (q x : ℕ) → OkValue m q x (type_at A.lay x) → 2 ≤ rank (type_at A.lay x).role
     given_is true q x h = h.word.is
     given_is false q x h = h.is
 
@@ -186,7 +186,7 @@ module _ (g : Bool) (σ ι : List ℕ) (W : ℕ → ℕ) (N : ℕ → Bool) (tam
     line_init_or_next : (m : Bool) (s q x : ℕ) → OkLine false (ty_at A.lay.ctx) (given A.lay.ctx) (init_or_next m s q x) → Met N (needs (init_or_next m s q x)) → Kept (init_or_next m s q x)
     line_init_or_next m s q x k n =
         let i = init_or_next m (operand_width J s) (operand_number J q) (operand_number J x) in
-        let hq : 2 ≤ (type_at A.lay q).role = omega (arith, k.state) in
+        let hq : 2 ≤ rank (type_at A.lay q).role = omega (arith, k.state) in
         let hx = given_is m q x k.value in
         let wx = v.word x hx in
         let rq = (v.laid.rel q).value hq in

@@ -17,7 +17,7 @@ use Rattle.words.proofs.Stands.{Stands, itself}
 use Rattle.words.proofs.KindLaws.{need_kind₁_lem, need_kind₂_lem}
 use Rattle.tables.specs.declared.Ty.{Ty}
 use Rattle.tables.specs.Lines.{Expr, value, const, unary, binary, equality, ite, read, write}
-use Rattle.tables.specs.Types.{ty_at}
+use Rattle.tables.specs.Types.{rank, ty_at}
 use Rattle.tables.proofs.Shapes.{binary_range}
 use Rattle.tables.proofs.Kept.{no_yes}
 use Rattle.tables.proofs.Facts.{OkExpr}
@@ -43,22 +43,22 @@ bit_lt false w h = pow_pos w
 
 module _ (g : Bool) (σ ι : List ℕ) {W : ℕ → ℕ} {N : ℕ → Bool} {A B : Frame} {J : List Known} (v : Alike W N A B J) where
   -- an operand that some line needs clean
-  pub clean : (a : ℕ) → 2 ≤ (type_at A.lay a).role → N a ≡ true → word_at B (operand_number J a) ≡ word_at A a
+  pub clean : (a : ℕ) → 2 ≤ rank (type_at A.lay a).role → N a ≡ true → word_at B (operand_number J a) ≡ word_at A a
   clean a h e = subst (λ (n : Bool). Stands (at_use n (loose_of J a)) (type_at A.lay a).w (word_at B (operand_number J a)) (word_at A a)) e (v.word a h).stands
 
-  pub clean_cells : (a : ℕ) → 2 ≤ (type_at A.lay a).role → N a ≡ true → cells_at B (operand_number J a) ≡ cells_at A a
+  pub clean_cells : (a : ℕ) → 2 ≤ rank (type_at A.lay a).role → N a ≡ true → cells_at B (operand_number J a) ≡ cells_at A a
   clean_cells a h e = (v.word a h).alone ∙ ap (λ (x : ℕ). x ∷ []) (clean a h e) ∙ sym (v.word a h).single
 
-  width_same : (a : ℕ) → 2 ≤ (type_at A.lay a).role → width_at B (operand_number J a) ≡ width_at A a
+  width_same : (a : ℕ) → 2 ≤ rank (type_at A.lay a).role → width_at B (operand_number J a) ≡ width_at A a
   width_same a h = ap (λ (t : Ty). t.w) (typed v.laid a h)
 
-  a_width : (a : ℕ) → 1 ≤ (type_at A.lay a).role → Width (width_at A a)
+  a_width : (a : ℕ) → 1 ≤ rank (type_at A.lay a).role → Width (width_at A a)
   a_width a h = let k = v.laid.wide a h in record { least = k.least; most = k.most }
 
-  used : (need : Bool) (a : ℕ) → (h : 2 ≤ (type_at A.lay a).role) → (need ≡ true → N a ≡ true) → Stands (at_use need (loose_of J a)) (width_at A a) (word_at B (operand_number J a)) (word_at A a)
+  used : (need : Bool) (a : ℕ) → (h : 2 ≤ rank (type_at A.lay a).role) → (need ≡ true → N a ≡ true) → Stands (at_use need (loose_of J a)) (width_at A a) (word_at B (operand_number J a)) (word_at A a)
   used need a h m = at_use_lem (N a) need (loose_of J a) (width_at A a) (word_at B (operand_number J a)) (v.word a h).small m (v.word a h).stands
 
-  module _ (s : ℕ) (is : (type_at A.lay s).role ≡ 1) where
+  module _ (s : ℕ) (is : rank (type_at A.lay s).role ≡ 1) where
     width_is : (type_at A.lay s).w ≡ operand_width J s
     width_is = sym ((v.laid.rel s).sort is)
 
@@ -70,7 +70,7 @@ module _ (g : Bool) (σ ι : List ℕ) {W : ℕ → ℕ} {N : ℕ → Bool} {A B
 
     new_unary : (k a x y : ℕ) → OkExpr false (ty_at A.lay.ctx) (type_at A.lay s) (unary k a x y) → Met N (needs_expr (unary k a x y)) → here (unary k a x y)
     new_unary k a x y ok m =
-        let h : 2 ≤ (type_at A.lay a).role = ok.arg.is in
+        let h : 2 ≤ rank (type_at A.lay a).role = ok.arg.is in
         let u = width_at A a in
         let wu = a_width a (omega arith) in
         let f = fit_unary false (type_at A.lay s) (type_at A.lay a) k x y most_is ok in
@@ -89,8 +89,8 @@ module _ (g : Bool) (σ ι : List ℕ) {W : ℕ → ℕ} {N : ℕ → Bool} {A B
 
     new_binary : (k a b : ℕ) → OkExpr false (ty_at A.lay.ctx) (type_at A.lay s) (binary k a b) → Met N (needs_expr (binary k a b)) → here (binary k a b)
     new_binary k a b ok m =
-        let ha : 2 ≤ (type_at A.lay a).role = ok.left.is in
-        let hb : 2 ≤ (type_at A.lay b).role = ok.right.is in
+        let ha : 2 ≤ rank (type_at A.lay a).role = ok.left.is in
+        let hb : 2 ≤ rank (type_at A.lay b).role = ok.right.is in
         let u = width_at A a in
         let t = width_at A b in
         let c = class_of (op_of k) in
@@ -134,9 +134,9 @@ module _ (g : Bool) (σ ι : List ℕ) {W : ℕ → ℕ} {N : ℕ → Bool} {A B
     -- the condition is clean
     new_ite : (c a b : ℕ) → OkExpr false (ty_at A.lay.ctx) (type_at A.lay s) (ite c a b) → Met N (needs_expr (ite c a b)) → here (ite c a b)
     new_ite c a b ok m =
-        let hc : 2 ≤ (type_at A.lay c).role = ok.cond.is in
-        let ha : 2 ≤ (type_at A.lay a).role = ok.left.is in
-        let hb : 2 ≤ (type_at A.lay b).role = ok.right.is in
+        let hc : 2 ≤ rank (type_at A.lay c).role = ok.cond.is in
+        let ha : 2 ≤ rank (type_at A.lay a).role = ok.left.is in
+        let hb : 2 ≤ rank (type_at A.lay b).role = ok.right.is in
         let w = operand_width J s in
         let ea : width_at A a ≡ w = ok.same_a.w ∙ width_is in
         let eb : width_at A b ≡ w = ok.same_b.w ∙ width_is in

@@ -20,11 +20,11 @@ fn suits(k: u8, t: Ty) -> bool
     match k {
         WORD => types::is_word(t),
         ARRAY => types::is_array(t),
-        VALUE => 2 <= t.role,
-        STATE => t.role == 4,
+        VALUE => types::is_value(t),
+        STATE => types::is_state(t),
         WSORT => types::is_word_sort(t),
         ASORT => types::is_array_sort(t),
-        SORT => t.role == 1,
+        SORT => types::is_sort(t),
         _ => true,
     }
 }

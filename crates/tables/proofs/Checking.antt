@@ -5,7 +5,6 @@ use mathlib.Core.Path.{◌≡◌, refl, sym, ap, ◌∙◌, subst}
 use mathlib.Core.Bool.{Bool, true, false, ◌&&◌}
 use mathlib.Core.List.{List}
 use native.Mathlib.Omega.{arith}
-use lib.Dec.{eqb}
 use lib.ListN.{length, get_or, replicate, length-replicate}
 use borrow.Author.Tests.{le-leb, lt-leb}
 use Rattle.tables.specs.declared.Note.{Note}
@@ -13,7 +12,7 @@ use Rattle.tables.specs.declared.Refusal.{Refusal}
 use Rattle.tables.specs.declared.Refusal.TheVariants.{NotATable}
 use Rattle.tables.specs.Layout.{whole, held, room, records_of}
 use Rattle.tables.specs.Ids.{ids_right}
-use Rattle.tables.specs.Types.{ty, no_ty, no_ctx, ty_at, given}
+use Rattle.tables.specs.Types.{no_ty, no_ctx, ty_at, given}
 use Rattle.tables.specs.Tables.{lawful, broken, checked}
 use Rattle.tables.specs.Model.Notes.{blank, note_at, flag_in, given_in, Shows, Fresh}
 

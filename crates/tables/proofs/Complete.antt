@@ -13,7 +13,7 @@ use Rattle.tables.specs.Pick.{all}
 use Rattle.tables.specs.Kinds.{row_of, sort_class, first_class, second_class, third_class}
 use Rattle.tables.specs.Lines.{Line, Expr, is_unary, is_binary, shape_of, fields, line_of, words_of, kind_in}
 use Rattle.tables.specs.Layout.{record_words}
-use Rattle.tables.specs.Types.{is_sort, is_value, is_word, is_array, is_word_sort, is_array_sort, sort_at, Ctx, ty_at, given, grow}
+use Rattle.tables.specs.Types.{rank, is_sort, is_value, is_word, is_array, is_word_sort, is_array_sort, sort_at, Ctx, ty_at, given, grow}
 use Rattle.tables.specs.Rules.{suits, same_sort}
 use Rattle.tables.specs.Tables.{known, unused, tidy, keeps, lawful}
 use Rattle.tables.proofs.Every.{at_each, from_to}
@@ -28,22 +28,22 @@ use Rattle.tables.proofs.Sound.{one_row, two_row}
 -- ---- classes
 
 of_word : {t : Ty} → IsWord t → is_word t ≡ true
-of_word {t} k = rw (le-leb 2 t.role k.is, eq-eqb t.iw 0 k.flat)
+of_word {t} k = rw (le-leb 2 (rank t.role) k.is, eq-eqb t.iw 0 k.flat)
 
 of_array : {t : Ty} → IsArray t → is_array t ≡ true
-of_array {t} k = rw (le-leb 2 t.role k.is, lt-ltb 0 t.iw k.deep)
+of_array {t} k = rw (le-leb 2 (rank t.role) k.is, lt-ltb 0 t.iw k.deep)
 
 of_word_sort : {t : Ty} → IsWordSort t → is_word_sort t ≡ true
-of_word_sort {t} k = rw (eq-eqb t.role 1 k.is, eq-eqb t.iw 0 k.flat)
+of_word_sort {t} k = rw (eq-eqb (rank t.role) 1 k.is, eq-eqb t.iw 0 k.flat)
 
 of_array_sort : {t : Ty} → IsArraySort t → is_array_sort t ≡ true
-of_array_sort {t} k = rw (eq-eqb t.role 1 k.is, lt-ltb 0 t.iw k.deep)
+of_array_sort {t} k = rw (eq-eqb (rank t.role) 1 k.is, lt-ltb 0 t.iw k.deep)
 
 of_value : {t : Ty} → IsValue t → is_value t ≡ true
-of_value {t} k = le-leb 2 t.role k.is
+of_value {t} k = le-leb 2 (rank t.role) k.is
 
 of_sort : {t : Ty} → IsSort t → is_sort t ≡ true
-of_sort {t} k = eq-eqb t.role 1 k.is
+of_sort {t} k = eq-eqb (rank t.role) 1 k.is
 
 of_same : {a t : Ty} → Same a t → same_sort a t ≡ true
 of_same {a} {t} k = rw (eq-eqb a.iw t.iw k.iw, eq-eqb a.w t.w k.w)
@@ -216,14 +216,14 @@ module _ (p : Bool) (L : ℕ → Ty) (G : Bool → ℕ → Bool) where
   complete (Line.init_or_next true s q v) k =
       kept p L G (fields 6 s q v 0) (shared p 6 refl refl) refl
       (record {
-        class = and₄ (of_sort k.sort) (eq-eqb (L q).role 4 k.state) (of_word k.value.word) refl;
+        class = and₄ (of_sort k.sort) (eq-eqb (rank (L q).role) 4 k.state) (of_word k.value.word) refl;
         width = and₂ (of_same k.same) (and₂ (eq-eqb (L v).w (sort_at p L s).w k.w) (and₂ (eq-eqb (L v).iw 0 k.iw) refl));
         once = and₂ (ap not k.once) (and₂ (lt-ltb v q k.value.below) (and₂ (ap not k.value.unmarked) refl));
       })
   complete (Line.init_or_next false s q v) k =
       kept p L G (fields 7 s q v 0) (shared p 7 refl refl) refl
       (record {
-        class = and₄ (of_sort k.sort) (eq-eqb (L q).role 4 k.state) (of_value k.value) refl;
+        class = and₄ (of_sort k.sort) (eq-eqb (rank (L q).role) 4 k.state) (of_value k.value) refl;
         width = and₂ (of_same k.same) (and₂ (eq-eqb (L v).w (sort_at p L s).w k.w) (and₂ (eq-eqb (L v).iw (sort_at p L s).iw k.iw) refl));
         once = and₂ (ap not k.once) refl;
       })

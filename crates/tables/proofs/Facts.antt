@@ -8,31 +8,31 @@ use mathlib.Core.List.{List, [], ◌∷◌}
 use Rattle.tables.specs.declared.Ty.{Ty}
 use Rattle.tables.specs.Kinds.{row_of, second_class, third_class}
 use Rattle.tables.specs.Lines.{Line, Expr}
-use Rattle.tables.specs.Types.{marked, sort_at, Ctx, ty_at, given, grow}
+use Rattle.tables.specs.Types.{rank, marked, sort_at, Ctx, ty_at, given, grow}
 use Rattle.tables.specs.Rules.{fits_unary, fits_binary, value_index}
 use Rattle.tables.specs.Tables.{unused}
 use Rattle.tables.proofs.Shapes.{BinaryKind}
 
 pub record IsValue (t : Ty) : Type 0 where
-  pub is : 2 ≤ t.role
+  pub is : 2 ≤ rank t.role
 
 pub record IsWord (t : Ty) : Type 0 where
-  pub is : 2 ≤ t.role
+  pub is : 2 ≤ rank t.role
   pub flat : t.iw ≡ 0
 
 pub record IsArray (t : Ty) : Type 0 where
-  pub is : 2 ≤ t.role
+  pub is : 2 ≤ rank t.role
   pub deep : 0 < t.iw
 
 pub record IsSort (t : Ty) : Type 0 where
-  pub is : t.role ≡ 1
+  pub is : rank t.role ≡ 1
 
 pub record IsWordSort (t : Ty) : Type 0 where
-  pub is : t.role ≡ 1
+  pub is : rank t.role ≡ 1
   pub flat : t.iw ≡ 0
 
 pub record IsArraySort (t : Ty) : Type 0 where
-  pub is : t.role ≡ 1
+  pub is : rank t.role ≡ 1
   pub deep : 0 < t.iw
 
 -- the same widths
@@ -131,7 +131,7 @@ OkValue false q v b = IsValue b
 
 pub record OkInitOrNext (m : Bool) (G : Bool → ℕ → Bool) (t a b : Ty) (q v : ℕ) : Type 0 where
   pub sort : IsSort t
-  pub state : a.role ≡ 4
+  pub state : rank a.role ≡ 4
   pub same : Same a t
   pub value : OkValue m q v b
   pub iw : b.iw ≡ value_index m t

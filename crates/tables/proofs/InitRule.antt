@@ -12,7 +12,7 @@ use Rattle.tables.specs.declared.Ty.{Ty}
 use Rattle.tables.specs.Pick.{all}
 use Rattle.tables.specs.Kinds.{row_of}
 use Rattle.tables.specs.Lines.{Line, is_init_or_next, init_or_next_kind, shape_of, fields, line_of, kind_in, sort_in, first_in, second_in, third_in}
-use Rattle.tables.specs.Types.{is_sort, is_state, is_value, marked, is_word, sort_at, Ctx, ty_at, given, grow_all, no_ctx, context}
+use Rattle.tables.specs.Types.{rank, is_sort, is_state, is_value, marked, is_word, sort_at, Ctx, ty_at, given, grow_all, no_ctx, context}
 use Rattle.tables.specs.Cone.{itself, under, SourceInCone, HasInitOrNext, BarsInit, second_init, not_below, source_in_cone, RuleTen}
 use Rattle.tables.specs.Rules.{suits, classes, fits, once_rules, answer, fault}
 use Rattle.tables.proofs.Laws.{and_true, and_false}
@@ -57,17 +57,17 @@ module _ (p : Bool) (C : List Line) (ok : AllOk p no_ctx C) (r : List ℕ) where
   once = all (once_rules (line_of r) (given c) (ty_at c (second_in r)))
 
   -- an init's value, and a next's, is a value line
-  value_second : (m : Bool) (t a b c : Ty) → all (classes (row_of (init_or_next_kind m)) t a b c) ≡ true → 2 ≤ b.role
+  value_second : (m : Bool) (t a b c : Ty) → all (classes (row_of (init_or_next_kind m)) t a b c) ≡ true → 2 ≤ rank b.role
   unfolding row_of suits
   value_second true t a b c e =
       let h₁ = both (is_sort t) _ e in
       let h₂ = both (is_state a) _ h₁.1 in
       let h₃ = both (is_word b) _ h₂.1 in
-      leb-true 2 b.role (both (is_value b) _ h₃.0).0
+      leb-true 2 (rank b.role) (both (is_value b) _ h₃.0).0
   value_second false t a b c e =
       let h₁ = both (is_sort t) _ e in
       let h₂ = both (is_state a) _ h₁.1 in
-      leb-true 2 b.role (both (is_value b) _ h₂.1).0
+      leb-true 2 (rank b.role) (both (is_value b) _ h₂.1).0
 
   once_is : (m : Bool) → kind_in r ≡ init_or_next_kind m → (G : Bool → ℕ → Bool) (b : Ty)
       → all (once_rules (Line.init_or_next m (sort_in r) (first_in r) (second_in r)) G b) ≡ all (once_rules (line_of r) G b)
@@ -75,7 +75,7 @@ module _ (p : Bool) (C : List Line) (ok : AllOk p no_ctx C) (r : List ℕ) where
   once_is false k G b = once_as r (is_init_or_next false) (ap shape_of k) G b refl
 
   -- the tests of rule 10, and what they test
-  tests : (m : Bool) (s q v : ℕ) → 2 ≤ (ty_at c v).role
+  tests : (m : Bool) (s q v : ℕ) → 2 ≤ rank (ty_at c v).role
       → (all (once_rules (Line.init_or_next m s q v) (given c) (ty_at c v)) ≡ false) ↔ RuleTen m C q v
   unfolding context
   tests true s q v t = (

@@ -14,7 +14,7 @@ use Rattle.tables.specs.declared.Ty.{Ty}
 use Rattle.tables.specs.Pick.{pick, inside, among}
 use Rattle.tables.specs.Lines.{Line, Expr}
 use Rattle.tables.specs.Layout.{lines_of}
-use Rattle.tables.specs.Types.{ty, is_value, marked, value_role, line_type, ty_at, no_ctx, grow_all, context}
+use Rattle.tables.specs.Types.{rank, ty, is_value, marked, value_role, line_type, ty_at, no_ctx, grow_all, context}
 use Rattle.tables.specs.Cone.{line_numbered, uses_expr, uses, Cone, itself, under, is_source, SourceInCone}
 use Rattle.tables.specs.Tables.{checked}
 use Rattle.tables.specs.Model.Notes.{look_in, Shows}
@@ -52,10 +52,10 @@ any_same f g (x ∷ r) h = ap₂ (λ (a b : Bool). a || b) (h x (rw (eq-eqb x x 
 -- ---- "marking exactly those that are, or have beneath them, an input or a state": the mark of a line, by those of the lines that it uses
 
 module _ (p : Bool) (L : ℕ → Ty) where
-  two : (a b : ℕ) → leb 3 (value_role (marked (L a) || marked (L b))) ≡ any_of (λ x. marked (L x)) (a ∷ b ∷ [])
+  two : (a b : ℕ) → leb 3 (rank (value_role (marked (L a) || marked (L b)))) ≡ any_of (λ x. marked (L x)) (a ∷ b ∷ [])
   two a b = role_mark (marked (L a) || marked (L b)) ∙ rw (or_false (marked (L b))) refl
 
-  three : (a b c : ℕ) → leb 3 (value_role (marked (L a) || (marked (L b) || marked (L c)))) ≡ any_of (λ x. marked (L x)) (a ∷ b ∷ c ∷ [])
+  three : (a b c : ℕ) → leb 3 (rank (value_role (marked (L a) || (marked (L b) || marked (L c))))) ≡ any_of (λ x. marked (L x)) (a ∷ b ∷ c ∷ [])
   three a b c = role_mark (marked (L a) || (marked (L b) || marked (L c))) ∙ rw (or_false (marked (L c))) refl
 
   value_mark : (s : ℕ) (e : Expr) → marked (line_type p L (Line.value s e)) ≡ any_of (λ a. marked (L a)) (uses_expr e)
@@ -81,7 +81,7 @@ module _ (p : Bool) (L : ℕ → Ty) where
 -- ---- the mark is the cone's
 
 module _ (p : Bool) (C : List Line) (ok : AllOk p no_ctx C) where
-  mark_of : (v : ℕ) → 1 ≤ (ty_at (grow_all p no_ctx C) v).role
+  mark_of : (v : ℕ) → 1 ≤ rank (ty_at (grow_all p no_ctx C) v).role
       → marked (ty_at (grow_all p no_ctx C) v) ≡ (is_source (line_numbered C v) || any_of (λ a. marked (ty_at (grow_all p no_ctx C) a)) (uses (line_numbered C v)))
   mark_of v h =
       let E = line_entry p C ok v h in
@@ -89,7 +89,7 @@ module _ (p : Bool) (C : List Line) (ok : AllOk p no_ctx C) where
       ∙ ap (λ (b : Bool). is_source (line_numbered C v) || b) (any_same _ _ (uses (line_numbered C v)) (λ a m. ap marked (sym (used p C ok v E a m).same)))
 
   -- an input or a state in the cone marks the line
-  source_marks : (v w : ℕ) → 2 ≤ (ty_at (grow_all p no_ctx C) v).role → Cone C v w → is_source (line_numbered C w) ≡ true → marked (ty_at (grow_all p no_ctx C) v) ≡ true
+  source_marks : (v w : ℕ) → 2 ≤ rank (ty_at (grow_all p no_ctx C) v).role → Cone C v w → is_source (line_numbered C w) ≡ true → marked (ty_at (grow_all p no_ctx C) v) ≡ true
   source_marks v w h itself e = mark_of v (omega arith) ∙ rw e
   source_marks v w h (under a m k) e =
       let u = used p C ok v (line_entry p C ok v (omega arith)) a m in
@@ -104,7 +104,7 @@ module _ (p : Bool) (C : List Line) (ok : AllOk p no_ctx C) where
       let S = found n k.number k.holds in
       record { line = S.line; in_cone = under k.number k.in_list S.in_cone; is = S.is })
 
-  finds : (n v : ℕ) → v ≤ n → 2 ≤ (ty_at (grow_all p no_ctx C) v).role → source_within n C v ≡ marked (ty_at (grow_all p no_ctx C) v)
+  finds : (n v : ℕ) → v ≤ n → 2 ≤ rank (ty_at (grow_all p no_ctx C) v).role → source_within n C v ≡ marked (ty_at (grow_all p no_ctx C) v)
   finds zero v l h = absurd (omega (arith, some_line p C ok v (omega arith)))
   finds (suc n) v l h =
       let E = line_entry p C ok v (omega arith) in
@@ -113,35 +113,35 @@ module _ (p : Bool) (C : List Line) (ok : AllOk p no_ctx C) where
       ∙ ap (λ (b : Bool). is_source (line_numbered C v) || b)
       (any_same _ (source_within n C) (uses (line_numbered C v)) (λ a m. let u = used p C ok v E a m in sym (finds n a (omega (arith, u.below)) u.is))))
 
-  pub search_marks : (v : ℕ) → 2 ≤ (ty_at (context p C) v).role → search_cone C v ≡ marked (ty_at (context p C) v)
+  pub search_marks : (v : ℕ) → 2 ≤ rank (ty_at (context p C) v).role → search_cone C v ≡ marked (ty_at (context p C) v)
   unfolding context
   search_marks v h = finds v v (omega arith) h
 
   -- a value line is marked exactly if some line of its cone, itself included, is an input or a state
-  pub marks_exactly : (v : ℕ) → 2 ≤ (ty_at (context p C) v).role → (marked (ty_at (context p C) v) ≡ true) ↔ SourceInCone C v
+  pub marks_exactly : (v : ℕ) → 2 ≤ rank (ty_at (context p C) v).role → (marked (ty_at (context p C) v) ≡ true) ↔ SourceInCone C v
   unfolding context
   marks_exactly v h = (λ e. found v v (finds v v (omega arith) h ∙ e), λ S. source_marks v S.line h S.in_cone S.is)
 
   -- so it is of the marks in the notes that a check keeps
-  pub noted_marks : {notes : List Note} → Shows notes (context p C) → (v : ℕ) → 2 ≤ (look_in notes v).role → (marked (look_in notes v) ≡ true) ↔ SourceInCone C v
-  noted_marks S v = subst (λ (t : Ty). 2 ≤ t.role → (marked t ≡ true) ↔ SourceInCone C v) (sym (S.types v)) (marks_exactly v)
+  pub noted_marks : {notes : List Note} → Shows notes (context p C) → (v : ℕ) → 2 ≤ rank (look_in notes v).role → (marked (look_in notes v) ≡ true) ↔ SourceInCone C v
+  noted_marks S v = subst (λ (t : Ty). 2 ≤ rank t.role → (marked t ≡ true) ↔ SourceInCone C v) (sym (S.types v)) (marks_exactly v)
 
   -- a search of the cones leaves the types that are kept
   searched_type : (v : ℕ) → searched C (ty_at (context p C)) v ≡ ty_at (context p C) v
-  searched_type v = go (inside 2 3 (ty_at (context p C) v).role) refl
+  searched_type v = go (inside 2 3 (rank (ty_at (context p C) v).role)) refl
     where
       t : Ty
       t = ty_at (context p C) v
 
-      go : (b : Bool) → inside 2 3 t.role ≡ b → pick b (ty (value_role (search_cone C v)) t.iw t.w) t ≡ t
+      go : (b : Bool) → inside 2 3 (rank t.role) ≡ b → pick b (ty (value_role (search_cone C v)) t.iw t.w) t ≡ t
       go false e = refl
       go true e =
-          let k = range 2 3 t.role e in
+          let k = range 2 3 (rank t.role) e in
           let m : value_role (search_cone C v) ≡ t.role = ap value_role (search_marks v k.0) ∙ role_back t.role k.0 k.1 in
           λ j. ty (m j) t.iw t.w
 
   -- a value that is judged by a search has the mark that the search finds
-  pub searched_mark : (v : ℕ) → 2 ≤ (ty_at (context p C) v).role → marked (searched C (ty_at (context p C)) v) ≡ search_cone C v
+  pub searched_mark : (v : ℕ) → 2 ≤ rank (ty_at (context p C) v).role → marked (searched C (ty_at (context p C)) v) ≡ search_cone C v
   searched_mark v h = ap marked (searched_type v) ∙ sym (search_marks v h)
 
   pub searched_types_lem : searched C (ty_at (context p C)) ≡ ty_at (context p C)

@@ -9,12 +9,13 @@ use lib.Dec.{T, eqb, leb}
 use lib.ListN.{length, get_or}
 use mir.Facts.{and_yes}
 use borrow.Author.Tests.{eqb-true, ne_eqb, leb-true}
+use Rattle.tables.specs.declared.Role.TheVariants.{Other}
 use Rattle.tables.specs.declared.Ty.{Ty}
 use Rattle.tables.specs.Pick.{all}
 use Rattle.tables.specs.Kinds.{row_of, sort_class, first_class, second_class, third_class, class_at, names_line}
 use Rattle.tables.specs.Lines.{Shape, is_bitvec, is_array, is_const, is_input, is_state, is_output, is_unary, is_binary, is_ite, is_read, is_write, is_unknown, is_init_or_next, is_signal, is_equality, shape_of, build, line_of, fields, kind_in, sort_in, first_in, second_in, third_in}
 use Rattle.tables.specs.Layout.{record_words}
-use Rattle.tables.specs.Types.{ty, is_sort, is_value}
+use Rattle.tables.specs.Types.{rank, ty, is_sort, is_value}
 use Rattle.tables.specs.Rules.{suits, classes, fits_unary, fits_binary, fits_equality, fits_ite, fits_read, fits_write, fits_init_or_next, fits, once_rules}
 use Rattle.tables.specs.Tables.{known, unused, formed, keeps}
 use Rattle.tables.proofs.Every.{at_each}
@@ -34,16 +35,16 @@ pub record Replaces (k : ℕ) (L L' : ℕ → Ty) (x x' : ℕ) : Type 0 where
 -- ---- the classes of a record's places
 
 -- what may stand where a line is asked for has a role; where none is asked for, anything may
-pub suits_role : (k : ℕ) (t : Ty) → names_line k ≡ true → suits k t ≡ true → 1 ≤ t.role
+pub suits_role : (k : ℕ) (t : Ty) → names_line k ≡ true → suits k t ≡ true → 1 ≤ rank t.role
 unfolding suits
 suits_role zero t n h = absurd (no_yes n)
-suits_role (suc zero) t n h = omega (arith, leb-true 2 t.role (both (is_value t) _ h).0)
-suits_role (suc (suc zero)) t n h = omega (arith, leb-true 2 t.role (both (is_value t) _ h).0)
-suits_role (suc (suc (suc zero))) t n h = omega (arith, leb-true 2 t.role h)
-suits_role (suc (suc (suc (suc zero)))) t n h = omega (arith, eqb-true t.role 4 h)
-suits_role (suc (suc (suc (suc (suc zero))))) t n h = omega (arith, eqb-true t.role 1 (both (is_sort t) _ h).0)
-suits_role (suc (suc (suc (suc (suc (suc zero)))))) t n h = omega (arith, eqb-true t.role 1 (both (is_sort t) _ h).0)
-suits_role (suc (suc (suc (suc (suc (suc (suc zero))))))) t n h = omega (arith, eqb-true t.role 1 h)
+suits_role (suc zero) t n h = omega (arith, leb-true 2 (rank t.role) (both (is_value t) _ h).0)
+suits_role (suc (suc zero)) t n h = omega (arith, leb-true 2 (rank t.role) (both (is_value t) _ h).0)
+suits_role (suc (suc (suc zero))) t n h = omega (arith, leb-true 2 (rank t.role) h)
+suits_role (suc (suc (suc (suc zero)))) t n h = omega (arith, eqb-true (rank t.role) 4 h)
+suits_role (suc (suc (suc (suc (suc zero))))) t n h = omega (arith, eqb-true (rank t.role) 1 (both (is_sort t) _ h).0)
+suits_role (suc (suc (suc (suc (suc (suc zero)))))) t n h = omega (arith, eqb-true (rank t.role) 1 (both (is_sort t) _ h).0)
+suits_role (suc (suc (suc (suc (suc (suc (suc zero))))))) t n h = omega (arith, eqb-true (rank t.role) 1 h)
 suits_role (suc (suc (suc (suc (suc (suc (suc (suc k)))))))) t n h = let r = range 1 7 (suc (suc (suc (suc (suc (suc (suc (suc k)))))))) n in absurd (omega arith)
 
 pub suits_plain : (k : ℕ) (t : Ty) → names_line k ≡ false → suits k t ≡ true
@@ -104,8 +105,8 @@ reads_at (suc i) a b = at_each (λ n. reads (shape_of (suc n)) (row_of (suc n)))
 module _ (L L' : ℕ → Ty) (k s a b c s' a' b' c' : ℕ) (P₁ : Replaces (class_at (row_of k) 1) L L' s s') (P₂ : Replaces (class_at (row_of k) 2) L L' a a')
     (P₃ : Replaces (class_at (row_of k) 3) L L' b b') (P₄ : Replaces (class_at (row_of k) 4) L L' c c') where
   -- a line's widths, and a number, as they were
-  line_path : {q x x' : ℕ} → Replaces q L L' x x' → T (names_line q) → ty 0 (L' x').iw (L' x').w ≡ ty 0 (L x).iw (L x).w
-  line_path {q} P t = let h = P.widths (true_of (names_line q) t) in λ i. ty 0 (h.iw i) (h.w i)
+  line_path : {q x x' : ℕ} → Replaces q L L' x x' → T (names_line q) → ty Other (L' x').iw (L' x').w ≡ ty Other (L x).iw (L x).w
+  line_path {q} P t = let h = P.widths (true_of (names_line q) t) in λ i. ty Other (h.iw i) (h.w i)
 
   number_path : {q x x' : ℕ} → Replaces q L L' x x' → T (not (names_line q)) → x' ≡ x
   number_path {q} P t = P.plain (not_of_lem (names_line q) t)

@@ -15,7 +15,7 @@ use Rattle.tables.specs.Pick.{pick, all, among, alike}
 use Rattle.tables.specs.Kinds.{row_of, sort_class, first_class}
 use Rattle.tables.specs.Lines.{Shape, is_bitvec, is_array, is_const, is_input, is_state as state_shape, is_output, is_unary, is_binary, is_ite, is_read, is_write, is_unknown, is_init_or_next, is_signal, is_equality, init_or_next_kind, shape_of, build, line_of, kind_in, sort_in, first_in, second_in, third_in}
 use Rattle.tables.specs.Layout.{record_words}
-use Rattle.tables.specs.Types.{ty, no_ty, is_state, sort_at, record_type, line_type, Ctx, ty_at, given_by, given, given_after, grow}
+use Rattle.tables.specs.Types.{rank, no_ty, is_state, sort_at, record_type, line_type, Ctx, ty_at, given_by, given, given_after, grow}
 use Rattle.tables.specs.Rules.{suits, classes, fault}
 use Rattle.tables.specs.Tables.{formed, keeps}
 use Rattle.tables.specs.Model.Notes.{blank, note_at, look_in, flag_in, given_in, Shows, typed, with_flag, flagged_by, noted}
@@ -140,11 +140,11 @@ named p m L G r e k = at m (subst (λ (n : ℕ). all (classes (row_of n) t (L (f
     at false h = state_first 7 t (L (first_in r)) (L (second_in r)) (L (third_in r)) seven_state h
 
 -- a line of some role is an earlier line
-pub earlier : (ts : List Ty) (a : ℕ) → 1 ≤ (get_or ts a no_ty).role → a < length ts
+pub earlier : (ts : List Ty) (a : ℕ) → 1 ≤ rank (get_or ts a no_ty).role → a < length ts
 earlier ts a h = by_length (leb (length ts) a) refl
   where
     by_length : (b : Bool) → leb (length ts) a ≡ b → a < length ts
-    by_length true e = absurd (omega (arith, subst (λ (t : Ty). 1 ≤ t.role) (get_or-eq_default ts no_ty {n = a} (leb-true (length ts) a e)) h))
+    by_length true e = absurd (omega (arith, subst (λ (t : Ty). 1 ≤ rank t.role) (get_or-eq_default ts no_ty {n = a} (leb-true (length ts) a e)) h))
     by_length false e = leb-false (length ts) a e
 
 -- ---- the parts of a note
@@ -234,7 +234,7 @@ module _ {notes : List Note} {c : Ctx} (p : Bool) (r : List ℕ) {n : ℕ} (sh :
       go : (b : Bool) → eqb (kind_in r) (init_or_next_kind m) ≡ b → given_in (flagged_by m r xs) m q ≡ among q (given_after m c (line_of r))
       go true e =
           let st = named p m (ty_at c) (given c) r fine (eqb-true (kind_in r) (init_or_next_kind m) e) in
-          let at = earlier c.tys (first_in r) (omega (arith, eqb-true (ty_at c (first_in r)).role 4 st)) in
+          let at = earlier c.tys (first_in r) (omega (arith, eqb-true (rank (ty_at c (first_in r)).role) 4 st)) in
           ap (λ (b : Bool). given_in (pick b (set xs (first_in r) (with_flag m (note_at xs (first_in r)))) xs) m q) e
           ∙ flagged_at m xs (given_by m c) (first_in r) (omega arith) f q ∙ sym (ap (among q) (given_as m c r ∙ ap (λ (b : Bool). pick b (given_by m c ++ (first_in r ∷ [])) (given_by m c)) e))
       go false e =

@@ -15,7 +15,7 @@ use Rattle.tables.specs.declared.Refusal.TheVariants.{NotATable}
 use Rattle.tables.specs.Pick.{pick, all, inside}
 use Rattle.tables.specs.Kinds.{row_of, sort_class, first_class, second_class, third_class}
 use Rattle.tables.specs.Lines.{Line, Shape, is_bitvec, is_array as array_shape, is_const, is_input, is_state as state_shape, is_output, is_unary, is_binary, is_ite, is_read, is_write, is_unknown, is_init_or_next, is_signal, is_equality, init_or_next_kind, shape_of, build, line_of, kind_in, sort_in, first_in, second_in, third_in}
-use Rattle.tables.specs.Types.{is_sort, is_value, marked, is_word, is_array, is_word_sort, is_array_sort, sort_at, Ctx, ty_at, given, grow, no_ctx}
+use Rattle.tables.specs.Types.{rank, is_sort, is_value, marked, is_word, is_array, is_word_sort, is_array_sort, sort_at, Ctx, ty_at, given, grow, no_ctx}
 use Rattle.tables.specs.Rules.{suits, classes, fits, same_sort, once_rules, fault}
 use Rattle.tables.specs.Layout.{whole, room as room_of, records_of, lines_of}
 use Rattle.tables.specs.Ids.{ids_right}
@@ -30,22 +30,22 @@ use Rattle.tables.proofs.Facts.{IsValue, IsWord, IsArray, IsSort, IsWordSort, Is
 -- ---- classes
 
 word_of : (t : Ty) → is_word t ≡ true → IsWord t
-word_of t e = let h = both (is_value t) _ e in record { is = leb-true 2 t.role h.0; flat = eqb-true t.iw 0 h.1 }
+word_of t e = let h = both (is_value t) _ e in record { is = leb-true 2 (rank t.role) h.0; flat = eqb-true t.iw 0 h.1 }
 
 array_of : (t : Ty) → is_array t ≡ true → IsArray t
-array_of t e = let h = both (is_value t) _ e in record { is = leb-true 2 t.role h.0; deep = ltb-true 0 t.iw h.1 }
+array_of t e = let h = both (is_value t) _ e in record { is = leb-true 2 (rank t.role) h.0; deep = ltb-true 0 t.iw h.1 }
 
 word_sort_of : (t : Ty) → is_word_sort t ≡ true → IsWordSort t
-word_sort_of t e = let h = both (is_sort t) _ e in record { is = eqb-true t.role 1 h.0; flat = eqb-true t.iw 0 h.1 }
+word_sort_of t e = let h = both (is_sort t) _ e in record { is = eqb-true (rank t.role) 1 h.0; flat = eqb-true t.iw 0 h.1 }
 
 array_sort_of : (t : Ty) → is_array_sort t ≡ true → IsArraySort t
-array_sort_of t e = let h = both (is_sort t) _ e in record { is = eqb-true t.role 1 h.0; deep = ltb-true 0 t.iw h.1 }
+array_sort_of t e = let h = both (is_sort t) _ e in record { is = eqb-true (rank t.role) 1 h.0; deep = ltb-true 0 t.iw h.1 }
 
 value_of_lem : (t : Ty) → is_value t ≡ true → IsValue t
-value_of_lem t e = record { is = leb-true 2 t.role e }
+value_of_lem t e = record { is = leb-true 2 (rank t.role) e }
 
 sort_of : (t : Ty) → is_sort t ≡ true → IsSort t
-sort_of t e = record { is = eqb-true t.role 1 e }
+sort_of t e = record { is = eqb-true (rank t.role) 1 e }
 
 same_of : (a t : Ty) → same_sort a t ≡ true → Same a t
 same_of a t e = let h = both (eqb a.iw t.iw) _ e in record { iw = eqb-true a.iw t.iw h.0; w = eqb-true a.w t.w h.1 }
@@ -122,7 +122,7 @@ module _ (p : Bool) (L : ℕ → Ty) (G : Bool → ℕ → Bool) (k s x y z : �
       let o₃ = both (not (marked (L y))) _ o₂.1 in
       record {
         sort = sort_of t c.sort;
-        state = eqb-true (L x).role 4 c.first;
+        state = eqb-true (rank (L x).role) 4 c.first;
         same = same_of (L x) t f₁.0;
         value = record { word = word_of (L y) c.second; below = ltb-true y x o₂.0; unmarked = not-true (marked (L y)) o₃.0 };
         iw = eqb-true (L y).iw 0 f₃.0;
@@ -137,7 +137,7 @@ module _ (p : Bool) (L : ℕ → Ty) (G : Bool → ℕ → Bool) (k s x y z : �
       let o₁ = both (not (G false x)) _ o in
       record {
         sort = sort_of t c.sort;
-        state = eqb-true (L x).role 4 c.first;
+        state = eqb-true (rank (L x).role) 4 c.first;
         same = same_of (L x) t f₁.0;
         value = value_of_lem (L y) c.second;
         iw = eqb-true (L y).iw t.iw f₃.0;

@@ -1,12 +1,13 @@
 -- The init rule by a search of the cone in place of the mark: reading and checking by the mark are held against it. Laws alone cite it. Assumes nothing.
 use Rattle.tables.specs.declared.Refusal.{Refusal}
 use Rattle.std.specs.Prelude.{ℕ, zero, suc, Bool, true, false, ◌&&◌, ◌||◌, List, [], ◌∷◌, ◌++◌, length, Result}
+use Rattle.tables.specs.declared.Role.TheVariants.{Unmarked, Marked}
 use Rattle.tables.specs.declared.Ty.{Ty}
 use Rattle.tables.specs.Pick.{pick, inside}
 use Rattle.tables.specs.Lines.{Line, line_of}
 use Rattle.tables.specs.Layout.{records_of}
 use Rattle.tables.specs.Ids.{ids_right}
-use Rattle.tables.specs.Types.{ty, unmarked_role, marked_role, value_role, ty_at, given, context}
+use Rattle.tables.specs.Types.{rank, ty, value_role, ty_at, given, context}
 use Rattle.tables.specs.Cone.{line_numbered, uses, is_source}
 use Rattle.tables.specs.Tables.{keeps, verdict}
 
@@ -26,7 +27,7 @@ search_cone C v = source_within v C v
 
 -- the type of a value with a mark in place of its own; that of a state is in its role
 abbrev pub remarked : (mark : Bool) → Ty → Ty
-remarked mark t = pick (inside unmarked_role marked_role t.role) (ty (value_role mark) t.iw t.w) t
+remarked mark t = pick (inside (rank Unmarked) (rank Marked) (rank t.role)) (ty (value_role mark) t.iw t.w) t
 
 -- the types of the lines C, each with the mark that a search of its cone finds
 abbrev pub searched : List Line → (ℕ → Ty) → ℕ → Ty

@@ -2,49 +2,41 @@
 -- context in which the rules judge the next line. A list's index is the line's number: entry 0 stands for no line, and so does whatever lies past the end.
 -- Assumes nothing.
 use Rattle.std.specs.Prelude.{ℕ, Bool, true, false, ◌&&◌, ◌||◌, List, [], ◌∷◌, ◌++◌, leb, ltb, eqb, get_or}
+use Rattle.tables.specs.declared.Role.{Role}
+use Rattle.tables.specs.declared.Role.TheVariants.{Other, Sort, Unmarked, Marked, State}
 use Rattle.tables.specs.declared.Ty.{Ty}
 use Rattle.tables.specs.Pick.{pick, inside, among, alike}
 use Rattle.tables.specs.Lines.{Line, Expr, words_of, sort_in, first_in, second_in, third_in}
 
+-- The roles in their order, as numbers: no sort and no value, a sort, a value without the mark, a value with the mark but for a state, a state, which has the
+-- mark too.
+abbrev pub rank : Role → ℕ
+rank Other = 0
+rank Sort = 1
+rank Unmarked = 2
+rank Marked = 3
+rank State = 4
+
 -- A type is the line's role, an index width and a width. A word's index width is 0, so that a value of any sort has 2 ^ iw cells of w bits.
-abbrev pub ty : ℕ → ℕ → ℕ → Ty
+abbrev pub ty : Role → ℕ → ℕ → Ty
 ty r i w = record { role = r; iw = i; w = w }
 
--- no sort and no value
-abbrev pub no_role : ℕ
-no_role = 0
-
-abbrev pub sort_role : ℕ
-sort_role = 1
-
--- a value without the mark
-abbrev pub unmarked_role : ℕ
-unmarked_role = 2
-
--- a value with the mark, but for a state
-abbrev pub marked_role : ℕ
-marked_role = 3
-
--- a state, which has the mark too
-abbrev pub state_role : ℕ
-state_role = 4
-
 abbrev pub no_ty : Ty
-no_ty = ty no_role 0 0
+no_ty = ty Other 0 0
 
 abbrev pub is_sort : Ty → Bool
-is_sort t = eqb t.role sort_role
+is_sort t = eqb (rank t.role) (rank Sort)
 
 -- the last three
 abbrev pub is_value : Ty → Bool
-is_value t = leb unmarked_role t.role
+is_value t = leb (rank Unmarked) (rank t.role)
 
 -- The mark of a line: it is, or has beneath it, an input or a state. Of lines without a value it is never looked at.
 abbrev pub marked : Ty → Bool
-marked t = leb marked_role t.role
+marked t = leb (rank Marked) (rank t.role)
 
 abbrev pub is_state : Ty → Bool
-is_state t = eqb t.role state_role
+is_state t = eqb (rank t.role) (rank State)
 
 abbrev pub is_word : Ty → Bool
 is_word t = is_value t && eqb t.iw 0
@@ -61,7 +53,7 @@ is_array_sort t = is_sort t && ltb 0 t.iw
 -- the sort that a line's second word names: a circuit's line names a sort line, a program's (p) holds the width itself
 abbrev pub sort_at : Bool → (ℕ → Ty) → ℕ → Ty
 sort_at false L s = L s
-sort_at true L s = pick (inside 1 64 s) (ty sort_role 0 s) no_ty
+sort_at true L s = pick (inside 1 64 s) (ty Sort 0 s) no_ty
 
 -- A line that a value uses is marked, and so the value is. a, b and c are the types of the operands as they are written; numbers are no lines.
 abbrev pub marked_expr : Expr → (a b c : Ty) → Bool
@@ -73,15 +65,15 @@ marked_expr (Expr.ite d x y) a b c = marked a || (marked b || marked c)
 marked_expr (Expr.read x i) a b c = marked a || marked b
 marked_expr (Expr.write x i v) a b c = marked a || (marked b || marked c)
 
-abbrev pub value_role : (mark : Bool) → ℕ
-value_role mark = pick mark marked_role unmarked_role
+abbrev pub value_role : (mark : Bool) → Role
+value_role mark = pick mark Marked Unmarked
 
 -- the type of a line, from the types of its sort, t, and of its operands
 abbrev pub type_of : Line → (t a b c : Ty) → Ty
-type_of (Line.bitvec w) t a b c = ty sort_role 0 w
-type_of (Line.array i e) t a b c = ty sort_role a.w b.w
-type_of (Line.input s) t a b c = ty marked_role t.iw t.w
-type_of (Line.state s) t a b c = ty state_role t.iw t.w
+type_of (Line.bitvec w) t a b c = ty Sort 0 w
+type_of (Line.array i e) t a b c = ty Sort a.w b.w
+type_of (Line.input s) t a b c = ty Marked t.iw t.w
+type_of (Line.state s) t a b c = ty State t.iw t.w
 type_of (Line.value s e) t a b c = ty (value_role (marked_expr e a b c)) t.iw t.w
 type_of (Line.init_or_next m s q v) t a b c = no_ty
 type_of (Line.signal m x) t a b c = no_ty

@@ -65,10 +65,20 @@ impl From<Refusal> for u64 {
     }
 }
 
-// What is known of a line: its role (none, sort, unmarked value, marked value, state), its index width and its width.
+// What a line is, as far as the rules ask. The order is of use for values: a state is marked, and a marked line is a value.
+#[derive(Clone, Copy, Debug, PartialEq, Eq, PartialOrd, Ord)]
+pub enum Role {
+    Other,
+    Sort,
+    Unmarked,
+    Marked,
+    State,
+}
+
+// What is known of a line: its role, its index width and its width.
 #[derive(Clone, Copy)]
 pub struct Ty {
-    pub role: u8,
+    pub role: Role,
     pub iw: u8,
     pub w: u8,
 }
@@ -84,7 +94,7 @@ pub struct Note {
 // The note of no line.
 pub const BLANK: Note = Note {
     ty: Ty {
-        role: 0,
+        role: Role::Other,
         iw: 0,
         w: 0,
     },

@@ -14,7 +14,7 @@ use Rattle.tables.specs.declared.Ty.{Ty}
 use Rattle.tables.specs.Kinds.{row_of, second_class, third_class}
 use Rattle.tables.specs.Lines.{Line, Expr, line_of, words_of, fields}
 use Rattle.tables.specs.Layout.{record_words, records_of}
-use Rattle.tables.specs.Types.{Ctx, no_ctx, ty_at, given, grow}
+use Rattle.tables.specs.Types.{rank, Ctx, no_ctx, ty_at, given, grow}
 use Rattle.tables.specs.Tables.{unused, formed, keeps, lawful}
 use Rattle.tables.proofs.Every.{every, at_each}
 use Rattle.tables.proofs.Kept.{both}
@@ -112,7 +112,7 @@ module _ (b : ℕ) (wide : 64 < b) (c : Ctx) (w : AllWide (ty_at c)) (few : leng
   low : {n : ℕ} → n ≤ 64 → n < b
   low h = omega arith
 
-  line : (a : ℕ) → 1 ≤ (ty_at c a).role → a < b
+  line : (a : ℕ) → 1 ≤ rank (ty_at c a).role → a < b
   line a h = omega (arith, earlier c.tys a h)
 
   words : (k s x y z : ℕ) → k < b → s < b → x < b → y < b → z < b → Short b (fields k s x y z)

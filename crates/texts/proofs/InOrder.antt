@@ -13,7 +13,7 @@ use Rattle.tables.specs.Pick.{pick}
 use Rattle.tables.specs.Kinds.{row_of, sort_class, first_class, second_class, third_class}
 use Rattle.tables.specs.Lines.{kind_in, sort_in, first_in, second_in, third_in}
 use Rattle.tables.specs.Layout.{record_words, from}
-use Rattle.tables.specs.Types.{is_sort, is_value, Ctx, ty_at}
+use Rattle.tables.specs.Types.{rank, is_sort, is_value, Ctx, ty_at}
 use Rattle.tables.specs.Rules.{suits}
 use Rattle.tables.specs.Tables.{known, formed, keeps}
 use Rattle.tables.proofs.Every.{every, at_each}
@@ -42,13 +42,13 @@ place_from b n v h l =
 
 -- a line of the type t has a role
 abbrev HasRole : Ty → Type 0
-HasRole t = 1 ≤ t.role
+HasRole t = 1 ≤ rank t.role
 
 value_role_lem : (t : Ty) → is_value t ≡ true → HasRole t
-value_role_lem t h = omega (arith, leb-true 2 t.role h)
+value_role_lem t h = omega (arith, leb-true 2 (rank t.role) h)
 
 sort_role_lem : (t : Ty) → is_sort t ≡ true → HasRole t
-sort_role_lem t h = omega (arith, eqb-true t.role 1 h)
+sort_role_lem t h = omega (arith, eqb-true (rank t.role) 1 h)
 
 -- a line that may stand in a place of the class k, where that is a line's
 suits_role : (k : ℕ) (t : Ty) → k ≤ 8 → (eqb k 0 || eqb k 8) ≡ false → suits k t ≡ true → HasRole t
@@ -57,7 +57,7 @@ suits_role zero t l n h = let z : ◌≡◌ {A = ℕ} 0 1 = cc in absurd (omega 
 suits_role (suc zero) t l n h = value_role_lem t (both (is_value t) _ h).0
 suits_role (suc (suc zero)) t l n h = value_role_lem t (both (is_value t) _ h).0
 suits_role (suc (suc (suc zero))) t l n h = value_role_lem t h
-suits_role (suc (suc (suc (suc zero)))) t l n h = omega (arith, eqb-true t.role 4 h)
+suits_role (suc (suc (suc (suc zero)))) t l n h = omega (arith, eqb-true (rank t.role) 4 h)
 suits_role (suc (suc (suc (suc (suc zero))))) t l n h = sort_role_lem t (both (is_sort t) _ h).0
 suits_role (suc (suc (suc (suc (suc (suc zero)))))) t l n h = sort_role_lem t (both (is_sort t) _ h).0
 suits_role (suc (suc (suc (suc (suc (suc (suc zero))))))) t l n h = sort_role_lem t h
@@ -120,5 +120,5 @@ pub numbered_lines : (c : Ctx) (n : ℕ) → Counted c n → Numbered (ty_at c) 
 numbered_lines c n C = record { least = least; most = λ a h. omega (arith, earlier c.tys a h, C.size) }
   where
     least : (a : ℕ) → HasRole (ty_at c a) → 1 ≤ a
-    least zero h = absurd (omega (arith, ap (λ (t : Ty). t.role) C.first))
+    least zero h = absurd (omega (arith, ap (λ (t : Ty). rank t.role) C.first))
     least (suc a) h = omega arith

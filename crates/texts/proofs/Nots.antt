@@ -15,7 +15,7 @@ use Rattle.tables.specs.Kinds.{row_of, first_class, second_class, third_class, c
 use Rattle.tables.specs.Lines.{line_of, kind_in, first_in, second_in, third_in}
 use Rattle.tables.specs.Layout.{record_words}
 use Rattle.tables.specs.Ids.{zeros_on_nots}
-use Rattle.tables.specs.Types.{is_value, is_word, marked, value_role, Ctx, ty_at, given, grow}
+use Rattle.tables.specs.Types.{rank, is_value, is_word, marked, value_role, Ctx, ty_at, given, grow}
 use Rattle.tables.specs.Rules.{suits}
 use Rattle.tables.specs.Tables.{formed, keeps, lawful}
 use Rattle.tables.proofs.Laws.{by_pick}
@@ -82,8 +82,8 @@ suits_word (suc (suc (suc (suc k)))) y t i h g w = let z = range 1 3 (suc (suc (
 -- ---- one not record
 
 module _ (c : Ctx) (rs : List (List ℕ)) (S : OwnSorts c rs) (a : ℕ) (word : is_word (ty_at c a) ≡ true) where
-  pub is_value_lem : 2 ≤ (ty_at c a).role
-  is_value_lem = leb-true 2 (ty_at c a).role (both (is_value (ty_at c a)) _ word).0
+  pub is_value_lem : 2 ≤ rank (ty_at c a).role
+  is_value_lem = leb-true 2 (rank (ty_at c a).role) (both (is_value (ty_at c a)) _ word).0
 
   flat : (ty_at c a).iw ≡ 0
   flat = eqb-true (ty_at c a).iw 0 (both (is_value (ty_at c a)) _ word).1
@@ -99,7 +99,7 @@ module _ (c : Ctx) (rs : List (List ℕ)) (S : OwnSorts c rs) (a : ℕ) (word : 
   not_passes =
       let o = S.sorts a is_value_lem in
       record {
-        class = rw (eq-eqb (ty_at c own).role 1 o.is, eq-eqb (ty_at c own).iw 0 (sym o.same.iw ∙ flat), word) refl;
+        class = rw (eq-eqb (rank (ty_at c own).role) 1 o.is, eq-eqb (ty_at c own).iw 0 (sym o.same.iw ∙ flat), word) refl;
         width = rw (eq-eqb (ty_at c own).w (ty_at c a).w (sym o.same.w)) refl;
         once = refl;
       }
@@ -120,8 +120,8 @@ module _ (c : Ctx) (rs : List (List ℕ)) (S : OwnSorts c rs) (a : ℕ) (word : 
 
   not_word : is_word (ty_at c₁ (suc (length rs))) ≡ true
   not_word =
-      let r : 2 ≤ (ty_at c₁ (suc (length rs))).role = subst (λ (t : Ty). 2 ≤ t.role) (sym not_type) (role_least (marked (ty_at c a))) in
-      rw (le-leb 2 (ty_at c₁ (suc (length rs))).role r, eq-eqb (ty_at c₁ (suc (length rs))).iw 0 (not_same.iw ∙ flat)) refl
+      let r : 2 ≤ rank (ty_at c₁ (suc (length rs))).role = subst (λ (t : Ty). 2 ≤ rank t.role) (sym not_type) (role_least (marked (ty_at c a))) in
+      rw (le-leb 2 (rank (ty_at c₁ (suc (length rs))).role) r, eq-eqb (ty_at c₁ (suc (length rs))).iw 0 (not_same.iw ∙ flat)) refl
 
   -- it is no init and no next
   same_given : given c₁ ≡ given c
@@ -224,7 +224,7 @@ module _ (c : Ctx) (rs : List (List ℕ)) (S : OwnSorts c rs) (rec : List ℕ) (
   pub named : (1 ≤ get_or rec j 0) × (get_or rec j 0 ≤ length rs)
   named =
       let v = is_value_lem c rs S (get_or rec j 0) ok.word in (
-        by_place (get_or rec j 0) 0 (λ e. absurd (omega (arith, ap (λ (x : ℕ). (ty_at c x).role) e, ap (λ (y : Ty). y.role) S.counted.first))) (λ n. omega arith),
+        by_place (get_or rec j 0) 0 (λ e. absurd (omega (arith, ap (λ (x : ℕ). rank (ty_at c x).role) e, ap (λ (y : Ty). rank y.role) S.counted.first))) (λ n. omega arith),
         omega (arith, earlier c.tys (get_or rec j 0) (omega arith), S.counted.size),
       )
 
@@ -232,7 +232,7 @@ module _ (c : Ctx) (rs : List (List ℕ)) (S : OwnSorts c rs) (rec : List ℕ) (
   fit_after s f i l h e =
       let m = f i (omega arith) h e in
       let t = takes_minus (kind_in rec) (class_at (row_of (kind_in rec)) i) (ty_at c (get_or rec i 0)) m in
-      let v = leb-true 2 (ty_at c (get_or rec i 0)).role (both (is_value (ty_at c (get_or rec i 0))) _ t.word).0 in
+      let v = leb-true 2 (rank (ty_at c (get_or rec i 0)).role) (both (is_value (ty_at c (get_or rec i 0))) _ t.word).0 in
       let x : get_or rec₁ i 0 ≡ get_or rec i 0 = there i (λ z. omega arith) in
       let y : ty_at after (get_or rec₁ i 0) ≡ ty_at c (get_or rec i 0) = ap (ty_at after) x ∙ type_stays c (line_of (not_of rs (get_or rec j 0))) (get_or rec i 0) (omega (arith, v)) in
       (λ z. may_take_minus (same_kind z) (class_at (row_of (same_kind z)) i) (y z)) ∙ m

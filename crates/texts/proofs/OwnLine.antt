@@ -13,7 +13,7 @@ use Rattle.tables.specs.Pick.{pick, inside}
 use Rattle.tables.specs.Kinds.{row_of, sort_class, class_at, names_line}
 use Rattle.tables.specs.Lines.{fields, kind_in, sort_in}
 use Rattle.tables.specs.Layout.{from}
-use Rattle.tables.specs.Types.{Ctx, ty_at, given}
+use Rattle.tables.specs.Types.{rank, Ctx, ty_at, given}
 use Rattle.tables.specs.Tables.{keeps}
 use Rattle.tables.proofs.Answers.{passed}
 use Rattle.tables.proofs.Kept.{all_at, no_yes, neither, kept_fault}
@@ -256,18 +256,18 @@ module _ (c : Ctx) (m : ℕ) (ds : List ℕ) (ns : List (List ℕ)) (t : List �
   plain_out : signs_in f zs ≡ no_signs
   plain_out = ap (λ (x : List (List ℕ)). signs_from f j x no_signs) numbers_out ∙ P.plain no_first
 
-  module _ (c₁ : Ctx) (n₁ : ℕ) (N : Numbered (ty_at c₁) n₁) (stays : (a : ℕ) → 1 ≤ (ty_at c a).role → ty_at c₁ a ≡ ty_at c a)
+  module _ (c₁ : Ctx) (n₁ : ℕ) (N : Numbered (ty_at c₁) n₁) (stays : (a : ℕ) → 1 ≤ rank (ty_at c a).role → ty_at c₁ a ≡ ty_at c a)
       (kp : keeps false (ty_at c₁) (given c₁) (own_record s 3 2 n r) ≡ true) where
     same_sort_lem : out_number f 1 ds false 0 P.σ ≡ sort_in as_read
     same_sort_lem = sym (out_number_lem f bounds.0 bounds.1 1 (omega arith) (omega arith) ds false 0 P.σ (λ e. absurd (no_yes e)))
 
     -- the sort of ones has a role
-    sort_role_lem : f ≡ 68 → 1 ≤ (ty_at c (sort_in as_read)).role
+    sort_role_lem : f ≡ 68 → 1 ≤ rank (ty_at c (sort_in as_read)).role
     sort_role_lem e =
         let k : kind_in r ≡ 3 = own_kind ∙ ap kind_of e in
         let q : sort_in r ≡ sort_in as_read = ap sort_in is_settled ∙ settled_sort width f (kind_of f) _ _ _ _ in
         let g = class_at_lem (ty_at c) (given c) r (passed false (ty_at c) (given c) r (kept_fault false (ty_at c) (given c) r gives.rules)) 1 (omega arith) (omega arith) in
-        subst (λ (x : ℕ). 1 ≤ (ty_at c x).role) q (suits_role (class_at (row_of (kind_in r)) 1) (ty_at c (sort_in r)) (ap (λ (x : ℕ). names_line (class_at (row_of x) 1)) k ∙ const_sort) g)
+        subst (λ (x : ℕ). 1 ≤ rank (ty_at c x).role) q (suits_role (class_at (row_of (kind_in r)) 1) (ty_at c (sort_in r)) (ap (λ (x : ℕ). names_line (class_at (row_of x) 1)) k ∙ const_sort) g)
 
     record_out : record_in (ty_at c₁) (from 1 n₁) f zs ≡ own_record s 3 2 n r
     record_out =

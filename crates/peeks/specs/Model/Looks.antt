@@ -1,6 +1,7 @@
 -- What peek keeps while it looks for a value: the value lines of the states' inits, the list that says what is known of each line, and the words found so far.
 -- Assumes nothing.
 use Rattle.std.specs.Prelude.{ℕ, ◌+◌, ◌%◌, ◌^◌, ◌≤◌, ◌<◌, ◌≡◌, true, false, List, [], ◌∷◌, eqb, length, get_or, is_some, Option, Some, None, Result, Ok}
+use Rattle.tables.specs.Types.{rank}
 use Rattle.tables.specs.Pick.{pick}
 use Rattle.tables.specs.Lines.{Line, kind_in, first_in, second_in, third_in}
 use Rattle.tables.specs.Layout.{lines_of}
@@ -62,11 +63,11 @@ pub record KeptWords (A : Frame) (K : List (Option ℕ)) : Type 0 where
 
 -- the line a is a word, and the line a is an array that has the cell c
 pub record WordLine (t : List ℕ) (n a : ℕ) : Type 0 where
-  pub value : 2 ≤ (type_at (layout false (lines_of false t n)) a).role
+  pub value : 2 ≤ rank (type_at (layout false (lines_of false t n)) a).role
   pub flat : (type_at (layout false (lines_of false t n)) a).iw ≡ 0
 
 pub record ArrayLine (t : List ℕ) (n a : ℕ) : Type 0 where
-  pub value : 2 ≤ (type_at (layout false (lines_of false t n)) a).role
+  pub value : 2 ≤ rank (type_at (layout false (lines_of false t n)) a).role
   pub deep : 0 < (type_at (layout false (lines_of false t n)) a).iw
 
 pub record CellLine (t : List ℕ) (n a c : ℕ) : Type 0 where
@@ -75,7 +76,7 @@ pub record CellLine (t : List ℕ) (n a c : ℕ) : Type 0 where
 
 -- the line a is a value that has the cell c
 pub record HasCell (t : List ℕ) (n a c : ℕ) : Type 0 where
-  pub value : 2 ≤ (type_at (layout false (lines_of false t n)) a).role
+  pub value : 2 ≤ rank (type_at (layout false (lines_of false t n)) a).role
   pub inside : c < size (type_at (layout false (lines_of false t n)) a)
 
 -- ---- what the functions of a peek ask, and what they find
