@@ -54,7 +54,7 @@ pub fn kind_of(f: usize) -> u64
 pub fn sorted(row: [u8; 16]) -> usize
     ensures { result ≡ sorted_of row }
 {
-    usize::from(row[11] != NONE)
+    usize::from(kinds::sort_class(row) != NONE)
 }
 
 // A token is the word of a row.

@@ -60,7 +60,7 @@ fn part(l: &[u8]) -> Part
     };
     let row = forms::row(&kinds, w.form);
     let s = forms::sorted(row);
-    let c = row[12] as usize;
+    let c = usize::from(kinds::operand_count(row));
     let p = pass(l, w.at, s + c);
     only(l, p)
 }

@@ -16,7 +16,7 @@ use Rattle.texts.specs.declared.Taken.{Taken}
 use Rattle.texts.specs.declared.SignedRecord.{SignedRecord}
 use Rattle.texts.specs.Split.{tokens}
 use Rattle.texts.specs.Names.{only}
-use Rattle.texts.specs.Reading.{Reply, no, got, name_in}
+use Rattle.texts.specs.Reading.{no, got, name_in}
 use Rattle.texts.specs.Model.Stages.{taken_in, ended}
 use Rattle.texts.specs.Model.Structs.{as_took, signed_reply, several, NextToken}
 use Rattle.texts.proofs.Places.{no_token, several_more}

@@ -24,7 +24,7 @@ use Rattle.texts.specs.declared.LineRead.{LineRead}
 use Rattle.texts.specs.Split.{split, up_to, tokens}
 use Rattle.texts.specs.Names.{with_name}
 use Rattle.texts.specs.Minus.{minuses, line_records, line_ids}
-use Rattle.texts.specs.Reading.{Reply, skip, no, got, last_of, line_id, line_name, line_tokens, read_line, Text, done, refused, Sofar, no_lines, with_line, read_lines_by, reply_after, read_lines, lines_read, read_text_by, read_text, outcome_of, reads, at_line, told_read}
+use Rattle.texts.specs.Reading.{skip, no, got, last_of, line_id, line_name, line_tokens, read_line, Text, done, refused, Sofar, no_lines, with_line, read_lines_by, reply_after, read_lines, lines_read, read_text_by, read_text, outcome_of, reads, at_line, told_read}
 use Rattle.texts.specs.Model.Stages.{named, fitted, judged_line, staged_line}
 use Rattle.texts.specs.Model.Structs.{signed_reply, line_reply, own_reply, Gives, Labelled, Admitted, Admits}
 use Rattle.texts.specs.Model.Chains.{Ample, HasRoom}
