@@ -38,35 +38,26 @@ fn met(row: &[u8], bad: &[u8]) -> bool
     bad.iter().zip(row).all(|(b, v)| !breaks(*b, *v))
 }
 
-// The place of the first bad line whose byte is 1, from 1 on; the step's bytes come first in row.
-fn first_hit(row: &[u8], bad: &[u8]) -> Option<usize>
-    requires { (length bad.now ≤ length row.now) × (length bad.now ≤ 16384) }
-    ensures { MatchOption result (bad_at 1 (zip_sig bad.now row.now) ≡ 0) (λ p. (1 ≤ p) × (bad_at 1 (zip_sig bad.now row.now) ≡ p)) }
-{
-    let mut p = 1;
-    for (b, v) in bad.iter().zip(row) {
-        if hits(*b, *v) {
-            return Some(p);
-        }
-        p = next_place(*b, p);
-    }
-    None
-}
-
 // The first counted bad in k steps.
 pub fn first_bad(k: usize, signals: &[u8], bad: &[u8]) -> Option<FirstBad>
     requires { (k ≤ 4096) × ((length bad.now ≤ 16384) × (k * length bad.now ≤ length signals.now)) }
     ensures { result ≡ first_bad 0 (sig_rows bad.now k signals.now) }
 {
+    let mut found = None;
     let mut row = signals;
-    for i in 0..k {
+    'steps: for i in 0..k {
         if !met(row, bad) {
-            return None;
+            break 'steps;
         }
-        if let Some(p) = first_hit(row, bad) {
-            return Some(FirstBad { step: i, place: p });
+        let mut p = 1;
+        for (b, v) in bad.iter().zip(row) {
+            if hits(*b, *v) {
+                found = Some(FirstBad { step: i, place: p });
+                break 'steps;
+            }
+            p = next_place(*b, p);
         }
         row = &row[bad.len()..];
     }
-    None
+    found
 }

@@ -46,7 +46,7 @@ pub fn prog_word(kind: u64, u: u64, v: u64, a: u64, b: u64, c: u64) -> u64
         38 => !(a ^ b),
         39 => a.wrapping_add(b),
         40 => a.wrapping_sub(b),
-        41 => a.wrapping_mul(b),
+        41 => operators::wrapping_mul(a, b),
         42 => operators::udiv(u, a, b),
         43 => operators::urem(a, b),
         44 => operators::sdiv(u, a, b),

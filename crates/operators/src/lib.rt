@@ -24,6 +24,13 @@ pub fn low(w: u64, x: u64) -> u64
 
 // ---- arithmetic and tests on whole words
 
+// The product modulo 2^64.
+pub fn wrapping_mul(a: u64, b: u64) -> u64
+    ensures { result ≡ a * b % 2 ^ 64 }
+{
+    a.wrapping_mul(b)
+}
+
 pub fn udiv(w: u64, a: u64, b: u64) -> u64
     requires { Width w }
     ensures { result ≡ prog udiv w w a b 0 }
