@@ -1,5 +1,5 @@
 -- Rule 8 for minuses, and then the others.
-use mathlib.Core.Path.{sym, ap, ◌∙◌}
+use mathlib.Core.Path.{sym, ◌∙◌}
 use borrow.Author.Tests.{not-true, not-false}
 use Rattle.tables.specs.Model.Notes.{look_in, given_in}
 use Rattle.texts.proofs.Steps.{minus_8, minus_fits_lem, no_minus, by_own_row}

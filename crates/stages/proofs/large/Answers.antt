@@ -1,5 +1,5 @@
 -- Rule 7, and then the others.
-use mathlib.Core.Path.{sym, ap, ◌∙◌}
+use mathlib.Core.Path.{sym, ◌∙◌}
 use borrow.Author.Tests.{not-true, not-false, ne_eqb}
 use Rattle.tables.proofs.Kept.{no_yes}
 use Rattle.tables.specs.Model.Notes.{look_in, given_in}

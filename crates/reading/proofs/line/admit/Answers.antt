@@ -1,16 +1,11 @@
 -- The last two tests of a line, and its name behind the others.
 use native.Mathlib.Omega.{arith}
 use mathlib.Core.Path.{◌≡◌, refl, sym, ap, ◌∙◌, subst}
-use mathlib.Core.Bool.{true, false}
-use mathlib.Core.List.{List, ◌∷◌}
-use borrow.Author.Tests.{not-true, not-false}
-use Prim.Native.Nat.{ℕ, ◌+◌, ◌≤◌, ◌<◌}
-use lib.ListN.{length}
-use Rattle.std.specs.Prelude.{Ok, Err, Some, is_ok}
+use mathlib.Core.Bool.{true}
+use mathlib.Core.List.{List}
+use Prim.Native.Nat.{ℕ}
+use Rattle.std.specs.Prelude.{Ok, Err, is_ok}
 use Rattle.std.proofs.lemmas.Result.{err_from_is_err_and}
-use Rattle.texts.specs.Names.{among}
-use Rattle.texts.specs.Model.Chains.{names_in}
-use Rattle.texts.specs.Model.Structs.{name_from}
 use Rattle.texts.proofs.Admitting.{Enters, is_some, enters_none, enters_unnamed, enters_new, admits_no, admits_blank, admits_used, admits_late, admits_got}
 use Rattle.reading.proofs.line.admit.Goals as goal
 use Rattle.reading.proofs.line.admit.Goals.{else-is_ok-via-then-is_ok+then-name+else-not-enter, else-is_ok-via-then-is_ok+else-name, else-is_ok-via-else-is_ok}

@@ -1,13 +1,12 @@
 -- What stands behind the word, with the id and the name.
-use Prim.Native.Nat.{ℕ, ◌-◌, ◌≤◌}
-use mathlib.Core.Path.{◌≡◌, refl, sym, ap, ◌∙◌, subst}
+use Prim.Native.Nat.{ℕ}
+use mathlib.Core.Path.{refl, sym, ap, ◌∙◌}
 use mathlib.Core.List.{List}
-use lib.ListN.{length, take, drop}
+use lib.ListN.{drop}
 use Rattle.tables.specs.Layout.{ids_of}
 use Rattle.tables.specs.Model.Notes.{look_in, given_in}
 use Rattle.texts.specs.Split.{tokens}
-use Rattle.texts.specs.Reading.{name_in}
-use Rattle.texts.specs.Model.Stages.{ended, taken_in}
+use Rattle.texts.specs.Model.Stages.{ended}
 use Rattle.texts.proofs.NameParts.{is_several, is_name}
 use Rattle.texts.proofs.Admitting.{err_none}
 use Rattle.reading.proofs.line.behind_word.Goals as goal

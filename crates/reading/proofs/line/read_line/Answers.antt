@@ -5,14 +5,12 @@ use mathlib.Core.Bool.{true, false}
 use mathlib.Core.List.{List}
 use native.Mathlib.Omega.{arith}
 use lib.ListN.{length, take, drop}
-use Rattle.tables.specs.declared.Refusal.TheVariants.{WrongId, NoRecordLeft, UnknownWord}
 use Rattle.tables.specs.Layout.{ids_of}
 use Rattle.tables.specs.Model.Notes.{look_in, given_in}
 use Rattle.texts.specs.Split.{tokens}
 use Rattle.texts.specs.Decimal.{decimal}
 use Rattle.texts.specs.Reading.{unknown, word_in, is_next, line_id, line_name}
-use Rattle.texts.specs.Model.Stages.{judged_line}
-use Rattle.texts.specs.Model.Structs.{signed_reply, Labelled}
+use Rattle.texts.specs.Model.Structs.{Labelled}
 use Rattle.texts.proofs.Places.{no_token, next_token}
 use Rattle.texts.proofs.Resolving.{ids_length}
 use Rattle.texts.proofs.Steps.{read_skip, read_3, read_4, read_5, judged_on}
