@@ -16,7 +16,8 @@ pub struct Circuit<'a> {
     pub row: &'a [u64],
 }
 
-// The word of the line n; `kept` has the word of each line whose word was found. A line looks at one or two earlier lines; where the first has more than one cell, two arrays are compared. Line 0, which is none, has the word 0.
+// The word of the line n; `kept` has the word of each line whose word was found. A line looks at one or two earlier lines; where the first has more than one cell, two
+// arrays are compared. Line 0, which is none, has the word 0.
 #[cycle(cell_word)]
 pub fn word(circuit: Circuit, kept: &mut [Option<u64>; 65], n: usize) -> u64
     requires { WordAsked circuit.table.now circuit.count circuit.laid.now circuit.inits.now circuit.starts.now circuit.row.now kept.old n }

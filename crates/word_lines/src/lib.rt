@@ -13,7 +13,8 @@ ghost use Rattle.word_lines.specs.Model.Operators.{Asked, Given, Room, leaves};
 use area::LAID;
 use evaluation::{binary, unary};
 
-// The word of a line whose kind, below 33, is a constant's or a word operator's; of another kind nothing is said. There is an arm for each kind, with the kind as a constant, so that the compiled code has one jump, and of each operator what it needs.
+// The word of a line whose kind, below 33, is a constant's or a word operator's; of another kind nothing is said. There is an arm for each kind,
+// with the kind as a constant, so that the compiled code has one jump, and of each operator what it needs.
 pub fn low_kinds(
     program: bool,
     k: u64,
