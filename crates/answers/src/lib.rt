@@ -60,7 +60,7 @@ impl Told for Result<usize, Refusal> {
     }
 }
 
-// A run: 1, and the step and the place of the first counted bad.
+// A run: 1, and the step and the place of the first counted bad, or three zeros.
 impl Told for Result<Option<FirstBad>, Refusal> {
     ghost outcome = { told_run };
 

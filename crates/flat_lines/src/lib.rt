@@ -13,7 +13,7 @@ use flat_cells::{made, rows};
 use flattening::Made;
 use tables::WORDS;
 
-// A line that leaves one flat line, of which nothing is kept.
+// A line that leaves one flat line, with nothing that is kept yet.
 fn copied(rec: [u64; WORDS], p: usize, target: &mut [u64]) -> Made
     requires { p < held false (length target.old) }
     ensures { (result ≡ made_as (p + 1) 0 0 None 0 None) × (target.new ≡ put_flat target.old p (rec ∷ [])) }

@@ -11,7 +11,7 @@ ghost use Rattle.flattening.specs.Model.Start.{Clear, Blank};
 use flat_cells::cells::KEPT;
 use tables::{BLANK, Note, Refusal};
 
-// The entries of the lists of a small circuit, and of any other: one more than a table has lines.
+// The entries of the lists of a small circuit, and of any other: one more than it may have lines.
 const FEW: usize = 512;
 
 const MANY: usize = 16385;

@@ -23,7 +23,7 @@ pub fn look(notes: &[Note], a: u64) -> Ty
 fn put(notes: &mut [Note], n: u64, r: Note)
     ensures { notes.new ≡ set notes.old n r }
 {
-    // after a `get_mut` nothing is known of the slice but its length
+    // A test and a store: of a slice after its `get_mut` a proof knows the length, and no entry.
     let i = n as usize;
     if i < notes.len() {
         notes[i] = r;

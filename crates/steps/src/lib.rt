@@ -8,8 +8,8 @@ ghost use Rattle.circuits.specs.Model.Feeding.{Rows};
 
 use starts::Plan;
 
-// k steps, each from the state words that the last one left, but for those of the free states, whose lines are given. A row has so many inputs, and behind them so many words for
-// free states.
+// k steps, each from the state words that the last one left, but for those of the free states, whose lines are given. A row has as many
+// inputs as the plan's totals, and behind them as many words for free states.
 fn steps(plan: Plan, free: &[u32], k: usize, inputs: &[u64], signals: &mut [u8], work: &mut [u64])
     requires { (length work.old ≡ plan.totals.cells + plan.totals.states)
         × (Rows plan.program (lines_of plan.program plan.table.now plan.count) (plan.totals.inputs + plan.totals.free) free.now

@@ -129,7 +129,7 @@ pub fn cut(s: &[u8], i: usize, e: usize) -> usize
     j + find_two(&s[j..e], 0, b';')
 }
 
-// The place behind a line that ends at e.
+// The place behind a line that ends at e. The test comes first: at the largest number e + 1 has no value.
 pub fn after(e: usize, len: usize) -> usize
     ensures { result ≡ min (e + 1) len }
 {
