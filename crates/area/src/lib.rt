@@ -99,7 +99,10 @@ fn load(to: &mut [u64], from: &[u64])
     requires { length to.old ≡ length from.now }
     ensures { to.new ≡ from.now }
 {
-    to.copy_from_slice(from);
+    // `copy_from_slice` would be a call of memmove, which the archive then needs from outside.
+    for (i, v) in from.iter().enumerate() {
+        to[i] = *v;
+    }
 }
 
 // ---- a run of the work area, lent

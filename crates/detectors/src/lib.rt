@@ -1,6 +1,6 @@
-// Overflow detectors on words of 1 to 64 bits: whether the result of an operation, as a whole number, lies outside the operands' width. No sum or difference is worked out
-// that could pass 64 bits, and a product in 128. In each, x and y are words of the width w, m is the greatest word of it and h the greatest signed number; a word above h is
-// negative, -1 - (m - x).
+// Overflow detectors on words of 1 to 64 bits: whether the result of an operation, as a whole number, lies outside the operands' width. No sum, difference or product is
+// worked out that could pass 64 bits. In each, x and y are words of the width w, m is the greatest word of it and h the greatest signed number; a word above h is negative,
+// -1 - (m - x).
 #![tactic(auto)]
 
 ghost use Rattle.std.specs.Prelude.{◌≡◌, ◌≤◌, ◌*◌, ltb};
@@ -10,11 +10,11 @@ ghost use Rattle.words.specs.Overflow.{overflows};
 ghost use Rattle.words.specs.Program.{prog};
 ghost use Rattle.words.specs.Model.Widths.{Words};
 
-// The product of p and q is above the limit. It may not fit a machine word.
+// The product of p and q is above the limit. It may not fit a machine word: one division tells.
 fn passes(limit: u64, p: u64, q: u64) -> bool
     ensures { result ≡ ltb limit (p * q) }
 {
-    u128::from(limit) < u128::from(p) * u128::from(q)
+    p != 0 && limit / p < q
 }
 
 fn uaddo(w: u64, x: u64, y: u64) -> bool

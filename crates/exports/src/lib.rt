@@ -170,7 +170,8 @@ pub extern "C" fn gofeshan_name(text: &[u8], id: u64, answer: &mut [u64]) -> u64
     0
 }
 
-// A conversion between the layouts. The answer's first word is the number of records in the target.
+// A conversion between the layouts. The answer's first word is the number of records in the target. It is inlined, so that each export's loop has its strides as constants.
+#[inline(always)]
 fn convert(
     columns: bool,
     program: bool,

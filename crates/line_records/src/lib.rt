@@ -30,11 +30,12 @@ pub fn fit(
     requires { n ≤ room }
     ensures { signed_reply result ≡ fitted n room (signed_reply own) }
 {
-    let own = own?;
-    if count(own.minus) < room - n {
-        return Ok(own);
+    // What stays is handed on as it came: taken apart and made again, a record is moved twice.
+    match own {
+        Ok(r) if count(r.minus) < room - n => own,
+        Ok(_) => Err(Refusal::NoRecordLeft),
+        Err(_) => own,
     }
-    Err(Refusal::NoRecordLeft)
 }
 
 // A record goes to the table behind n others, and its line is noted.

@@ -19,9 +19,9 @@ pub struct Circuit<'a> {
 // The word of the line n; `kept` has the word of each line whose word was found. A line looks at one or two earlier lines; where the first has more than one cell, two
 // arrays are compared. Line 0, which is none, has the word 0.
 #[cycle(cell_word)]
-pub fn word(circuit: Circuit, kept: &mut [Option<u64>; 65], n: usize) -> u64
-    requires { WordAsked circuit.table.now circuit.count circuit.laid.now circuit.inits.now circuit.starts.now circuit.row.now kept.old n }
-    ensures { WordFound circuit.entry.table.now circuit.entry.count circuit.entry.starts.now circuit.entry.row.now kept.new n result }
+pub fn word(circuit: &Circuit, kept: &mut [Option<u64>; 65], n: usize) -> u64
+    requires { WordAsked circuit.now.table.now circuit.now.count circuit.now.laid.now circuit.now.inits.now circuit.now.starts.now circuit.now.row.now kept.old n }
+    ensures { WordFound circuit.now.table.now circuit.now.count circuit.now.starts.now circuit.now.row.now kept.new n result }
 {
     if let Some(v) = kept[n] {
         return v;
@@ -54,9 +54,9 @@ pub fn word(circuit: Circuit, kept: &mut [Option<u64>; 65], n: usize) -> u64
 
 // The cell k of the array on the line n: a state's, an ite's, or else a write's. A line that looks at no other is a state without an init.
 #[cycle(cell_word)]
-pub fn cell(circuit: Circuit, kept: &mut [Option<u64>; 65], n: usize, k: usize) -> u64
-    requires { CellAsked circuit.table.now circuit.count circuit.laid.now circuit.inits.now circuit.starts.now circuit.row.now kept.old n k }
-    ensures { CellFound circuit.entry.table.now circuit.entry.count circuit.entry.starts.now circuit.entry.row.now kept.new n k result }
+pub fn cell(circuit: &Circuit, kept: &mut [Option<u64>; 65], n: usize, k: usize) -> u64
+    requires { CellAsked circuit.now.table.now circuit.now.count circuit.now.laid.now circuit.now.inits.now circuit.now.starts.now circuit.now.row.now kept.old n k }
+    ensures { CellFound circuit.now.table.now circuit.now.count circuit.now.starts.now circuit.now.row.now kept.new n k result }
 {
     let rec = peek_values::record(circuit.table, n - 1);
     let a = peek_values::first(rec, circuit.inits[n]);

@@ -41,9 +41,9 @@ fn find(
         row,
     };
     if area::cells(laid, n) == 1 {
-        return peek_cells::word(circuit, &mut kept, n);
+        return peek_cells::word(&circuit, &mut kept, n);
     }
-    peek_cells::cell(circuit, &mut kept, n, k)
+    peek_cells::cell(&circuit, &mut kept, n, k)
 }
 
 // 14, 15 and 18: s start words and i words of a row are lent, for the cell k of a line of the type y.

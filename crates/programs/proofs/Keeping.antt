@@ -1,7 +1,7 @@
 -- The list that the code keeps holds what the definition knows of the lines so far; and the line at hand. Assumes nothing.
 use Rattle.std.specs.Prelude.{Ok}
 use Prim.Native.Nat.{ℕ, zero, suc, ◌+◌, ◌≤◌, ◌<◌}
-use mathlib.Core.Path.{◌≡◌, refl, sym, ap, ap₂, ◌∙◌, subst}
+use mathlib.Core.Path.{◌≡◌, refl, sym, ap, ap₂, ◌∙◌, subst, subst⁻¹}
 use mathlib.Core.Bool.{Bool, true, false}
 use mathlib.Core.List.{List, [], ◌∷◌, ◌++◌}
 use native.Mathlib.Omega.{arith}
@@ -12,8 +12,8 @@ use Rattle.tables.specs.Pick.{pick}
 use Rattle.tables.specs.Lines.{Line, Expr, line_of, words_of, kind_in, unknown, bitvec, array, input, state, value, init_or_next, signal, output, const, unary, binary, equality, ite, read, write}
 use Rattle.tables.specs.Layout.{held, record_at, records_of, lines_of}
 use Rattle.tables.specs.Types.{Ctx, ty_at, given, grow, no_ctx}
-use Rattle.tables.specs.Tables.{formed, keeps, lawful, checked}
-use Rattle.tables.proofs.Kept.{both}
+use Rattle.tables.specs.Tables.{known, formed, keeps, lawful, checked}
+use Rattle.tables.proofs.Kept.{both, known_range}
 use Rattle.tables.proofs.Formed.{words_back}
 use Rattle.tables.proofs.Showing.{by_place, snoc_other}
 use Rattle.tables.proofs.Places.{length_records, length_record, length_lines, record_at_lem}
@@ -81,6 +81,7 @@ pub record LineAt (t : List ℕ) (n i : ℕ) : Type 0 where
   pub rest : drop i (lines_of false t n) ≡ line ∷ drop (i + 1) (lines_of false t n)
   pub words : words_of line ≡ record_at false t i
   pub kinded : Kinded line
+  pub kind : kind_in (record_at false t i) ≤ 63
 
 formed_at : (p : Bool) (c : Ctx) (rs : List (List ℕ)) → lawful p c rs ≡ true → (i : ℕ) → i < length rs → formed p (get_or rs i []) ≡ true
 formed_at p c [] h i l = absurd (omega arith)
@@ -126,15 +127,19 @@ line_at t n i e l =
       rest = drop-cons (lines_of false t n) i unknown many ∙ ap₂ (λ (y : Line) (k : ℕ). y ∷ drop k (lines_of false t n)) x s;
       words = words_back false (record_at false t i) (length_record false t i) fo;
       kinded = subst Kinded x (kinded_at no_ctx (lines_of false t n) (accepted_ok false t n e) i many);
+      kind = (known_range false (kind_in (record_at false t i)) (both (known false (kind_in (record_at false t i))) _ fo).0).1;
     }
 
--- its record is in the table, and its number is at most 16,384
+-- its record is in the table, its number is at most 16,384, and its kind is a circuit's
 module _ (t : List ℕ) (n i : ℕ) (e : checked false t n ≡ Ok tt) (l : i < n) where
   pub held_here : i < held false (length t)
   held_here = omega (arith, (fits_table false t n e).1)
 
   pub few_here : i < 16384
   few_here = omega (arith, (fits_table false t n e).0)
+
+  pub kind_here : {r : List ℕ} → r ≡ record_at false t i → kind_in r ≤ 63
+  kind_here er = subst⁻¹ (λ (x : List ℕ). kind_in x ≤ 63) er (line_at t n i e l).kind
 
 -- a table has fewer lines than the largest list has entries
 pub few_lines : (t : List ℕ) (n : ℕ) → checked false t n ≡ Ok tt → n < 16385

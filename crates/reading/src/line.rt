@@ -88,7 +88,12 @@ pub fn admit(
         × ((x : LineRead) (o : SignedRecord) → Gives line x o → (x.name.from ≤ x.name.to) × ((i + x.name.to ≤ length text.now) × (x.name.from < x.name.to → HasRoom names.old))))) }
     ensures { Admits text.now names.old names.new i n room line result }
 {
-    let Some(read) = line? else {
+    // A `match` and no `?`, which moves the record once more on its way; so too below.
+    let found = match line {
+        Ok(found) => found,
+        Err(refusal) => return Err(refusal),
+    };
+    let Some(read) = found else {
         return Ok(None);
     };
     let name = read.name;
@@ -98,6 +103,8 @@ pub fn admit(
     {
         return Err(Refusal::NameUsed);
     }
-    let own = line_records::fit(read.own, n, room)?;
-    Ok(Some((own, read.id)))
+    match line_records::fit(read.own, n, room) {
+        Ok(own) => Ok(Some((own, read.id))),
+        Err(refusal) => Err(refusal),
+    }
 }

@@ -34,16 +34,17 @@ pub fn read_lines(
         let read = line::read_line(&text[i..z], kinds, table, n, room, notes);
         let admitted = line::admit(text, i, read, n, room, names);
         i = tokens::after(e, text.len());
-        let given = match admitted {
-            Ok(given) => given,
+        match admitted {
+            Ok(given) => {
+                line += 1;
+                if let Some((own, id)) = given {
+                    n = line_records::put_line(table, n, own.rec, own.minus, id, notes);
+                }
+            }
             Err(refusal) => {
                 records::clear(table);
                 return Err(TextRefusal { refusal, line });
             }
-        };
-        line += 1;
-        if let Some((own, id)) = given {
-            n = line_records::put_line(table, n, own.rec, own.minus, id, notes);
         }
     }
     Ok(n)

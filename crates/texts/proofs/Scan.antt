@@ -61,6 +61,35 @@ module _ (b : ℕ) (s : List ℕ) (i : ℕ) where
   unfolding value_from
   value_end v l = rw (drop_of_length-le s l) refl
 
+module _ (c : ℕ) where
+  pub digit_1 : c < 48 → digit c ≡ 99
+  unfolding digit
+  digit_1 h = rw (lt-leb 48 c h, digit) (rw (lt-leb 65 c (omega arith)) (rw (lt-leb 97 c (omega arith)) refl))
+
+  pub digit_2 : 48 ≤ c → c ≤ 57 → digit c ≡ c - 48
+  unfolding digit
+  digit_2 h k = rw (le-leb 48 c h, le-leb c 57 k, digit) refl
+
+  pub digit_3 : 57 < c → c < 65 → digit c ≡ 99
+  unfolding digit
+  digit_3 h k = rw (le-leb 48 c (omega arith), lt-leb c 57 h, digit) (rw (lt-leb 65 c k) (rw (lt-leb 97 c (omega arith)) refl))
+
+  pub digit_4 : 65 ≤ c → c ≤ 70 → digit c ≡ c - 55
+  unfolding digit
+  digit_4 h k = rw (le-leb 48 c (omega arith), lt-leb c 57 (omega arith), digit) (rw (le-leb 65 c h, le-leb c 70 k) refl)
+
+  pub digit_5 : 70 < c → c < 97 → digit c ≡ 99
+  unfolding digit
+  digit_5 h k = rw (le-leb 48 c (omega arith), lt-leb c 57 (omega arith), digit) (rw (le-leb 65 c (omega arith), lt-leb c 70 h) (rw (lt-leb 97 c k) refl))
+
+  pub digit_6 : 97 ≤ c → c ≤ 102 → digit c ≡ c - 87
+  unfolding digit
+  digit_6 h k = rw (le-leb 48 c (omega arith), lt-leb c 57 (omega arith), digit) (rw (le-leb 65 c (omega arith), lt-leb c 70 (omega arith)) (rw (le-leb 97 c h, le-leb c 102 k) refl))
+
+  pub digit_7 : 102 < c → digit c ≡ 99
+  unfolding digit
+  digit_7 h = rw (le-leb 48 c (omega arith), lt-leb c 57 (omega arith), digit) (rw (le-leb 65 c (omega arith), lt-leb c 70 (omega arith)) (rw (le-leb 97 c (omega arith), lt-leb c 102 h) refl))
+
 pub value_least : (b v : ℕ) (t : List ℕ) → 1 ≤ b → v ≤ value_from b v t
 unfolding value_from
 value_least b v [] h = le_refl v

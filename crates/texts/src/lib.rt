@@ -34,11 +34,11 @@ pub struct Taken {
     pub minus: [bool; WORDS],
 }
 
-// A line's record, and which of its places have a minus.
+// A line's record, and which of its places have a minus. The words stand last: where bytes end a value, it is copied in parts that overlap, which takes longer.
 #[derive(Clone, Copy)]
 pub struct SignedRecord {
-    pub rec: [u64; WORDS],
     pub minus: [bool; WORDS],
+    pub rec: [u64; WORDS],
 }
 
 // A line whose word is known: its record or its refusal, its id, and the part of the line that is its name.

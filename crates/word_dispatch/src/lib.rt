@@ -33,7 +33,10 @@ pub fn line(
     let c = rec[4] as usize;
     if k < 33 {
         match k {
-            0..=2 | 10 => true,
+            // An arm for each kind, alike or not: with arms joined this match and that of `low_kinds` are compiled as two jumps, and not as one.
+            0 => true,
+            1 => true,
+            2 => true,
             4 => {
                 evaluation::line_input(program, n, laid, row, work);
                 true
@@ -41,10 +44,15 @@ pub fn line(
             5 => word_lines::state(program, first, n, laid, all, work),
             6 => !first,
             7 => word_lines::next(first, a, b, laid, all, work),
-            8 | 9 => {
+            8 => {
                 state_lines::line_signal(first, a, n, laid, work, sig);
                 true
             }
+            9 => {
+                state_lines::line_signal(first, a, n, laid, work, sig);
+                true
+            }
+            10 => true,
             21 => word_lines::equality(true, a, b, n, laid, work),
             22 => word_lines::equality(false, a, b, n, laid, work),
             _ => {

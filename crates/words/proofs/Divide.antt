@@ -2,12 +2,12 @@
 use mathlib.Core.Path.{◌≡◌, refl, sym, ap, ap₂, ◌∙◌}
 use mathlib.Core.Bool.{Bool, true, false, cond, true≢false, false≢true}
 use Prim.Native.Nat.{ℕ, zero, suc, ◌-◌, ◌/◌, ◌%◌, ◌^◌, ◌≤◌, ◌<◌, min, zero-le, suc-le-suc}
-use native.Mathlib.Nat.{le_trans, le-suc, lt_of_lt_of_le, lt_of_le_of_lt, le_of_suc-le-suc, div-le_self, div-one, mod-one, mod-zero, mod_self, zero-mod, mod-lt, mod-eq_of_lt, div-eq_of_lt, sub-zero}
+use native.Mathlib.Nat.{le_trans, le-suc, lt_of_lt_of_le, lt_of_le_of_lt, le_of_suc-le-suc, div-le_self, div-one, mod-one, mod-zero, mod_self, zero-mod, mod-lt, mod-eq_of_lt, div-eq_of_lt, sub-le, sub-zero}
 use native.Mathlib.Omega.{arith}
 use borrow.Author.Tests.{lt-ltb, le-leb, ltb-true, ltb-false}
 use lib.Dec.{ltb, lit<}
 use lib.Pow.{pow_pos, pow_mono}
-use lib.IntN.{ℤ, pos, negsuc, neg_ℤ}
+use lib.IntN.{ℤ, pos, negsuc, neg_ℤ, ◌+ℤ◌}
 use lib.Signed.{mag, le_z, quot_z, rem_z, shr_z, mag_shr}
 use mir.Syntax.{w64}
 use mir.Val.{SFits, to_z, of_z}
@@ -27,6 +27,21 @@ mag_quot (pos a) (pos b) = le_trans (div-le_self a b) (le-suc a)
 mag_quot (pos a) (negsuc b) = mag_neg (a / suc b) (le_trans (div-le_self a (suc b)) (omega arith))
 mag_quot (negsuc a) (pos b) = mag_neg (suc a / b) (le_trans (div-le_self (suc a) b) (le-suc (suc a)))
 mag_quot (negsuc a) (negsuc b) = div-le_self (suc a) (suc b)
+
+-- a sum of two numbers of different signs
+mag_cond : (t : Bool) (x y H : ℕ) → x < H → y < H → mag (cond t (negsuc x) (pos y)) < H
+mag_cond true x y H h k = h
+mag_cond false x y H h k = k
+
+pub sum_fits : (r d : ℤ) (t : Bool) → SFits w64 r → SFits w64 d → le_z (pos 0) r ≡ t → le_z (pos 0) d ≡ cond t false true → SFits w64 (r +ℤ d)
+sum_fits (pos r) (pos d) true h k e f = absurd (true≢false (sym (le-leb 0 d zero-le) ∙ f))
+sum_fits (pos r) (pos d) false h k e f = absurd (true≢false (sym (le-leb 0 r zero-le) ∙ e))
+sum_fits (pos r) (negsuc d) t h k e f =
+    record { sfits = mag_cond (ltb r (suc d)) (suc d - suc r) (r - suc d) (2 ^ 63) (let a : d < 2 ^ 63 = k.sfits in omega arith) (lt_of_le_of_lt (sub-le r (suc d)) h.sfits) }
+sum_fits (negsuc r) (pos d) t h k e f =
+    record { sfits = mag_cond (ltb d (suc r)) (suc r - suc d) (d - suc r) (2 ^ 63) (let a : r < 2 ^ 63 = h.sfits in omega arith) (lt_of_le_of_lt (sub-le d (suc r)) k.sfits) }
+sum_fits (negsuc r) (negsuc d) true h k e f = absurd (false≢true e)
+sum_fits (negsuc r) (negsuc d) false h k e f = absurd (false≢true f)
 
 -- ---- an equality test of the code compares bits
 
@@ -121,6 +136,24 @@ pub toward_zero : (r : ℤ) → toward_divisor r (pos 0) ≡ r
 toward_zero (pos zero) = refl
 toward_zero (pos (suc r)) = refl
 toward_zero (negsuc r) = ap (λ (t : Bool). cond t (negsuc (suc r - 1)) (pos (0 - suc r))) (lt-ltb 0 (suc r) (suc-le-suc zero-le)) ∙ ap negsuc (omega arith)
+
+pub toward_same : (r d : ℤ) (t : Bool) → le_z (pos 0) r ≡ t → le_z (pos 0) d ≡ t → toward_divisor r d ≡ r
+toward_same (pos zero) d t e f = refl
+toward_same (pos (suc r)) (pos d) t e f = refl
+toward_same (pos (suc r)) (negsuc d) true e f = absurd (false≢true f)
+toward_same (pos (suc r)) (negsuc d) false e f = absurd (true≢false (sym (le-leb 0 (suc r) zero-le) ∙ e))
+toward_same (negsuc r) (pos d) true e f = absurd (false≢true e)
+toward_same (negsuc r) (pos d) false e f = absurd (true≢false (sym (le-leb 0 d zero-le) ∙ f))
+toward_same (negsuc r) (negsuc d) t e f = refl
+
+pub toward_other : (r d : ℤ) (t : Bool) → (r ≡ pos 0 → ⊥) → le_z (pos 0) r ≡ t → le_z (pos 0) d ≡ cond t false true → toward_divisor r d ≡ r +ℤ d
+toward_other (pos zero) d t g e f = absurd (g refl)
+toward_other (pos (suc r)) (negsuc d) t g e f = refl
+toward_other (pos (suc r)) (pos d) true g e f = absurd (true≢false (sym (le-leb 0 d zero-le) ∙ f))
+toward_other (pos (suc r)) (pos d) false g e f = absurd (true≢false (sym (le-leb 0 (suc r) zero-le) ∙ e))
+toward_other (negsuc r) (pos d) t g e f = refl
+toward_other (negsuc r) (negsuc d) true g e f = absurd (false≢true e)
+toward_other (negsuc r) (negsuc d) false g e f = absurd (false≢true f)
 
 -- ---- as the code has them: n and d are the operands' low bits x and y read as signed, yn and yd what the code reads back from their bits
 

@@ -3,7 +3,7 @@
 use mathlib.Core.Path.{◌≡◌, refl, sym, ap, ap₂, ◌∙◌, subst}
 use mathlib.Core.Bool.{Bool, true, false, cond, ◌||◌, or-false}
 use Prim.Native.Nat.{ℕ, zero, suc, ◌+◌, ◌-◌, ◌*◌, ◌/◌, ◌^◌, ◌≤◌, ◌<◌, zero-le}
-use native.Mathlib.Nat.{div-lt_iff_lt-mul, mul_comm, div-one}
+use native.Mathlib.Nat.{div-lt_iff_lt-mul, mul_comm, zero-mul, div-one}
 use native.Mathlib.Numerals.{add-one}
 use native.Mathlib.Omega.{arith}
 use borrow.Author.Tests.{lt-ltb, le-ltb, le-leb, lt-leb, ltb-true, ltb-false, leb-true, leb-false}
@@ -40,6 +40,9 @@ product_test l p q h =
   where
     not_below_lem : {a b : ℕ} → a < b → b ≤ a → ⊥
     not_below_lem a b = omega arith
+
+pub product_zero : (l p q : ℕ) → p ≡ 0 → false ≡ ltb l (p * q)
+product_zero l p q e = sym (le-ltb l (p * q) (let z : p * q ≡ 0 = ap (λ (n : ℕ). n * q) e ∙ zero-mul q in omega arith))
 
 -- ---- outside, in one test
 

@@ -86,7 +86,7 @@ pub word-keep-requires : goal.word-keep-requires
 word-keep-requires t c = let a = c.args in let p = c.requires in let lk = p.looks in word_most lk a.n p.line
 
 pub word-returns-then-m-gt1 : goal.word-returns-then-m-gt1
-word-returns-then-m-gt1 t c = let a = c.args in let p = c.requires in let lk = p.looks in let ln = p.line (not_none a.n p.kept c.in_default.not-Some) in let er = c.record-rec.ensures in let f = c.first-a.ensures in let em = c.cells-m.ensures in let o = c.if-m-gt1.true in let q = first_equality lk ln er f (subst (λ (x : ℕ). 1 < x) em o) in let v : Compared (step_zero (lines_of false a.circuit.table.now a.circuit.count) a.circuit.starts.now a.circuit.row.now) a.n (eqb (get_or c.record-rec.result 0 0) 21) c.loop-k-test.kept c.loop-k-test.same = elim c.loop-k-test.branch [ word-else-loop-k-test w ↦ alike_all lk q em w.kept-is (w.same-is ∙ c.loop-k.invariant.0) w.loop-k-test.false c.loop-k.invariant.1 | word-then-loop-k-test+then-x-cell w ↦ alike_broken lk q em w.kept-is w.same-is w.loop-k-test.true c.loop-k.invariant.1 w.cell.ensures.kept w.cell-x.ensures.is w.cell.ensures.is w.if-x-cell.true ] in word_kept_lem (word_most lk a.n p.line) v.kept (c.says-v.ensures ∙ v.is) c.keep.ensures
+word-returns-then-m-gt1 t c = let a = c.args in let p = c.requires in let lk = p.looks in let ln = p.line (not_none a.n p.kept c.in_default.not-Some) in let er = c.record-rec.ensures in let f = c.first-a.ensures in let em = c.cells-m.ensures in let o = c.if-m-gt1.true in let q = first_equality lk ln er f (subst (λ (x : ℕ). 1 < x) em o) in let v : Compared (step_zero (lines_of false a.circuit.now.table.now a.circuit.now.count) a.circuit.now.starts.now a.circuit.now.row.now) a.n (eqb (get_or c.record-rec.result 0 0) 21) c.loop-k-test.kept c.loop-k-test.same = elim c.loop-k-test.branch [ word-else-loop-k-test w ↦ alike_all lk q em w.kept-is (w.same-is ∙ c.loop-k.invariant.0) w.loop-k-test.false c.loop-k.invariant.1 | word-then-loop-k-test+then-x-cell w ↦ alike_broken lk q em w.kept-is w.same-is w.loop-k-test.true c.loop-k.invariant.1 w.cell.ensures.kept w.cell-x.ensures.is w.cell.ensures.is w.if-x-cell.true ] in word_kept_lem (word_most lk a.n p.line) v.kept (c.says-v.ensures ∙ v.is) c.keep.ensures
 
 pub word-word-x-requires : goal.word-word-x-requires
 word-word-x-requires t c = let a = c.args in let p = c.requires in let lk = p.looks in let ln = p.line (not_none a.n p.kept c.in_default.not-Some) in let er = c.record-rec.ensures in let f = c.first-a.ensures in let one = subst (λ (x : ℕ). x ≤ 1) c.cells-m.ensures c.if-m-gt1.false in (omega (arith, (word_first lk ln er f).below), record { looks = lk; line = first_word lk ln er f one; kept = p.kept })

@@ -4,36 +4,32 @@ use mathlib.Core.Path.{◌≡◌, refl, sym, ap, ◌∙◌, subst}
 use mathlib.Core.Bool.{true}
 use mathlib.Core.List.{List}
 use Prim.Native.Nat.{ℕ}
-use Rattle.std.specs.Prelude.{Ok, Err, is_ok}
-use Rattle.std.proofs.lemmas.Result.{err_from_is_err_and}
+use Rattle.std.specs.Prelude.{Ok, is_ok}
 use Rattle.texts.proofs.Admitting.{Enters, is_some, enters_none, enters_unnamed, enters_new, admits_no, admits_blank, admits_used, admits_late, admits_got}
 use Rattle.reading.proofs.line.admit.Goals as goal
 use Rattle.reading.proofs.line.admit.Goals.{else-is_ok-via-then-is_ok+then-name+else-not-enter, else-is_ok-via-then-is_ok+else-name, else-is_ok-via-else-is_ok}
 
-pub returns-in_err-read : goal.returns-in_err-read
-returns-in_err-read c =
-    let p = err_from_is_err_and c.from_residual.result c.from_residual.ensures.1 in
-    admits_no _ c.in_err-read.was (p.1 ∙ ap Err p.2) refl
+pub returns-in-Err : goal.returns-in-Err
+returns-in-Err c = admits_no _ c.in-Err.is refl refl
 
 pub returns-in_default : goal.returns-in_default
-returns-in_default c = admits_blank (c.in_ok-read.was ∙ ap Ok c.in_default.is) refl refl
+returns-in_default c = admits_blank (c.in-Ok.is ∙ ap Ok c.in_default.is) refl refl
 
 pub returns-then-not-enter : goal.returns-then-not-enter
 returns-then-not-enter c =
     let s = c.args in
     let x = c.in-Some.read in
-    let e = c.in_ok-read.was ∙ ap Ok c.in-Some.is in
+    let e = c.in-Ok.is ∙ ap Ok c.in-Some.is in
     let h : is_ok x.own ≡ true = sym c.is_ok.ensures.value ∙ c.if-is_ok.true in
     let v = is_some x.own h in
     let o = c.requires.1.1.1 x v.0 (e, v.1) in
     admits_used x e h c.if-name.true o.1.0 c.enter.ensures.0 c.if-not-enter.true refl
 
-pub returns-in_err-own : goal.returns-in_err-own
-returns-in_err-own c =
+pub returns-in-Err-fit : goal.returns-in-Err-fit
+returns-in-Err-fit c =
     let s = c.args in
     let x = c.in-Some.read in
-    let e = c.in_ok-read.was ∙ ap Ok c.in-Some.is in
-    let p = err_from_is_err_and c.from_residual-in_err-own.result c.from_residual-in_err-own.ensures.1 in
+    let e = c.in-Ok.is ∙ ap Ok c.in-Some.is in
     admits_late s.n s.room _ x e
     (elim c.else-is_ok.branch [
       | else-is_ok-via-then-is_ok+then-name+else-not-enter w ↦
@@ -45,13 +41,13 @@ returns-in_err-own c =
       | else-is_ok-via-then-is_ok+else-name w ↦ enters_unnamed x (omega (arith, w.if-name.false)) w.names-is c.requires.1.1.0
       | else-is_ok-via-else-is_ok w ↦ enters_none x (sym c.is_ok.ensures.value ∙ w.if-is_ok.false) w.names-is
     ])
-    c.fit.result c.fit.ensures _ c.in_err-own.was (p.1 ∙ ap Err p.2)
+    c.fit.result c.fit.ensures _ c.in-Err-fit.is refl
 
-pub returns : goal.returns
-returns c =
+pub returns-in-Ok-fit : goal.returns-in-Ok-fit
+returns-in-Ok-fit c =
     let s = c.args in
     let x = c.in-Some.read in
-    let e = c.in_ok-read.was ∙ ap Ok c.in-Some.is in
+    let e = c.in-Ok.is ∙ ap Ok c.in-Some.is in
     admits_got s.n s.room _ x e
     (elim c.else-is_ok.branch [
       | else-is_ok-via-then-is_ok+then-name+else-not-enter w ↦
@@ -63,4 +59,4 @@ returns c =
       | else-is_ok-via-then-is_ok+else-name w ↦ enters_unnamed x (omega (arith, w.if-name.false)) w.names-is c.requires.1.1.0
       | else-is_ok-via-else-is_ok w ↦ enters_none x (sym c.is_ok.ensures.value ∙ w.if-is_ok.false) w.names-is
     ])
-    c.fit.result c.fit.ensures c.in_ok-own.own c.in_ok-own.was refl
+    c.fit.result c.fit.ensures c.in-Ok-fit.own c.in-Ok-fit.is refl
